@@ -1,0 +1,2 @@
+pub mod EachRank
+pub mod TextLemmas

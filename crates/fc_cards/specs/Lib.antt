@@ -1,0 +1,4 @@
+pub mod Card
+pub mod Laws
+pub mod Suit
+pub mod Texts
