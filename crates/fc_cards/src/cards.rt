@@ -1,10 +1,12 @@
-ghost use Rattle.std.specs.Prelude.{◌≡◌, ℕ, ◌+◌, ◌-◌, ◌*◌, ◌/◌, ◌<◌, ◌≤◌, ◌↔◌, IsTrue, IsSome, IfSome, IfNone};
+ghost use Rattle.std.specs.Prelude.{◌≡◌, ℕ, ◌+◌, ◌-◌, ◌*◌, ◌/◌, ◌<◌, ◌≤◌, ◌↔◌, Some, IsTrue, IsSome, IfSome, IfNone};
 ghost use Rattle.fc_cards.specs.Card.{rank, suit, IsRed};
 ghost use Rattle.fc_cards.specs.Suit.{suit_index};
 ghost use Rattle.fc_cards.specs.Texts.{card_text, IsRank, IsCardText};
 
 use crate::ranks::{rank_letter, read_rank};
 use crate::suits::Suit;
+use std::fmt;
+use std::fmt::Write;
 use std::marker::Model;
 
 /// A playing card, seen by contracts as its number: four times its rank less one, plus its suit, 0 to 51. Cards are
@@ -106,5 +108,14 @@ impl Card {
     {
         let (suit, rank) = text.split_last()?;
         Card::new(read_rank(rank)?, Suit::read(*suit)?)
+    }
+}
+
+impl fmt::Display for Card {
+    ghost output = { λ c. Some (card_text c) };
+
+    fn fmt<W: fmt::Write>(&self, f: &mut fmt::Formatter<W>) -> fmt::Result {
+        f.write_char(rank_letter(self.rank()) as char)?;
+        f.write_char(self.suit().letter() as char)
     }
 }

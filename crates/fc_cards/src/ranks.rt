@@ -1,10 +1,11 @@
-ghost use Rattle.std.specs.Prelude.{◌≡◌, ℕ, ◌≤◌, IfSome, IfNone};
+ghost use Rattle.std.specs.Prelude.{◌≡◌, ℕ, ◌<◌, ◌≤◌, IfSome, IfNone};
 ghost use Rattle.fc_cards.specs.Texts.{rank_letter, IsRank, IsRankText};
 
 /// The letter of a rank from 1, the ace, to 13, the king: one of `A23456789TJQK`.
 pub fn rank_letter(rank: u8) -> u8
     requires { IsRank rank }
-    ensures { result ≡ rank_letter rank }
+    ensures value { result ≡ rank_letter rank }
+    ensures ascii { result < 128 }
 {
     match rank {
         1 => b'A',

@@ -26,7 +26,8 @@ impl Suit {
 
     /// The suit's letter, one of `CDHS`.
     pub fn letter(self) -> u8
-        ensures { result ≡ suit_letter (suit_index self) }
+        ensures value { result ≡ suit_letter (suit_index self) }
+        ensures ascii { result < 128 }
     {
         match self {
             Suit::C => b'C',

@@ -1,0 +1,4 @@
+pub mod BoardLemmas
+pub mod LayoutLemmas
+pub mod Pigeonhole
+pub mod TallyLemmas
