@@ -1,9 +1,9 @@
--- Moves that come one after the other are one move.
+-- Moves that come one after the other are one move. Callers over several transfers cite these too.
 use Rattle.std.proofs.Common.{length-append, ◌≡◌, ℕ, zero, suc, ◌+◌, ◌≤◌, Bool, true, false, IsTrue, List, [], ◌∷◌, ◌++◌, length, take, drop, Option, None, Some, refl, sym, ap, ◌∙◌, zero-add, append_assoc, append-nil, length-take-le, take-append-drop, arith}
 use Rattle.std.proofs.lemmas.List.{take-append-le}
 use borrow.Rule.Slice.PartMut.{put_mid, post_of}
 use Rattle.std.specs.Io.KnownBytes.{prepend_known, append_known}
-use Rattle.fc_io.specs.Moves.{Gives, GivesAtMost, Takes}
+use Rattle.fc_io.specs.Moves.{Gives, GivesAtMost, Takes, TakesFront}
 
 -- nothing was given where nothing changed
 pub Gives-none : (told : Option (List ℕ)) → Gives told told []
@@ -66,4 +66,22 @@ gives_then_at_most a b c xs more limit first second fits = record {
   bytes = xs ++ second.bytes;
   within = omega (arith, second.within, length-append xs second.bytes);
   given = Gives-both a b c xs second.bytes first second.given;
+}
+
+-- a sink took xs and then a front of ys
+pub takes_then_front : (a b c : Option (List ℕ)) (xs ys : List ℕ) → Takes a b xs → TakesFront b c ys → TakesFront a c (xs ++ ys)
+takes_then_front a b c xs ys first second = record {
+  front = xs ++ second.front;
+  rest = second.rest;
+  parts = ap (λ l. xs ++ l) second.parts ∙ sym (append_assoc xs second.front second.rest);
+  taken = Takes-both a b c xs second.front first second.taken;
+}
+
+-- a front of a piece is a front of a longer one
+pub front_of_longer : (a b : Option (List ℕ)) (xs ys : List ℕ) → TakesFront a b xs → TakesFront a b (xs ++ ys)
+front_of_longer a b xs ys short = record {
+  front = short.front;
+  rest = short.rest ++ ys;
+  parts = ap (λ l. l ++ ys) short.parts ∙ append_assoc short.front short.rest ys;
+  taken = short.taken;
 }

@@ -1,5 +1,5 @@
 -- What moves out of a source and into a sink, where a device that tells no bytes is `None`.
-use Rattle.std.specs.Prelude.{◌≡◌, ℕ, ◌<◌, ◌≤◌, List, ◌++◌, length, Option, IfSome}
+use Rattle.std.specs.Prelude.{◌≡◌, ℕ, ◌≤◌, List, ◌++◌, length, Option, IfSome}
 use Rattle.std.specs.Io.KnownBytes.{prepend_known, append_known}
 
 -- what a device tells or holds stays as it was
@@ -18,9 +18,9 @@ Takes old new bytes = new ≡ append_known old bytes
 abbrev pub IsAllTold : Option (List ℕ) → List ℕ → Type 0
 IsAllTold told bytes = IfSome told (λ all. bytes ≡ all)
 
--- a source told more than so many bytes, where it told any
-abbrev pub TellsMore : Option (List ℕ) → ℕ → Type 0
-TellsMore told limit = IfSome told (λ all. limit < length all)
+-- a source told at least so many bytes, where it told any
+abbrev pub TellsAtLeast : Option (List ℕ) → ℕ → Type 0
+TellsAtLeast told count = IfSome told (λ all. count ≤ length all)
 
 -- a source gave some bytes, at most so many
 pub record GivesAtMost (old new : Option (List ℕ)) (limit : ℕ) : Type 0 where

@@ -49,14 +49,16 @@ impl<const N: usize> Sink for ToArray<N> {
     /// Takes as many bytes as there is room for.
     fn write(&mut self, piece: &[u8]) -> Result<usize, Failed>
         ensures within { IfOk result (λ n. n ≤ length piece.now) }
-        ensures moved { IfOk result (λ n. Takes (Some self.old.bytes) (Some self.new.bytes) (take n piece.now)) }
+        ensures moved { IfOk result
+            (λ n. Takes (Some self.old.bytes) (Some self.new.bytes) (take n piece.now)) }
         ensures some { IfOk result (λ n. 0 < length piece.now → 0 < n) }
         ensures unmoved { OnErr result (Stays (Some self.old.bytes) (Some self.new.bytes)) }
         ensures fault { IsErr result ↔ IsTrue self.new.has_failed }
         ensures stays { IsTrue self.old.has_failed → IsErr result }
 
         ensures count { IfOk result (λ n. n ≡ min (length piece.now) (N - length self.old.bytes)) }
-        ensures full { self.old.has_failed ≡ false → IsErr result ↔ ((length self.old.bytes ≡ N) × (0 < length piece.now)) }
+        ensures full { self.old.has_failed ≡ false
+            → IsErr result ↔ ((length self.old.bytes ≡ N) × (0 < length piece.now)) }
         ensures fits { length self.new.bytes ≤ N }
     {
         let count = piece.len().min(self.bytes.remaining_capacity());

@@ -11,13 +11,14 @@ pub struct Failed;
 
 /// A device that bytes are read from.
 pub trait Source {
-    // The bytes that it still tells, in the order in which reads give them; `None` where it tells none.
+    // The bytes that it still tells, in the order of the reads; `None` where it tells none.
     ghost told: { Self → Option (List ℕ) };
 
+    // Whether it has failed.
     ghost has_failed: { Self → Bool };
 
-    /// Moves the next bytes into the front of `room`, and answers how many. What stands in the room after them is left
-    /// open. No byte comes into a room that isn't empty only at the end.
+    /// Moves the next bytes into the front of `room`, and answers how many: 0 for a room that isn't empty only at the
+    /// end. What stands in the room behind them is left open.
     fn read(&mut self, room: &mut [u8]) -> Result<usize, Failed>
         ensures within { IfOk result (λ n. n ≤ length room.old) }
         ensures moved { IfOk result (λ n. Gives (told self.old) (told self.new) (take n room.new)) }
@@ -34,12 +35,13 @@ pub trait Source {
 
 /// A device that bytes are written to.
 pub trait Sink {
-    // The bytes that it holds, in the order in which they were written; `None` where it tells none.
+    // The bytes that it holds, in the order of the writes; `None` where it tells none.
     ghost held: { Self → Option (List ℕ) };
 
+    // Whether it has failed.
     ghost has_failed: { Self → Bool };
 
-    /// Takes the front of `piece`, and answers how many bytes that is: none only where the piece is empty.
+    /// Takes a front of `piece`, and answers how many bytes that is: 0 only where the piece is empty.
     fn write(&mut self, piece: &[u8]) -> Result<usize, Failed>
         ensures within { IfOk result (λ n. n ≤ length piece.now) }
         ensures moved { IfOk result (λ n. Takes (held self.old) (held self.new) (take n piece.now)) }

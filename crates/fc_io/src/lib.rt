@@ -17,5 +17,7 @@ mod devices;
 mod readers;
 mod slices;
 pub mod testing;
+#[cfg(test)]
+mod tests;
 mod transfers;
 mod writers;

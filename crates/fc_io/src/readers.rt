@@ -48,7 +48,9 @@ impl<R: Read> Source for FromReader<R> {
         ensures fault { IsErr result ↔ IsTrue self.new.has_failed }
         ensures stays { IsTrue self.old.has_failed → IsErr result }
 
-        ensures passed { ReadConsumes (R.remaining self.old.inner) (R.remaining self.new.inner) result room.new }
+        ensures passed { ReadConsumes (R.remaining self.old.inner) (R.remaining self.new.inner)
+            result room.new }
+        ensures kept { IsTrue self.old.has_failed → self.new ≡ self.old }
     {
         if self.has_failed {
             return Err(Failed);

@@ -1,6 +1,6 @@
 ghost use Rattle.std.specs.Prelude.{◌≡◌, ◌+◌, ◌<◌, ◌≤◌, ◌↔◌, length, take, IsTrue, IsErr, IfOk, OnOk, IsErrOf, vec_len};
 ghost use Rattle.std.specs.Io.KnownBytes.{IsAtEnd};
-ghost use Rattle.fc_io.specs.Moves.{Gives, GivesAtMost, IsAllTold, TellsMore, Takes, TakesFront, Stays};
+ghost use Rattle.fc_io.specs.Moves.{Gives, GivesAtMost, IsAllTold, TellsAtLeast, Takes, TakesFront, Stays};
 
 use crate::devices::{Failed, Sink, Source};
 use std::alloc::{AllocError, Global};
@@ -31,13 +31,17 @@ pub fn write_all<K: Sink>(sink: &mut K, piece: &[u8]) -> Result<(), Failed>
 pub fn read_up_to<S: Source>(source: &mut S, room: &mut [u8]) -> Result<usize, Failed>
     ensures within { IfOk result (λ n. n ≤ length room.old) }
     ensures taken { GivesAtMost (S.told source.old) (S.told source.new) (length room.old) }
-    ensures moved { IfOk result (λ n. Gives (S.told source.old) (S.told source.new) (take n room.new)) }
-    ensures whole { IfOk result (λ n. n < length room.old → IsAllTold (S.told source.old) (take n room.new)) }
+    ensures moved { IfOk result
+        (λ n. Gives (S.told source.old) (S.told source.new) (take n room.new)) }
+    ensures least { IfOk result (TellsAtLeast (S.told source.old)) }
+    ensures whole { IfOk result
+        (λ n. n < length room.old → IsAllTold (S.told source.old) (take n room.new)) }
     ensures ended { IfOk result (λ n. n < length room.old → IsAtEnd (S.told source.new)) }
 
     ensures fault { IsErr result ↔ IsTrue (S.has_failed source.new) }
     ensures stays { IsTrue (S.has_failed source.old) → IsErr result }
-    ensures unmoved { IsTrue (S.has_failed source.old) → Stays (S.told source.old) (S.told source.new) }
+    ensures unmoved { IsTrue (S.has_failed source.old)
+        → Stays (S.told source.old) (S.told source.new) }
 {
     if source.failed() {
         return Err(Failed);
@@ -99,15 +103,17 @@ pub fn read_to_vec<S: Source>(
 ) -> Result<Vec<u8>, ReadFault>
     ensures within { IfOk result (λ bytes. vec_len bytes ≤ limit) }
     ensures taken { GivesAtMost (S.told source.old) (S.told source.new) (limit + 1) }
-    ensures moved { IfOk result (λ bytes. Gives (S.told source.old) (S.told source.new) bytes.items) }
+    ensures moved { IfOk result
+        (λ bytes. Gives (S.told source.old) (S.told source.new) bytes.items) }
     ensures whole { IfOk result (λ bytes. IsAllTold (S.told source.old) bytes.items) }
     ensures ended { OnOk result (IsAtEnd (S.told source.new)) }
 
-    ensures long { IsErrOf result ReadFault.TooLong → TellsMore (S.told source.old) limit }
-    ensures memory { IsErrOf result ReadFault.Memory → TellsMore (S.told source.old) 0 }
+    ensures long { IsErrOf result ReadFault.TooLong → TellsAtLeast (S.told source.old) (limit + 1) }
+    ensures memory { IsErrOf result ReadFault.Memory → TellsAtLeast (S.told source.old) 1 }
     ensures fault { IsErrOf result ReadFault.Failed ↔ IsTrue (S.has_failed source.new) }
     ensures stays { IsTrue (S.has_failed source.old) → IsErrOf result ReadFault.Failed }
-    ensures unmoved { IsTrue (S.has_failed source.old) → Stays (S.told source.old) (S.told source.new) }
+    ensures unmoved { IsTrue (S.has_failed source.old)
+        → Stays (S.told source.old) (S.told source.new) }
 {
     if source.failed() {
         return Err(ReadFault::Failed);

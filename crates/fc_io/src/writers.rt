@@ -49,7 +49,9 @@ impl<W: Write> Sink for ToWriter<W> {
         ensures fault { IsErr result ↔ IsTrue self.new.has_failed }
         ensures stays { IsTrue self.old.has_failed → IsErr result }
 
-        ensures passed { WriteAppends (W.contents self.old.inner) (W.contents self.new.inner) result piece.now }
+        ensures passed { WriteAppends (W.contents self.old.inner) (W.contents self.new.inner)
+            result piece.now }
+        ensures kept { IsTrue self.old.has_failed → self.new ≡ self.old }
     {
         if self.has_failed {
             return Err(Failed);

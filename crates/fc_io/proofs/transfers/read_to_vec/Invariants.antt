@@ -1,4 +1,4 @@
-use Rattle.std.proofs.Common.{◌≡◌, ◌≤◌, ◌-◌, length, false, vec_len}
+use Rattle.std.proofs.Common.{◌≡◌, ◌≤◌, ◌-◌, false, vec_len}
 use Rattle.fc_io.specs.Moves.{Gives}
 use Rattle.fc_io.proofs.transfers.read_to_vec.Given as goal
 

@@ -1,4 +1,4 @@
-use Rattle.std.proofs.Common.{◌≡◌, List, ◌++◌, take, drop, length, ap, ◌∙◌, sym}
+use Rattle.std.proofs.Common.{◌++◌, take, ap, ◌∙◌, sym}
 use Rattle.std.proofs.lemmas.List.{take_rest}
 use Rattle.fc_io.proofs.MoveLemmas.{Takes-both, parts_later, sound_at_ok}
 use Rattle.fc_io.proofs.transfers.write_all.Goals as goal

@@ -1,0 +1,3 @@
+pub mod GameLemmas
+pub mod ListLemmas
+pub mod StepLemmas

@@ -1,0 +1,29 @@
+-- What the laws of this crate state.
+use Rattle.std.specs.Prelude.{◌≡◌, ℕ, length, List}
+use Rattle.fc_position.specs.Board.{Board, IsHome}
+use Rattle.fc_position.specs.Position.{IsPosition}
+use Rattle.fc_moves.specs.declared.steps.Move.{Move}
+use Rattle.fc_moves.specs.GameRules.{GameRules, IsGame, IsPositionOf}
+use Rattle.fc_moves.specs.MoveText.{HasText, move_text}
+use Rattle.fc_moves.specs.Run.{Run, Wins}
+use Rattle.fc_moves.specs.Step.{Step, Allows}
+
+-- a step from a position of the game leads to a position of the game
+abbrev pub StepsKeepPositions : Type 0
+StepsKeepPositions = (g : GameRules) (b c : Board) (m : Move) → IsPositionOf g b → Step g b m c → IsPositionOf g c
+
+-- a card that is home stays home
+abbrev pub HomeStaysHome : Type 0
+HomeStaysHome = (g : GameRules) (b c : Board) (m : Move) (u : ℕ) → Step g b m c → IsHome b.homes u → IsHome c.homes u
+
+-- a run from a position of the game leads to a position of the game
+abbrev pub RunsKeepPositions : Type 0
+RunsKeepPositions = (g : GameRules) (b c : Board) (ms : List Move) → IsPositionOf g b → Run g b ms c → IsPositionOf g c
+
+-- an allowed move from a position has a text
+abbrev pub AllowedMovesHaveTexts : Type 0
+AllowedMovesHaveTexts = (g : GameRules) (b : Board) (m : Move) → IsPosition b → Allows g b m → HasText m
+
+-- no text is of two moves
+abbrev pub TextsTellMovesApart : Type 0
+TextsTellMovesApart = (m n : Move) → HasText m → HasText n → move_text m ≡ move_text n → m ≡ n

@@ -1,0 +1,19 @@
+//! What the rules allow: games, one-card moves, and what lists of moves lead to.
+//!
+//! A game is plain data to contracts: which cards may stand on which, which may go to an empty column, how many cells
+//! there are. Everything here is generic over it. No call allocates.
+#![tactic(auto)]
+
+pub use games::{BakersGame, FreeCell, Game, Kings};
+pub use lists::moves;
+pub use steps::{Move, allows, apply};
+pub use texts::{move_text, read_move};
+
+mod games;
+pub mod laws;
+mod lists;
+mod steps;
+mod texts;
+
+#[cfg(test)]
+mod tests;
