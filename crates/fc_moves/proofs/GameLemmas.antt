@@ -1,8 +1,9 @@
 -- What the tests of the games' methods say of their pairs and openers.
-use Rattle.std.proofs.Common.{◌≡◌, ℕ, ◌+◌, ◌-◌, ◌*◌, ◌≤◌, ◌<◌, ◌↔◌, ◌⊎◌, Bool, true, false, not, List, [], ◌∷◌, length, eqb, refl, sym, ◌∙◌, ap, subst, inl, inr, ⊎_elim, arith}
+use Rattle.std.proofs.Common.{◌≡◌, ℕ, ◌+◌, ◌-◌, ◌*◌, ◌≤◌, ◌<◌, ◌↔◌, ◌⊎◌, Bool, true, false, not, List, [], ◌∷◌, length, map, eqb, refl, sym, ◌∙◌, ap, subst, inl, inr, ⊎_elim, arith}
 use Rattle.std.specs.Bool.{beq}
 use Rattle.std.specs.Prelude.{IsTrue, Contains, ◌==◌}
-use Rattle.std.specs.List.Sorted.{IsStrictlyIncreasing}
+use Rattle.std.specs.List.{range_with_len}
+use Rattle.std.proofs.lemmas.List.FromFn.{get_or-map-range_with_len, length-map-range_with_len}
 use Rattle.std.proofs.lemmas.Bool.Decides.{nat_tests}
 use Rattle.fc_cards.specs.Card.{rank, suit, IsRed}
 use Rattle.fc_cards.specs.declared.suits.Suit.{Suit}
@@ -135,10 +136,28 @@ hosts_in_suit n card x below two ex u =
             let e : x ≡ u = omega (arith, p.0.2) in subst (Contains (x ∷ [])) e (Contains-first [] x))
 
 -- nothing stands on an ace
-pub no_hosts : (n card : ℕ) → rank card ≡ 1 → (u : ℕ) → Contains {X = ℕ} [] u ↔ Stands (bakers_game n) u card
-no_hosts n card ace u =
+pub no_hosts : (test : ℕ → ℕ → Bool) (card : ℕ) → rank card ≡ 1 → (u : ℕ)
+    → Contains {X = ℕ} [] u ↔ Contains (pairs_where test) (u, card)
+no_hosts test card ace u =
     (λ found. absurd (omega (arith, found.1)),
-        λ found. absurd (omega (arith, (pairs_where-only (λ a b. suit a == suit b) (u, card) found).0.2)))
+        λ found. absurd (omega (arith, (pairs_where-only test (u, card) found).0.2)))
+
+-- the four cards of one rank, where every pair one rank apart passes
+pub hosts_of_rank : (cards : List ℕ) (card first : ℕ) → card < 52 → 2 ≤ rank card → first ≡ (rank card - 1 - 1) * 4
+    → cards ≡ map (λ k. first + k) (range_with_len 0 4) → (u : ℕ)
+    → Contains cards u ↔ Contains (pairs_where (λ _ _. true)) (u, card)
+hosts_of_rank cards card first below two ef items u =
+    rw items
+    (λ (k, within, e).
+        let four : k < 4 = omega (arith, length-map-range_with_len (λ i. first + i) 0 4) in
+        let same = get_or-map-range_with_len (λ i. first + i) 0 4 k k u four (omega arith) in
+        pairs_where-have (λ _ _. true) u card (omega (arith, e, same)) below (omega (arith, e, same)) refl,
+        λ found.
+        let p = pairs_where-only (λ _ _. true) (u, card) found in
+        let four : u - first < 4 = omega (arith, p.0.2) in
+        (u - first, omega (arith, length-map-range_with_len (λ i. first + i) 0 4),
+            get_or-map-range_with_len (λ i. first + i) 0 4 (u - first) (u - first) u four (omega arith)
+            ∙ (omega (arith, p.0.2))))
 
 -- the test of two suits for equality compares their numbers
 pub suits_same : (a b : Suit) → IsTrue (sameb the_type a b) ↔ (suit_index a ≡ suit_index b)

@@ -7,7 +7,7 @@ use Rattle.std.proofs.lemmas.List.FromFn.{get_or-map-range_with_len, get_or-rang
 use Rattle.std.proofs.lemmas.Bool.Decides.{nat_tests}
 use Rattle.std.proofs.lemmas.Nat.{or_of_8}
 use Rattle.fc_cards.specs.Card.{rank, suit}
-use Rattle.fc_moves.specs.GameRules.{GameRules, IsGame, IsPair, first_cards, first_pairs, all_cards, all_pairs, pairs_where, free_cell, bakers_game, kings, are_of_other_colour}
+use Rattle.fc_moves.specs.GameRules.{GameRules, IsGame, IsPair, first_cards, first_pairs, all_cards, all_pairs, pairs_where, built_game, kings}
 
 -- an element of a list is its first or one of the others
 pub Contains-cases : {X : Type 0} (y : X) (xs : List X) (x : X) → Contains (y ∷ xs) x → (y ≡ x) ⊎ Contains xs x
@@ -106,22 +106,16 @@ pairs_where-only test p found =
     let passes : test p.0 p.1 ≡ true = grind (arith, nat_tests) in
     ((cards.0, cards.1, next), passes)
 
-pub free_cell_is_game : (n : ℕ) → n ≤ 4 → IsGame (free_cell n)
-free_cell_is_game n few = record {
-  pairs = All-from_members IsPair (pairs_where are_of_other_colour) (λ p found. (pairs_where-only are_of_other_colour p found).0);
+-- a game that is built down by a test is a game
+pub built_game_is_game : (test : ℕ → ℕ → Bool) (n code : ℕ) → n ≤ 4 → code < 256 → IsGame (built_game test n code)
+built_game_is_game test n code few byte = record {
+  pairs = All-from_members IsPair (pairs_where test) (λ p found. (pairs_where-only test p found).0);
   openers = All-from_members (λ c. c < 52) all_cards only_cards;
   cells = few;
-  code = omega arith;
+  code = byte;
 }
 
-pub bakers_game_is_game : (n : ℕ) → n ≤ 4 → IsGame (bakers_game n)
-bakers_game_is_game n few = record {
-  pairs = All-from_members IsPair (pairs_where (λ u l. suit u == suit l)) (λ p found. (pairs_where-only (λ u l. suit u == suit l) p found).0);
-  openers = All-from_members (λ c. c < 52) all_cards only_cards;
-  cells = few;
-  code = omega arith;
-}
-
+-- the game with other openers is a game
 pub kings_is_game : (g : GameRules) → IsGame g → IsGame (kings g)
 kings_is_game g ok = record {
   pairs = ok.pairs;

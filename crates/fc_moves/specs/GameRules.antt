@@ -64,13 +64,17 @@ is_red c = (suit c == 1) || (suit c == 2)
 abbrev pub are_of_other_colour : ℕ → ℕ → Bool
 are_of_other_colour u l = not (beq (is_red u) (is_red l))
 
--- FreeCell with n cells: built down in turning colours, and every card opens a column
-abbrev pub free_cell : ℕ → GameRules
-free_cell n = record { pairs = pairs_where are_of_other_colour; openers = all_cards; cells = n; code = 0 }
+-- the game with n cells and this code that is built down by a test, and in which every card opens a column
+abbrev pub built_game : (ℕ → ℕ → Bool) → ℕ → ℕ → GameRules
+built_game test n code = record { pairs = pairs_where test; openers = all_cards; cells = n; code = code }
 
--- Baker's Game with n cells: built down in suit, and every card opens a column
+-- FreeCell with n cells: built down in turning colours
+abbrev pub free_cell : ℕ → GameRules
+free_cell n = built_game are_of_other_colour n 0
+
+-- Baker's Game with n cells: built down in suit
 abbrev pub bakers_game : ℕ → GameRules
-bakers_game n = record { pairs = pairs_where (λ u l. suit u == suit l); openers = all_cards; cells = n; code = 1 }
+bakers_game n = built_game (λ u l. suit u == suit l) n 1
 
 -- the same game, but that every king opens a column, and no other card does
 abbrev pub kings : GameRules → GameRules

@@ -1,8 +1,10 @@
-ghost use Rattle.std.specs.Prelude.{◌≡◌, ℕ, ◌<◌, ◌≤◌, ◌↔◌, IsTrue, IsSome, IfSome, Contains};
+ghost use Rattle.std.specs.Prelude.{◌≡◌, ℕ, ◌<◌, ◌≤◌, ◌↔◌, ◌==◌, IsTrue, IsSome, IfSome, Contains};
 ghost use Rattle.std.specs.List.Sorted.{IsStrictlyIncreasing};
 ghost use Rattle.fc_cards.specs.Suit.{suit_index};
-ghost use Rattle.fc_moves.specs.GameRules.{GameRules, IsGame, Stands, Opens, IsLowerOf, free_cell, bakers_game, kings};
-ghost use Rattle.fc_moves.specs.GameLaws.{free_cell_is_game, bakers_game_is_game, kings_is_game};
+ghost use Rattle.fc_moves.specs.GameRules.{GameRules, IsGame, Stands, Opens, IsLowerOf, are_of_other_colour, free_cell, bakers_game, kings};
+ghost use Rattle.std.proofs.Common.{lit<};
+ghost use Rattle.fc_cards.specs.Card.{suit};
+ghost use Rattle.fc_moves.specs.GameLaws.{built_game_is_game, kings_is_game};
 
 use arrayvec::ArrayVec;
 use fc_cards::{Card, Suit};
@@ -107,7 +109,7 @@ impl Game for FreeCell {
         *self
     }
 
-    ghost sound = { λ s. free_cell_is_game s.cells s.few };
+    ghost sound = { λ s. built_game_is_game are_of_other_colour s.cells 0 s.few (lit< tt) };
 }
 
 impl BakersGame {
@@ -157,7 +159,7 @@ impl Game for BakersGame {
         *self
     }
 
-    ghost sound = { λ s. bakers_game_is_game s.cells s.few };
+    ghost sound = { λ s. built_game_is_game (λ u l. suit u == suit l) s.cells 1 s.few (lit< tt) };
 }
 
 impl<G: Game> Kings<G> {

@@ -1,6 +1,6 @@
 -- How lifting and placing a card changes the places of each card.
-use Rattle.std.proofs.Common.{◌≡◌, ◌≢◌, ℕ, ◌+◌, ◌-◌, ◌≤◌, ◌<◌, ◌⊎◌, Option, Some, None, List, [], ◌∷◌, ◌++◌, length, take, set, get_or, cond, eqb, leb, refl, sym, ◌∙◌, ap, subst, inl, inr, ⊎_elim, arith}
-use Rattle.std.specs.Prelude.{slice_get, slice_index, sum_by}
+use Rattle.std.proofs.Common.{◌≡◌, ◌≢◌, ℕ, ◌+◌, ◌-◌, ◌≤◌, ◌<◌, Option, Some, None, List, [], ◌∷◌, ◌++◌, length, take, set, cond, eqb, refl, sym, ◌∙◌, ap, subst, ⊎_elim, arith}
+use Rattle.std.specs.Prelude.{slice_index}
 use Rattle.std.proofs.lemmas.List.{take_more, take_all, get_or_past, get_or-set_same, get_or-set_other, length-set}
 use Rattle.std.proofs.lemmas.List.Sums.{sum_by-set, sum_by_push, get_or-le-sum_by}
 use Rattle.std.specs.List.Sorted.{IsPermutation}
@@ -64,16 +64,16 @@ count-next : (homes : List ℕ) (u c : ℕ) → length homes ≡ 4 → IsNext ho
 count-next homes u c four next =
     ⊎_elim
     (λ same. let here : slice_index (set homes (suit u) (rank u)) (suit c) ≡ rank u =
-            rw same (get_or-set_same homes (suit u) (rank u) 0 (omega arith)) in
-        let before : slice_index homes (suit c) ≡ slice_index homes (suit u) = ap (slice_index homes) same in
-        ⊎_elim (λ e. rw (here, before) (grind (arith, nat_tests)))
-        (λ ne. let ranks : rank c ≢ rank u = λ q. ne (omega (arith, q, same)) in
-            rw (here, before) (grind (arith, nat_tests)))
-        (cases_eq u c))
+    rw same (get_or-set_same homes (suit u) (rank u) 0 (omega arith)) in
+    let before : slice_index homes (suit c) ≡ slice_index homes (suit u) = ap (slice_index homes) same in
+    ⊎_elim (λ e. rw (here, before) (grind (arith, nat_tests)))
+    (λ ne. let ranks : rank c ≢ rank u = λ q. ne (omega (arith, q, same)) in
+    rw (here, before) (grind (arith, nat_tests)))
+    (cases_eq u c))
     (λ other. let there : slice_index (set homes (suit u) (rank u)) (suit c) ≡ slice_index homes (suit c) =
-            get_or-set_other homes (suit u) (suit c) (rank u) 0 other in
-        let apart : u ≢ c = λ q. other (ap suit (sym q)) in
-        rw there (grind (arith, nat_tests)))
+    get_or-set_other homes (suit u) (suit c) (rank u) 0 other in
+    let apart : u ≢ c = λ q. other (ap suit (sym q)) in
+    rw there (grind (arith, nat_tests)))
     (cases_eq (suit c) (suit u))
 
 -- placing a card gives one place to it and none to the others
@@ -95,10 +95,11 @@ receives-lifted b (Column i) u (Column j) there = rw length-set there
 receives-lifted b (Column i) u (Cell j) r = r
 receives-lifted b (Column i) u Home r = r
 receives-lifted b (Cell i) u (Column j) r = r
-receives-lifted b (Cell i) u (Cell j) (there, empty) =
-    (rw length-set there,
-        ⊎_elim (λ e. rw e (get_or-set_same b.cells i None None (rw (sym e) there)))
-        (λ ne. get_or-set_other b.cells i j None None ne ∙ empty) (cases_eq j i))
+receives-lifted b (Cell i) u (Cell j) (there, empty) = (
+  rw length-set there,
+  ⊎_elim (λ e. rw e (get_or-set_same b.cells i None None (rw (sym e) there)))
+      (λ ne. get_or-set_other b.cells i j None None ne ∙ empty) (cases_eq j i),
+)
 receives-lifted b (Cell i) u Home r = r
 receives-lifted b Home u to r = r
 
@@ -172,12 +173,13 @@ room-lifted b from u (Column j) p there takes =
     let below = playable_below b from u p there in
     let here : ◌≡◌ {A = ℕ} (count_in_cell u (Some u)) 1 = grind (arith, nat_tests) in
     let most : (c : ℕ) → places b c ≤ 1 = λ c.
-        ⊎_elim (λ lt. omega (arith, p.once c lt)) (λ le. omega (arith, p.no_other c le)) (cases_lt c 52) in
-    (inside,
-        room_for_one 52 (column x j)
-        (λ c. omega (arith, count-le-places x j c inside, lower c, most c))
-        (λ c above. omega (arith, count-le-places x j c inside, lower c, p.no_other c above)) u below
-        (omega (arith, count-le-places x j u inside, lower u, p.once u below, here)))
+    ⊎_elim (λ lt. omega (arith, p.once c lt)) (λ le. omega (arith, p.no_other c le)) (cases_lt c 52) in (
+      inside,
+      room_for_one 52 (column x j)
+          (λ c. omega (arith, count-le-places x j c inside, lower c, most c))
+          (λ c above. omega (arith, count-le-places x j c inside, lower c, p.no_other c above)) u below
+          (omega (arith, count-le-places x j u inside, lower u, p.once u below, here)),
+    )
 room-lifted b from u (Cell j) p there takes = (receives-lifted b from u (Cell j) takes).0
 room-lifted b from u Home p there takes = tt
 
@@ -192,11 +194,11 @@ pub home_most : (b : Board) → IsPosition b → (s : ℕ) → slice_index b.hom
 home_most b p s =
     ⊎_elim
     (λ lt. let suits : suit (52 + s) ≡ s = omega arith in
-        let ranks : rank (52 + s) ≡ 14 = omega arith in
-        let same : slice_index b.homes (suit (52 + s)) ≡ slice_index b.homes s = ap (slice_index b.homes) suits in
-        let none : count_at_home (52 + s) b.homes ≡ 0 = omega (arith, p.no_other (52 + s) (omega arith)) in
-        let most : rank (52 + s) ≤ slice_index b.homes (suit (52 + s)) → ⊥ = λ le. grind (arith, nat_tests) in
-        ⊎_elim (λ l. absurd (most (omega arith))) (λ l. omega arith) (cases_lt 13 (slice_index b.homes s)))
+    let ranks : rank (52 + s) ≡ 14 = omega arith in
+    let same : slice_index b.homes (suit (52 + s)) ≡ slice_index b.homes s = ap (slice_index b.homes) suits in
+    let none : count_at_home (52 + s) b.homes ≡ 0 = omega (arith, p.no_other (52 + s) (omega arith)) in
+    let most : rank (52 + s) ≤ slice_index b.homes (suit (52 + s)) → ⊥ = λ le. grind (arith, nat_tests) in
+    ⊎_elim (λ l. absurd (most (omega arith))) (λ l. omega arith) (cases_lt 13 (slice_index b.homes s)))
     (λ le. rw (get_or_past b.homes s 0 (omega (arith, p.homes))) (omega arith))
     (cases_lt s 4)
 
@@ -206,8 +208,11 @@ pub position-rearranged : (b : Board) (columns : List (List ℕ)) (cells : List 
     → IsPosition (record { columns = columns; cells = cells; homes = b.homes })
 position-rearranged b columns cells p one two =
     let same : (c : ℕ) → places (record { columns = columns; cells = cells; homes = b.homes }) c ≡ places b c = λ c.
-        omega (arith, sum_by-IsPermutation (count_in_column c) b.columns columns one,
-            sum_by-IsPermutation (count_in_cell c) b.cells cells two) in
+    omega (
+      arith,
+      sum_by-IsPermutation (count_in_column c) b.columns columns one,
+      sum_by-IsPermutation (count_in_cell c) b.cells cells two,
+    ) in
     record {
       columns = length_permutation b.columns columns one ∙ p.columns;
       cells = length_permutation b.cells cells two ∙ p.cells;

@@ -1,5 +1,5 @@
 -- A list of cards in which no card stands twice, and one doesn't stand, has less than 52.
-use Rattle.std.proofs.Common.{◌≡◌, ℕ, zero, suc, ◌+◌, ◌≤◌, ◌<◌, ◌⊎◌, List, [], ◌∷◌, length, cond, eqb, ltb, refl, sym, ◌∙◌, ap, ⊎_elim, add-one, arith}
+use Rattle.std.proofs.Common.{◌≡◌, ℕ, zero, suc, ◌+◌, ◌≤◌, ◌<◌, List, [], ◌∷◌, length, cond, eqb, ltb, refl, ◌∙◌, ap, ⊎_elim, add-one, arith}
 use Rattle.std.specs.Prelude.{count_by}
 use Rattle.std.proofs.lemmas.List.Sums.{sum_by-cons}
 use Rattle.std.proofs.lemmas.Bool.{cases_lt, cases_eq}
@@ -16,8 +16,14 @@ one_below n x = grind (arith, nat_tests)
 count_below-add : (n : ℕ) (cards : List ℕ) → count_below (n + 1) cards ≡ count_below n cards + count_in_column n cards
 count_below-add n [] = refl
 count_below-add n (x ∷ xs) =
-    omega (arith, sum_by-cons (λ y. cond (ltb y (n + 1)) 1 0) x xs, sum_by-cons (λ y. cond (ltb y n) 1 0) x xs,
-        sum_by-cons (λ y. cond (eqb y n) 1 0) x xs, one_below n x, count_below-add n xs)
+    omega (
+      arith,
+      sum_by-cons (λ y. cond (ltb y (n + 1)) 1 0) x xs,
+      sum_by-cons (λ y. cond (ltb y n) 1 0) x xs,
+      sum_by-cons (λ y. cond (eqb y n) 1 0) x xs,
+      one_below n x,
+      count_below-add n xs,
+    )
 
 -- no card below zero
 count_below-zero : (cards : List ℕ) → count_below 0 cards ≡ 0
@@ -42,9 +48,9 @@ count_below-lt cards once u none (suc n) above =
     let next = count_below-add n cards in
     ⊎_elim
     (λ same. let gone : count_in_column n cards ≡ 0 = ap (λ k. count_in_column k cards) same ∙ none in
-        let before = count_below-le cards once n in rw (← add-one n) (omega arith))
+    let before = count_below-le cards once n in rw (← add-one n) (omega arith))
     (λ other. let most = once n in
-        let before = count_below-lt cards once u none n (omega arith) in rw (← add-one n) (omega arith))
+    let before = count_below-lt cards once u none n (omega arith) in rw (← add-one n) (omega arith))
     (cases_eq n u)
 
 -- where no number from n on stands, all of them are below n
@@ -52,13 +58,13 @@ count_below-all : (n : ℕ) (cards : List ℕ) → ((c : ℕ) → n ≤ c → co
 count_below-all n [] none = refl
 count_below-all n (x ∷ xs) none =
     let rest : (c : ℕ) → n ≤ c → count_in_column c xs ≡ 0 =
-        λ c above. omega (arith, sum_by-cons (λ y. cond (eqb y c) 1 0) x xs, none c above) in
+    λ c above. omega (arith, sum_by-cons (λ y. cond (eqb y c) 1 0) x xs, none c above) in
     let all = count_below-all n xs rest in
     let here : ◌≡◌ {A = ℕ} (cond (eqb x x) 1 0) 1 = grind (arith, nat_tests) in
     let first : ◌≡◌ {A = ℕ} (cond (ltb x n) 1 0) 1 =
-        ⊎_elim (λ lt. grind (arith, nat_tests))
-        (λ le. absurd (omega (arith, sum_by-cons (λ y. cond (eqb y x) 1 0) x xs, none x le, here)))
-        (cases_lt x n) in
+    ⊎_elim (λ lt. grind (arith, nat_tests))
+    (λ le. absurd (omega (arith, sum_by-cons (λ y. cond (eqb y x) 1 0) x xs, none x le, here)))
+    (cases_lt x n) in
     omega (arith, sum_by-cons (λ y. cond (ltb y n) 1 0) x xs, first, all)
 
 -- so there are less than n cards

@@ -52,9 +52,12 @@ fault-tally times tally adds (Repeated c) (below, more, least) =
     let count = tally_times times tally adds in
     (below, omega (arith, count c below), λ d lt. omega (arith, count d (omega arith), least d lt))
 fault-tally times tally adds (Missing c) (below, none, least, once) =
-    let count = tally_times times tally adds in
-    (below, omega (arith, count c below), λ d lt. omega (arith, count d (omega arith), least d lt),
-        λ d lt. omega (arith, count d lt, once d lt))
+    let count = tally_times times tally adds in (
+      below,
+      omega (arith, count c below),
+      λ d lt. omega (arith, count d (omega arith), least d lt),
+      λ d lt. omega (arith, count d lt, once d lt),
+    )
 
 -- a tally of one each is of cards that stand once
 pub each_once-tally : (times : ℕ → ℕ) (tally : List ℕ) → Adds times (replicate 52 0) tally
@@ -68,15 +71,23 @@ count-other [] c all above = refl
 count-other (x ∷ xs) c all above =
     let first : x < 52 = All-head (λ k. k < 52) x xs all in
     let none : ◌≡◌ {A = ℕ} (cond (eqb x c) 1 0) 0 = grind (arith, nat_tests) in
-    omega (arith, sum_by-cons (λ y. cond (eqb y c) 1 0) x xs, none,
-        count-other xs c (All-tail (λ k. k < 52) x xs all) above)
+    omega (
+      arith,
+      sum_by-cons (λ y. cond (eqb y c) 1 0) x xs,
+      none,
+      count-other xs c (All-tail (λ k. k < 52) x xs all) above,
+    )
 
 count-other_columns : (columns : List (List ℕ)) (c : ℕ) → All AllCards columns → 52 ≤ c
     → sum_by (count_in_column c) columns ≡ 0
 count-other_columns [] c all above = refl
 count-other_columns (x ∷ xs) c all above =
-    omega (arith, sum_by-cons (count_in_column c) x xs, count-other x c (All-head AllCards x xs all) above,
-        count-other_columns xs c (All-tail AllCards x xs all) above)
+    omega (
+      arith,
+      sum_by-cons (count_in_column c) x xs,
+      count-other x c (All-head AllCards x xs all) above,
+      count-other_columns xs c (All-tail AllCards x xs all) above,
+    )
 
 one_other : (cell : Option ℕ) (c : ℕ) → IfSome cell (λ k. k < 52) → 52 ≤ c → count_in_cell c cell ≡ 0
 one_other None c below above = refl
@@ -86,15 +97,18 @@ count-other_cells : (cells : List (Option ℕ)) (c : ℕ) → All (λ cell. IfSo
     → sum_by (count_in_cell c) cells ≡ 0
 count-other_cells [] c all above = refl
 count-other_cells (x ∷ xs) c all above =
-    omega (arith, sum_by-cons (count_in_cell c) x xs,
-        one_other x c (All-head (λ cell. IfSome cell (λ k. k < 52)) x xs all) above,
-        count-other_cells xs c (All-tail (λ cell. IfSome cell (λ k. k < 52)) x xs all) above)
+    omega (
+      arith,
+      sum_by-cons (count_in_cell c) x xs,
+      one_other x c (All-head (λ cell. IfSome cell (λ k. k < 52)) x xs all) above,
+      count-other_cells xs c (All-tail (λ cell. IfSome cell (λ k. k < 52)) x xs all) above,
+    )
 
 count-other_homes : (homes : List ℕ) (c : ℕ) → All (λ n. n ≤ 13) homes → 52 ≤ c → count_at_home c homes ≡ 0
 count-other_homes homes c most above =
     let small : slice_index homes (suit c) ≤ 13 =
-        ⊎_elim (λ lt. most (suit c) 0 lt) (λ le. rw (get_or_past homes (suit c) 0 le) (omega arith))
-        (cases_lt (suit c) (length homes)) in
+    ⊎_elim (λ lt. most (suit c) 0 lt) (λ le. rw (get_or_past homes (suit c) 0 le) (omega arith))
+    (cases_lt (suit c) (length homes)) in
     let high : 14 ≤ rank c = omega arith in
     grind (arith, nat_tests)
 
@@ -106,6 +120,10 @@ position-tally b tally shape most cards adds once = record {
   cells = shape.cells;
   homes = shape.homes;
   once = each_once-tally (places b) tally adds once;
-  no_other = λ c above. omega (arith, count-other_columns b.columns c cards.columns above,
-      count-other_cells b.cells c cards.cells above, count-other_homes b.homes c most above);
+  no_other = λ c above. omega (
+    arith,
+    count-other_columns b.columns c cards.columns above,
+    count-other_cells b.cells c cards.cells above,
+    count-other_homes b.homes c most above,
+  );
 }

@@ -1,5 +1,5 @@
 -- Positions: the boards of a game, on which each of the 52 cards has exactly one place.
-use Rattle.std.specs.Prelude.{◌≡◌, ℕ, ◌<◌, ◌≤◌, length, List, [], ◌∷◌, Option, None}
+use Rattle.std.specs.Prelude.{◌≡◌, ℕ, ◌<◌, ◌≤◌, length, [], ◌∷◌, None}
 use Rattle.fc_position.specs.Board.{Board, places, cell}
 
 -- eight columns, four cells and four counts

@@ -13,6 +13,5 @@ mod faults;
 mod layouts;
 mod positions;
 mod tallies;
-
 #[cfg(test)]
 mod tests;

@@ -33,11 +33,7 @@ fn shift(position: &mut Position, from: Place, to: Place) -> Result<(), Fail> {
 // Foundations up to the kings of clubs and diamonds and the jacks of hearts and spades, and the other four cards in two
 // columns.
 fn four_cards() -> Result<Position, Fail> {
-    Ok(Position::from_parts(
-        columns(&[b"QS KH", b"QH KS"])?,
-        [None; 4],
-        [13, 13, 11, 11],
-    )?)
+    Ok(Position::from_parts(columns(&[b"QS KH", b"QH KS"])?, [None; 4], [13, 13, 11, 11])?)
 }
 
 #[test]
@@ -109,8 +105,14 @@ fn names_the_first_fault(rt: HostRuntime) -> Result<(), Fail> {
     assert!(rt; won.is_won());
     let king = Card::read(b"KS").ok_or("a king")?;
     assert_eq!(rt; fault(None, [0; 4])?, Some(PartsFault::Missing(ace)));
-    assert_eq!(rt; fault(Some(ace), [1, 0, 0, 0])?, Some(PartsFault::Repeated(ace)));
-    assert_eq!(rt; fault(Some(king), [0, 13, 13, 13])?, Some(PartsFault::Repeated(king)));
+    assert_eq!(rt;
+        fault(Some(ace), [1, 0, 0, 0])?,
+        Some(PartsFault::Repeated(ace))
+    );
+    assert_eq!(rt;
+        fault(Some(king), [0, 13, 13, 13])?,
+        Some(PartsFault::Repeated(king))
+    );
     assert_eq!(rt; fault(Some(king), [13, 13, 13, 12])?, None);
     Ok(())
 }
@@ -123,7 +125,10 @@ fn tallies_cards(rt: HostRuntime) -> Result<(), Fail> {
     tally.add_homes(&[1, 13, 13, 13]);
     tally.add_column(&[two]);
     tally.add_cells(&[None, Card::read(b"3C")]);
-    assert_eq!(rt; tally.fault(), Some(PartsFault::Missing(Card::read(b"4C").ok_or("a four")?)));
+    assert_eq!(rt;
+        tally.fault(),
+        Some(PartsFault::Missing(Card::read(b"4C").ok_or("a four")?))
+    );
     tally.add_columns(&columns(&[b"4C 5C 6C 7C 8C", b"9C TC JC QC KC"])?);
     assert_eq!(rt; tally.fault(), None);
     for _ in 0..300 {

@@ -1,6 +1,7 @@
 use Rattle.std.proofs.Common.{◌≡◌, refl, ⊎_elim, arith}
+use Rattle.std.specs.Prelude.{◌==◌}
 use Rattle.std.proofs.lemmas.Bool.{cases_lt}
-use Rattle.fc_cards.specs.Card.{rank}
+use Rattle.fc_cards.specs.Card.{rank, suit}
 use Rattle.fc_moves.proofs.GameLemmas.{hosts_in_suit, no_hosts}
 use Rattle.fc_moves.proofs.games.BakersGameGame.hosts_of.Goals as goal
 
@@ -18,4 +19,4 @@ returns-in_default-clause-exact c u =
         ⊎_elim
         (λ more. absurd (cc (c.in_default.ensures.valid.1 (record { least = omega arith; greatest = omega (arith, below.greatest) }))))
         (λ one. omega arith) (cases_lt 1 (rank c.args.card)) in
-    rw c.new-cards.ensures (no_hosts c.args.self.now.cells c.args.card ace u)
+    rw c.new-cards.ensures (no_hosts (λ a b. suit a == suit b) c.args.card ace u)

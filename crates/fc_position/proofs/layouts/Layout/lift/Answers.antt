@@ -1,5 +1,4 @@
 use Rattle.std.proofs.Common.{ap, arith}
-use Rattle.fc_position.specs.Board.{Board}
 use Rattle.fc_position.proofs.LayoutLemmas.{set_front}
 use Rattle.fc_position.proofs.layouts.Layout.lift.Goals as goal
 

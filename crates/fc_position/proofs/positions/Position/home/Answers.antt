@@ -1,5 +1,4 @@
 use Rattle.std.proofs.Common.{ap}
-use Rattle.fc_position.specs.Board.{Board}
 use Rattle.fc_position.proofs.BoardLemmas.{home_most}
 use Rattle.fc_position.proofs.positions.Position.home.Goals as goal
 

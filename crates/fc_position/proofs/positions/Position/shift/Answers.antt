@@ -9,7 +9,7 @@ put-requires c =
     let found = sym c.in-Some.ensures.value in
     rw c.lift.ensures.after
     (room-lifted c.self.inside.layout c.args.from c.in-Some.card c.args.to c.self.invariant found
-        (receives_found c.self.inside.layout c.args.from c.args.to c.in-Some.card found moves))
+    (receives_found c.self.inside.layout c.args.from c.args.to c.in-Some.card found moves))
 
 pub invariant_of-self : goal.invariant_of-self
 invariant_of-self c =
@@ -17,7 +17,7 @@ invariant_of-self c =
     let found = sym c.in-Some.ensures.value in
     rw (c.put.ensures, c.lift.ensures.after)
     (position-moved c.self.inside.layout c.args.from c.in-Some.card c.args.to c.self.invariant found
-        (receives_found c.self.inside.layout c.args.from c.args.to c.in-Some.card found moves))
+    (receives_found c.self.inside.layout c.args.from c.args.to c.in-Some.card found moves))
 
 pub returns-in-Some-clause-whole : goal.returns-in-Some-clause-whole
 returns-in-Some-clause-whole c = invariant_of-self c

@@ -20,7 +20,7 @@ returns-clause-after c =
     let l = c.layout.inside in
     rw (c.swap.ensures.after, ← c.self.view_is, ← c.layout.view_is)
     (ap (λ columns. record { columns = columns; cells = l.cells; homes = l.homes })
-        (map-swap (λ (v : ArrayVec ℕ). v.items) l.columns c.args.i c.args.j (record { items = [] }) (omega arith) (omega arith)))
+    (map-swap (λ (v : ArrayVec ℕ). v.items) l.columns c.args.i c.args.j (record { items = [] }) (omega arith) (omega arith)))
 
 pub returns-clause-whole : goal.returns-clause-whole
 returns-clause-whole c = invariant_of-self c

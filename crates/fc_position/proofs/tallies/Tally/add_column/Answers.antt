@@ -9,10 +9,10 @@ use Rattle.fc_position.proofs.tallies.Tally.add_column.Goals as goal
 pub loop-card-preserved : goal.loop-card-preserved
 loop-card-preserved c = record {
   added =
-    adds_next (λ k x. cond (eqb x k) 1 0) c.args.cards.now c.loop-card.card-index c.card-item.result c.args.self.now c.loop-card.self c.add.new.self c.loop-card-test.true c.loop-card.invariant.added
-    (subst (λ x. Adds (λ k. count_in_cell k (Some x)) c.loop-card.self c.add.new.self) c.card-item.is c.add.ensures.added);
+      adds_next (λ k x. cond (eqb x k) 1 0) c.args.cards.now c.loop-card.card-index c.card-item.result c.args.self.now c.loop-card.self c.add.new.self c.loop-card-test.true c.loop-card.invariant.added
+      (subst (λ x. Adds (λ k. count_in_cell k (Some x)) c.loop-card.self c.add.new.self) c.card-item.is c.add.ensures.added);
   below = All-more (λ k. k < 52) c.args.cards.now c.loop-card.card-index c.card-item.result c.loop-card-test.true c.loop-card.invariant.below
-    (subst (λ x. x < 52) c.card-item.is c.add.ensures.below);
+      (subst (λ x. x < 52) c.card-item.is c.add.ensures.below);
 }
 
 pub returns-clause-below : goal.returns-clause-below
