@@ -18,7 +18,8 @@ pub trait Source {
     ghost has_failed: { Self → Bool };
 
     /// Moves the next bytes into the front of `room`, and answers how many: 0 for a room that isn't empty only at the
-    /// end. What stands in the room behind them is left open.
+    /// end. What stands in the room behind them is left open. At `Err` no byte has moved, and every later call is an
+    /// `Err` too.
     fn read(&mut self, room: &mut [u8]) -> Result<usize, Failed>
         ensures within { IfOk result (λ n. n ≤ length room.old) }
         ensures moved { IfOk result (λ n. Gives (told self.old) (told self.new) (take n room.new)) }
@@ -41,7 +42,8 @@ pub trait Sink {
     // Whether it has failed.
     ghost has_failed: { Self → Bool };
 
-    /// Takes a front of `piece`, and answers how many bytes that is: 0 only where the piece is empty.
+    /// Takes a front of `piece`, and answers how many bytes that is: 0 only where the piece is empty. At `Err` no byte
+    /// has moved, and every later call is an `Err` too.
     fn write(&mut self, piece: &[u8]) -> Result<usize, Failed>
         ensures within { IfOk result (λ n. n ≤ length piece.now) }
         ensures moved { IfOk result (λ n. Takes (held self.old) (held self.new) (take n piece.now)) }

@@ -1,10 +1,10 @@
 -- Listing the allowed moves by rising number.
-use Rattle.std.proofs.Common.{◌≡◌, ℕ, ◌+◌, ◌-◌, ◌*◌, ◌≤◌, ◌<◌, ◌⊎◌, Option, Some, None, List, [], ◌∷◌, ◌++◌, length, map, get_or, cond, ltb, min, refl, sym, ◌∙◌, ap, subst, inl, inr, ⊎_elim, arith}
+use Rattle.std.proofs.Common.{◌≡◌, ℕ, ◌+◌, ◌-◌, ◌*◌, ◌≤◌, ◌<◌, None, List, [], ◌∷◌, ◌++◌, length, map, get_or, cond, ltb, min, sym, ◌∙◌, ap, subst, ⊎_elim, arith}
 use Rattle.std.specs.Prelude.{slice_index, Contains}
 use Rattle.std.specs.List.Sorted.{IsStrictlyIncreasing}
 use Rattle.std.proofs.lemmas.List.{map_push, length_push, length-map, get_or_append_left, get_or_push, get_or-map}
 use Rattle.std.proofs.lemmas.List.Elements.{Contains-push_cases, Contains-append_left, Contains-push, Contains-get_or}
-use Rattle.std.proofs.lemmas.Bool.{cases_lt, cases_eq}
+use Rattle.std.proofs.lemmas.Bool.{cases_lt}
 use Rattle.std.proofs.lemmas.Bool.Decides.{nat_tests}
 use Rattle.fc_cards.specs.declared.places.Place.{Place}
 use Rattle.fc_cards.specs.declared.places.Place.TheVariants.{Column, Cell, Home}
@@ -13,8 +13,8 @@ use Rattle.fc_position.specs.Position.{IsPosition}
 use Rattle.fc_moves.specs.declared.steps.Move.{Move}
 use Rattle.fc_moves.specs.GameRules.{GameRules}
 use Rattle.fc_moves.specs.MoveText.{IsThere, IsSource, HasText}
-use Rattle.fc_moves.specs.Step.{Step, Allows, Joins, Takes, ListsMoves, ListsBelow, place_number, move_number, most_from}
-use Rattle.fc_moves.proofs.StepLemmas.{allowed_has_text, move_once, place_once, source_there, source_is_there, place_most, source_most}
+use Rattle.fc_moves.specs.Step.{Allows, Joins, ListsMoves, ListsBelow, place_number, move_number, most_from}
+use Rattle.fc_moves.proofs.StepLemmas.{allowed_has_text, move_once, place_once, source_is_there, place_most, source_most}
 
 -- a greater number at the end of a rising list keeps it rising
 rising_push : (xs : List ℕ) (y : ℕ) → IsStrictlyIncreasing xs → ((k : ℕ) → k < length xs → slice_index xs k < y)
@@ -22,13 +22,13 @@ rising_push : (xs : List ℕ) (y : ℕ) → IsStrictlyIncreasing xs → ((k : �
 rising_push xs y rising less k within =
     let size = length_push xs y in
     let before : slice_index (xs ++ y ∷ []) k ≡ slice_index xs k =
-        get_or_append_left xs (y ∷ []) 0 k (omega (arith, size)) in
+    get_or_append_left xs (y ∷ []) 0 k (omega (arith, size)) in
     ⊎_elim
     (λ lt. let after : slice_index (xs ++ y ∷ []) (k + 1) ≡ slice_index xs (k + 1) =
-            get_or_append_left xs (y ∷ []) 0 (k + 1) lt in
-        omega (arith, before, after, rising k lt))
+    get_or_append_left xs (y ∷ []) 0 (k + 1) lt in
+    omega (arith, before, after, rising k lt))
     (λ le. let after : slice_index (xs ++ y ∷ []) (k + 1) ≡ y = get_or_push xs y 0 (k + 1) (omega (arith, size, le)) in
-        omega (arith, before, after, less k (omega (arith, size))))
+    omega (arith, before, after, less k (omega (arith, size))))
     (cases_lt (k + 1) (length xs))
 
 -- no move has a number below zero
@@ -59,12 +59,12 @@ lists_next g b n ms m p lists ok number = record {
   complete = λ other allowed below.
       ⊎_elim (λ lt. Contains-append_left ms (m ∷ []) other (lists.complete other allowed lt))
       (λ le. let same : m ≡ other =
-              move_once m other (allowed_has_text g b m p ok) (allowed_has_text g b other p allowed) (omega (arith, number)) in
-          subst (Contains (ms ++ m ∷ [])) same (Contains-push ms m)) (cases_lt (move_number other) n);
+      move_once m other (allowed_has_text g b m p ok) (allowed_has_text g b other p allowed) (omega (arith, number)) in
+      subst (Contains (ms ++ m ∷ [])) same (Contains-push ms m)) (cases_lt (move_number other) n);
   rising = rw map_push (rising_push (map move_number ms) (move_number m) lists.rising (λ k within.
-        let inside : k < length ms = omega (arith, length-map ms move_number) in
-        let here = lists.allowed (get_or ms k m) (Contains-get_or ms k m inside) in
-        omega (arith, get_or-map move_number ms k m 0 inside, here.1, number)));
+      let inside : k < length ms = omega (arith, length-map ms move_number) in
+      let here = lists.allowed (get_or ms k m) (Contains-get_or ms k m inside) in
+      omega (arith, get_or-map move_number ms k m 0 inside, here.1, number)));
 }
 
 -- the move with this number is not allowed, so it is passed over
@@ -72,8 +72,8 @@ pub lists_skip : (g : GameRules) (b : Board) (n : ℕ) (ms : List Move) (m : Mov
     → ListsBelow g b n ms → (Allows g b m → ⊥) → move_number m ≡ n → ListsBelow g b (n + 1) ms
 lists_skip g b n ms m p text lists refused number =
     lists_past g b n 1 ms lists (λ other ok low high.
-        let same : other ≡ m = move_once other m (allowed_has_text g b other p ok) text (omega (arith, number)) in
-        refused (subst (Allows g b) same ok))
+    let same : other ≡ m = move_once other m (allowed_has_text g b other p ok) text (omega (arith, number)) in
+    refused (subst (Allows g b) same ok))
 
 -- nothing can be taken from this place, so all its moves are passed over
 pub lists_empty : (g : GameRules) (b : Board) (n : ℕ) (ms : List Move) (from : Place) → IsPosition b → IsThere from
@@ -81,12 +81,12 @@ pub lists_empty : (g : GameRules) (b : Board) (n : ℕ) (ms : List Move) (from :
 lists_empty g b n ms from p there number none lists =
     let last : n * 13 + 13 ≡ (n + 1) * 13 = omega arith in
     subst (λ k. ListsBelow g b k ms) last (lists_past g b (n * 13) 13 ms lists (λ m ok low high.
-        let text = allowed_has_text g b m p ok in
-        let most = place_most m.to text.to in
-        let same : m.from ≡ from =
-            place_once m.from from (source_is_there m.from text.from) there (omega (arith, number, low, high, most)) in
-        let card = ok.1.playable in
-        absurd (cc (sym card ∙ ap (playable b) same ∙ none))))
+    let text = allowed_has_text g b m p ok in
+    let most = place_most m.to text.to in
+    let same : m.from ≡ from =
+    place_once m.from from (source_is_there m.from text.from) there (omega (arith, number, low, high, most)) in
+    let card = ok.1.playable in
+    absurd (cc (sym card ∙ ap (playable b) same ∙ none))))
 
 -- every move has a number below those of twelve sources
 pub lists_all : (g : GameRules) (b : Board) (ms : List Move) → IsPosition b → ListsBelow g b (12 * 13) ms → ListsMoves g b ms

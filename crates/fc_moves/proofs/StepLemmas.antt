@@ -1,30 +1,36 @@
 -- Steps: when one is allowed, that moves have numbers of their own, and what a step keeps.
-use Rattle.std.proofs.Common.{◌≡◌, ◌≢◌, ℕ, zero, suc, ◌+◌, ◌-◌, ◌*◌, ◌≤◌, ◌<◌, ◌↔◌, ◌⊎◌, Bool, Option, Some, None, List, [], ◌∷◌, length, set, get_or, refl, sym, ◌∙◌, ap, subst, inl, inr, ⊎_elim, arith}
-use Rattle.std.specs.Prelude.{IsTrue, slice_index}
-use Rattle.std.proofs.lemmas.List.{get_or_past, get_or-set_same, get_or-set_other, set_past}
+use Rattle.std.proofs.Common.{◌≡◌, ℕ, ◌≤◌, ◌<◌, ◌↔◌, Bool, Some, None, [], ◌∷◌, length, refl, ◌∙◌, ap, subst, ⊎_elim, arith}
+use Rattle.std.specs.Prelude.{IsTrue}
+use Rattle.std.proofs.lemmas.List.{get_or-set_same, get_or-set_other, set_past}
 use Rattle.std.proofs.lemmas.Bool.{cases_lt, cases_eq}
-use Rattle.fc_cards.specs.Card.{rank, suit}
 use Rattle.fc_cards.specs.declared.places.Place.{Place}
 use Rattle.fc_cards.specs.declared.places.Place.TheVariants.{Column, Cell, Home}
-use Rattle.fc_position.specs.Board.{Board, column, cell, playable, lifted, placed, Receives, IsHome, IsNext, last_of}
+use Rattle.fc_position.specs.Board.{Board, playable, lifted, placed, Receives}
 use Rattle.fc_position.specs.Position.{IsPosition, Fits}
-use Rattle.fc_position.proofs.BoardLemmas.{column_there, cell_there, homes-lifted, position-moved}
+use Rattle.fc_position.proofs.BoardLemmas.{column_there, cell_there, position-moved}
 use Rattle.fc_moves.specs.declared.steps.Move.{Move}
-use Rattle.fc_moves.specs.GameRules.{GameRules, IsPositionOf}
-use Rattle.fc_moves.specs.Laws.{StepsKeepPositions, RunsKeepPositions, HomeStaysHome, AllowedMovesHaveTexts, TextsTellMovesApart}
-use Rattle.fc_moves.specs.MoveText.{IsThere, IsSource, HasText, place_letter, move_text}
-use Rattle.fc_moves.specs.Run.{Run}
-use Rattle.fc_moves.specs.Step.{Step, Allows, Joins, Takes, place_number, move_number}
+use Rattle.fc_moves.specs.GameRules.{GameRules}
+use Rattle.fc_moves.specs.Laws.{StepsKeepPositions, RunsKeepPositions, AllowedMovesHaveTexts}
+use Rattle.fc_moves.specs.MoveText.{IsThere, IsSource, HasText}
+use Rattle.fc_moves.specs.Step.{Allows, Joins, Takes, place_number, move_number}
 
 -- a move of a playable card to a place that joins and takes it is allowed, and no other
 pub allows_by : (g : GameRules) (b : Board) (m : Move) (card : ℕ) (t : Bool) → playable b m.from ≡ Some card
     → Joins m.from m.to → (IsTrue t ↔ Takes g b card m.to) → IsTrue t ↔ Allows g b m
-allows_by g b m card t there joins takes =
-    (λ yes. (placed (lifted b m.from) card m.to, record {
-        card = card; playable = there; joins = joins; takes = takes.0 yes; after = refl
-      }),
-        λ (_, step). let same : step.card ≡ card = let e = step.playable in cc in
-            takes.1 (subst (λ u. Takes g b u m.to) same step.takes))
+allows_by g b m card t there joins takes = (
+  λ yes. (
+    placed (lifted b m.from) card m.to,
+    record {
+      card = card;
+      playable = there;
+      joins = joins;
+      takes = takes.0 yes;
+      after = refl;
+    },
+  ),
+  λ (_, step). let same : step.card ≡ card = let e = step.playable in cc in
+      takes.1 (subst (λ u. Takes g b u m.to) same step.takes),
+)
 
 -- a place that has a playable card is a column or a cell
 pub source_there : (b : Board) (from : Place) (u : ℕ) → IsPosition b → playable b from ≡ Some u → IsSource from
@@ -99,7 +105,7 @@ fits-lifted n b (Column i) fits = fits
 fits-lifted n b (Cell i) fits = λ k past.
     ⊎_elim
     (λ e. ⊎_elim (λ lt. rw e (get_or-set_same b.cells i None None lt))
-        (λ le. rw (set_past b.cells i None le) (fits k past)) (cases_lt i (length b.cells)))
+    (λ le. rw (set_past b.cells i None le) (fits k past)) (cases_lt i (length b.cells)))
     (λ ne. get_or-set_other b.cells i k None None ne ∙ fits k past) (cases_eq k i)
 fits-lifted n b Home fits = fits
 

@@ -1,12 +1,11 @@
 -- What the games that come with the program say of each card and each pair, and that they are games.
-use Rattle.std.specs.Prelude.{◌≡◌, ℕ, ◌+◌, ◌*◌, ◌/◌, ◌%◌, ◌<◌, ◌≤◌, ◌↔◌, ◌⊎◌, ◌==◌, ◌&&◌, Bool, true, false, cond, refl, List, [], ◌∷◌, length, slice_index_or, map, filter, Contains, All}
-use Rattle.std.specs.List.{range_with_len}
+use Rattle.std.specs.Prelude.{◌≡◌, ℕ, ◌+◌, ◌*◌, ◌/◌, ◌%◌, ◌<◌, ◌≤◌, ◌⊎◌, ◌==◌, ◌&&◌, Bool, true, false, cond, refl, List, [], ◌∷◌, slice_index_or, filter, Contains, All}
 use Rattle.std.proofs.Common.{zero, suc, sym, ◌∙◌, ap, subst, inl, inr, ⊎_elim, zero-add, arith}
 use Rattle.std.proofs.lemmas.List.Elements.{Contains-get_or}
 use Rattle.std.proofs.lemmas.List.FromFn.{get_or-map-range_with_len, get_or-range_with_len, length-range_with_len, length-map-range_with_len}
 use Rattle.std.proofs.lemmas.Bool.Decides.{nat_tests}
 use Rattle.std.proofs.lemmas.Nat.{or_of_8}
-use Rattle.fc_cards.specs.Card.{rank, suit}
+use Rattle.fc_cards.specs.Card.{rank}
 use Rattle.fc_moves.specs.GameRules.{GameRules, IsGame, IsPair, first_cards, first_pairs, all_cards, all_pairs, pairs_where, built_game, kings}
 
 -- an element of a list is its first or one of the others
@@ -27,22 +26,24 @@ Contains-from_filter test [] x (k, below, e) = absurd (omega arith)
 Contains-from_filter test (y ∷ xs) x found =
     let Kept : Type 0 = Contains (y ∷ xs) x × (test x ≡ true) in
     let rest : Contains (filter test xs) x → Kept = λ f.
-        (Contains-later y xs x (Contains-from_filter test xs x f).0, (Contains-from_filter test xs x f).1) in
-    elim (test y) as (λ b. test y ≡ b → Contains (cond b (y ∷ filter test xs) (filter test xs)) x → Kept)
-    [ true ↦ λ passes f. ⊎_elim (λ e. (subst (Contains (y ∷ xs)) e (Contains-first xs y), ap test (sym e) ∙ passes)) rest
-        (Contains-cases y (filter test xs) x f)
-    | false ↦ λ fails f. rest f ] refl found
+    (Contains-later y xs x (Contains-from_filter test xs x f).0, (Contains-from_filter test xs x f).1) in
+    elim (test y) as (λ b. test y ≡ b → Contains (cond b (y ∷ filter test xs) (filter test xs)) x → Kept) [
+      | true ↦ λ passes f. ⊎_elim (λ e. (subst (Contains (y ∷ xs)) e (Contains-first xs y), ap test (sym e) ∙ passes)) rest
+          (Contains-cases y (filter test xs) x f)
+      | false ↦ λ fails f. rest f
+    ] refl found
 
 -- an element that passes is kept
 pub Contains-filter : {X : Type 0} (test : X → Bool) (xs : List X) (x : X) → Contains xs x → test x ≡ true
     → Contains (filter test xs) x
 Contains-filter test [] x (k, below, e) passes = absurd (omega arith)
 Contains-filter test (y ∷ xs) x found passes =
-    elim (test y) as (λ b. test y ≡ b → Contains (cond b (y ∷ filter test xs) (filter test xs)) x)
-    [ true ↦ λ yes. ⊎_elim (λ e. subst (Contains (y ∷ filter test xs)) e (Contains-first (filter test xs) y))
-        (λ f. Contains-later y (filter test xs) x (Contains-filter test xs x f passes)) (Contains-cases y xs x found)
-    | false ↦ λ no. ⊎_elim (λ e. absurd (cc (sym no ∙ ap test e ∙ passes)))
-        (λ f. Contains-filter test xs x f passes) (Contains-cases y xs x found) ] refl
+    elim (test y) as (λ b. test y ≡ b → Contains (cond b (y ∷ filter test xs) (filter test xs)) x) [
+      | true ↦ λ yes. ⊎_elim (λ e. subst (Contains (y ∷ filter test xs)) e (Contains-first (filter test xs) y))
+          (λ f. Contains-later y (filter test xs) x (Contains-filter test xs x f passes)) (Contains-cases y xs x found)
+      | false ↦ λ no. ⊎_elim (λ e. absurd (cc (sym no ∙ ap test e ∙ passes)))
+          (λ f. Contains-filter test xs x f passes) (Contains-cases y xs x found)
+    ] refl
 
 -- what holds of each member holds of each element
 pub All-from_members : {X : Type 0} (P : X → Type 0) (xs : List X) → ((x : X) → Contains xs x → P x) → All P xs
@@ -69,9 +70,11 @@ only_cards c found = first_cards-only 52 c found
 first_pairs-have : (n u l : ℕ) → u < 52 → l < 52 → u * 52 + l < n → Contains (first_pairs n) (u, l)
 first_pairs-have n u l one two within =
     let pair : ◌≡◌ {A = ℕ × ℕ} ((u * 52 + l) / 52, (u * 52 + l) % 52) (u, l) =
-        ap (λ q. (q, (u * 52 + l) % 52)) (omega arith) ∙ ap (λ r. (u, r)) (omega arith) in
-    (u * 52 + l, omega (arith, length-map-range_with_len {X = ℕ × ℕ} (λ k. (k / 52, k % 52)) 0 n),
-        get_or-map-range_with_len (λ k. (k / 52, k % 52)) 0 n (u * 52 + l) (u * 52 + l) (u, l) within (omega arith) ∙ pair)
+    ap (λ q. (q, (u * 52 + l) % 52)) (omega arith) ∙ ap (λ r. (u, r)) (omega arith) in (
+      u * 52 + l,
+      omega (arith, length-map-range_with_len {X = ℕ × ℕ} (λ k. (k / 52, k % 52)) 0 n),
+      get_or-map-range_with_len (λ k. (k / 52, k % 52)) 0 n (u * 52 + l) (u * 52 + l) (u, l) within (omega arith) ∙ pair,
+    )
 
 first_pairs-only : (n : ℕ) (p : ℕ × ℕ) → n ≤ 2704 → Contains (first_pairs n) p → (p.0 < 52) × (p.1 < 52)
 first_pairs-only n p few (k, below, e) =

@@ -1,11 +1,11 @@
 -- What the laws of this crate state.
-use Rattle.std.specs.Prelude.{◌≡◌, ℕ, length, List}
+use Rattle.std.specs.Prelude.{◌≡◌, ℕ, List}
 use Rattle.fc_position.specs.Board.{Board, IsHome}
 use Rattle.fc_position.specs.Position.{IsPosition}
 use Rattle.fc_moves.specs.declared.steps.Move.{Move}
-use Rattle.fc_moves.specs.GameRules.{GameRules, IsGame, IsPositionOf}
+use Rattle.fc_moves.specs.GameRules.{GameRules, IsPositionOf}
 use Rattle.fc_moves.specs.MoveText.{HasText, move_text}
-use Rattle.fc_moves.specs.Run.{Run, Wins}
+use Rattle.fc_moves.specs.Run.{Run}
 use Rattle.fc_moves.specs.Step.{Step, Allows}
 
 -- a step from a position of the game leads to a position of the game

@@ -5,29 +5,24 @@ ghost use Rattle.fc_moves.specs.Laws.{StepsKeepPositions, RunsKeepPositions, Hom
 /// A step from a position that fits the game leads to a position that fits it.
 pub fn steps_keep_positions()
     ensures { StepsKeepPositions }
-{
-}
+{}
 
 /// A list of moves from a position that fits the game leads to a position that fits it.
 pub fn runs_keep_positions()
     ensures { RunsKeepPositions }
-{
-}
+{}
 
 /// A card that is home stays home.
 pub fn home_stays_home()
     ensures { HomeStaysHome }
-{
-}
+{}
 
 /// A move that is allowed in a position has a text.
 pub fn allowed_moves_have_texts()
     ensures { AllowedMovesHaveTexts }
-{
-}
+{}
 
 /// No text is of two moves.
 pub fn texts_tell_moves_apart()
     ensures { TextsTellMovesApart }
-{
-}
+{}

@@ -13,7 +13,6 @@ mod games;
 pub mod laws;
 mod lists;
 mod steps;
-mod texts;
-
 #[cfg(test)]
 mod tests;
+mod texts;

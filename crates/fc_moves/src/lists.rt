@@ -27,7 +27,13 @@ pub fn moves<G: Game>(game: &G, position: &Position) -> ArrayVec<Move, 132>
 }
 
 // Adds the moves of the playable card of a place, after those of the places before it.
-fn list_moves_from<G: Game>(game: &G, position: &Position, from: Place, card: Card, list: &mut ArrayVec<Move, 132>)
+fn list_moves_from<G: Game>(
+    game: &G,
+    position: &Position,
+    from: Place,
+    card: Card,
+    list: &mut ArrayVec<Move, 132>,
+)
     requires whole { IsPosition position.now }
     requires card { playable position.now from ≡ Some card }
     requires before { ListsBelow (G.game game.now) position.now (place_number from * 13) list.old.items }

@@ -3,9 +3,7 @@ ghost use Rattle.std.proofs.Common.{lit<, lit≤};
 ghost use Rattle.fc_moves.specs.GameLaws.{built_game_is_game};
 ghost use Rattle.fc_moves.specs.GameRules.{built_game};
 
-use crate::{
-    BakersGame, FreeCell, Game, Kings, Move, allows, apply, move_text, moves, read_move,
-};
+use crate::{BakersGame, FreeCell, Game, Kings, Move, allows, apply, move_text, moves, read_move};
 use arrayvec::ArrayVec;
 use fc_cards::{Card, Place, Suit};
 use fc_position::Position;
@@ -127,17 +125,28 @@ fn lists_moves_of_other_games(rt: HostRuntime) -> Result<(), Fail> {
     let none = FreeCell::new(0).ok_or("no cell")?;
     check_moves(&rt, &none, &board, b"13 14 15 16 17 18 23 24 25 26 27 28");
     let one = FreeCell::new(1).ok_or("one cell")?;
-    check_moves(&rt, &one, &board, b"13 14 15 16 17 18 1a 23 24 25 26 27 28 2a");
+    check_moves(
+        &rt,
+        &one,
+        &board,
+        b"13 14 15 16 17 18 1a 23 24 25 26 27 28 2a",
+    );
     let three = FreeCell::new(3).ok_or("three cells")?;
     let list = b"13 14 15 16 17 18 1a 1b 1c 23 24 25 26 27 28 2a 2b 2c";
     check_moves(&rt, &three, &board, list);
     let suits = BakersGame::new(0).ok_or("no cell")?;
-    check_moves(&rt, &suits, &board, b"12 13 14 15 16 17 18 23 24 25 26 27 28");
+    check_moves(
+        &rt,
+        &suits,
+        &board,
+        b"12 13 14 15 16 17 18 23 24 25 26 27 28",
+    );
     check_moves(&rt, &Kings::new(none), &board, b"23 24 25 26 27 28");
     check_moves(&rt, &Kings::new(one), &board, b"1a 23 24 25 26 27 28 2a");
     let mut kings = four_cards()?;
     play(&AnySuit, &mut kings, b"13 24 1a")?;
-    let list = b"21 23 24 25 26 27 28 2b 2c 2d 2h 31 35 36 37 38 3b 3c 3d 41 45 46 47 48 4b 4c 4d a1 a3 a4 a5 a6 a7 a8 ah";
+    let list =
+        b"21 23 24 25 26 27 28 2b 2c 2d 2h 31 35 36 37 38 3b 3c 3d 41 45 46 47 48 4b 4c 4d a1 a3 a4 a5 a6 a7 a8 ah";
     check_moves(&rt, &AnySuit, &kings, list);
     Ok(())
 }
@@ -151,15 +160,33 @@ fn tells_games(rt: HostRuntime) -> Result<(), Fail> {
     let kings = Kings::new(suits.copy());
     assert_eq!(rt; FreeCell::new(5), None);
     assert_eq!(rt; BakersGame::new(5), None);
-    assert!(rt; game.stands(queen, king) && !suits.stands(queen, king) && AnySuit.stands(queen, king));
-    assert!(rt; game.opens(queen) && suits.opens(queen) && !kings.opens(queen) && kings.opens(king));
-    assert_eq!(rt; (game.code(), suits.code(), kings.code(), AnySuit.code()), (0, 1, 3, 200));
-    assert_eq!(rt; (game.copy().cells(), kings.copy().cells(), AnySuit.copy().cells()), (4, 3, 4));
+    assert!(rt;
+        game.stands(queen, king) && !suits.stands(queen, king) && AnySuit.stands(queen, king)
+    );
+    assert!(rt;
+        game.opens(queen) && suits.opens(queen) && !kings.opens(queen) && kings.opens(king)
+    );
+    assert_eq!(rt;
+        (game.code(), suits.code(), kings.code(), AnySuit.code()),
+        (0, 1, 3, 200)
+    );
+    assert_eq!(rt;
+        (
+            game.copy().cells(),
+            kings.copy().cells(),
+            AnySuit.copy().cells()
+        ),
+        (4, 3, 4)
+    );
     assert_eq!(rt; Kings::new(game).code(), 2);
     let ace = Card::new(1, Suit::D).ok_or("an ace")?;
     assert_eq!(rt; game.hosts_of(ace).len(), 0);
     let hosts: [(usize, &[u8]); 3] = [(2, b"QC QS"), (1, b"QH"), (4, b"QC QD QH QS")];
-    let found = [game.hosts_of(king), kings.hosts_of(king), AnySuit.hosts_of(king)];
+    let found = [
+        game.hosts_of(king),
+        kings.hosts_of(king),
+        AnySuit.hosts_of(king),
+    ];
     for ((count, texts), cards) in hosts.iter().zip(&found) {
         assert_eq!(rt; cards.len(), *count);
         for (card, text) in cards.as_slice().iter().zip(texts.chunks(3)) {
@@ -173,7 +200,9 @@ fn tells_games(rt: HostRuntime) -> Result<(), Fail> {
 fn reads_moves(rt: HostRuntime) -> Result<(), Fail> {
     let game = FreeCell::new(4).ok_or("four cells")?;
     let board = four_cards()?;
-    let texts: [&[u8]; 10] = [b"", b"1", b"1aa", b"h1", b"1A", b"9h", b"0h", b"e1", b"1H", b" 1"];
+    let texts: [&[u8]; 10] = [
+        b"", b"1", b"1aa", b"h1", b"1A", b"9h", b"0h", b"e1", b"1H", b" 1",
+    ];
     for text in texts {
         assert_eq!(rt; read_move(text), None);
     }
@@ -188,7 +217,19 @@ fn reads_moves(rt: HostRuntime) -> Result<(), Fail> {
         let m = read_move(text).ok_or("a move")?;
         assert!(rt; !allows(&game, &board, m));
     }
-    assert_eq!(rt; read_move(b"8d"), Some(Move { from: Place::Column(7), to: Place::Cell(3) }));
-    assert_eq!(rt; Move::default(), Move { from: Place::Home, to: Place::Home });
+    assert_eq!(rt;
+        read_move(b"8d"),
+        Some(Move {
+            from: Place::Column(7),
+            to: Place::Cell(3)
+        })
+    );
+    assert_eq!(rt;
+        Move::default(),
+        Move {
+            from: Place::Home,
+            to: Place::Home
+        }
+    );
     Ok(())
 }

@@ -17,17 +17,19 @@ loop-number-preserved g c =
     let start = array_vec_len c.args.list.now in
     let turn = c.loop-number.invariant in
     let passes = λ (refused : Allows game board m → ⊥).
-        turn_passes game board c.args.from to start c.loop-number.number c.loop-number.list.items c.requires.whole source c.place_of-to.ensures.there c.place_of-to.ensures.number turn refused in
-    elim c.if-joins.branch
-    [ then-joins+then-takes w ↦
-        let joins = w.if-joins.ensures.0 refl in
-        let allowed = (allows_by game board m c.args.card w.takes.result c.requires.card joins w.takes.ensures).0 w.if-takes.true in
-        turn_adds game board c.args.from to start c.loop-number.number c.loop-number.list.items c.if-joins.list.items c.requires.whole source c.place_of-to.ensures.there c.place_of-to.ensures.number turn joins allowed
-        (ap (λ v. v.items) w.list-is ∙ w.push.ensures.items)
-    | else-joins w ↦ rw w.list-is (elim w.else-joins.branch
-        [ else-joins-via-then-joins+else-takes v ↦
+    turn_passes game board c.args.from to start c.loop-number.number c.loop-number.list.items c.requires.whole source c.place_of-to.ensures.there c.place_of-to.ensures.number turn refused in
+    elim c.if-joins.branch [
+      | then-joins+then-takes w ↦
+          let joins = w.if-joins.ensures.0 refl in
+          let allowed = (allows_by game board m c.args.card w.takes.result c.requires.card joins w.takes.ensures).0 w.if-takes.true in
+          turn_adds game board c.args.from to start c.loop-number.number c.loop-number.list.items c.if-joins.list.items c.requires.whole source c.place_of-to.ensures.there c.place_of-to.ensures.number turn joins allowed
+          (ap (λ v. v.items) w.list-is ∙ w.push.ensures.items)
+      | else-joins w ↦ rw w.list-is (elim w.else-joins.branch [
+        | else-joins-via-then-joins+else-takes v ↦
             let joins = v.if-joins.ensures.0 refl in
             passes (λ allowed. absurd (cc (sym v.if-takes.false
-                ∙ (allows_by game board m c.args.card v.takes.result c.requires.card joins v.takes.ensures).1 allowed)))
+            ∙ (allows_by game board m c.args.card v.takes.result c.requires.card joins v.takes.ensures).1 allowed)))
         | else-joins-via-else-joins v ↦
-            passes (λ allowed. absurd (cc (v.if-joins.ensures.1 allowed.1.joins))) ]) ]
+            passes (λ allowed. absurd (cc (v.if-joins.ensures.1 allowed.1.joins)))
+      ])
+    ]

@@ -1,4 +1,4 @@
-use Rattle.std.proofs.Common.{◌≡◌, ℕ, ◌+◌, ◌*◌, sym, ◌∙◌, ap, subst, arith}
+use Rattle.std.proofs.Common.{◌≡◌, ◌+◌, ◌*◌, sym, ◌∙◌, subst, arith}
 use Rattle.fc_moves.specs.Step.{ListsBelow, place_number}
 use Rattle.fc_moves.proofs.ListLemmas.{lists_all, lists_empty, most_before-next}
 use Rattle.fc_moves.proofs.lists.moves.Goals as goal
@@ -11,22 +11,23 @@ loop-number-preserved g c =
     let from = c.place_of-from.result in
     let number = c.place_of-from.ensures.number in
     let grows = most_before-next from c.loop-number.number c.place_of-from.ensures.there number c.loop-number-test.true in
-    elim c.match-playable.branch
-    [ in-Some w ↦
-        let next : place_number from * 13 + 13 ≡ (c.loop-number.number + 1) * 13 = omega (arith, number) in
-        rw w.list-is (record {
-          listed = subst (λ k. ListsBelow game board k w.list_moves_from.new.list.items) next w.list_moves_from.ensures.after;
-          whole = λ _. c.playable.ensures.whole;
-          count = omega (arith, grows, c.loop-number.invariant.count, w.list_moves_from.ensures.count);
-        })
-    | in_default w ↦
-        rw w.list-is (record {
-          listed =
-              lists_empty game board c.loop-number.number c.loop-number.list.items from c.playable.ensures.whole c.place_of-from.ensures.there number
-              (sym c.playable.ensures.value ∙ w.in_default.is) c.loop-number.invariant.listed;
-          whole = λ _. c.playable.ensures.whole;
-          count = omega (arith, grows, c.loop-number.invariant.count);
-        }) ]
+    elim c.match-playable.branch [
+      | in-Some w ↦
+          let next : place_number from * 13 + 13 ≡ (c.loop-number.number + 1) * 13 = omega (arith, number) in
+          rw w.list-is (record {
+            listed = subst (λ k. ListsBelow game board k w.list_moves_from.new.list.items) next w.list_moves_from.ensures.after;
+            whole = λ _. c.playable.ensures.whole;
+            count = omega (arith, grows, c.loop-number.invariant.count, w.list_moves_from.ensures.count);
+          })
+      | in_default w ↦
+          rw w.list-is (record {
+            listed =
+                lists_empty game board c.loop-number.number c.loop-number.list.items from c.playable.ensures.whole c.place_of-from.ensures.there number
+                (sym c.playable.ensures.value ∙ w.in_default.is) c.loop-number.invariant.listed;
+            whole = λ _. c.playable.ensures.whole;
+            count = omega (arith, grows, c.loop-number.invariant.count);
+          })
+    ]
 
 pub returns : goal.returns
 returns g c =

@@ -16,7 +16,7 @@ pub returns-in_default-clause-exact : goal.returns-in_default-clause-exact
 returns-in_default-clause-exact c u =
     let below = c.rank.ensures.within in
     let ace : rank c.args.card ≡ 1 =
-        ⊎_elim
-        (λ more. absurd (cc (c.in_default.ensures.valid.1 (record { least = omega arith; greatest = omega (arith, below.greatest) }))))
-        (λ one. omega arith) (cases_lt 1 (rank c.args.card)) in
+    ⊎_elim
+    (λ more. absurd (cc (c.in_default.ensures.valid.1 (record { least = omega arith; greatest = omega (arith, below.greatest) }))))
+    (λ one. omega arith) (cases_lt 1 (rank c.args.card)) in
     rw c.new-cards.ensures (no_hosts (λ a b. suit a == suit b) c.args.card ace u)

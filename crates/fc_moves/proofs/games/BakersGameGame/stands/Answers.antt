@@ -8,7 +8,7 @@ use Rattle.fc_moves.proofs.games.BakersGameGame.stands.Goals as goal
 pub returns-then-rank : goal.returns-then-rank
 returns-then-rank c = record {
   value =
-    bakers_game-stands c.args.self.now.cells c.args.upper c.args.lower c.eq.result (omega (arith, c.rank.ensures.within.greatest)) (omega (arith, c.rank-2.ensures.within.greatest)) (suits_read c.eq.result c.suit.result c.suit-then-rank.result (suit c.args.upper) (suit c.args.lower) c.eq.ensures c.suit.ensures c.suit-then-rank.ensures) (omega arith);
+      bakers_game-stands c.args.self.now.cells c.args.upper c.args.lower c.eq.result (omega (arith, c.rank.ensures.within.greatest)) (omega (arith, c.rank-2.ensures.within.greatest)) (suits_read c.eq.result c.suit.result c.suit-then-rank.result (suit c.args.upper) (suit c.args.lower) c.eq.ensures c.suit.ensures c.suit-then-rank.ensures) (omega arith);
 }
 
 pub returns-else-rank : goal.returns-else-rank

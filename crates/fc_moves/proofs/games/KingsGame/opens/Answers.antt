@@ -5,5 +5,5 @@ use Rattle.fc_moves.proofs.games.KingsGame.opens.Goals as goal
 pub returns : goal.returns
 returns g c = record {
   value =
-    rw c.rank.ensures.value (kings_open (g.G.Game.game c.args.self.now.inner) c.args.card (omega (arith, c.rank.ensures.within.greatest)));
+      rw c.rank.ensures.value (kings_open (g.G.Game.game c.args.self.now.inner) c.args.card (omega (arith, c.rank.ensures.within.greatest)));
 }

@@ -7,6 +7,8 @@ pub returns : goal.returns
 returns c =
     let both = stands-where (λ _ _. true) c.args.upper c.args.lower in
     record {
-      value = (λ yes. both.1 (omega (arith, c.rank.ensures.within.greatest), omega (arith, c.rank-2.ensures.within.greatest), grind (arith, nat_tests), refl),
-          λ found. let p = both.0 found in grind (arith, nat_tests));
+      value = (
+        λ yes. both.1 (omega (arith, c.rank.ensures.within.greatest), omega (arith, c.rank-2.ensures.within.greatest), grind (arith, nat_tests), refl),
+        λ found. let p = both.0 found in grind (arith, nat_tests),
+      );
     }

@@ -1,0 +1,195 @@
+//! Measures calls of the library on the start of deal 1: nanoseconds a call, and how that compares with copying as many
+//! bytes as a position has. The argument is how often each call is made; at 0 nothing is measured.
+#![tactic(auto)]
+
+use arrayvec::ArrayVec;
+use fc_cards::{Card, Place};
+use fc_moves::{FreeCell, Move, allows, apply, moves};
+use fc_position::Position;
+use std::rt::Clock;
+use std::time::Instant;
+use std::{array, env, io};
+
+/// The columns of deal 1, the deepest card first.
+const DEAL: [&[u8]; 8] = [
+    b"JD KD 2S 4C 3S 6D 6S",
+    b"2D KC KS 5C TD 8S 9C",
+    b"9H 9S 9D TS 4S 8D 2H",
+    b"JC 5S QD QH TH QS 6H",
+    b"5D AD JS 4H 8H 6C",
+    b"7H QC AS AC 2C 3D",
+    b"7C KH AH 4D JH 8C",
+    b"5H 3H 3C 7S 7D TC",
+];
+
+/// How many places a copy goes round, so that no copy can be left out.
+const SLOTS: usize = 8;
+
+/// As many bytes as a position has.
+const BYTES: usize = size_of::<Position>();
+
+/// The start of deal 1.
+fn start() -> Option<Position> {
+    let mut columns: [ArrayVec<Card, 52>; 8] = Default::default();
+    for (column, text) in columns.iter_mut().zip(&DEAL) {
+        for word in text.chunks(3) {
+            let card = Card::read(word.get(..2)?)?;
+            column.try_push(card).ok()?;
+        }
+    }
+    Position::from_parts(columns, [None; 4], [0; 4]).ok()
+}
+
+/// Copies bytes round a ring of buffers, and gives a byte of the last.
+fn copy_bytes(rounds: u32) -> usize {
+    let mut ring = [[1u8; BYTES]; SLOTS];
+    for i in 0..rounds as usize {
+        let bytes = ring[i % SLOTS];
+        ring[(i + 1) % SLOTS] = bytes;
+    }
+    ring[rounds as usize % SLOTS][0] as usize
+}
+
+/// Copies a position round a ring of them, and gives the length of a column of the last.
+fn copy_positions(position: &Position, rounds: u32) -> usize {
+    let mut ring: [Position; SLOTS] = array::from_fn(|_| position.copy());
+    let slots = &mut ring[..];
+    for i in 0..rounds as usize {
+        let next = slots[i % SLOTS].copy();
+        slots[(i + 1) % SLOTS] = next;
+    }
+    let slots = &*slots;
+    slots[rounds as usize % SLOTS].column(0).len()
+}
+
+/// Shifts one card a round: the one in a cell goes to the column whose turn it is, else that column's last goes to the
+/// cell, so that the cards wander.
+fn shift_cards(position: &mut Position, rounds: u32) -> usize {
+    for i in 0..rounds {
+        let column = Place::Column((i % 8) as u8);
+        let cell = (i % 3) as u8;
+        if position.cell(cell).is_some() {
+            position.shift(Place::Cell(cell), column);
+        } else if position.playable(column).is_some() {
+            position.shift(column, Place::Cell(cell));
+        }
+    }
+    position.column(0).len()
+}
+
+/// Asks for two moves a round, from the cell whose turn it is to a column and back, and makes those that are allowed.
+fn apply_moves(game: &FreeCell, position: &mut Position, rounds: u32) -> usize {
+    let mut count = 0usize;
+    for i in 0..rounds {
+        let column = Place::Column((i % 8) as u8);
+        let cell = Place::Cell((i % 3) as u8);
+        for m in [
+            Move {
+                from: cell,
+                to: column,
+            },
+            Move {
+                from: column,
+                to: cell,
+            },
+        ] {
+            if allows(game, position, m) {
+                apply(game, position, m);
+                count = count.wrapping_add(1);
+            }
+        }
+    }
+    count
+}
+
+/// Lists the moves of a position again and again, with the last card of a column going to a cell and back.
+fn list_moves(game: &FreeCell, position: &mut Position, rounds: u32) -> usize {
+    let mut count = 0usize;
+    for i in 0..rounds {
+        count = count.wrapping_add(moves(game, position).len());
+        let column = Place::Column((i % 8) as u8);
+        if position.cell(0).is_some() {
+            position.shift(Place::Cell(0), column);
+        } else if position.playable(column).is_some() {
+            position.shift(column, Place::Cell(0));
+        }
+    }
+    count
+}
+
+/// Runs a measurement and gives its nanoseconds; what it computes is looked at, so that it is not left out.
+fn measured<F: FnOnce() -> usize>(rt: &(impl Clock + Print), run: F) -> io::Result<u64>
+    requires { F.IsAlwaysCallable run }
+{
+    let start = Instant::now(rt)?;
+    let outcome = run();
+    let nanos = start.elapsed(rt)?.as_nanos();
+    if outcome == usize::MAX {
+        rt.println("more was done than can be counted")?;
+    }
+    Ok(u64::try_from(nanos).unwrap_or(u64::MAX))
+}
+
+/// Prints a measurement: tenths of nanoseconds a call, and hundredths of a copy of the bytes.
+fn report(
+    rt: &impl Print,
+    name: &str,
+    calls: u64,
+    nanos: u64,
+    copy: u64,
+    copies: u64,
+) -> io::Result<()> {
+    if calls == 0 || copy == 0 || copies == 0 {
+        return println!(rt; "{name}: not measured");
+    }
+    let tenths = nanos.saturating_mul(10) / calls;
+    let ratio = (nanos.saturating_mul(100) / calls).saturating_mul(copies) / copy;
+    let (whole, part) = (tenths / 10, tenths % 10);
+    let (times, hundredths) = (ratio / 100, ratio % 100);
+    println!(rt;
+        "{name}: {whole}.{part} ns a call, {times}.{hundredths:02} times a copy of {BYTES} bytes"
+    )
+}
+
+/// Measures each call so often.
+fn bench(
+    rt: &(impl Clock + Print),
+    position: &Position,
+    game: &FreeCell,
+    rounds: u32,
+) -> io::Result<()> {
+    let calls = u64::from(rounds);
+    let bytes = measured(rt, || copy_bytes(rounds))?;
+    report(rt, "copy of the bytes", calls, bytes, bytes, calls)?;
+    let copies = measured(rt, || copy_positions(position, rounds))?;
+    report(rt, "Position::copy", calls, copies, bytes, calls)?;
+    let mut board = position.copy();
+    let shifts = measured(rt, || shift_cards(&mut board, rounds))?;
+    report(
+        rt,
+        "Position::shift, with its tests",
+        calls,
+        shifts,
+        bytes,
+        calls,
+    )?;
+    let mut board = position.copy();
+    let applied = measured(rt, || apply_moves(game, &mut board, rounds))?;
+    report(rt, "allows and apply", 2 * calls, applied, bytes, calls)?;
+    let mut board = position.copy();
+    let listed = measured(rt, || list_moves(game, &mut board, rounds))?;
+    report(rt, "moves", calls, listed, bytes, calls)
+}
+
+fn main(rt: HostRuntime) -> io::Result<()> {
+    let mut words = env::args(&rt)?;
+    words.next();
+    let rounds = words
+        .next()
+        .and_then(|word| word.parse::<u32>().ok())
+        .unwrap_or(0);
+    match (start(), FreeCell::new(4)) {
+        (Some(position), Some(game)) => bench(&rt, &position, &game, rounds),
+        _ => println!(rt; "no deal"),
+    }
+}
