@@ -4,14 +4,20 @@
 //! there are. Everything here is generic over it. No call allocates.
 #![tactic(auto)]
 
-pub use games::{BakersGame, FreeCell, Game, Kings};
+pub use bakers_game::BakersGame;
+pub use free_cell::FreeCell;
+pub use games::Game;
 pub use lists::moves;
+pub use only_kings::Kings;
 pub use steps::{Move, allows, apply};
 pub use texts::{move_text, read_move};
 
+mod bakers_game;
+mod free_cell;
 mod games;
 pub mod laws;
 mod lists;
+mod only_kings;
 mod steps;
 #[cfg(test)]
 mod tests;

@@ -3,7 +3,7 @@ use Rattle.std.specs.Prelude.{◌==◌}
 use Rattle.std.proofs.lemmas.Bool.Decides.{nat_tests}
 use Rattle.fc_cards.specs.Card.{suit}
 use Rattle.fc_moves.proofs.GameLemmas.{bakers_game-stands, other_ranks, suits_read}
-use Rattle.fc_moves.proofs.games.BakersGameGame.stands.Goals as goal
+use Rattle.fc_moves.proofs.bakers_game.BakersGameGame.stands.Goals as goal
 
 pub returns-then-rank : goal.returns-then-rank
 returns-then-rank c = record {

@@ -1,6 +1,6 @@
 use Rattle.fc_moves.proofs.GameLemmas.{hosts_of_red, hosts_of_black}
 use Rattle.std.proofs.Common.{refl}
-use Rattle.fc_moves.proofs.games.FreeCellGame.hosts_of.Goals as goal
+use Rattle.fc_moves.proofs.free_cell.FreeCellGame.hosts_of.Goals as goal
 
 pub returns-then-is_red-clause-exact : goal.returns-then-is_red-clause-exact
 returns-then-is_red-clause-exact c u =

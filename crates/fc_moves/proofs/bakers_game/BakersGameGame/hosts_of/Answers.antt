@@ -3,7 +3,7 @@ use Rattle.std.specs.Prelude.{◌==◌}
 use Rattle.std.proofs.lemmas.Bool.{cases_lt}
 use Rattle.fc_cards.specs.Card.{rank, suit}
 use Rattle.fc_moves.proofs.GameLemmas.{hosts_in_suit, no_hosts}
-use Rattle.fc_moves.proofs.games.BakersGameGame.hosts_of.Goals as goal
+use Rattle.fc_moves.proofs.bakers_game.BakersGameGame.hosts_of.Goals as goal
 
 pub returns-in-Some-clause-exact : goal.returns-in-Some-clause-exact
 returns-in-Some-clause-exact c u =

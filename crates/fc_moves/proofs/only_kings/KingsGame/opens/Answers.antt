@@ -1,6 +1,6 @@
 use Rattle.std.proofs.Common.{arith}
 use Rattle.fc_moves.proofs.GameLemmas.{kings_open}
-use Rattle.fc_moves.proofs.games.KingsGame.opens.Goals as goal
+use Rattle.fc_moves.proofs.only_kings.KingsGame.opens.Goals as goal
 
 pub returns : goal.returns
 returns g c = record {

@@ -2,7 +2,7 @@ use Rattle.std.proofs.Common.{arith}
 use Rattle.std.proofs.lemmas.Bool.Decides.{nat_tests}
 use Rattle.fc_moves.specs.GameRules.{are_of_other_colour}
 use Rattle.fc_moves.proofs.GameLemmas.{free_cell-stands, other_ranks}
-use Rattle.fc_moves.proofs.games.FreeCellGame.stands.Goals as goal
+use Rattle.fc_moves.proofs.free_cell.FreeCellGame.stands.Goals as goal
 
 pub returns-then-rank : goal.returns-then-rank
 returns-then-rank c = record {
