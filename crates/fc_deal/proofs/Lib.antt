@@ -1,0 +1,2 @@
+pub mod DealLemmas
+pub mod TextLemmas
