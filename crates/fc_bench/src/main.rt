@@ -3,7 +3,8 @@
 #![tactic(auto)]
 
 use arrayvec::ArrayVec;
-use fc_cards::{Card, Place};
+use fc_canonical::{Key, canonical, distinct_moves, key};
+use fc_cards::{Card, Place, Suit};
 use fc_moves::{FreeCell, Move, allows, apply, moves};
 use fc_position::Position;
 use std::rt::Clock;
@@ -117,6 +118,61 @@ fn list_moves(game: &FreeCell, position: &mut Position, rounds: u32) -> usize {
     count
 }
 
+/// The key of a position in its plain form: the canonical position is made, and its bytes are written.
+fn plain_key(position: &Position) -> Key {
+    let sorted = canonical(position);
+    let mut bytes: Key = ArrayVec::new();
+    for suit in Suit::ALL {
+        let _ = bytes.try_push(sorted.home(suit));
+    }
+    for i in 0..4 {
+        let _ = bytes.try_push(sorted.cell(i).map_or(255, |card| card.index()));
+    }
+    for i in 0..8 {
+        let column = sorted.column(i);
+        let _ = bytes.try_push(u8::try_from(column.len()).unwrap_or(u8::MAX));
+        for card in column {
+            let _ = bytes.try_push(card.index());
+        }
+    }
+    bytes
+}
+
+/// How many distinct moves there are, in their plain form: each result is made, and its key compared with the others.
+fn plain_distinct(game: &FreeCell, position: &Position) -> usize {
+    let list = moves(game, position);
+    let mut keys: ArrayVec<Key, 132> = ArrayVec::new();
+    for m in list.as_slice() {
+        let mut next = position.copy();
+        if allows(game, &next, *m) {
+            apply(game, &mut next, *m);
+        }
+        let new = key(&next);
+        if !keys.iter().any(|old| old.as_slice() == new.as_slice()) {
+            let _ = keys.try_push(new);
+        }
+    }
+    keys.len()
+}
+
+/// Asks again and again for what a position has, with the last card of a column going to a cell and back.
+fn ask<F: FnMut(&Position) -> usize>(position: &Position, rounds: u32, mut question: F) -> usize
+    requires { F.IsAlwaysCallable question }
+{
+    let mut board = position.copy();
+    let mut count = 0usize;
+    for i in 0..rounds {
+        count = count.wrapping_add(question(&board));
+        let column = Place::Column((i % 8) as u8);
+        if board.cell(0).is_some() {
+            board.shift(Place::Cell(0), column);
+        } else if board.playable(column).is_some() {
+            board.shift(column, Place::Cell(0));
+        }
+    }
+    count
+}
+
 /// Runs a measurement and gives its nanoseconds; what it computes is looked at, so that it is not left out.
 fn measured<F: FnOnce() -> usize>(rt: &(impl Clock + Print), run: F) -> io::Result<u64>
     requires { F.IsAlwaysCallable run }
@@ -178,7 +234,33 @@ fn bench(
     report(rt, "allows and apply", 2 * calls, applied, bytes, calls)?;
     let mut board = position.copy();
     let listed = measured(rt, || list_moves(game, &mut board, rounds))?;
-    report(rt, "moves", calls, listed, bytes, calls)
+    report(rt, "moves", calls, listed, bytes, calls)?;
+    bench_classes(rt, position, game, rounds, bytes)
+}
+
+/// Measures each call on classes so often, and its plain form.
+fn bench_classes(
+    rt: &(impl Clock + Print),
+    position: &Position,
+    game: &FreeCell,
+    rounds: u32,
+    bytes: u64,
+) -> io::Result<()> {
+    let calls = u64::from(rounds);
+    let keys = measured(rt, || ask(position, rounds, |board| key(board).len()))?;
+    report(rt, "key", calls, keys, bytes, calls)?;
+    let keys = measured(rt, || {
+        ask(position, rounds, |board| plain_key(board).len())
+    })?;
+    report(rt, "key, plainly", calls, keys, bytes, calls)?;
+    let distinct = measured(rt, || {
+        ask(position, rounds, |board| distinct_moves(game, board).len())
+    })?;
+    report(rt, "distinct_moves", calls, distinct, bytes, calls)?;
+    let distinct = measured(rt, || {
+        ask(position, rounds, |board| plain_distinct(game, board))
+    })?;
+    report(rt, "distinct_moves, plainly", calls, distinct, bytes, calls)
 }
 
 fn main(rt: HostRuntime) -> io::Result<()> {

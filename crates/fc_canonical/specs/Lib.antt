@@ -1,0 +1,6 @@
+pub mod Class
+pub mod Distinct
+pub mod Key
+pub mod Laws
+pub mod Order
+pub mod Parts

@@ -1,0 +1,17 @@
+//! Classes of positions: positions that differ in the order of their columns and cells alone.
+//!
+//! A class is known by its canonical position, or by that position's bytes, its key. No call allocates.
+#![tactic(auto)]
+
+pub use keys::{Key, key};
+pub use orders::canonical;
+pub use readers::{key_len, read_key};
+pub use searches::{distinct_moves, find_move};
+
+mod keys;
+pub mod laws;
+mod orders;
+mod readers;
+mod searches;
+#[cfg(test)]
+mod tests;

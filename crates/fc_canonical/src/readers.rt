@@ -1,0 +1,148 @@
+ghost use Rattle.std.specs.Prelude.{◌≡◌, ℕ, ◌+◌, ◌≤◌, ◌<◌, All, IfSome, IfNone, length, map, take, drop, List, ◌++◌, Option};
+ghost use Rattle.std.specs.List.{flat_map};
+ghost use Rattle.fc_position.specs.Board.{Board};
+ghost use Rattle.fc_position.specs.Position.{IsPosition};
+ghost use Rattle.fc_canonical.specs.Key.{column_bytes, board_bytes, HasExtent, BeginsWithKey};
+ghost use Rattle.fc_canonical.specs.Order.{cell_byte};
+ghost use Rattle.fc_canonical.specs.Parts.{IsSmall, IsHolding};
+
+use crate::keys::key;
+use arrayvec::ArrayVec;
+use fc_cards::Card;
+use fc_position::Position;
+
+/// How many bytes at the front are a key by their length bytes alone: eight bytes and then eight columns, whatever the
+/// other bytes are. `None` where the bytes end first.
+pub fn key_len(bytes: &[u8]) -> Option<usize>
+    ensures found { IfSome result (HasExtent bytes.now) }
+    ensures none { IfNone result ((n : ℕ) → HasExtent bytes.now n → ⊥) }
+{
+    let (_, mut rest) = cut(bytes, 8)?;
+    for _ in 0..8_usize {
+        let (_, after) = split_column(rest)?;
+        rest = after;
+    }
+    Some(bytes.len() - rest.len())
+}
+
+/// The canonical position whose key stands at the front, and how many bytes the key has, whatever follows. `None` where
+/// no key stands at the front.
+pub fn read_key(bytes: &[u8]) -> Option<(Position, usize)>
+    ensures read { IfSome result (λ r. BeginsWithKey bytes.now r.0 r.1) }
+    ensures refused { IfNone result ((b : Board) (n : ℕ) → BeginsWithKey bytes.now b n → ⊥) }
+{
+    let (position, extent) = read_position(bytes)?;
+    let (front, _) = cut(bytes, extent)?;
+    if key(&position).as_slice() == front {
+        Some((position, extent))
+    } else {
+        None
+    }
+}
+
+// The position that is spelled at the front, whether or not it is canonical, and how many bytes spell it.
+fn read_position(bytes: &[u8]) -> Option<(Position, usize)>
+    ensures read { IfSome result (λ r. IsPosition r.0 × ((rest : List ℕ) × (bytes.now ≡ board_bytes r.0 ++ rest))
+        × (r.1 ≡ length (board_bytes r.0))) }
+    ensures refused { IfNone result ((b : Board) (rest : List ℕ) → IsPosition b → bytes.now ≡ board_bytes b ++ rest → ⊥) }
+{
+    let counts = read_counts(bytes)?;
+    let (_, from_cells) = cut(bytes, 4)?;
+    let cells = read_cells(from_cells)?;
+    let (_, from_columns) = cut(bytes, 8)?;
+    let (columns, rest) = read_columns(from_columns)?;
+    match Position::from_parts(columns, cells, counts) {
+        Ok(position) => Some((position, bytes.len() - rest.len())),
+        Err(_) => None,
+    }
+}
+
+// The four counts at the front, each at most 13.
+fn read_counts(bytes: &[u8]) -> Option<[u8; 4]>
+    ensures read { IfSome result (λ r. (length r ≡ 4) × All (λ n. n ≤ 13) r × ((rest : List ℕ) × (bytes.now ≡ r ++ rest))) }
+    ensures refused { IfNone result ((counts rest : List ℕ) → length counts ≡ 4 → All (λ n. n ≤ 13) counts
+        → bytes.now ≡ counts ++ rest → ⊥) }
+{
+    match bytes {
+        [c, d, h, s, ..] if *c <= 13 && *d <= 13 && *h <= 13 && *s <= 13 => Some([*c, *d, *h, *s]),
+        _ => None,
+    }
+}
+
+// The four cells at the front.
+fn read_cells(bytes: &[u8]) -> Option<[Option<Card>; 4]>
+    ensures read { IfSome result (λ r. (length r ≡ 4) × All IsSmall r × ((rest : List ℕ) × (bytes.now ≡ map cell_byte r ++ rest))) }
+    ensures refused { IfNone result ((cells : List (Option ℕ)) (rest : List ℕ) → length cells ≡ 4 → All IsSmall cells
+        → bytes.now ≡ map cell_byte cells ++ rest → ⊥) }
+{
+    match bytes {
+        [a, b, c, d, ..] => Some([
+            read_cell(*a)?,
+            read_cell(*b)?,
+            read_cell(*c)?,
+            read_cell(*d)?,
+        ]),
+        _ => None,
+    }
+}
+
+// The cell with this byte.
+fn read_cell(byte: u8) -> Option<Option<Card>>
+    ensures read { IfSome result (λ cell. IsSmall cell × (cell_byte cell ≡ byte)) }
+    ensures refused { IfNone result ((cell : Option ℕ) → IsSmall cell → cell_byte cell ≡ byte → ⊥) }
+{
+    if byte == 255 {
+        return Some(None);
+    }
+    Some(Some(Card::from_index(byte)?))
+}
+
+// The eight columns at the front, and what follows them.
+fn read_columns(bytes: &[u8]) -> Option<([ArrayVec<Card, 52>; 8], &[u8])>
+    ensures read { IfSome result (λ r. (length r.0 ≡ 8)
+        × (bytes.now ≡ flat_map column_bytes (map (λ v. v.items) r.0) ++ r.1.now)) }
+    ensures refused { IfNone result ((columns : List (List ℕ)) (rest : List ℕ) → length columns ≡ 8
+        → All IsHolding columns → bytes.now ≡ flat_map column_bytes columns ++ rest → ⊥) }
+{
+    let mut columns: [ArrayVec<Card, 52>; 8] = Default::default();
+    let mut rest = bytes;
+    for i in 0..8 {
+        let (cards, after) = split_column(rest)?;
+        columns[i] = read_cards(cards)?;
+        rest = after;
+    }
+    Some((columns, rest))
+}
+
+// The cards with these numbers.
+fn read_cards(bytes: &[u8]) -> Option<ArrayVec<Card, 52>>
+    ensures read { IfSome result (λ r. r.items ≡ bytes.now) }
+    ensures refused { IfNone result (IsHolding bytes.now → ⊥) }
+{
+    let mut cards = ArrayVec::new();
+    for byte in bytes {
+        if cards.is_full() {
+            return None;
+        }
+        cards.push(Card::from_index(*byte)?);
+    }
+    Some(cards)
+}
+
+// The bytes of the cards of the column at the front, and what follows the column.
+fn split_column(bytes: &[u8]) -> Option<(&[u8], &[u8])>
+    ensures found { IfSome result (λ r. bytes.now ≡ column_bytes r.0.now ++ r.1.now) }
+    ensures none { IfNone result ((cards rest : List ℕ) → bytes.now ≡ column_bytes cards ++ rest → ⊥) }
+{
+    let (length, rest) = bytes.split_first()?;
+    rest.split_at_checked(*length as usize)
+}
+
+// The first bytes, and what follows them.
+fn cut(bytes: &[u8], count: usize) -> Option<(&[u8], &[u8])>
+    ensures found { IfSome result (λ r. (count ≤ length bytes.now) × (r.0.now ≡ take count bytes.now)
+        × (r.1.now ≡ drop count bytes.now)) }
+    ensures none { IfNone result (length bytes.now < count) }
+{
+    bytes.split_at_checked(count)
+}

@@ -1,0 +1,199 @@
+use crate::{Key, canonical, distinct_moves, find_move, key, key_len, read_key};
+use arrayvec::ArrayVec;
+use fc_cards::{Card, Place};
+use fc_moves::{FreeCell, Move, allows, apply, moves};
+use fc_position::Position;
+use std::process::Abort;
+use std::test::Fail;
+
+// The key of the board of four cards: no cells, `QH KS`, `QS KH`, and six empty columns.
+const FOUR_CARDS: &[u8] = &[
+    0x0D, 0x0D, 0x0B, 0x0B, 0xFF, 0xFF, 0xFF, 0xFF, 0x02, 0x2E, 0x33, 0x02, 0x2F, 0x32, 0x00, 0x00,
+    0x00, 0x00, 0x00, 0x00,
+];
+
+// The key of the locked board.
+const LOCKED: &[u8] = &[
+    0x07, 0x07, 0x07, 0x07, 0x30, 0x31, 0x32, 0x33, 0x02, 0x1C, 0x20, 0x02, 0x1D, 0x21, 0x02, 0x1E,
+    0x22, 0x02, 0x1F, 0x23, 0x03, 0x24, 0x2C, 0x28, 0x03, 0x25, 0x2D, 0x29, 0x03, 0x26, 0x2E, 0x2A,
+    0x03, 0x27, 0x2F, 0x2B,
+];
+
+// The position with these columns and cells, cards parted by one blank and `--` at an empty cell, and so many cards
+// home.
+fn position(texts: &[&[u8]], cells: &[u8], homes: [u8; 4]) -> Result<Position, Fail> {
+    let mut columns: [ArrayVec<Card, 52>; 8] = Default::default();
+    for (column, text) in columns.iter_mut().zip(texts) {
+        for word in text.chunks(3) {
+            let card = Card::read(word.get(..2).ok_or("two bytes")?).ok_or("a card")?;
+            column.try_push(card).map_err(|_| "a full column")?;
+        }
+    }
+    let mut held = [None; 4];
+    for (cell, word) in held.iter_mut().zip(cells.chunks(3)) {
+        *cell = Card::read(word.get(..2).ok_or("two bytes")?);
+    }
+    if homes.iter().any(|count| *count > 13) {
+        return Err("a count above 13".into());
+    }
+    Ok(Position::from_parts(columns, held, homes)?)
+}
+
+fn four_cards() -> Result<Position, Fail> {
+    position(&[b"QS KH", b"QH KS"], b"", [13, 13, 11, 11])
+}
+
+fn locked() -> Result<Position, Fail> {
+    let texts: [&[u8]; 8] = [
+        b"8C 9C",
+        b"8D 9D",
+        b"8H 9H",
+        b"8S 9S",
+        b"TC QC JC",
+        b"TD QD JD",
+        b"TH QH JH",
+        b"TS QS JS",
+    ];
+    position(&texts, b"KC KD KH KS", [7, 7, 7, 7])
+}
+
+#[test]
+fn writes_keys(rt: HostRuntime) -> Result<(), Fail> {
+    assert!(rt; key(&four_cards()?).as_slice() == FOUR_CARDS);
+    let turned = position(&[b"", b"QH KS", b"", b"QS KH"], b"", [13, 13, 11, 11])?;
+    assert!(rt; key(&turned).as_slice() == FOUR_CARDS);
+    assert!(rt; key(&locked()?).as_slice() == LOCKED);
+    Ok(())
+}
+
+#[test]
+fn makes_canonical_positions(rt: HostRuntime) -> Result<(), Fail> {
+    let texts: [&[u8]; 3] = [b"", b"QS KH", b"QH"];
+    let sorted = canonical(&position(&texts, b"-- KS", [13, 13, 11, 11])?);
+    assert_eq!(rt; sorted.cell(0), Card::read(b"KS"));
+    assert_eq!(rt; sorted.cell(1), None);
+    assert_eq!(rt; sorted.column(0).len(), 1);
+    assert_eq!(rt; sorted.column(1).len(), 2);
+    assert_eq!(rt; sorted.column(2).len(), 0);
+    Ok(())
+}
+
+#[test]
+fn reads_keys(rt: HostRuntime) -> Result<(), Fail> {
+    for end in 0..FOUR_CARDS.len() {
+        let front = FOUR_CARDS.get(..end).ok_or("a front")?;
+        assert!(rt; key_len(front).is_none());
+        assert!(rt; read_key(front).is_none());
+    }
+    let mut followed: ArrayVec<u8, 68> = ArrayVec::new();
+    followed
+        .try_extend_from_slice(FOUR_CARDS)
+        .map_err(|_| "room")?;
+    followed
+        .try_extend_from_slice(&[0xFF, 0x00, 0x07])
+        .map_err(|_| "room")?;
+    assert_eq!(rt; key_len(followed.as_slice()), Some(20));
+    let (board, extent) = read_key(followed.as_slice()).ok_or("a key")?;
+    assert_eq!(rt; extent, 20);
+    assert_eq!(rt; board.column(0).first().copied(), Card::read(b"QH"));
+    assert!(rt; key(&board).as_slice() == FOUR_CARDS);
+    let (board, extent) = read_key(LOCKED).ok_or("a key")?;
+    assert_eq!(rt; extent, 36);
+    assert!(rt; key(&board).as_slice() == LOCKED);
+    Ok(())
+}
+
+// The key of the board of four cards with one byte changed.
+fn changed(place: usize, byte: u8) -> Result<Key, Fail> {
+    let mut bytes = ArrayVec::new();
+    for (i, old) in FOUR_CARDS.iter().enumerate() {
+        let new = if i == place { byte } else { *old };
+        bytes.try_push(new).map_err(|_| "room")?;
+    }
+    Ok(bytes)
+}
+
+#[test]
+fn refuses_what_is_no_key(rt: HostRuntime) -> Result<(), Fail> {
+    let cases = [
+        (3, 0x0E),
+        (4, 0x33),
+        (5, 0x34),
+        (9, 0x2F),
+        (10, 0x34),
+        (2, 0x0A),
+    ];
+    for (place, byte) in cases {
+        let bytes = changed(place, byte)?;
+        assert_eq!(rt; key_len(bytes.as_slice()), Some(20));
+        assert!(rt; read_key(bytes.as_slice()).is_none());
+    }
+    assert_eq!(rt; key_len(changed(19, 1)?.as_slice()), None);
+    Ok(())
+}
+
+#[test]
+fn finds_moves(rt: HostRuntime) -> Result<(), Fail> {
+    let game = FreeCell::new(4).ok_or("four cells")?;
+    let board = four_cards()?;
+    let m = Move {
+        from: Place::Column(0),
+        to: Place::Cell(2),
+    };
+    let mut next = four_cards()?;
+    assert!(rt; allows(&game, &next, m));
+    if allows(&game, &next, m) {
+        apply(&game, &mut next, m);
+    }
+    let found = find_move(&game, &board, &key(&next)).ok_or("a move")?;
+    assert_eq!(rt; found.from, Place::Column(0));
+    assert!(rt; matches!(found.to, Place::Cell(_)));
+    assert_eq!(rt; find_move(&game, &board, &key(&board)), None);
+    Ok(())
+}
+
+#[test]
+fn lists_distinct_moves(rt: HostRuntime) -> Result<(), Fail> {
+    let game = FreeCell::new(4).ok_or("four cells")?;
+    let board = four_cards()?;
+    assert_eq!(rt; moves(&game, &board).len(), 20);
+    assert_eq!(rt; distinct_moves(&game, &board).len(), 4);
+    let none = FreeCell::new(0).ok_or("no cell")?;
+    let lone = position(&[b"QS", b"JS", b"KS"], b"", [13, 13, 13, 10])?;
+    assert_eq!(rt; moves(&none, &lone).len(), 16);
+    let listed = distinct_moves(&none, &lone);
+    assert_eq!(rt; listed.len(), 2);
+    for m in listed.as_slice() {
+        let stays = find_move(&none, &lone, &key(&lone)) == Some(*m);
+        assert!(rt; stays || m.to == Place::Home);
+    }
+    Ok(())
+}
+
+// Two boards of one class, of which one doesn't fit a game of one cell, where columns are opened by kings alone: a king
+// in a cell that the game lacks leaves the game's own cell to another card.
+#[test]
+fn boards_that_do_not_fit_step_otherwise(rt: HostRuntime) -> Result<(), Fail> {
+    let game = FreeCell::new(1).ok_or("one cell")?;
+    let texts: [&[u8]; 8] = [
+        b"JC",
+        b"JD",
+        b"JH",
+        b"JS",
+        b"QC",
+        b"QD",
+        b"QH",
+        b"KD KC KS QS",
+    ];
+    let fits = position(&texts, b"KH", [10, 10, 10, 10])?;
+    let other = position(&texts, b"-- KH", [10, 10, 10, 10])?;
+    assert!(rt; key(&fits).as_slice() == key(&other).as_slice());
+    assert!(rt; fits.fits(1) && !other.fits(1));
+    let into_cell = Move {
+        from: Place::Column(7),
+        to: Place::Cell(0),
+    };
+    assert!(rt; !allows(&game, &fits, into_cell));
+    assert!(rt; allows(&game, &other, into_cell));
+    Ok(())
+}

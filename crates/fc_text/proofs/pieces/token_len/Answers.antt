@@ -1,0 +1,13 @@
+use Rattle.std.proofs.Common.{length, sym, ◌∙◌, arith}
+use Rattle.std.proofs.lemmas.List.Sums.{position_or_len_is}
+use Rattle.fc_text.specs.Line.{is_blank}
+use Rattle.fc_text.proofs.pieces.token_len.Goals as goal
+
+pub returns-then-is_blank-clause-value : goal.returns-then-is_blank-clause-value
+returns-then-is_blank-clause-value c =
+    sym (position_or_len_is is_blank c.args.piece.now c.loop-i.i 0 (omega arith) c.loop-i.invariant
+    (λ _. sym c.is_blank.ensures ∙ c.if-is_blank.true))
+
+pub returns-clause-value : goal.returns-clause-value
+returns-clause-value c =
+    sym (position_or_len_is is_blank c.args.piece.now (length c.args.piece.now) 0 (omega arith) (λ k h. c.loop-i.invariant k (omega arith)) (λ h. absurd (omega arith)))
