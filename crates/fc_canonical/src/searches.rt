@@ -33,6 +33,7 @@ pub fn find_move<G: Game>(game: &G, position: &Position, target: &Key) -> Option
 pub fn distinct_moves<G: Game>(game: &G, position: &Position) -> ArrayVec<Move, 132>
     ensures classes { ListsClasses (G.game game.now) position.now result.items }
 {
+    // What a call tells of the position, each of the 52 cards in one place, is needed below.
     let _home = position.playable(Place::Home);
     let all = moves(game, position);
     let mut distinct = ArrayVec::new();
@@ -91,6 +92,7 @@ fn stays(position: &Position, m: Move) -> bool
 fn size(position: &Position, i: u8) -> usize
     ensures value { result ≡ length (column position.now i) }
 {
+    // Read in every case: the call tells that there are eight columns, so that one past them is empty.
     let first = position.column(0);
     match i {
         0 => first.len(),

@@ -19,6 +19,22 @@ const LOCKED: &[u8] = &[
     0x03, 0x27, 0x2F, 0x2B,
 ];
 
+// The keys of boards that other certificates hold: every card home; the queen of spades home too; and three cards of
+// spades in two columns.
+const ALL_HOME: &[u8] = &[
+    0x0D, 0x0D, 0x0D, 0x0D, 0xFF, 0xFF, 0xFF, 0xFF, 0x00, 0x00, 0x00, 0x00, 0x00, 0x00, 0x00, 0x00,
+];
+
+const THREE_CARDS: &[u8] = &[
+    0x0D, 0x0D, 0x0B, 0x0C, 0xFF, 0xFF, 0xFF, 0xFF, 0x02, 0x2E, 0x33, 0x01, 0x32, 0x00, 0x00, 0x00,
+    0x00, 0x00, 0x00,
+];
+
+const SPADES: &[u8] = &[
+    0x0D, 0x0D, 0x0D, 0x0A, 0xFF, 0xFF, 0xFF, 0xFF, 0x02, 0x2B, 0x2F, 0x01, 0x33, 0x00, 0x00, 0x00,
+    0x00, 0x00, 0x00,
+];
+
 // The position with these columns and cells, cards parted by one blank and `--` at an empty cell, and so many cards
 // home.
 fn position(texts: &[&[u8]], cells: &[u8], homes: [u8; 4]) -> Result<Position, Fail> {
@@ -63,6 +79,25 @@ fn writes_keys(rt: HostRuntime) -> Result<(), Fail> {
     let turned = position(&[b"", b"QH KS", b"", b"QS KH"], b"", [13, 13, 11, 11])?;
     assert!(rt; key(&turned).as_slice() == FOUR_CARDS);
     assert!(rt; key(&locked()?).as_slice() == LOCKED);
+    Ok(())
+}
+
+#[test]
+fn writes_and_reads_keys_of_certificates(rt: HostRuntime) -> Result<(), Fail> {
+    let cases: [(Position, &[u8]); 3] = [
+        (position(&[], b"", [13; 4])?, ALL_HOME),
+        (
+            position(&[b"QH KS", b"KH"], b"", [13, 13, 11, 12])?,
+            THREE_CARDS,
+        ),
+        (position(&[b"JS QS", b"KS"], b"", [13, 13, 13, 10])?, SPADES),
+    ];
+    for (board, bytes) in &cases {
+        assert!(rt; key(board).as_slice() == *bytes);
+        let (read, extent) = read_key(bytes).ok_or("a key")?;
+        assert_eq!(rt; extent, bytes.len());
+        assert!(rt; key(&read).as_slice() == *bytes);
+    }
     Ok(())
 }
 
