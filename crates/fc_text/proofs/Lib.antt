@@ -1,4 +1,15 @@
+pub mod BoardLemmas
+pub mod CellDraft
+pub mod ColumnDraft
+pub mod DraftLemmas
+pub mod EmptyDraft
+pub mod FaultLemmas
+pub mod FinishLemmas
+pub mod FitLemmas
+pub mod HomeDraft
 pub mod HomeLemmas
+pub mod LineLoop
+pub mod OnceLemmas
 pub mod PartLemmas
 pub mod PieceLemmas
 pub mod ReaderLemmas

@@ -1,4 +1,7 @@
+pub mod Board
+pub mod Draft
 pub mod Fault
+pub mod Laws
 pub mod Line
 pub mod Reading
 pub mod Spelling
