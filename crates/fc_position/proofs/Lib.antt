@@ -2,3 +2,4 @@ pub mod BoardLemmas
 pub mod LayoutLemmas
 pub mod Pigeonhole
 pub mod TallyLemmas
+pub mod SameLayout

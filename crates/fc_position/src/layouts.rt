@@ -1,4 +1,4 @@
-ghost use Rattle.std.specs.Prelude.{◌≡◌, replicate, map};
+ghost use Rattle.std.specs.Prelude.{◌≡◌, ◌↔◌, IsTrue, replicate, map};
 ghost use Rattle.fc_position.specs.Board.{playable, lifted, placed, places, HasRoom};
 ghost use Rattle.fc_position.specs.Position.{IsShaped};
 ghost use Rattle.fc_position.specs.Tally.{Adds, IsOfCards};
@@ -77,6 +77,15 @@ impl Layout {
         tally
     }
 
+    // Whether the two are the same board.
+    pub fn equals(&self, other: &Layout) -> bool
+        ensures { IsTrue result ↔ self.now ≡ other.now }
+    {
+        same_columns(&self.columns, &other.columns)
+            && same_cells(&self.cells, &other.cells)
+            && self.homes == other.homes
+    }
+
     // The same board.
     pub fn copy(&self) -> Layout
         ensures { result ≡ self.now }
@@ -87,6 +96,20 @@ impl Layout {
             homes: self.homes,
         }
     }
+}
+
+// Whether the columns have the same cards.
+fn same_columns(columns: &[ArrayVec<Card, 52>], others: &[ArrayVec<Card, 52>]) -> bool
+    ensures { IsTrue result ↔ map (λ v. v.items) columns.now ≡ map (λ v. v.items) others.now }
+{
+    columns == others
+}
+
+// Whether the cells hold the same cards.
+fn same_cells(cells: &[Option<Card>], others: &[Option<Card>]) -> bool
+    ensures { IsTrue result ↔ cells.now ≡ others.now }
+{
+    cells == others
 }
 
 // The same columns.

@@ -121,6 +121,13 @@ impl Position {
             .all(|cell| cell.is_none())
     }
 
+    /// Whether the two are the same: the same cards in each column, in each cell and at home.
+    pub fn equals(&self, other: &Position) -> bool
+        ensures value { IsTrue result ↔ self.now ≡ other.now }
+    {
+        self.layout.equals(&other.layout)
+    }
+
     /// The same position. It takes no memory.
     pub fn copy(&self) -> Position
         ensures value { result ≡ self.now }

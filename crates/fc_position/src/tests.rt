@@ -62,7 +62,9 @@ fn tells_parts(rt: HostRuntime) -> Result<(), Fail> {
 fn moves_cards(rt: HostRuntime) -> Result<(), Fail> {
     let mut position = four_cards()?;
     let before = position.copy();
+    assert!(rt; before.equals(&position));
     shift(&mut position, Place::Column(0), Place::Cell(2))?;
+    assert!(rt; !before.equals(&position));
     assert_eq!(rt; position.cell(2), Card::read(b"KH"));
     assert!(rt; position.fits(3));
     assert!(rt; !position.fits(2));
