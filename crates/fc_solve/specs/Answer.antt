@@ -1,0 +1,14 @@
+-- What the solver answers, and when an answer is right: lists of moves alone, whatever the search keeps.
+use Rattle.std.specs.Prelude.{◌≡◌, ℕ}
+use Rattle.fc_position.specs.Board.{Board}
+use Rattle.fc_moves.specs.GameRules.{GameRules}
+use Rattle.fc_moves.specs.Run.{IsShortest, CannotWin, ReachesMore}
+use Rattle.fc_solve.specs.declared.answers.Answer.{Answer}
+use Rattle.fc_solve.specs.declared.answers.Answer.TheVariants.{Shortest, CannotWin as cannot_win, GaveUp}
+
+-- the answer is right for a board and a budget: the moves win and none win in fewer, or no moves win, or the budget is
+-- told and more positions than that can be reached
+abbrev pub IsRight : GameRules → Board → ℕ → Answer → Type 0
+IsRight g b budget (Shortest moves) = IsShortest g b moves.items
+IsRight g b budget cannot_win = CannotWin g b
+IsRight g b budget (GaveUp told) = (told ≡ budget) × ReachesMore g b budget

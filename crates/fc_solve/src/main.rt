@@ -1,0 +1,11 @@
+//! The program: FreeCell boards solved, with answers that are proved.
+#![tactic(auto)]
+
+mod answers;
+mod plain;
+
+use std::process::ExitCode;
+
+fn main(_rt: HostRuntime) -> ExitCode {
+    ExitCode::SUCCESS
+}
