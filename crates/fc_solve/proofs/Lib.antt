@@ -1,3 +1,5 @@
 pub mod PlainLemmas
 pub mod ExpandLemmas
 pub mod SearchLemmas
+pub mod ListTextLemmas
+pub mod AnswerLemmas

@@ -1,7 +1,8 @@
 -- What the solver answers, and when an answer is right: lists of moves alone, whatever the search keeps.
-use Rattle.std.specs.Prelude.{◌≡◌, ℕ}
+use Rattle.std.specs.Prelude.{◌≡◌, ℕ, All}
 use Rattle.fc_position.specs.Board.{Board}
 use Rattle.fc_moves.specs.GameRules.{GameRules}
+use Rattle.fc_moves.specs.MoveText.{HasText}
 use Rattle.fc_moves.specs.Run.{IsShortest, CannotWin, ReachesMore}
 use Rattle.fc_solve.specs.declared.answers.Answer.{Answer}
 use Rattle.fc_solve.specs.declared.answers.Answer.TheVariants.{Shortest, CannotWin as cannot_win, GaveUp}
@@ -12,3 +13,9 @@ abbrev pub IsRight : GameRules → Board → ℕ → Answer → Type 0
 IsRight g b budget (Shortest moves) = IsShortest g b moves.items
 IsRight g b budget cannot_win = CannotWin g b
 IsRight g b budget (GaveUp told) = (told ≡ budget) × ReachesMore g b budget
+
+-- each move of the answer has a text
+abbrev pub MovesHaveTexts : Answer → Type 0
+MovesHaveTexts (Shortest moves) = All HasText moves.items
+MovesHaveTexts cannot_win = Unit {0}
+MovesHaveTexts (GaveUp told) = Unit {0}

@@ -2,7 +2,9 @@
 #![tactic(auto)]
 
 mod answers;
+mod faults;
 mod plain;
+mod runs;
 
 use std::process::ExitCode;
 

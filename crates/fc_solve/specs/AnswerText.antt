@@ -1,0 +1,31 @@
+-- How an answer is printed.
+use Rattle.std.specs.Prelude.{ℕ, List, [], ◌∷◌, ◌++◌, length, map, codes, decimal}
+use Rattle.std.specs.List.{join_with_byte}
+use Rattle.fc_moves.specs.declared.steps.Move.{Move}
+use Rattle.fc_moves.specs.MoveText.{move_text}
+use Rattle.fc_solve.specs.declared.answers.Answer.{Answer}
+use Rattle.fc_solve.specs.declared.answers.Answer.TheVariants.{Shortest, CannotWin, GaveUp}
+
+-- the texts of moves, with a blank between two
+abbrev pub list_text : List Move → List ℕ
+list_text moves = join_with_byte 32 (map move_text moves)
+
+-- how many moves there are, and the line of the moves
+abbrev pub shortest_text : List Move → List ℕ
+shortest_text moves = codes "shortest " ++ decimal (length moves) ++ codes "\n" ++ list_text moves ++ codes "\n"
+
+-- that a search gave up, and its budget
+abbrev pub gave_up_text : ℕ → List ℕ
+gave_up_text budget = codes "gave up " ++ decimal budget ++ codes "\n"
+
+-- what is printed
+abbrev pub answer_text : Answer → List ℕ
+answer_text (Shortest moves) = shortest_text moves.items
+answer_text CannotWin = codes "can't be won\n"
+answer_text (GaveUp budget) = gave_up_text budget
+
+-- the exit status that goes with it
+abbrev pub status_of : Answer → ℕ
+status_of (Shortest moves) = 0
+status_of CannotWin = 1
+status_of (GaveUp budget) = 2

@@ -1,0 +1,93 @@
+//! The runs of the program, over any source and any sink.
+
+ghost use Rattle.std.specs.Prelude.{◌≤◌, IfOk, IfErr};
+ghost use Rattle.fc_io.specs.Moves.{GivesAtMost};
+ghost use Rattle.fc_solve.specs.Runs.{IsSolved, IsSolveFault, GivesBoard, IsReadFault, IsDealt, IsDealFault};
+
+use crate::faults::{Input, Output, ProgramFault};
+use crate::plain::search;
+use fc_deal::{deal, deal_text};
+use fc_io::{Sink, Source, read_up_to, write_all};
+use fc_moves::Game;
+use fc_position::Position;
+use fc_text::read_board;
+use std::alloc::Global;
+
+/// The most bytes that a board's text may have.
+const LONGEST_BOARD: usize = 4096;
+
+/// The greatest budget of stored positions.
+const GREATEST_BUDGET: u32 = 4_000_000;
+
+/// Reads a board of the game, searches with at most `budget` stored positions, and writes the answer: the moves of a
+/// shortest list, that no list of moves wins, or that more than `budget` positions can be reached. The status tells
+/// which: 0, 1 or 2.
+///
+/// # Errors
+/// In this order: a budget outside 1 to 4,000,000; a board that can't be read; a text that is none of the game; want of
+/// memory; an answer that can't be written, of which a front may be written. After any other fault nothing is.
+pub fn run_solve<G: Game, S: Source, K: Sink>(
+    alloc: Global,
+    game: &G,
+    board: &mut S,
+    budget: u32,
+    out: &mut K,
+) -> Result<u8, ProgramFault>
+    ensures answered { IfOk result (IsSolved (G.game game.now) budget
+        record { old = S.told board.old; new = S.told board.new; failed = S.has_failed board.new }
+        record { old = K.held out.old; new = K.held out.new; failed = K.has_failed out.new }) }
+    ensures fault { IfErr result (IsSolveFault (G.game game.now) budget
+        record { old = S.told board.old; new = S.told board.new; failed = S.has_failed board.new }
+        record { old = K.held out.old; new = K.held out.new; failed = K.has_failed out.new }) }
+    ensures taken { GivesAtMost (S.told board.old) (S.told board.new) 4097 }
+{
+    if budget == 0 || budget > GREATEST_BUDGET {
+        return Err(ProgramFault::Budget);
+    }
+    let start = read_position(board, game.cells())?;
+    let answer = search(alloc, game, &start, budget)?;
+    let text = answer.text(alloc)?;
+    match write_all(out, text.as_slice()) {
+        Ok(()) => Ok(answer.status()),
+        Err(_) => Err(ProgramFault::Write(Output::Answer)),
+    }
+}
+
+// Reads a board of a game with so many cells.
+fn read_position<S: Source>(board: &mut S, cells: u8) -> Result<Position, ProgramFault>
+    requires game { cells ≤ 4 }
+    ensures read { IfOk result (GivesBoard cells
+        record { old = S.told board.old; new = S.told board.new; failed = S.has_failed board.new }) }
+    ensures fault { IfErr result (IsReadFault cells
+        record { old = S.told board.old; new = S.told board.new; failed = S.has_failed board.new }) }
+    ensures taken { GivesAtMost (S.told board.old) (S.told board.new) 4097 }
+{
+    let mut room = [0; LONGEST_BOARD + 1];
+    let count = match read_up_to(board, &mut room) {
+        Ok(count) => count,
+        Err(_) => return Err(ProgramFault::Read(Input::Board)),
+    };
+    match read_board(&room[..count], cells) {
+        Ok(position) => Ok(position),
+        Err(fault) => Err(ProgramFault::Board(fault)),
+    }
+}
+
+/// Writes the columns of deal `n`. The status is 0.
+///
+/// # Errors
+/// A number outside 1 to 1,000,000, and nothing is written; or a text that can't be written, of which a front may be.
+pub fn run_deal<K: Sink>(n: u32, out: &mut K) -> Result<u8, ProgramFault>
+    ensures dealt { IfOk result (IsDealt n
+        record { old = K.held out.old; new = K.held out.new; failed = K.has_failed out.new }) }
+    ensures fault { IfErr result (IsDealFault n
+        record { old = K.held out.old; new = K.held out.new; failed = K.has_failed out.new }) }
+{
+    let Some(position) = deal(n) else {
+        return Err(ProgramFault::Number(n));
+    };
+    match write_all(out, deal_text(&position).as_bytes()) {
+        Ok(()) => Ok(0),
+        Err(_) => Err(ProgramFault::Write(Output::Answer)),
+    }
+}
