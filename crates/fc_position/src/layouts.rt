@@ -81,9 +81,9 @@ impl Layout {
     pub fn equals(&self, other: &Layout) -> bool
         ensures { IsTrue result ↔ self.now ≡ other.now }
     {
-        same_columns(&self.columns, &other.columns)
-            && same_cells(&self.cells, &other.cells)
+        same_cells(&self.cells, &other.cells)
             && self.homes == other.homes
+            && same_columns(&self.columns, &other.columns)
     }
 
     // The same board.
