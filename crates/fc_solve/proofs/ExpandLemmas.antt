@@ -1,8 +1,8 @@
 -- Looking at a visit: what storing the results of its moves keeps, one move after the other.
-use Rattle.std.proofs.Common.{◌≡◌, ℕ, ◌+◌, ◌≤◌, ◌<◌, Some, true, false, List, [], ◌∷◌, ◌++◌, length, refl, sym, ◌∙◌, ap, subst, inl, inr, ⊎_elim, arith, slice_get}
-use Rattle.std.specs.Prelude.{Contains, slice_index_or}
+use Rattle.std.proofs.Common.{◌≡◌, ℕ, ◌+◌, ◌≤◌, ◌<◌, Some, true, false, List, [], ◌∷◌, ◌++◌, length, refl, sym, ◌∙◌, ap, subst, ⊎_elim, arith, slice_get}
+use Rattle.std.specs.Prelude.{slice_index_or}
 use Rattle.std.proofs.lemmas.Bool.{cases_lt}
-use Rattle.std.proofs.lemmas.List.{length-append, length_push, append_assoc, append-nil}
+use Rattle.std.proofs.lemmas.List.{length_push, append_assoc, append-nil}
 use Rattle.std.proofs.lemmas.Option.{slice_get_within, slice_get-get_or, slice_get_read}
 use Rattle.fc_position.specs.Board.{Board, placed, lifted}
 use Rattle.fc_position.specs.Position.{IsPosition}
@@ -11,7 +11,7 @@ use Rattle.fc_moves.specs.GameRules.{GameRules}
 use Rattle.fc_moves.specs.Step.{Step, Allows, ListsMoves}
 use Rattle.fc_text.proofs.HomeLemmas.{Contains-at}
 use Rattle.fc_solve.specs.declared.plain.Visit.{Visit}
-use Rattle.fc_solve.specs.Plain.{IsAt, IsStored, IsNew, IsLookedAt, Kept, Extends, Offers, Expands}
+use Rattle.fc_solve.specs.Plain.{IsAt, IsStored, Kept, Extends, Offers, Expands}
 use Rattle.fc_solve.proofs.PlainLemmas.{at_front, at_last, at_same, stored_more, push_keeps}
 
 -- the results of the first moves of a list are stored
@@ -50,9 +50,9 @@ stored_next : (g : GameRules) (v : Visit) (list : List Move) (index : ℕ) (xs n
 stored_next g v list index xs new m b before keeps this step here j n c lt found other = ⊎_elim
     (λ earlier. keeps c (before j n c earlier found other))
     (λ le. let now : j ≡ index = omega (arith, lt, le) in
-      let same : n ≡ m = let f : slice_get list index ≡ Some n = subst (λ k. slice_get list k ≡ Some n) now found in cc (f, this) in
-      let equal : b ≡ c = step_same g v.position b c m step (subst (λ z. Step g v.position z c) same other) in
-      subst (λ z. IsStored new z (v.moves + 1)) equal here)
+    let same : n ≡ m = let f : slice_get list index ≡ Some n = subst (λ k. slice_get list k ≡ Some n) now found in cc (f, this) in
+    let equal : b ≡ c = step_same g v.position b c m step (subst (λ z. Step g v.position z c) same other) in
+    subst (λ z. IsStored new z (v.moves + 1)) equal here)
     (cases_lt j index)
 
 -- the result of one more move was stored, or is now
@@ -70,7 +70,7 @@ looking_next g budget number old list index xs new v child so here this step mov
       stored = λ u at. let equal : v ≡ u = at_same old number v u here at in
           subst (λ z. AreStored g z list (index + 1) xs) equal
           (stored_next g v list index xs xs child.by child.position (so.stored v here) (λ c held. held) this step
-            (k, w, found, is, so.kept.near number k v w now found (omega arith)));
+          (k, w, found, is, so.kept.near number k v w now found (omega arith)));
     }))
     (λ (added, fresh, room). subst (λ zs. Looking g budget number old list (index + 1) zs) (sym added) (record {
       kept = push_keeps g number xs v child so.kept now step moves parent position fresh;
@@ -79,8 +79,8 @@ looking_next g budget number old list index xs new v child so here this step mov
       stored = λ u at. let equal : v ≡ u = at_same old number v u here at in
           subst (λ z. AreStored g z list (index + 1) (xs ++ child ∷ [])) equal
           (stored_next g v list index xs (xs ++ child ∷ []) child.by child.position (so.stored v here)
-            (λ c held. stored_more xs (child ∷ []) c (v.moves + 1) held) this step
-            (length xs, child, at_last xs child, refl, omega (arith, moves)));
+          (λ c held. stored_more xs (child ∷ []) c (v.moves + 1) held) this step
+          (length xs, child, at_last xs child, refl, omega (arith, moves)));
     }))
     offers
 
@@ -96,12 +96,16 @@ looking_full g budget number old list index xs new v child so here step (same, f
 pub looking_done : (g : GameRules) (budget number : ℕ) (old : List Visit) (list : List Move) (index : ℕ) (new : List Visit) (v : Visit)
     → Looking g budget number old list index new → IsAt old number v → length list ≤ index → ListsMoves g v.position list
     → Expands g budget number old new true
-looking_done g budget number old list index new v so here all lists = (so.extends, so.kept, so.most,
-    λ u at m c step. let equal : v ≡ u = at_same old number v u here at in
+looking_done g budget number old list index new v so here all lists = (
+  so.extends,
+  so.kept,
+  so.most,
+  λ u at m c step. let equal : v ≡ u = at_same old number v u here at in
       let step' : Step g v.position m c = subst (λ z. Step g z.position m c) (sym equal) step in
       let (k, lt, is) = lists.complete m (c, step') in
       subst (λ z. IsStored new c (z.moves + 1)) equal
-        (so.stored v here k m c (omega (arith, lt, all)) (slice_get-get_or list k m lt ∙ ap (λ z. Some z) is) step'))
+      (so.stored v here k m c (omega (arith, lt, all)) (slice_get-get_or list k m lt ∙ ap (λ z. Some z) is) step'),
+)
 
 -- a visit that was read by its number, and the same one read again
 pub read_at : (xs : List Visit) (n number : ℕ) (v : Visit) → n ≡ length xs → number < n → v ≡ slice_index_or xs number v → IsAt xs number v

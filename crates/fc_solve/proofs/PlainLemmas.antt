@@ -1,20 +1,19 @@
 -- The plain search: what storing a visit keeps, and what a search that is done shows.
-use Rattle.std.proofs.Common.{◌≡◌, ◌≢◌, ℕ, ◌+◌, ◌≤◌, ◌<◌, ◌⊎◌, Some, None, List, [], ◌∷◌, ◌++◌, length, map, refl, sym, ◌∙◌, ap, subst, inl, inr, ⊎_elim, arith, suc, zero, slice_get, reverse}
-use Rattle.std.specs.Prelude.{All, AllPairs, slice_index_or, option_map}
-use Rattle.std.proofs.lemmas.Bool.{cases_lt, cases_eq}
-use Rattle.std.proofs.lemmas.List.{length-append, length_push, get_or_push, get_or_append_left, append_assoc, length-map, reverse-append, length-reverse}
+use Rattle.std.proofs.Common.{◌≡◌, ◌≢◌, ℕ, ◌+◌, ◌≤◌, ◌<◌, Some, List, [], ◌∷◌, ◌++◌, length, map, refl, sym, ◌∙◌, ap, subst, inl, inr, ⊎_elim, arith, suc, zero, reverse}
+use Rattle.std.specs.Prelude.{slice_index_or}
+use Rattle.std.proofs.lemmas.Bool.{cases_lt}
+use Rattle.std.proofs.lemmas.List.{length-append, length_push, get_or_push, get_or_append_left, length-map, reverse-append, length-reverse}
 use Rattle.std.proofs.lemmas.List.Kept.{AllPairs-cons}
-use Rattle.std.proofs.lemmas.List.Elements.{All-map}
-use Rattle.std.proofs.lemmas.Option.{slice_get_within, get_or_from_slice_get, slice_get-get_or, slice_get-map}
+use Rattle.std.proofs.lemmas.Option.{slice_get_within, get_or_from_slice_get, slice_get-get_or}
 use Rattle.fc_position.specs.Board.{Board}
 use Rattle.fc_position.specs.Position.{IsPosition, IsWon}
 use Rattle.fc_moves.specs.declared.steps.Move.{Move}
 use Rattle.fc_moves.specs.GameRules.{GameRules}
 use Rattle.fc_moves.specs.Step.{Step}
-use Rattle.fc_moves.specs.Run.{Run, Wins, IsShortest, CannotWin, CanReach, ReachesMore}
+use Rattle.fc_moves.specs.Run.{Run, IsShortest, CanReach, ReachesMore}
 use Rattle.fc_text.proofs.ReaderLemmas.{at_push}
 use Rattle.fc_solve.specs.declared.plain.Visit.{Visit}
-use Rattle.fc_solve.specs.Plain.{IsAt, ComesFrom, HasSources, HasParents, IsStored, IsNew, IsLookedAt, Kept, IsFull, StartsAt, LeadsTo}
+use Rattle.fc_solve.specs.Plain.{IsAt, ComesFrom, HasSources, HasParents, IsStored, IsNew, IsLookedAt, Kept, IsFull, LeadsTo}
 
 -- a visit keeps its number when more are stored
 pub at_front : (xs ys : List Visit) (k : ℕ) (v : Visit) → IsAt xs k v → IsAt (xs ++ ys) k v
@@ -47,34 +46,39 @@ push_keeps g number xs v child kept here step moves parent position fresh =
     let there = slice_get_within xs number v here in
     let long = length_push xs child in
     let by_place : (P : ℕ → Visit → Type 0) → ((k : ℕ) (w : Visit) → IsAt xs k w → P k w) → P (length xs) child
-            → (k : ℕ) (w : Visit) → IsAt (xs ++ child ∷ []) k w → P k w =
-        λ P old new k w found. ⊎_elim (λ is_old. old k w is_old.1)
-            (λ is_new. subst (λ z. P k z) is_new.1 (subst (λ j. P j child) (sym is_new.0) new)) (at_push xs child w k found) in
+    → (k : ℕ) (w : Visit) → IsAt (xs ++ child ∷ []) k w → P k w =
+    λ P old new k w found. ⊎_elim (λ is_old. old k w is_old.1)
+    (λ is_new. subst (λ z. P k z) is_new.1 (subst (λ j. P j child) (sym is_new.0) new)) (at_push xs child w k found) in
     record {
       positions = by_place (λ k w. IsPosition w.position) kept.positions position;
       sources = by_place (λ k w. ComesFrom g (xs ++ child ∷ []) k w)
           (λ k w found. comes_more g xs (child ∷ []) k w (kept.sources k w found))
-          (inr (v, subst (λ k. IsAt (xs ++ child ∷ []) k v) (sym parent) (at_front xs (child ∷ []) number v here),
-            omega (arith, parent, there), step, moves));
+          (inr (
+            v,
+            subst (λ k. IsAt (xs ++ child ∷ []) k v) (sym parent) (at_front xs (child ∷ []) number v here),
+            omega (arith, parent, there),
+            step,
+            moves,
+          ));
       few = by_place (λ k w. w.moves ≤ k) kept.few (omega (arith, moves, kept.few number v here, there));
       rising = λ i j w u one two. by_place (λ i w. i ≤ j → w.moves ≤ u.moves)
           (λ i w one. by_place (λ j u. i ≤ j → w.moves ≤ u.moves) (λ j u two. kept.rising i j w u one two)
-            (λ le. omega (arith, moves, kept.near number i v w here one (omega arith))) j u two)
+          (λ le. omega (arith, moves, kept.near number i v w here one (omega arith))) j u two)
           (by_place (λ j u. length xs ≤ j → child.moves ≤ u.moves) (λ j u two le. absurd (omega (arith, le, slice_get_within xs j u two)))
-            (λ le. omega arith) j u two)
+          (λ le. omega arith) j u two)
           i w one;
       near = λ i j w u one two. by_place (λ i w. number ≤ i → u.moves ≤ w.moves + 1)
           (λ i w one. by_place (λ j u. number ≤ i → u.moves ≤ w.moves + 1) (λ j u two. kept.near i j w u one two)
-            (λ le. omega (arith, moves, kept.rising number i v w here one le)) j u two)
+          (λ le. omega (arith, moves, kept.rising number i v w here one le)) j u two)
           (by_place (λ j u. number ≤ length xs → u.moves ≤ child.moves + 1)
-            (λ j u two le. omega (arith, moves, kept.near number j v u here two (omega arith)))
-            (λ le. omega arith) j u two)
+          (λ j u two le. omega (arith, moves, kept.near number j v u here two (omega arith)))
+          (λ le. omega arith) j u two)
           i w one;
       different = λ i j w u one two. by_place (λ i w. w.position ≡ u.position → i ≡ j)
           (λ i w one. by_place (λ j u. w.position ≡ u.position → i ≡ j) (λ j u two. kept.different i j w u one two)
-            (λ same. absurd (fresh i w one same)) j u two)
+          (λ same. absurd (fresh i w one same)) j u two)
           (by_place (λ j u. child.position ≡ u.position → length xs ≡ j) (λ j u two same. absurd (fresh j u two (sym same)))
-            (λ same. refl) j u two)
+          (λ same. refl) j u two)
           i w one;
       lost = by_place (λ k w. k < number → IsWon w.position → ⊥) kept.lost (λ lt. absurd (omega (arith, lt, there)));
       done = by_place (λ k w. k < number → IsLookedAt g (xs ++ child ∷ []) w)
@@ -93,10 +97,10 @@ turn_done g number xs v kept here lost looked = record {
   different = kept.different;
   lost = λ k w found lt. ⊎_elim (λ below. kept.lost k w found below)
       (λ le. let same : k ≡ number = omega (arith, lt, le) in
-        subst (λ z. IsWon z.position → ⊥) (at_same xs number v w here (subst (λ n. IsAt xs n w) same found)) lost) (cases_lt k number);
+      subst (λ z. IsWon z.position → ⊥) (at_same xs number v w here (subst (λ n. IsAt xs n w) same found)) lost) (cases_lt k number);
   done = λ k w found lt. ⊎_elim (λ below. kept.done k w found below)
       (λ le. let same : k ≡ number = omega (arith, lt, le) in
-        subst (λ z. IsLookedAt g xs z) (at_same xs number v w here (subst (λ n. IsAt xs n w) same found)) looked) (cases_lt k number);
+      subst (λ z. IsLookedAt g xs z) (at_same xs number v w here (subst (λ n. IsAt xs n w) same found)) looked) (cases_lt k number);
 }
 
 -- while a visit is looked at, no list of moves from a stored board wins in fewer moves than led to the visit
@@ -107,8 +111,8 @@ least g number xs v kept here [] k w c found run won = ⊎_elim
     (λ le. omega (arith, kept.rising number k v w here found le)) (cases_lt k number)
 least g number xs v kept here (m ∷ ms) k w c found (mid, step, rest) won = ⊎_elim
     (λ lt. let stored = kept.done k w found lt m mid step in
-      let on = least g number xs v kept here ms stored.0 stored.1 c stored.2 (subst (λ b. Run g b ms c) (sym stored.3) rest) won in
-      omega (arith, on, stored.4))
+    let on = least g number xs v kept here ms stored.0 stored.1 c stored.2 (subst (λ b. Run g b ms c) (sym stored.3) rest) won in
+    omega (arith, on, stored.4))
     (λ le. omega (arith, kept.rising number k v w here found le)) (cases_lt k number)
 
 -- moves that lead to a won visit which is looked at are a shortest list
@@ -143,7 +147,7 @@ reach g xs start sources first zero k w ms c le found run = reach_first g xs sta
 reach g xs start sources first (suc fuel) k w ms c le found run = ⊎_elim
     (λ none. reach_first g xs start first k w ms c none found run)
     (λ (p, there, lt, step, moves).
-      reach g xs start sources first fuel w.parent p (w.by ∷ ms) c (omega (arith, lt, le)) there (w.position, step, run))
+    reach g xs start sources first fuel w.parent p (w.by ∷ ms) c (omega (arith, lt, le)) there (w.position, step, run))
     (sources k w found)
 
 board_at : (xs : List Visit) (k : ℕ) (d : Board) → k < length (map (λ v. v.position) xs)
@@ -173,10 +177,10 @@ full_reaches g budget number xs start kept first (full, v, m, c, here, step, fre
       different = AllPairs-cons (λ x y. x ≢ y) c boards
           (λ k d lt same. let (w, found, is) = board_at xs k d lt in fresh k w found (sym is ∙ sym same))
           (λ i j d lt there same.
-            let (u, one, first_is) = board_at xs i d (omega (arith, lt, there)) in
-            let (w, two, second_is) = board_at xs j d there in
-            let equal : i ≡ j = kept.different i j u w one two (sym first_is ∙ same ∙ second_is) in
-            absurd (omega (arith, equal, lt)));
+          let (u, one, first_is) = board_at xs i d (omega (arith, lt, there)) in
+          let (w, two, second_is) = board_at xs j d there in
+          let equal : i ≡ j = kept.different i j u w one two (sym first_is ∙ same ∙ second_is) in
+          absurd (omega (arith, equal, lt)));
       reached = λ k d lt. reached_each g number xs start v m c kept first here step k d lt;
     }
 
@@ -184,8 +188,8 @@ full_reaches g budget number xs start kept first (full, v, m, c, here, step, fre
 pub start_kept : (g : GameRules) (v : Visit) → IsPosition v.position → v.moves ≡ 0 → Kept g 0 (v ∷ [])
 start_kept g v position none =
     let only : (k : ℕ) (w : Visit) → IsAt (v ∷ []) k w → (k ≡ 0) × (v ≡ w) =
-        λ k w found. let zero' : k ≡ 0 = omega (arith, slice_get_within (v ∷ []) k w found) in
-          (zero', at_same (v ∷ []) 0 v w refl (subst (λ j. IsAt (v ∷ []) j w) zero' found)) in
+    λ k w found. let zero' : k ≡ 0 = omega (arith, slice_get_within (v ∷ []) k w found) in
+    (zero', at_same (v ∷ []) 0 v w refl (subst (λ j. IsAt (v ∷ []) j w) zero' found)) in
     record {
       positions = λ k w found. subst (λ z. IsPosition z.position) (only k w found).1 position;
       sources = λ k w found. inl (only k w found).0;
@@ -212,21 +216,22 @@ pub walk_none : (visits : List Visit) (number : ℕ) (moves : List Move) → mov
 walk_none visits number moves none g sources v w one two =
     let same : v ≡ w = at_same visits number v w one two in
     subst (λ ms. Run g w.position (reverse ms) v.position × (length ms + w.moves ≡ v.moves)) (sym none)
-      (ap (λ z. z.position) same, let moves' : w.moves ≡ v.moves = ap (λ z. z.moves) (sym same) in omega (arith, moves'))
+    (ap (λ z. z.position) same, let moves' : w.moves ≡ v.moves = ap (λ z. z.moves) (sym same) in omega (arith, moves'))
 
 pub walk_back : (visits : List Visit) (number at : ℕ) (w : Visit) (moves new : List Move) → HasParents visits → 0 < at → IsAt visits at w
     → new ≡ moves ++ w.by ∷ [] → WalkedBack visits number at moves → WalkedBack visits number w.parent new
 walk_back visits number at w moves new parents above here more walked g sources v p one two = ⊎_elim
     (λ none. absurd (omega (arith, none, above)))
     (λ (q, found, lt, step, count).
-      let (run, total) = walked g sources v w one here in
-      let same : q ≡ p = at_same visits w.parent q p found two in
-      let turned : reverse new ≡ w.by ∷ reverse moves = ap reverse more ∙ reverse-append moves (w.by ∷ []) in
-      let longer : length new ≡ length moves + 1 = ap length more ∙ length_push moves w.by in
-      (subst (λ ms. Run g p.position ms v.position) (sym turned)
-        (w.position, subst (λ z. Step g z.position w.by w.position) same step, run),
-        let moved : w.moves ≡ p.moves + 1 = subst (λ z. w.moves ≡ z.moves + 1) same count in
-        omega (arith, longer, total, moved)))
+    let (run, total) = walked g sources v w one here in
+    let same : q ≡ p = at_same visits w.parent q p found two in
+    let turned : reverse new ≡ w.by ∷ reverse moves = ap reverse more ∙ reverse-append moves (w.by ∷ []) in
+    let longer : length new ≡ length moves + 1 = ap length more ∙ length_push moves w.by in (
+      subst (λ ms. Run g p.position ms v.position) (sym turned)
+          (w.position, subst (λ z. Step g z.position w.by w.position) same step, run),
+      let moved : w.moves ≡ p.moves + 1 = subst (λ z. w.moves ≡ z.moves + 1) same count in
+          omega (arith, longer, total, moved),
+    ))
     (sources at w here)
 
 pub walk_whole : (visits : List Visit) (number at : ℕ) (moves new : List Move) → at ≡ 0 → new ≡ reverse moves → WalkedBack visits number at moves

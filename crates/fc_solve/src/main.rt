@@ -5,6 +5,8 @@ mod answers;
 mod faults;
 mod plain;
 mod runs;
+#[cfg(test)]
+mod tests;
 mod words;
 
 use crate::faults::{Input, ProgramFault};
@@ -13,9 +15,9 @@ use clap::ArgMatches;
 use clap::error::ErrorKind;
 use fc_io::{FromReader, ToWriter};
 use fc_moves::{BakersGame, FreeCell, Game, Kings};
-use std::env;
 use std::fs::File;
 use std::process::ExitCode;
+use std::{env, io};
 
 /// The exit status of a command line that is refused.
 const REFUSED: u8 = 3;
@@ -34,9 +36,15 @@ fn main(rt: HostRuntime) -> ExitCode {
 // Reads the command line, and does what it says.
 fn follow_words(rt: &HostRuntime) -> Result<u8, ProgramFault> {
     let alloc = rt.alloc();
-    let Ok(args) = env::args(rt) else {
-        let _told = eprintln!(rt; "fc_solve: the command line can't be read");
-        return Ok(REFUSED);
+    let args = match env::args(rt) {
+        Ok(args) => args,
+        Err(error) if error.kind() == io::ErrorKind::OutOfMemory => {
+            return Err(ProgramFault::Memory);
+        }
+        Err(_) => {
+            let _told = eprintln!(rt; "fc_solve: the command line is not UTF-8");
+            return Ok(REFUSED);
+        }
     };
     let words: Vec<String> = args.collect(alloc)?;
     match words::command(alloc)?.try_get_matches_from(words.as_slice()) {

@@ -90,7 +90,10 @@ fn offer(visits: &mut Vec<Visit>, visit: Visit, budget: u32) -> Result<bool, All
     requires most { vec_len visits.old ≤ budget }
     ensures after { IfOk result (Offers budget visit visits.old.items visits.new.items) }
 {
-    if visits.iter().any(|other| other.position.equals(&visit.position)) {
+    if visits
+        .iter()
+        .any(|other| other.position.equals(&visit.position))
+    {
         return Ok(true);
     }
     if visits.len() == budget as usize {

@@ -39,17 +39,21 @@ fn solve_command<'a>(alloc: Global) -> Result<Command<'a>, AllocError> {
         .help("How many positions may be stored, 1 to 4000000")
         .value_parser(value_parser!(u32))
         .default_value("100000");
-    let board = Arg::new(alloc, "BOARD")
-        .help("The file of the board's text; standard input where none is given");
+    let board = Arg::new(alloc, "BOARD").help(
+        "The file of the board's text; standard input where none is given",
+    );
     let command = Command::new(alloc, "solve")
-        .about("Prints a shortest solution in one-card moves, or that the board can't be won, or that it gave up")
+        .about(
+            "Prints a shortest solution in one-card moves, or that the board can't be won, or that it gave up",
+        )
         .after_help(SOLVE_HELP)
         .arg(budget)?;
     with_game(alloc, command)?.arg(board)
 }
 
 /// What an answer looks like, an example, and what the statuses say.
-const SOLVE_HELP: &str = "Moves are two letters, from where to where: columns 1 to 8, cells a to d, home h.
+const SOLVE_HELP: &str =
+    "Moves are two letters, from where to where: columns 1 to 8, cells a to d, home h.
 The status is 0 for a solution, 1 where the board can't be won, 2 on giving up, 3 for what was asked or read and
 isn't right, 4 for want of memory, 5 where reading or writing failed.
 

@@ -1,4 +1,4 @@
-use Rattle.std.proofs.Common.{rules, ◌≡◌, ◌∷◌, ◌++◌, ◌∙◌, take, refl, sym, ap, arith}
+use Rattle.std.proofs.Common.{◌++◌, ◌∙◌, take, sym, ap, arith}
 use Rattle.std.specs.List.{flat_map}
 use Rattle.std.proofs.lemmas.List.{append-nil}
 use Rattle.fc_cards.specs.declared.places.Place.TheVariants.{Column}

@@ -1,4 +1,4 @@
-use Rattle.std.proofs.Common.{rules, ◌≡◌, ◌<◌, ◌∙◌, length, vec_len, arith, ap, sym, refl}
+use Rattle.std.proofs.Common.{rules, arith, refl}
 use Rattle.std.proofs.lemmas.Option.{slice_get_read}
 use Rattle.fc_solve.specs.Plain.{IsAt}
 use Rattle.fc_solve.proofs.PlainLemmas.{walk_none, walk_back, walk_whole, parent_before}
@@ -16,18 +16,21 @@ index-visit-requires c = search rules
 pub loop-at-smaller : goal.loop-at-smaller
 loop-at-smaller c =
     let here : IsAt c.args.visits.now.items c.loop-at.at c.index-visit.result.now =
-        slice_get_read c.args.visits.now.items _ c.loop-at.at c.index-visit.result.now refl c.loop-at.invariant.there c.index-visit.ensures in
+    slice_get_read c.args.visits.now.items _ c.loop-at.at c.index-visit.result.now refl c.loop-at.invariant.there c.index-visit.ensures in
     parent_before c.args.visits.now.items c.loop-at.at c.index-visit.result.now c.requires.parents c.loop-at-test.true here
 
 pub loop-at-preserved : goal.loop-at-preserved
 loop-at-preserved c =
     let here : IsAt c.args.visits.now.items c.loop-at.at c.index-visit.result.now =
-        slice_get_read c.args.visits.now.items _ c.loop-at.at c.index-visit.result.now refl c.loop-at.invariant.there c.index-visit.ensures in
+    slice_get_read c.args.visits.now.items _ c.loop-at.at c.index-visit.result.now refl c.loop-at.invariant.there c.index-visit.ensures in
     record {
-      there = omega (arith, c.loop-at.invariant.there,
-        parent_before c.args.visits.now.items c.loop-at.at c.index-visit.result.now c.requires.parents c.loop-at-test.true here);
+      there = omega (
+        arith,
+        c.loop-at.invariant.there,
+        parent_before c.args.visits.now.items c.loop-at.at c.index-visit.result.now c.requires.parents c.loop-at-test.true here,
+      );
       walked = walk_back c.args.visits.now.items c.args.number c.loop-at.at c.index-visit.result.now c.loop-at.moves.items c.push.new.self.items
-        c.requires.parents c.loop-at-test.true here (c.in_ok-push.ensures.items) c.loop-at.invariant.walked;
+          c.requires.parents c.loop-at-test.true here (c.in_ok-push.ensures.items) c.loop-at.invariant.walked;
     }
 
 pub returns : goal.returns

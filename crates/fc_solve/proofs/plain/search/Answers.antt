@@ -1,7 +1,5 @@
-use Rattle.std.proofs.Common.{rules, ◌≡◌, ◌+◌, ◌-◌, ◌<◌, ◌≤◌, length, true, false, refl, arith, subst}
-use Rattle.fc_cards.specs.declared.places.Place.TheVariants.{Column}
+use Rattle.std.proofs.Common.{rules, ◌+◌, ◌-◌, ◌<◌, ◌≤◌, length, true, false, refl, arith, subst}
 use Rattle.fc_position.specs.Position.{IsWon}
-use Rattle.fc_moves.specs.Run.{CannotWin}
 use Rattle.fc_solve.specs.declared.plain.Visit.{Visit}
 use Rattle.fc_solve.specs.Plain.{IsAt, Expands}
 use Rattle.fc_solve.proofs.ExpandLemmas.{read_at}
@@ -23,7 +21,7 @@ pub returns-then-is_won : goal.returns-then-is_won
 returns-then-is_won g c =
     let lt : c.loop-number.number < length c.loop-number.visits.items = search rules in
     let here : IsAt c.loop-number.visits.items c.loop-number.number c.index.result.now =
-        read_at c.loop-number.visits.items (length c.loop-number.visits.items) c.loop-number.number c.index.result.now refl lt c.index.ensures in
+    read_at c.loop-number.visits.items (length c.loop-number.visits.items) c.loop-number.number c.index.result.now refl lt c.index.ensures in
     let won : IsWon c.index.result.now.position = search rules in
     record {
       right = searching_won (g.G.Game.game c.args.game.now) c.args.start.now c.args.budget c.loop-number.number c.loop-number.visits.items
@@ -39,11 +37,14 @@ expand-requires-clause-kept g c = c.loop-number.invariant.kept
 pub returns-then-not-branch : goal.returns-then-not-branch
 returns-then-not-branch g c =
     let expands : Expands (g.G.Game.game c.args.game.now) c.args.budget c.loop-number.number c.loop-number.visits.items c.expand.new.visits.items false =
-        subst (λ t. Expands (g.G.Game.game c.args.game.now) c.args.budget c.loop-number.number c.loop-number.visits.items c.expand.new.visits.items t)
-        c.if-not-branch.true c.in_ok-expand.ensures.after in
+    subst (λ t. Expands (g.G.Game.game c.args.game.now) c.args.budget c.loop-number.number c.loop-number.visits.items c.expand.new.visits.items t)
+    c.if-not-branch.true c.in_ok-expand.ensures.after in
     record {
-      right = (refl, searching_full (g.G.Game.game c.args.game.now) c.args.start.now c.args.budget c.loop-number.number c.loop-number.visits.items
-        c.expand.new.visits.items c.loop-number.invariant expands);
+      right = (
+        refl,
+        searching_full (g.G.Game.game c.args.game.now) c.args.start.now c.args.budget c.loop-number.number c.loop-number.visits.items
+            c.expand.new.visits.items c.loop-number.invariant expands,
+      );
     }
 
 pub loop-number-smaller : goal.loop-number-smaller
@@ -57,10 +58,10 @@ pub loop-number-preserved : goal.loop-number-preserved
 loop-number-preserved g c =
     let lt : c.loop-number.number < length c.loop-number.visits.items = search rules in
     let here : IsAt c.loop-number.visits.items c.loop-number.number c.index.result.now =
-        read_at c.loop-number.visits.items (length c.loop-number.visits.items) c.loop-number.number c.index.result.now refl lt c.index.ensures in
+    read_at c.loop-number.visits.items (length c.loop-number.visits.items) c.loop-number.number c.index.result.now refl lt c.index.ensures in
     let expands : Expands (g.G.Game.game c.args.game.now) c.args.budget c.loop-number.number c.loop-number.visits.items c.expand.new.visits.items true =
-        subst (λ t. Expands (g.G.Game.game c.args.game.now) c.args.budget c.loop-number.number c.loop-number.visits.items c.expand.new.visits.items t)
-        c.if-not-branch.false c.in_ok-expand.ensures.after in
+    subst (λ t. Expands (g.G.Game.game c.args.game.now) c.args.budget c.loop-number.number c.loop-number.visits.items c.expand.new.visits.items t)
+    c.if-not-branch.false c.in_ok-expand.ensures.after in
     searching_next (g.G.Game.game c.args.game.now) c.args.start.now c.args.budget c.loop-number.number c.loop-number.visits.items
     c.expand.new.visits.items c.index.result.now c.loop-number.invariant here (λ won. let so = c.is_won.ensures.value.1 won in search rules) expands
 
