@@ -12,5 +12,7 @@ pub mod LineLoop
 pub mod OnceLemmas
 pub mod PartLemmas
 pub mod PieceLemmas
+pub mod PrintLemmas
+pub mod PrintedLines
 pub mod ReaderLemmas
 pub mod TokenLemmas
