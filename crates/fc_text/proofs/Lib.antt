@@ -10,6 +10,7 @@ pub mod HomeDraft
 pub mod HomeLemmas
 pub mod LineLoop
 pub mod OnceLemmas
+pub mod OneFault
 pub mod PartLemmas
 pub mod PieceLemmas
 pub mod PrintLemmas
