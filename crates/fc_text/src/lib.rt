@@ -1,4 +1,4 @@
-//! Board texts in Freecell Solver's form: read exactly, and printed.
+//! Board texts in Freecell Solver's form: read exactly, and printed. No call allocates.
 #![tactic(auto)]
 
 pub use boards::read_board;

@@ -81,7 +81,7 @@ const FULL: &str = "\
     : TS 8S 7S 6S 9S JS\n";
 
 // Deal 24.
-const DEAL_24: &str = "\
+pub(super) const DEAL_24: &str = "\
     Foundations: H-0 C-0 D-0 S-0\n\
     Freecells: - - - -\n\
     : 4C 2C 9C 8C QS 4S 2H\n\
@@ -194,6 +194,21 @@ fn prints_a_full_cell_and_an_empty_column(rt: HostRuntime) -> Result<(), Fail> {
     for text in texts {
         assert_eq!(rt; reprinted(text, 4)?.as_str(), text);
     }
+    Ok(())
+}
+
+// All cards in one column, the ace of clubs last.
+#[test]
+fn prints_a_column_of_all_cards(rt: HostRuntime) -> Result<(), Fail> {
+    let text = "\
+        Foundations: H-0 C-0 D-0 S-0\n\
+        Freecells: - - - -\n\
+        : KS KH KD KC QS QH QD QC JS JH JD JC TS \
+        TH TD TC 9S 9H 9D 9C 8S 8H 8D 8C 7S 7H \
+        7D 7C 6S 6H 6D 6C 5S 5H 5D 5C 4S 4H 4D \
+        4C 3S 3H 3D 3C 2S 2H 2D 2C AS AH AD AC\n\
+        :\n:\n:\n:\n:\n:\n:\n";
+    assert_eq!(rt; reprinted(text, 4)?.as_str(), text);
     Ok(())
 }
 

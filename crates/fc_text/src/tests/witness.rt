@@ -1,4 +1,4 @@
-use super::reprinted;
+use super::{boards, reprinted};
 use std::test::Fail;
 
 // What programs of Debian's package freecell-solver-bin 5.0.0-2+b1 write.
@@ -75,19 +75,8 @@ const ON_THE_WAY: &str = "\
 
 #[test]
 fn reads_generated_boards(rt: HostRuntime) -> Result<(), Fail> {
-    let deal_24 = "\
-        Foundations: H-0 C-0 D-0 S-0\n\
-        Freecells: - - - -\n\
-        : 4C 2C 9C 8C QS 4S 2H\n\
-        : 5H QH 3C AC 3H 4H QD\n\
-        : QC 9S 6H 9H 3S KS 3D\n\
-        : 5D 2S JC 5C JH 6D AS\n\
-        : 2D KD TH TC TD 8D\n\
-        : 7H JS KH TS KC 7C\n\
-        : AH 5S 6S AD 8H JD\n\
-        : 7S 6C 7D 4D 8S 9D\n";
     for text in [DEAL_24, DEAL_24_WITH_T, START] {
-        assert_eq!(rt; reprinted(text, 4)?.as_str(), deal_24);
+        assert_eq!(rt; reprinted(text, 4)?.as_str(), boards::DEAL_24);
     }
     let deal_11982 = "\
         Foundations: H-0 C-0 D-0 S-0\n\
