@@ -101,7 +101,7 @@ cells_first lines d piece kept count new old read fresh counted =
       tally = cells_counted old.board kept d.tally new (cells_empty lines old.board old.spelled place) old.tally counted;
     }
 
-spelled_not_bad : (token : List ℕ) (held : Option ℕ) → SpellsCell token held → ((c : ℕ) → SpellsCard token c → ⊥)
+pub spelled_not_bad : (token : List ℕ) (held : Option ℕ) → SpellsCell token held → ((c : ℕ) → SpellsCard token c → ⊥)
     → (IsMark token → ⊥) → ⊥
 spelled_not_bad token None spelled other mark = mark spelled
 spelled_not_bad token (Some c) spelled other mark = other c spelled

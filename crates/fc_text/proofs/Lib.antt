@@ -10,7 +10,10 @@ pub mod HomeDraft
 pub mod HomeLemmas
 pub mod LineLoop
 pub mod OnceLemmas
+pub mod OneFault
 pub mod PartLemmas
 pub mod PieceLemmas
+pub mod PrintLemmas
+pub mod PrintedLines
 pub mod ReaderLemmas
 pub mod TokenLemmas

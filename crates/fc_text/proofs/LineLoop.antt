@@ -34,7 +34,7 @@ sound_push n lines line sound here front rest l same = ⊎_elim
     (λ before. sound front before.0 l before.1)
     (push_parts lines front rest line l same)
 
-no_line_sound : (n : ℕ) → AreSound n []
+pub no_line_sound : (n : ℕ) → AreSound n []
 no_line_sound n [] rest line same = absurd (cc same)
 no_line_sound n (f ∷ front) rest line same = absurd (cc same)
 

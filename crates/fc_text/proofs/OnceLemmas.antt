@@ -140,7 +140,7 @@ foundations_is Freecells same = absurd (cc same)
 foundations_is Column same = absurd (cc same)
 
 -- sound lines name no suit twice
-no_twice : (n : ℕ) (lines : List Line) → AreSound n lines → NamesSuitTwice (tokens_at lines Foundations 0) → ⊥
+pub no_twice : (n : ℕ) (lines : List Line) → AreSound n lines → NamesSuitTwice (tokens_at lines Foundations 0) → ⊥
 no_twice n lines sound twice =
     let size : twice.second < length (tokens_at lines Foundations 0) =
     slice_get_within (tokens_at lines Foundations 0) twice.second twice.other.0 twice.other.2 in

@@ -12,3 +12,7 @@ TextsSpellOnePosition = (n : ℕ) (text : List ℕ) (b c : Board) → Spells n t
 abbrev pub TextsThatSpellHaveNoFault : Type 0
 TextsThatSpellHaveNoFault = (n : ℕ) (text : List ℕ) (b : Board) (fault : BoardFault) → Spells n text b
     → IsBoardFault n text fault → ⊥
+
+-- no text has two faults
+abbrev pub TextsHaveOneFault : Type 0
+TextsHaveOneFault = (n : ℕ) (text : List ℕ) (f g : BoardFault) → IsBoardFault n text f → IsBoardFault n text g → f ≡ g

@@ -1,8 +1,9 @@
-//! Board texts in Freecell Solver's form: read exactly, and printed.
+//! Board texts in Freecell Solver's form: read exactly, and printed. No call allocates.
 #![tactic(auto)]
 
 pub use boards::read_board;
 pub use faults::BoardFault;
+pub use printers::print_board;
 
 mod boards;
 mod drafts;
@@ -10,6 +11,7 @@ mod faults;
 pub mod laws;
 mod lines;
 mod pieces;
+mod printers;
 mod readers;
 #[cfg(test)]
 mod tests;

@@ -1,11 +1,27 @@
+ghost use Rattle.std.specs.Prelude.{◌≤◌};
+
+mod boards;
+mod faults;
+mod spellings;
+mod witness;
+
 use crate::faults::LineFault;
 use crate::lines::{LineKind, sorted_line, without_return};
 use crate::pieces::{Lines, Tokens};
 use crate::readers::{read_cells, read_column, read_homes};
-use crate::{BoardFault, read_board};
+use crate::{print_board, read_board};
+use arrayvec::ArrayString;
 use fc_cards::Card;
 use fc_position::Tally;
 use std::test::Fail;
+
+// The text of a board in a game with so many cells, read and printed.
+fn reprinted(text: &str, cells: u8) -> Result<ArrayString<400>, Fail>
+    requires game { cells ≤ 4 }
+{
+    let position = read_board(text.as_bytes(), cells)?;
+    Ok(print_board(&position, cells))
+}
 
 #[test]
 fn splits_lines(rt: HostRuntime) -> Result<(), Fail> {
@@ -66,55 +82,5 @@ fn reads_homes(rt: HostRuntime) -> Result<(), Fail> {
     assert!(rt; homes == [0, 1, 12, 10]);
     assert!(rt; read_homes(b"H-Q h-2").err() == Some(LineFault::BadFoundation));
     assert!(rt; read_homes(b"H-14").err() == Some(LineFault::BadFoundation));
-    Ok(())
-}
-
-// The board of deal 1.
-const DEAL: &[u8] =
-    b"JD KD 2S 4C 3S 6D 6S\n2D KC KS 5C TD 8S 9C\n9H 9S 9D TS 4S 8D 2H\nJC 5S QD QH TH QS 6H\n5D AD JS 4H 8H 6C\n7H QC AS AC 2C 3D\n7C KH AH 4D JH 8C\n5H 3H 3C 7S 7D TC\n";
-
-#[test]
-fn reads_a_board(rt: HostRuntime) -> Result<(), Fail> {
-    let position = read_board(DEAL, 4)?;
-    assert_eq!(rt; position.column(7).len(), 6);
-    assert_eq!(rt; position.column(0).first().copied(), Card::read(b"JD"));
-    let four = read_board(b"foundation: h-j C-k D-K S-J\r\n: QS KH\r\n\tQH ks", 0)?;
-    assert_eq!(rt; four.column(1).len(), 2);
-    assert_eq!(rt; four.home(fc_cards::Suit::D), 13);
-    Ok(())
-}
-
-#[test]
-fn names_the_first_fault(rt: HostRuntime) -> Result<(), Fail> {
-    assert_eq!(rt;
-        read_board(b"KC\nKX\n", 4).err(),
-        Some(BoardFault::BadCard(2))
-    );
-    assert_eq!(rt;
-        read_board(b"Freecells: - - - - -\n", 4).err(),
-        Some(BoardFault::TooManyCells(1))
-    );
-    assert_eq!(rt;
-        read_board(b"Foundations: H-Z", 4).err(),
-        Some(BoardFault::BadFoundation(1))
-    );
-    assert_eq!(rt;
-        read_board(b"FC: -\nFC: -\n", 4).err(),
-        Some(BoardFault::RepeatedLine(2))
-    );
-    let ace = Card::read(b"AC").ok_or("an ace")?;
-    assert_eq!(rt;
-        read_board(b"", 4).err(),
-        Some(BoardFault::MissingCard(ace))
-    );
-    assert_eq!(rt;
-        read_board(b"AC\nAC", 4).err(),
-        Some(BoardFault::RepeatedCard(ace))
-    );
-    let ninth = b"\n\n\n\n\n\n\n\nAC".as_slice();
-    assert_eq!(rt;
-        read_board(ninth, 4).err(),
-        Some(BoardFault::TooManyColumns(9))
-    );
     Ok(())
 }
