@@ -1,3 +1,4 @@
 pub mod RuleLemmas
 pub mod SearchLemmas
 pub mod SettleLemmas
+pub mod WayLemmas

@@ -1,11 +1,12 @@
 -- What the laws of this crate state.
-use Rattle.std.specs.Prelude.{ℕ, List}
+use Rattle.std.specs.Prelude.{◌≡◌, ℕ, List}
 use Rattle.fc_position.specs.Board.{Board}
+use Rattle.fc_position.specs.Position.{IsPosition}
 use Rattle.fc_moves.specs.declared.steps.Move.{Move}
 use Rattle.fc_moves.specs.GameRules.{GameRules}
 use Rattle.fc_moves.specs.Run.{Run}
 use Rattle.fc_home.specs.HomeRule.{IsForced, IsFree}
-use Rattle.fc_home.specs.Settles.{SettlesBy}
+use Rattle.fc_home.specs.Settles.{SettlesBy, Settles}
 
 -- a forced card is free
 abbrev pub ForcedCardsAreFree : Type 0
@@ -14,3 +15,17 @@ ForcedCardsAreFree = (g : GameRules) (homes : List ℕ) (c : ℕ) → IsForced g
 -- the moves by which a board settles are steps, one by one
 abbrev pub SettlingIsARun : Type 0
 SettlingIsARun = (g : GameRules) (rule : ℕ) (b q : Board) (ms : List Move) → SettlesBy g rule b ms q → Run g b ms q
+
+-- every position settles by every rule
+abbrev pub PositionsSettle : Type 0
+PositionsSettle = (g : GameRules) (rule : ℕ) (b : Board) → IsPosition b → (count : ℕ) × (q : Board) × Settles g rule b count q
+
+-- a position settles by a rule in one number of moves and to one board
+abbrev pub PositionsSettleInOneWay : Type 0
+PositionsSettleInOneWay = (g : GameRules) (rule : ℕ) (b q r : Board) (count number : ℕ) → IsPosition b
+    → Settles g rule b count q → Settles g rule b number r → (count ≡ number) × (q ≡ r)
+
+-- and by one list of moves
+abbrev pub SettlingMovesAreOne : Type 0
+SettlingMovesAreOne = (g : GameRules) (rule : ℕ) (b q r : Board) (ms ns : List Move) → IsPosition b
+    → SettlesBy g rule b ms q → SettlesBy g rule b ns r → (ms ≡ ns) × (q ≡ r)

@@ -1,6 +1,6 @@
 //! Laws of the definitions, each the contract of a function that does nothing.
 
-ghost use Rattle.fc_home.specs.Laws.{ForcedCardsAreFree, SettlingIsARun};
+ghost use Rattle.fc_home.specs.Laws.{ForcedCardsAreFree, SettlingIsARun, PositionsSettle, PositionsSettleInOneWay, SettlingMovesAreOne};
 
 /// A forced card is free.
 pub fn forced_cards_are_free()
@@ -10,4 +10,19 @@ pub fn forced_cards_are_free()
 /// The moves by which a board settles are steps, one by one, each allowed by the rules.
 pub fn settling_is_a_run()
     ensures { SettlingIsARun }
+{}
+
+/// Every position settles by every rule.
+pub fn positions_settle()
+    ensures { PositionsSettle }
+{}
+
+/// A position settles by a rule in one number of moves and to one board.
+pub fn positions_settle_in_one_way()
+    ensures { PositionsSettleInOneWay }
+{}
+
+/// A position settles by a rule by one list of moves.
+pub fn settling_moves_are_one()
+    ensures { SettlingMovesAreOne }
 {}
