@@ -1,3 +1,4 @@
+pub mod MateLemmas
 pub mod RuleLemmas
 pub mod SearchLemmas
 pub mod SettleLemmas

@@ -5,6 +5,7 @@ use Rattle.fc_position.specs.Position.{IsPosition}
 use Rattle.fc_moves.specs.declared.steps.Move.{Move}
 use Rattle.fc_moves.specs.GameRules.{GameRules}
 use Rattle.fc_moves.specs.Run.{Run}
+use Rattle.fc_canonical.specs.Class.{SameClass}
 use Rattle.fc_home.specs.HomeRule.{IsForced, IsFree}
 use Rattle.fc_home.specs.Settles.{SettlesBy, Settles}
 
@@ -29,3 +30,8 @@ PositionsSettleInOneWay = (g : GameRules) (rule : ℕ) (b q r : Board) (count nu
 abbrev pub SettlingMovesAreOne : Type 0
 SettlingMovesAreOne = (g : GameRules) (rule : ℕ) (b q r : Board) (ms ns : List Move) → IsPosition b
     → SettlesBy g rule b ms q → SettlesBy g rule b ns r → (ms ≡ ns) × (q ≡ r)
+
+-- a class-mate of a board that settles in so many moves settles in as many, to a board of the same class
+abbrev pub ClassMatesSettleAlike : Type 0
+ClassMatesSettleAlike = (g : GameRules) (rule : ℕ) (b c x : Board) (count : ℕ) → SameClass b c → Settles g rule b count x
+    → (y : Board) × Settles g rule c count y × SameClass x y

@@ -1,6 +1,6 @@
 //! Laws of the definitions, each the contract of a function that does nothing.
 
-ghost use Rattle.fc_home.specs.Laws.{ForcedCardsAreFree, SettlingIsARun, PositionsSettle, PositionsSettleInOneWay, SettlingMovesAreOne};
+ghost use Rattle.fc_home.specs.Laws.{ForcedCardsAreFree, SettlingIsARun, PositionsSettle, PositionsSettleInOneWay, SettlingMovesAreOne, ClassMatesSettleAlike};
 
 /// A forced card is free.
 pub fn forced_cards_are_free()
@@ -25,4 +25,9 @@ pub fn positions_settle_in_one_way()
 /// A position settles by a rule by one list of moves.
 pub fn settling_moves_are_one()
     ensures { SettlingMovesAreOne }
+{}
+
+/// Boards of one class settle in equally many moves to boards of one class.
+pub fn class_mates_settle_alike()
+    ensures { ClassMatesSettleAlike }
 {}
