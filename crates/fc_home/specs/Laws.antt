@@ -1,10 +1,10 @@
 -- What the laws of this crate state.
-use Rattle.std.specs.Prelude.{◌≡◌, ℕ, List}
+use Rattle.std.specs.Prelude.{◌≡◌, ℕ, ◌-◌, ◌≤◌, ◌↔◌, length, List}
 use Rattle.fc_position.specs.Board.{Board}
 use Rattle.fc_position.specs.Position.{IsPosition}
 use Rattle.fc_moves.specs.declared.steps.Move.{Move}
 use Rattle.fc_moves.specs.GameRules.{GameRules}
-use Rattle.fc_moves.specs.Run.{Run}
+use Rattle.fc_moves.specs.Run.{Run, Wins}
 use Rattle.fc_canonical.specs.Class.{SameClass}
 use Rattle.fc_home.specs.HomeRule.{IsForced, IsFree}
 use Rattle.fc_home.specs.Settles.{SettlesBy, Settles}
@@ -35,3 +35,13 @@ SettlingMovesAreOne = (g : GameRules) (rule : ℕ) (b q r : Board) (ms ns : List
 abbrev pub ClassMatesSettleAlike : Type 0
 ClassMatesSettleAlike = (g : GameRules) (rule : ℕ) (b c x : Board) (count : ℕ) → SameClass b c → Settles g rule b count x
     → (y : Board) × Settles g rule c count y × SameClass x y
+
+-- some list of at most so many moves wins from the board
+abbrev pub WinsWithin : GameRules → Board → ℕ → Type 0
+WinsWithin g b most = (ms : List Move) × (length ms ≤ most) × Wins g b ms
+
+-- a list of at most so many moves wins from a position exactly where the settling moves are no more, and a list of at most
+-- the others wins from the settled position
+abbrev pub SettlingLosesNothing : Type 0
+SettlingLosesNothing = (g : GameRules) (rule : ℕ) (b q : Board) (count most : ℕ) → IsPosition b → Settles g rule b count q
+    → WinsWithin g b most ↔ ((count ≤ most) × WinsWithin g q (most - count))

@@ -1,6 +1,6 @@
 //! Laws of the definitions, each the contract of a function that does nothing.
 
-ghost use Rattle.fc_home.specs.Laws.{ForcedCardsAreFree, SettlingIsARun, PositionsSettle, PositionsSettleInOneWay, SettlingMovesAreOne, ClassMatesSettleAlike};
+ghost use Rattle.fc_home.specs.Laws.{ForcedCardsAreFree, SettlingIsARun, PositionsSettle, PositionsSettleInOneWay, SettlingMovesAreOne, ClassMatesSettleAlike, SettlingLosesNothing};
 
 /// A forced card is free.
 pub fn forced_cards_are_free()
@@ -30,4 +30,10 @@ pub fn settling_moves_are_one()
 /// Boards of one class settle in equally many moves to boards of one class.
 pub fn class_mates_settle_alike()
     ensures { ClassMatesSettleAlike }
+{}
+
+/// Settling loses nothing: a list of at most so many moves wins from a position exactly where the settling moves are no
+/// more, and a list of at most the others wins from the settled position.
+pub fn settling_loses_nothing()
+    ensures { SettlingLosesNothing }
 {}
