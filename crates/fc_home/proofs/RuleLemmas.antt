@@ -5,7 +5,7 @@ use Rattle.fc_cards.specs.Card.{rank}
 use Rattle.fc_position.specs.Board.{IsHome, IsNext}
 use Rattle.fc_moves.specs.GameRules.{GameRules, Stands, IsGame, IsPair}
 use Rattle.fc_home.specs.HomeRule.{IsForced, IsFreeWithin, IsFree}
-use Rattle.fc_home.specs.Laws.{ForcedCardsAreFree}
+use Rattle.fc_home.specs.Laws.{CardsAreFreeByOthers, ForcedCardsAreFree}
 
 -- a card stands on cards one rank higher
 pub host_lower : (g : GameRules) (u c : ℕ) → IsGame g → Stands g u c → rank u + 1 ≡ rank c
@@ -31,6 +31,9 @@ free_hosts g homes c game free =
           let lower : c / 4 ≡ rank u = omega (arith, host_lower g u c game stands) in
           ⊎_elim (λ h. inl h) (λ f. inr (subst (λ n. IsFreeWithin n g homes u) lower f)) (within.1 u stands),
     )
+
+pub free_others : CardsAreFreeByOthers
+free_others g homes c game = (free_hosts g homes c game, λ (next, hosts). free_by_hosts g homes c game next hosts)
 
 -- a forced card is free
 pub forced_free : ForcedCardsAreFree

@@ -12,9 +12,9 @@ use Rattle.fc_position.proofs.BoardLemmas.{position-moved, home_most, homes-lift
 use Rattle.fc_moves.specs.declared.steps.Move.{Move}
 use Rattle.fc_moves.specs.GameRules.{GameRules}
 use Rattle.fc_moves.specs.Step.{Step, Joins}
-use Rattle.fc_moves.proofs.StepLemmas.{step_keeps}
+use Rattle.fc_moves.proofs.StepLemmas.{step_keeps, run_keeps}
 use Rattle.fc_home.specs.HomeRule.{GoesHome}
-use Rattle.fc_home.specs.Laws.{SettlingIsARun}
+use Rattle.fc_home.specs.Laws.{SettlingIsARun, SettlingKeepsPositions, SettledBoardsStay}
 use Rattle.fc_home.specs.Settles.{IsFirstHome, NoneGoesHome, SettlesBy, sent_home}
 use Rattle.fc_home.proofs.RuleLemmas.{free_next}
 
@@ -71,6 +71,17 @@ pub settles_run : SettlingIsARun
 settles_run g rule b q [] (same, none) = same
 settles_run g rule b q (m ∷ ms) (c, first, home, rest) =
     (sent_home b m.from c, first_step rule g b m c first home, settles_run g rule (sent_home b m.from c) q ms rest)
+
+-- it keeps positions of the game, and leaves nothing to settle
+pub settles_keep : SettlingKeepsPositions
+settles_keep g rule b q count p (ms, long, settles) = run_keeps g b q ms p (settles_run g rule b q ms settles)
+
+stays_settled : (g : GameRules) (rule : ℕ) (b q : Board) (ms : List Move) → SettlesBy g rule b ms q → SettlesBy g rule q [] q
+stays_settled g rule b q [] (same, none) = (refl, subst (NoneGoesHome rule g) (sym same) none)
+stays_settled g rule b q (m ∷ ms) (c, first, home, rest) = stays_settled g rule (sent_home b m.from c) q ms rest
+
+pub settled_stays : SettledBoardsStay
+settled_stays g rule b q count (ms, long, settles) = ([], refl, stays_settled g rule b q ms settles)
 
 -- so far these moves were made, and whatever settles the board that they led to settles the first one after them
 abbrev pub SettlesAfter : GameRules → ℕ → Board → List Move → Board → Type 0

@@ -1,13 +1,18 @@
 -- What the laws of this crate state.
-use Rattle.std.specs.Prelude.{◌≡◌, ℕ, ◌-◌, ◌≤◌, ◌↔◌, length, List}
-use Rattle.fc_position.specs.Board.{Board}
+use Rattle.std.specs.Prelude.{◌≡◌, ℕ, ◌-◌, ◌≤◌, ◌⊎◌, ◌↔◌, length, List}
+use Rattle.fc_position.specs.Board.{Board, IsHome, IsNext}
 use Rattle.fc_position.specs.Position.{IsPosition}
 use Rattle.fc_moves.specs.declared.steps.Move.{Move}
-use Rattle.fc_moves.specs.GameRules.{GameRules}
+use Rattle.fc_moves.specs.GameRules.{GameRules, IsGame, IsPositionOf, Stands}
 use Rattle.fc_moves.specs.Run.{Run, Wins}
 use Rattle.fc_canonical.specs.Class.{SameClass}
 use Rattle.fc_home.specs.HomeRule.{IsForced, IsFree}
 use Rattle.fc_home.specs.Settles.{SettlesBy, Settles}
+
+-- by the rules of a game, a card is free exactly where it is next and each card that may stand on it is home or free
+abbrev pub CardsAreFreeByOthers : Type 0
+CardsAreFreeByOthers = (g : GameRules) (homes : List ℕ) (c : ℕ) → IsGame g
+    → IsFree g homes c ↔ (IsNext homes c × ((u : ℕ) → Stands g u c → IsHome homes u ⊎ IsFree g homes u))
 
 -- a forced card is free
 abbrev pub ForcedCardsAreFree : Type 0
@@ -16,6 +21,15 @@ ForcedCardsAreFree = (g : GameRules) (homes : List ℕ) (c : ℕ) → IsForced g
 -- the moves by which a board settles are steps, one by one
 abbrev pub SettlingIsARun : Type 0
 SettlingIsARun = (g : GameRules) (rule : ℕ) (b q : Board) (ms : List Move) → SettlesBy g rule b ms q → Run g b ms q
+
+-- a position of the game settles to one of the game
+abbrev pub SettlingKeepsPositions : Type 0
+SettlingKeepsPositions = (g : GameRules) (rule : ℕ) (b q : Board) (count : ℕ) → IsPositionOf g b → Settles g rule b count q
+    → IsPositionOf g q
+
+-- what is settled settles by no move
+abbrev pub SettledBoardsStay : Type 0
+SettledBoardsStay = (g : GameRules) (rule : ℕ) (b q : Board) (count : ℕ) → Settles g rule b count q → Settles g rule q 0 q
 
 -- every position settles by every rule
 abbrev pub PositionsSettle : Type 0

@@ -1,6 +1,11 @@
 //! Laws of the definitions, each the contract of a function that does nothing.
 
-ghost use Rattle.fc_home.specs.Laws.{ForcedCardsAreFree, SettlingIsARun, PositionsSettle, PositionsSettleInOneWay, SettlingMovesAreOne, ClassMatesSettleAlike, SettlingLosesNothing};
+ghost use Rattle.fc_home.specs.Laws.{CardsAreFreeByOthers, ForcedCardsAreFree, SettlingIsARun, SettlingKeepsPositions, SettledBoardsStay, PositionsSettle, PositionsSettleInOneWay, SettlingMovesAreOne, ClassMatesSettleAlike, SettlingLosesNothing};
+
+/// By the rules of a game, a card is free exactly where it is next and each card that may stand on it is home or free.
+pub fn cards_are_free_by_others()
+    ensures { CardsAreFreeByOthers }
+{}
 
 /// A forced card is free.
 pub fn forced_cards_are_free()
@@ -10,6 +15,16 @@ pub fn forced_cards_are_free()
 /// The moves by which a board settles are steps, one by one, each allowed by the rules.
 pub fn settling_is_a_run()
     ensures { SettlingIsARun }
+{}
+
+/// A position that fits the game settles to one that fits it.
+pub fn settling_keeps_positions()
+    ensures { SettlingKeepsPositions }
+{}
+
+/// What is settled settles by no move.
+pub fn settled_boards_stay()
+    ensures { SettledBoardsStay }
 {}
 
 /// Every position settles by every rule.
