@@ -78,7 +78,7 @@ in_column b (Cell i) u k p there inside some =
 in_column b Home u k p there inside some = absurd (cc there)
 
 -- a card is playable at one place
-source_once : (b : Board) (from to : Place) (u : ℕ) → IsPosition b → playable b from ≡ Some u → playable b to ≡ Some u → from ≡ to
+pub source_once : (b : Board) (from to : Place) (u : ℕ) → IsPosition b → playable b from ≡ Some u → playable b to ≡ Some u → from ≡ to
 source_once b from (Column j) u p x y =
     in_column b from u j p x (column_there b j u y) (count-last (column b j) u y)
 source_once b (Column i) (Cell j) u p x y =

@@ -1,0 +1,9 @@
+pub mod CountLemmas
+pub mod CoverLemmas
+pub mod LossLemmas
+pub mod MateLemmas
+pub mod RuleLemmas
+pub mod SearchLemmas
+pub mod SettleLemmas
+pub mod SimulationLemmas
+pub mod WayLemmas

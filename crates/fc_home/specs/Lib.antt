@@ -1,0 +1,4 @@
+pub mod HomeRule
+pub mod Laws
+pub mod Search
+pub mod Settles
