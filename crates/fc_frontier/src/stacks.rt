@@ -1,0 +1,109 @@
+ghost use Rattle.std.specs.Prelude.{◌≡◌, ℕ, ◌+◌, ◌^◌, ◌<◌, ◌≤◌, ◌↔◌, List, [], ◌∷◌, ◌++◌, length, option_to_list, slice_index_or, vec_len, All, IsNone, IfOk, IfSome, OnOk, OnErr};
+ghost use Rattle.fc_frontier.specs.Queue.{IsLeast, inserted};
+ghost use Rattle.fc_frontier.specs.Stack.{nodes_of};
+
+use crate::frontiers::Full;
+use std::alloc::Global;
+use std::marker::Model;
+
+// How many stacks there are, once there are any: one for each f below this number.
+pub const STACKS: u32 = 1024;
+
+// A stack of nodes for each f below 1,024, seen as the pairs in the order in which they will be taken: by rising f, and
+// of equal f the pair that was pushed last first.
+#[derive(Debug, Drop)]
+pub struct Stacks {
+    // None before the first push.
+    stacks: Vec<Vec<u32>>,
+    // All stacks before this one are empty.
+    first: usize,
+}
+
+impl Model for Stacks {
+    ghost use Rattle.std.specs.Prelude.{ℕ, List};
+    ghost use Rattle.fc_frontier.specs.Stack.{nodes_of, stacked, AreStacks};
+
+    ghost Value = { List (ℕ × ℕ) };
+
+    ghost view = { λ s. stacked 0 (nodes_of s.stacks.items) };
+
+    ghost invariant = { λ s. AreStacks (nodes_of s.stacks.items) s.first };
+}
+
+// All stacks, each empty.
+fn empty_stacks(alloc: Global) -> Result<Vec<Vec<u32>>, Full>
+    ensures count { IfOk result (λ stacks. vec_len stacks ≡ 1024) }
+    ensures empty { IfOk result (λ stacks. All (λ nodes. nodes ≡ []) (nodes_of stacks.items)) }
+{
+    let mut stacks = Vec::with_capacity(alloc, STACKS as usize)?;
+    for _ in 0..STACKS {
+        stacks.push(Vec::new(alloc))?;
+    }
+    Ok(stacks)
+}
+
+// The place of the first stack from a place on that isn't empty, the number of the stacks where all are.
+fn first_full(stacks: &[Vec<u32>], from: usize) -> usize
+    ensures from { from ≤ result }
+    ensures passed { (k : ℕ) → from ≤ k → k < result → slice_index_or (nodes_of stacks.now) k [] ≡ [] }
+    ensures end { result < length stacks.now → 0 < length (slice_index_or (nodes_of stacks.now) result []) }
+{
+    for place in from..stacks.len() {
+        if !stacks[place].is_empty() {
+            return place;
+        }
+    }
+    from.max(stacks.len())
+}
+
+impl Stacks {
+    // No pairs. Takes no memory yet.
+    pub fn new(alloc: Global) -> Self
+        ensures empty { result ≡ [] }
+    {
+        Stacks {
+            stacks: Vec::new(alloc),
+            first: 0,
+        }
+    }
+
+    // Puts the pair before all of equal f.
+    pub fn push(&mut self, f: u32, node: u32) -> Result<(), Full>
+        requires near { f < 1024 }
+        ensures order { OnOk result (self.new ≡ inserted (f, node) self.old) }
+        ensures refused { OnErr result (self.new ≡ self.old) }
+    {
+        if self.stacks.is_empty() {
+            self.stacks = empty_stacks(*self.stacks.allocator())?;
+        }
+        let place = f as usize;
+        let stack = &mut self.stacks[place];
+        stack.push(node)?;
+        self.first = self.first.min(place);
+        Ok(())
+    }
+
+    // Takes out the first pair.
+    pub fn pop_least(&mut self) -> Option<(u32, u32)>
+        ensures order { self.old ≡ option_to_list result ++ self.new }
+        ensures none { IsNone result ↔ (self.old ≡ []) }
+        ensures least { IfSome result (λ p. IsLeast p self.old) }
+    {
+        self.first = first_full(self.stacks.as_slice(), self.first);
+        let place = self.first;
+        let node = self.stacks.get_mut(place)?.pop()?;
+        Some((place as u32, node))
+    }
+
+    // How many pairs there are.
+    pub fn len(&self) -> u128
+        ensures size { result ≡ length self.now }
+        ensures fits { result < 2 ^ 127 }
+    {
+        let mut total = 0;
+        for stack in &self.stacks {
+            total += stack.len() as u128;
+        }
+        total
+    }
+}
