@@ -1,17 +1,19 @@
 -- The plain search: what storing a visit keeps, and what a search that is done shows.
 use Rattle.std.proofs.Common.{◌≡◌, ◌≢◌, ℕ, ◌+◌, ◌≤◌, ◌<◌, Some, List, [], ◌∷◌, ◌++◌, length, map, refl, sym, ◌∙◌, ap, subst, inl, inr, ⊎_elim, arith, suc, zero, reverse}
-use Rattle.std.specs.Prelude.{slice_index_or}
+use Rattle.std.specs.Prelude.{Contains, option_map, slice_index_or}
 use Rattle.std.proofs.lemmas.Bool.{cases_lt}
 use Rattle.std.proofs.lemmas.List.{length-append, length_push, get_or_push, get_or_append_left, length-map, reverse-append, length-reverse}
 use Rattle.std.proofs.lemmas.List.Kept.{AllPairs-cons}
-use Rattle.std.proofs.lemmas.Option.{slice_get_within, get_or_from_slice_get, slice_get-get_or}
+use Rattle.std.proofs.lemmas.Option.{slice_get_within, get_or_from_slice_get, slice_get-get_or, slice_get-map}
 use Rattle.fc_position.specs.Board.{Board}
 use Rattle.fc_position.specs.Position.{IsPosition, IsWon}
 use Rattle.fc_moves.specs.declared.steps.Move.{Move}
 use Rattle.fc_moves.specs.GameRules.{GameRules}
 use Rattle.fc_moves.specs.Step.{Step}
 use Rattle.fc_moves.specs.Run.{Run, IsShortest, CanReach, ReachesMore}
+use Rattle.fc_text.proofs.HomeLemmas.{Contains-at}
 use Rattle.fc_text.proofs.ReaderLemmas.{at_push}
+use Rattle.fc_solve.specs.Answer.{ReachesAtMost}
 use Rattle.fc_solve.specs.declared.plain.Visit.{Visit}
 use Rattle.fc_solve.specs.Plain.{IsAt, ComesFrom, HasSources, HasParents, IsStored, IsNew, IsLookedAt, Kept, IsFull, LeadsTo}
 
@@ -240,3 +242,48 @@ walk_whole visits number at moves new none turned walked g sources start v first
     let (run, total) = walked g sources v start here (subst (λ k. IsAt visits k start) (sym none) first) in
     let long : length new ≡ length moves = ap length turned ∙ length-reverse moves in
     (subst (λ ms. Run g start.position ms v.position) (sym turned) run, omega (arith, long, total))
+
+-- what a run from a stored board leads to is stored too, while its moves and those that led there are fewer than led to
+-- the visit that is looked at
+within_stored : (g : GameRules) (number : ℕ) (xs : List Visit) (v : Visit) → Kept g number xs → IsAt xs number v
+    → (ms : List Move) (k : ℕ) (w : Visit) (c : Board) → IsAt xs k w → Run g w.position ms c → w.moves + length ms < v.moves
+    → (j : ℕ) × (u : Visit) × IsAt xs j u × (u.position ≡ c)
+within_stored g number xs v kept here [] k w c found run few = (k, w, found, sym run)
+within_stored g number xs v kept here (m ∷ ms) k w c found (mid, step, rest) few = ⊎_elim
+    (λ lt. let stored = kept.done k w found lt m mid step in
+    within_stored g number xs v kept here ms stored.0 stored.1 c stored.2 (subst (λ b. Run g b ms c) (sym stored.3) rest)
+    (omega (arith, few, stored.4)))
+    (λ le. absurd (omega (arith, few, kept.rising number k v w here found le))) (cases_lt k number)
+
+-- once every visit was looked at, what a run from a stored board leads to is stored
+all_stored : (g : GameRules) (number : ℕ) (xs : List Visit) → Kept g number xs → length xs ≤ number
+    → (ms : List Move) (k : ℕ) (w : Visit) (c : Board) → IsAt xs k w → Run g w.position ms c
+    → (j : ℕ) × (u : Visit) × IsAt xs j u × (u.position ≡ c)
+all_stored g number xs kept all [] k w c found run = (k, w, found, sym run)
+all_stored g number xs kept all (m ∷ ms) k w c found (mid, step, rest) =
+    let stored = kept.done k w found (omega (arith, all, slice_get_within xs k w found)) m mid step in
+    all_stored g number xs kept all ms stored.0 stored.1 c stored.2 (subst (λ b. Run g b ms c) (sym stored.3) rest)
+
+contains_at : (xs : List Visit) (j : ℕ) (u : Visit) (c : Board) → IsAt xs j u → u.position ≡ c → Contains (map (λ v. v.position) xs) c
+contains_at xs j u c found is =
+    Contains-at (map (λ v. v.position) xs) j c (slice_get-map (λ v. v.position) xs j ∙ ap (λ o. option_map (λ v. v.position) o) found ∙ ap (λ b. Some b) is)
+
+pub won_within : (g : GameRules) (budget number count : ℕ) (xs : List Visit) (start v : Visit) → Kept g number xs → length xs ≤ budget
+    → IsAt xs 0 start → start.moves ≡ 0 → IsAt xs number v → count ≡ v.moves → ReachesAtMost g start.position budget count
+won_within g budget number count xs start v kept most first none here same = record {
+  boards = map (λ w. w.position) xs;
+  most = omega (arith, most, length-map xs (λ (w : Visit). w.position));
+  all = λ ms c few run.
+      let (j, u, found, is) = within_stored g number xs v kept here ms 0 start c first run (omega (arith, few, none, same)) in
+      contains_at xs j u c found is;
+}
+
+pub over_within : (g : GameRules) (budget number count : ℕ) (xs : List Visit) (start : Visit) → Kept g number xs → length xs ≤ budget
+    → length xs ≤ number → IsAt xs 0 start → ReachesAtMost g start.position budget count
+over_within g budget number count xs start kept most all first = record {
+  boards = map (λ w. w.position) xs;
+  most = omega (arith, most, length-map xs (λ (w : Visit). w.position));
+  all = λ ms c few run.
+      let (j, u, found, is) = all_stored g number xs kept all ms 0 start c first run in
+      contains_at xs j u c found is;
+}

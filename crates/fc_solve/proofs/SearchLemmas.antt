@@ -7,8 +7,9 @@ use Rattle.fc_moves.specs.declared.steps.Move.{Move}
 use Rattle.fc_moves.specs.GameRules.{GameRules}
 use Rattle.fc_moves.specs.Run.{Run, IsShortest, CannotWin, ReachesMore}
 use Rattle.fc_solve.specs.declared.plain.Visit.{Visit}
+use Rattle.fc_solve.specs.Answer.{ReachesAtMost}
 use Rattle.fc_solve.specs.Plain.{IsAt, StartsAt, HasParents, HasSources, LeadsTo, Kept, Extends, Expands}
-use Rattle.fc_solve.proofs.PlainLemmas.{won_shortest, none_wins, full_reaches, start_kept, turn_done}
+use Rattle.fc_solve.proofs.PlainLemmas.{won_shortest, none_wins, full_reaches, start_kept, turn_done, won_within, over_within}
 use Rattle.fc_solve.proofs.ExpandLemmas.{still_there}
 
 -- between two turns: the first visit is of the start, and those before a number were looked at
@@ -65,3 +66,18 @@ pub searching_over : (g : GameRules) (start : Board) (budget number : ℕ) (visi
 searching_over g start budget number visits so all ms (c, run, won) =
     let (first, at, is, none) = so.starts in
     none_wins g number visits so.kept all ms 0 first c at (subst (λ b. Run g b ms c) (sym is) run) won
+
+pub searching_won_within : (g : GameRules) (start : Board) (budget number : ℕ) (visits : List Visit) (v : Visit) (moves : List Move)
+    → Searching g start budget number visits → IsAt visits number v
+    → ((h : GameRules) → HasSources h visits → LeadsTo h visits number moves) → ReachesAtMost g start budget (length moves)
+searching_won_within g start budget number visits v moves so here leads =
+    let (first, at, is, none) = so.starts in
+    let (run, count) = leads g so.kept.sources first v at here in
+    subst (λ b. ReachesAtMost g b budget (length moves)) is
+    (won_within g budget number (length moves) visits first v so.kept so.most at none here (omega (arith, count, none)))
+
+pub searching_over_within : (g : GameRules) (start : Board) (budget number : ℕ) (visits : List Visit) → Searching g start budget number visits
+    → length visits ≤ number → (count : ℕ) → ReachesAtMost g start budget count
+searching_over_within g start budget number visits so all count =
+    let (first, at, is, none) = so.starts in
+    subst (λ b. ReachesAtMost g b budget count) is (over_within g budget number count visits first so.kept so.most all at)

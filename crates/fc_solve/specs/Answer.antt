@@ -1,9 +1,10 @@
 -- What the solver answers, and when an answer is right: lists of moves alone, whatever the search keeps.
-use Rattle.std.specs.Prelude.{◌≡◌, ℕ, All}
+use Rattle.std.specs.Prelude.{◌≡◌, ℕ, ◌<◌, ◌≤◌, List, length, All, Contains}
 use Rattle.fc_position.specs.Board.{Board}
+use Rattle.fc_moves.specs.declared.steps.Move.{Move}
 use Rattle.fc_moves.specs.GameRules.{GameRules}
 use Rattle.fc_moves.specs.MoveText.{HasText}
-use Rattle.fc_moves.specs.Run.{IsShortest, CannotWin, ReachesMore}
+use Rattle.fc_moves.specs.Run.{Run, IsShortest, CannotWin, ReachesMore}
 use Rattle.fc_solve.specs.declared.answers.Answer.{Answer}
 use Rattle.fc_solve.specs.declared.answers.Answer.TheVariants.{Shortest, CannotWin as cannot_win, GaveUp}
 
@@ -19,3 +20,16 @@ abbrev pub MovesHaveTexts : Answer → Type 0
 MovesHaveTexts (Shortest moves) = All HasText moves.items
 MovesHaveTexts cannot_win = Unit {0}
 MovesHaveTexts (GaveUp told) = Unit {0}
+
+-- at most so many boards, and every board that fewer moves than a number lead to is among them
+pub record ReachesAtMost (g : GameRules) (b : Board) (budget : ℕ) (count : ℕ) : Type 0 where
+  pub boards : List Board
+  pub most : length boards ≤ budget
+  pub all : (ms : List Move) (c : Board) → length ms < count → Run g b ms c → Contains boards c
+
+-- the answer was found within a budget: at most so many boards can be reached by fewer moves than the answer has, or at
+-- all where no list wins
+abbrev pub IsWithin : GameRules → Board → ℕ → Answer → Type 0
+IsWithin g b budget (Shortest moves) = ReachesAtMost g b budget (length moves.items)
+IsWithin g b budget cannot_win = (count : ℕ) → ReachesAtMost g b budget count
+IsWithin g b budget (GaveUp told) = Unit {0}

@@ -13,7 +13,7 @@ use Rattle.fc_solve.specs.declared.faults.Input.TheVariants.{Board as of_board}
 use Rattle.fc_solve.specs.declared.faults.Output.TheVariants.{Answer as of_answer}
 use Rattle.fc_solve.specs.declared.faults.ProgramFault.{ProgramFault}
 use Rattle.fc_solve.specs.declared.faults.ProgramFault.TheVariants.{Number, Budget, Board as bad_board, Read, Write, Memory}
-use Rattle.fc_solve.specs.Answer.{IsRight}
+use Rattle.fc_solve.specs.Answer.{IsRight, IsWithin}
 use Rattle.fc_solve.specs.AnswerText.{answer_text, status_of}
 
 -- a device before and after a run: the bytes that it tells or holds, if it tells any, and whether it has failed then
@@ -47,13 +47,14 @@ pub record GivesFault (n : ℕ) (source : Device) (fault : BoardFault) : Type 0 
   pub here : IsBoardFault n text fault
 
 -- solving was answered: the budget is one, the source gave the text of a position, and the sink took the text of an
--- answer that is right for it, whose status is told
+-- answer that is right for it and was found within the budget, and whose status is told
 pub record IsSolved (g : GameRules) (budget : ℕ) (source sink : Device) (status : ℕ) : Type 0 where
   pub budgeted : IsBudget budget
   pub start : Board
   pub given : GivesBoard g.cells source start
   pub answer : Answer
   pub right : IsRight g start budget answer
+  pub within : IsWithin g start budget answer
   pub written : Takes sink.old sink.new (answer_text answer)
   pub sound : IsTrue sink.failed → ⊥
   pub told : status ≡ status_of answer

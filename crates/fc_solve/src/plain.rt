@@ -3,7 +3,7 @@
 ghost use Rattle.std.specs.Prelude.{◌≡◌, ℕ, ◌+◌, ◌<◌, ◌≤◌, length, IfOk, vec_len};
 ghost use Rattle.fc_moves.specs.GameRules.{GameRules, IsPositionOf};
 ghost use Rattle.fc_moves.specs.Step.{Step};
-ghost use Rattle.fc_solve.specs.Answer.{IsRight};
+ghost use Rattle.fc_solve.specs.Answer.{IsRight, IsWithin};
 ghost use Rattle.fc_solve.specs.Plain.{Kept, HasParents, HasSources, Offers, Expands, LeadsTo};
 
 use crate::answers::Answer;
@@ -34,6 +34,7 @@ pub fn search<G: Game>(
 ) -> Result<Answer, AllocError>
     requires some { 0 < budget }
     ensures right { IfOk result (IsRight (G.game game.now) start.now budget) }
+    ensures within { IfOk result (IsWithin (G.game game.now) start.now budget) }
 {
     let mut visits = Vec::new(alloc);
     visits.push(Visit {

@@ -3,7 +3,7 @@ use Rattle.fc_position.specs.Position.{IsWon}
 use Rattle.fc_solve.specs.declared.plain.Visit.{Visit}
 use Rattle.fc_solve.specs.Plain.{IsAt, Expands}
 use Rattle.fc_solve.proofs.ExpandLemmas.{read_at}
-use Rattle.fc_solve.proofs.SearchLemmas.{searching_start, searching_parents, searching_won, searching_full, searching_next, searching_over}
+use Rattle.fc_solve.proofs.SearchLemmas.{searching_start, searching_parents, searching_won, searching_full, searching_next, searching_over, searching_won_within, searching_over_within}
 use Rattle.fc_solve.proofs.plain.search.Goals as goal
 
 pub loop-number-init : goal.loop-number-init
@@ -26,6 +26,8 @@ returns-then-is_won g c =
     record {
       right = searching_won (g.G.Game.game c.args.game.now) c.args.start.now c.args.budget c.loop-number.number c.loop-number.visits.items
           c.index.result.now c.in_ok-moves_to.field-0.items c.loop-number.invariant here won c.in_ok-moves_to.ensures.leads;
+      within = searching_won_within (g.G.Game.game c.args.game.now) c.args.start.now c.args.budget c.loop-number.number c.loop-number.visits.items
+          c.index.result.now c.in_ok-moves_to.field-0.items c.loop-number.invariant here c.in_ok-moves_to.ensures.leads;
     }
 
 pub expand-requires-clause-most : goal.expand-requires-clause-most
@@ -45,6 +47,7 @@ returns-then-not-branch g c =
         searching_full (g.G.Game.game c.args.game.now) c.args.start.now c.args.budget c.loop-number.number c.loop-number.visits.items
             c.expand.new.visits.items c.loop-number.invariant expands,
       );
+      within = tt;
     }
 
 pub loop-number-smaller : goal.loop-number-smaller
@@ -70,5 +73,7 @@ returns g c =
     let all : length c.loop-number.visits.items ≤ c.loop-number.number = search rules in
     record {
       right = searching_over (g.G.Game.game c.args.game.now) c.args.start.now c.args.budget c.loop-number.number c.loop-number.visits.items
+          c.loop-number.invariant all;
+      within = searching_over_within (g.G.Game.game c.args.game.now) c.args.start.now c.args.budget c.loop-number.number c.loop-number.visits.items
           c.loop-number.invariant all;
     }
