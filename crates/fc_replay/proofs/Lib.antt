@@ -1,0 +1,3 @@
+pub mod PlayLemmas
+pub mod ReplayLoop
+pub mod TokenLemmas

@@ -1,0 +1,87 @@
+-- What a list of tokens plays: the boards after its moves, and why it stops.
+use Rattle.std.specs.Prelude.{◌≡◌, ℕ, ◌+◌, ◌<◌, List, [], ◌∷◌, ◌++◌, length, Option, Result, Ok, Err}
+use Rattle.std.specs.List.{flat_map}
+use Rattle.fc_position.specs.Board.{Board}
+use Rattle.fc_io.specs.Moves.{Takes, TakesFront}
+use Rattle.fc_moves.specs.declared.steps.Move.{Move}
+use Rattle.fc_moves.specs.GameRules.{GameRules}
+use Rattle.fc_moves.specs.Step.{Step, Allows}
+use Rattle.fc_text.specs.Printed.{board_text}
+use Rattle.fc_replay.specs.declared.faults.ReplayFault.{ReplayFault}
+use Rattle.fc_replay.specs.declared.faults.ReplayFault.TheVariants.{BadMove, NotAllowed, Write}
+use Rattle.fc_replay.specs.Token.{SpellsMove, IsNoMove}
+
+-- the tokens spell these moves, one each
+abbrev pub SpellMoves : List (List ℕ) → List Move → Type 0
+SpellMoves [] ms = ms ≡ []
+SpellMoves (token ∷ tokens) [] = ⊥
+SpellMoves (token ∷ tokens) (m ∷ ms) = SpellsMove token m × SpellMoves tokens ms
+
+-- the moves are steps, one by one, from the board, and these are the boards after each
+abbrev pub Passes : GameRules → Board → List Move → List Board → Type 0
+Passes g b [] boards = boards ≡ []
+Passes g b (m ∷ ms) [] = ⊥
+Passes g b (m ∷ ms) (c ∷ boards) = Step g b m c × Passes g c ms boards
+
+-- the tokens spell moves that lead from the board through these boards
+pub record Plays (g : GameRules) (b : Board) (tokens : List (List ℕ)) (boards : List Board) : Type 0 where
+  pub moves : List Move
+  pub spelled : SpellMoves tokens moves
+  pub passed : Passes g b moves boards
+
+-- the last of the boards that were passed, or the first board where none was
+abbrev pub board_after : Board → List Board → Board
+board_after b [] = b
+board_after b (c ∷ boards) = board_after c boards
+
+-- the token spells a move that isn't allowed
+abbrev pub IsNotAllowed : GameRules → Board → List ℕ → Type 0
+IsNotAllowed g b token = (m : Move) × SpellsMove token m × (Allows g b m → ⊥)
+
+-- the tokens before a step, which count from 1, play, and the token of the step fails on the board where they lead
+pub record StopsAt (Fails : Board → List ℕ → Type 0) (g : GameRules) (b : Board) (tokens : List (List ℕ)) (boards : List Board) (step : ℕ) : Type 0 where
+  pub front : List (List ℕ)
+  pub token : List ℕ
+  pub rest : List (List ℕ)
+  pub parts : tokens ≡ front ++ token ∷ rest
+  pub place : step ≡ length front + 1
+  pub played : Plays g b front boards
+  pub here : Fails (board_after b boards) token
+
+-- some tokens at the front play, at least one
+pub record PlaysFront (g : GameRules) (b : Board) (tokens : List (List ℕ)) (boards : List Board) : Type 0 where
+  pub front : List (List ℕ)
+  pub rest : List (List ℕ)
+  pub parts : tokens ≡ front ++ rest
+  pub some : 0 < length front
+  pub played : Plays g b front boards
+
+-- what a replay of the tokens answers, and the boards that it passes: as many moves as tokens, where all of them play;
+-- else the step at which a token isn't a move, or isn't allowed; or a failure of the sink at the board of some step
+abbrev pub Ends : GameRules → Board → List (List ℕ) → List Board → Result ℕ ReplayFault → Type 0
+Ends g b tokens boards (Ok n) = (n ≡ length tokens) × Plays g b tokens boards
+Ends g b tokens boards (Err (BadMove step)) = StopsAt (λ c token. IsNoMove token) g b tokens boards step
+Ends g b tokens boards (Err (NotAllowed step)) = StopsAt (IsNotAllowed g) g b tokens boards step
+Ends g b tokens boards (Err Write) = PlaysFront g b tokens boards
+
+-- the printed boards, one straight after the other
+abbrev pub boards_text : ℕ → List Board → List ℕ
+boards_text n boards = flat_map (board_text n) boards
+
+-- the sink took the whole text, or a front of it where it failed
+abbrev pub Writes : Option (List ℕ) → Option (List ℕ) → List ℕ → Result ℕ ReplayFault → Type 0
+Writes old new text (Ok n) = Takes old new text
+Writes old new text (Err (BadMove step)) = Takes old new text
+Writes old new text (Err (NotAllowed step)) = Takes old new text
+Writes old new text (Err Write) = TakesFront old new text
+
+-- a replay of the tokens: the boards that it passes, how it ends, and that their texts were written
+pub record Replays (g : GameRules) (b : Board) (tokens : List (List ℕ)) (old new : Option (List ℕ)) (result : Result ℕ ReplayFault) : Type 0 where
+  pub boards : List Board
+  pub ends : Ends g b tokens boards result
+  pub written : Writes old new (boards_text g.cells boards) result
+
+-- the first token is an allowed move
+abbrev pub BeginsWithStep : GameRules → Board → List (List ℕ) → Type 0
+BeginsWithStep g b [] = ⊥
+BeginsWithStep g b (token ∷ tokens) = (m : Move) × SpellsMove token m × Allows g b m

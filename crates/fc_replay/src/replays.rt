@@ -1,0 +1,54 @@
+ghost use Rattle.std.specs.Prelude.{◌≡◌, ◌≤◌, ◌⊎◌, ◌↔◌, length, IsTrue, IsErrOf};
+ghost use Rattle.fc_io.specs.Moves.{Stays};
+ghost use Rattle.fc_position.specs.Position.{Fits};
+ghost use Rattle.fc_replay.specs.Token.{move_tokens};
+ghost use Rattle.fc_replay.specs.Played.{Replays, BeginsWithStep};
+
+use crate::faults::ReplayFault;
+use crate::tokens::{Tokens, read_token};
+use fc_io::{Sink, write_all};
+use fc_moves::{Game, allows, apply};
+use fc_position::Position;
+use fc_text::print_board;
+
+/// Plays a text of moves from a position that fits the game, writes the printed board after each move to `sink`, one
+/// straight after the other, and answers the number of moves.
+///
+/// The moves are those of `fc_moves::read_move` with letters in either case, parted by spaces, tabs, CR and LF. The
+/// text has at most 1,048,576 bytes.
+///
+/// # Errors
+/// The first step whose token is no move or isn't allowed, steps counting from 1: the boards before it stand written.
+/// Or `Write` where the sink has failed: a front of the boards is written.
+pub fn replay<G: Game, K: Sink>(
+    game: &G,
+    position: &Position,
+    text: &[u8],
+    sink: &mut K,
+) -> Result<u32, ReplayFault>
+    requires fits { Fits (G.game game.now).cells position.now }
+    requires short { length text.now ≤ 1048576 }
+    ensures replayed { Replays (G.game game.now) position.now (move_tokens text.now)
+        (K.held sink.old) (K.held sink.new) result }
+    ensures fault { IsTrue (K.has_failed sink.new)
+        ↔ (IsErrOf result ReplayFault.Write ⊎ IsTrue (K.has_failed sink.old)) }
+    ensures stays { IsTrue (K.has_failed sink.old)
+        → BeginsWithStep (G.game game.now) position.now (move_tokens text.now)
+        → IsErrOf result ReplayFault.Write }
+    ensures unmoved { IsTrue (K.has_failed sink.old) → Stays (K.held sink.old) (K.held sink.new) }
+{
+    let mut board = position.copy();
+    let mut steps = 0;
+    for token in (Tokens { rest: text }) {
+        steps += 1;
+        let Some(m) = read_token(token) else {
+            return Err(ReplayFault::BadMove(steps));
+        };
+        if !allows(game, &board, m) {
+            return Err(ReplayFault::NotAllowed(steps));
+        }
+        apply(game, &mut board, m);
+        write_all(sink, print_board(&board, game.cells()).as_bytes())?;
+    }
+    Ok(steps)
+}
