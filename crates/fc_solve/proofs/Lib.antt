@@ -3,3 +3,4 @@ pub mod ExpandLemmas
 pub mod SearchLemmas
 pub mod ListTextLemmas
 pub mod AnswerLemmas
+pub mod ReplayLemmas

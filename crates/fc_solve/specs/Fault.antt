@@ -1,13 +1,33 @@
 -- How the faults of the program end it.
 use Rattle.std.specs.Prelude.{ℕ}
+use Rattle.fc_io.specs.declared.transfers.ReadFault.{ReadFault}
+use Rattle.fc_io.specs.declared.transfers.ReadFault.TheVariants.{Failed, TooLong as too_many, Memory as refused}
+use Rattle.fc_replay.specs.declared.faults.ReplayFault.{ReplayFault}
+use Rattle.fc_replay.specs.declared.faults.ReplayFault.TheVariants.{BadMove, NotAllowed, Write as unwritten}
+use Rattle.fc_solve.specs.declared.faults.Input.TheVariants.{Moves as of_moves}
+use Rattle.fc_solve.specs.declared.faults.Output.TheVariants.{Answer as of_answer}
 use Rattle.fc_solve.specs.declared.faults.ProgramFault.{ProgramFault}
-use Rattle.fc_solve.specs.declared.faults.ProgramFault.TheVariants.{Number, Budget, Board, Read, Write, Memory}
+use Rattle.fc_solve.specs.declared.faults.ProgramFault.TheVariants.{Number, Budget, Board, TooLong, Moves, Read, Write, Memory}
 
 -- 3 for what was asked, 4 for want of memory, 5 for a device
 abbrev pub fault_status : ProgramFault → ℕ
 fault_status (Number n) = 3
 fault_status Budget = 3
 fault_status (Board fault) = 3
+fault_status (TooLong input) = 3
+fault_status (Moves fault) = 3
 fault_status (Read input) = 5
 fault_status (Write output) = 5
 fault_status Memory = 4
+
+-- why a text of moves wasn't read, as a fault of the program
+abbrev pub moves_fault : ReadFault → ProgramFault
+moves_fault Failed = Read of_moves
+moves_fault too_many = TooLong of_moves
+moves_fault refused = Memory
+
+-- why moves weren't replayed to their end, as a fault of the program
+abbrev pub replay_fault : ReplayFault → ProgramFault
+replay_fault (BadMove step) = Moves (BadMove step)
+replay_fault (NotAllowed step) = Moves (NotAllowed step)
+replay_fault unwritten = Write of_answer

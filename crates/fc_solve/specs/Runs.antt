@@ -1,6 +1,6 @@
 -- What the runs of the program promise, over any source and any sink.
-use Rattle.std.specs.Prelude.{◌≡◌, ℕ, ◌≤◌, Bool, List, length, Option, IsTrue}
-use Rattle.fc_io.specs.Moves.{Gives, Takes, TakesFront, Stays, IsAllTold}
+use Rattle.std.specs.Prelude.{◌≡◌, ℕ, ◌≤◌, Bool, List, [], length, Option, Result, Ok, Err, IsTrue}
+use Rattle.fc_io.specs.Moves.{Gives, Takes, TakesFront, Stays, IsAllTold, TellsAtLeast}
 use Rattle.fc_position.specs.Board.{Board}
 use Rattle.fc_position.specs.Position.{Fits}
 use Rattle.fc_moves.specs.GameRules.{GameRules}
@@ -8,11 +8,15 @@ use Rattle.fc_text.specs.declared.faults.BoardFault.{BoardFault}
 use Rattle.fc_text.specs.Board.{Spells, IsBoardFault}
 use Rattle.fc_deal.specs.Deal.{IsDealNumber, dealt_board}
 use Rattle.fc_deal.specs.DealText.{deal_text}
+use Rattle.fc_replay.specs.declared.faults.ReplayFault.{ReplayFault}
+use Rattle.fc_replay.specs.declared.faults.ReplayFault.TheVariants.{BadMove, NotAllowed, Write as unwritten}
+use Rattle.fc_replay.specs.Played.{Replays}
+use Rattle.fc_replay.specs.Token.{move_tokens}
 use Rattle.fc_solve.specs.declared.answers.Answer.{Answer}
-use Rattle.fc_solve.specs.declared.faults.Input.TheVariants.{Board as of_board}
+use Rattle.fc_solve.specs.declared.faults.Input.TheVariants.{Board as of_board, Moves as of_moves}
 use Rattle.fc_solve.specs.declared.faults.Output.TheVariants.{Answer as of_answer}
 use Rattle.fc_solve.specs.declared.faults.ProgramFault.{ProgramFault}
-use Rattle.fc_solve.specs.declared.faults.ProgramFault.TheVariants.{Number, Budget, Board as bad_board, Read, Write, Memory}
+use Rattle.fc_solve.specs.declared.faults.ProgramFault.TheVariants.{Number, Budget, Board as bad_board, TooLong, Moves, Read, Write, Memory}
 use Rattle.fc_solve.specs.Answer.{IsRight, IsWithin}
 use Rattle.fc_solve.specs.AnswerText.{answer_text, status_of}
 
@@ -76,7 +80,10 @@ IsSolveFault g budget source sink (Read of_board) = IsBudget budget × IsTrue so
 IsSolveFault g budget source sink (bad_board fault) = IsBudget budget × GivesFault g.cells source fault × Stays sink.old sink.new
 IsSolveFault g budget source sink Memory = IsBudget budget × ((b : Board) × GivesBoard g.cells source b) × Stays sink.old sink.new
 IsSolveFault g budget source sink (Write of_answer) = IsBudget budget × IsUnwritten g budget source sink
+IsSolveFault g budget source sink (Read of_moves) = ⊥
 IsSolveFault g budget source sink (Number n) = ⊥
+IsSolveFault g budget source sink (TooLong input) = ⊥
+IsSolveFault g budget source sink (Moves fault) = ⊥
 
 -- a deal was printed: the number is one of a deal, and the sink took its text
 pub record IsDealt (n : ℕ) (sink : Device) (status : ℕ) : Type 0 where
@@ -93,6 +100,8 @@ IsDealFault n sink Budget = ⊥
 IsDealFault n sink (bad_board fault) = ⊥
 IsDealFault n sink (Read input) = ⊥
 IsDealFault n sink Memory = ⊥
+IsDealFault n sink (TooLong input) = ⊥
+IsDealFault n sink (Moves fault) = ⊥
 
 -- why no board was read: the source failed, or its text has a fault
 abbrev pub IsReadFault : ℕ → Device → ProgramFault → Type 0
@@ -102,3 +111,48 @@ IsReadFault n source Budget = ⊥
 IsReadFault n source (Number k) = ⊥
 IsReadFault n source (Write output) = ⊥
 IsReadFault n source Memory = ⊥
+IsReadFault n source (Read of_moves) = ⊥
+IsReadFault n source (TooLong input) = ⊥
+IsReadFault n source (Moves fault) = ⊥
+
+-- a source gave a text of moves: all that it told
+pub record GivesMoves (source : Device) (text : List ℕ) : Type 0 where
+  pub given : Gives source.old source.new text
+  pub whole : IsAllTold source.old text
+  pub sound : IsTrue source.failed → ⊥
+
+-- a board and moves were given, and replaying the moves on the board ended so, the sink taking the boards
+pub record IsReplayOf (g : GameRules) (board moves sink : Device) (result : Result ℕ ReplayFault) : Type 0 where
+  pub start : Board
+  pub given : GivesBoard g.cells board start
+  pub text : List ℕ
+  pub read : GivesMoves moves text
+  pub replayed : Replays g start (move_tokens text) sink.old sink.new result
+
+-- a replay ran to its end: every token is an allowed move, and the sink took the board after each; one that has failed was
+-- given none
+pub record IsReplayed (g : GameRules) (board moves sink : Device) (status : ℕ) : Type 0 where
+  pub count : ℕ
+  pub replay : IsReplayOf g board moves sink (Ok count)
+  pub sound : IsTrue sink.failed → move_tokens replay.text ≡ []
+  pub told : status ≡ 0
+
+-- a board was given, and moves were not: of them and of the sink's bytes only this is known
+abbrev pub IsWithoutMoves : GameRules → Device → Device → Type 0
+IsWithoutMoves g board sink = ((b : Board) × GivesBoard g.cells board b) × Stays sink.old sink.new
+
+-- why a replay didn't run to its end, each fault only where those before it have no cause; before the moves are replayed
+-- nothing is written
+abbrev pub IsReplayFault : GameRules → Device → Device → Device → ProgramFault → Type 0
+IsReplayFault g board moves sink (Read of_board) = IsTrue board.failed × Stays moves.old moves.new × Stays sink.old sink.new
+IsReplayFault g board moves sink (bad_board fault) = GivesFault g.cells board fault × Stays moves.old moves.new × Stays sink.old sink.new
+IsReplayFault g board moves sink (Read of_moves) = IsWithoutMoves g board sink × IsTrue moves.failed
+IsReplayFault g board moves sink (TooLong of_moves) = IsWithoutMoves g board sink × TellsAtLeast moves.old 1048577 × (IsTrue moves.failed → ⊥)
+IsReplayFault g board moves sink Memory = IsWithoutMoves g board sink × TellsAtLeast moves.old 1 × (IsTrue moves.failed → ⊥)
+IsReplayFault g board moves sink (Moves (BadMove step)) = IsReplayOf g board moves sink (Err (BadMove step))
+IsReplayFault g board moves sink (Moves (NotAllowed step)) = IsReplayOf g board moves sink (Err (NotAllowed step))
+IsReplayFault g board moves sink (Write of_answer) = IsReplayOf g board moves sink (Err unwritten) × IsTrue sink.failed
+IsReplayFault g board moves sink (Moves unwritten) = ⊥
+IsReplayFault g board moves sink (TooLong of_board) = ⊥
+IsReplayFault g board moves sink (Number n) = ⊥
+IsReplayFault g board moves sink Budget = ⊥

@@ -1,6 +1,7 @@
 ghost use Rattle.std.specs.Prelude.{◌≡◌};
 ghost use Rattle.fc_solve.specs.Fault.{fault_status};
 
+use fc_replay::ReplayFault;
 use fc_text::BoardFault;
 use std::alloc::AllocError;
 use std::fmt;
@@ -10,6 +11,7 @@ use thiserror::Error;
 #[derive(Clone, Copy, Debug, PartialEq, Eq)]
 pub enum Input {
     Board,
+    Moves,
 }
 
 /// What the program writes.
@@ -22,6 +24,7 @@ impl fmt::Display for Input {
     fn fmt<W: fmt::Write>(&self, f: &mut fmt::Formatter<W>) -> fmt::Result {
         match self {
             Input::Board => f.write_str("board"),
+            Input::Moves => f.write_str("moves"),
         }
     }
 }
@@ -46,6 +49,12 @@ pub enum ProgramFault {
     /// The text spells no board of the game.
     #[error("board: {0}")]
     Board(BoardFault),
+    /// More bytes were told than a text of this kind may have.
+    #[error("{0}: too long")]
+    TooLong(Input),
+    /// A step is no move or isn't allowed; it is never a fault of the sink.
+    #[error("{0}")]
+    Moves(ReplayFault),
     /// The device that is read has failed.
     #[error("cannot read the {0}")]
     Read(Input),
@@ -63,7 +72,11 @@ impl ProgramFault {
         ensures value { result ≡ fault_status self.now }
     {
         match self {
-            ProgramFault::Number(_) | ProgramFault::Budget | ProgramFault::Board(_) => 3,
+            ProgramFault::Number(_)
+            | ProgramFault::Budget
+            | ProgramFault::Board(_)
+            | ProgramFault::TooLong(_)
+            | ProgramFault::Moves(_) => 3,
             ProgramFault::Memory => 4,
             ProgramFault::Read(_) | ProgramFault::Write(_) => 5,
         }

@@ -1,4 +1,4 @@
-//! The program: FreeCell boards dealt and solved, with answers that are proved.
+//! The program: FreeCell boards dealt, solved with answers that are proved, and moves replayed.
 #![tactic(auto)]
 
 mod answers;
@@ -10,7 +10,7 @@ mod tests;
 mod words;
 
 use crate::faults::{Input, ProgramFault};
-use crate::runs::{run_deal, run_solve};
+use crate::runs::{run_deal, run_replay, run_solve};
 use clap::ArgMatches;
 use clap::error::ErrorKind;
 use fc_io::{FromReader, ToWriter};
@@ -63,49 +63,85 @@ fn follow_matches(rt: &HostRuntime, matches: &ArgMatches<'_>) -> Result<u8, Prog
         let number = words.get_one::<u32>("N").unwrap_or(0);
         return run_deal(number, &mut ToWriter::new(rt.stdout()));
     }
-    match matches.subcommand_matches("solve") {
-        Some(words) => solve(rt, words),
+    if let Some(words) = matches.subcommand_matches("solve") {
+        return choose_game(rt, words, Task::Solve);
+    }
+    match matches.subcommand_matches("replay") {
+        Some(words) => choose_game(rt, words, Task::Replay),
         None => Ok(REFUSED),
     }
 }
 
-// Solves a board of the game that the words name.
-fn solve(rt: &HostRuntime, words: &ArgMatches<'_>) -> Result<u8, ProgramFault> {
+/// What is done with a board of a game.
+#[derive(Clone, Copy)]
+enum Task {
+    Solve,
+    Replay,
+}
+
+// Does the task with the game that the words name.
+fn choose_game(rt: &HostRuntime, words: &ArgMatches<'_>, task: Task) -> Result<u8, ProgramFault> {
     let cells = words.get_one::<u8>("cells").unwrap_or(4);
     let (Some(free_cell), Some(bakers)) = (FreeCell::new(cells), BakersGame::new(cells)) else {
         return Ok(REFUSED);
     };
     let is_bakers = words.get_str("game") == Some("bakers");
     match (is_bakers, words.get_flag("kings")) {
-        (false, false) => solve_game(rt, &free_cell, words),
-        (false, true) => solve_game(rt, &Kings::new(free_cell), words),
-        (true, false) => solve_game(rt, &bakers, words),
-        (true, true) => solve_game(rt, &Kings::new(bakers), words),
+        (false, false) => perform(rt, &free_cell, words, task),
+        (false, true) => perform(rt, &Kings::new(free_cell), words, task),
+        (true, false) => perform(rt, &bakers, words, task),
+        (true, true) => perform(rt, &Kings::new(bakers), words, task),
+    }
+}
+
+// Does the task in this game.
+fn perform<G: Game>(
+    rt: &HostRuntime,
+    game: &G,
+    words: &ArgMatches<'_>,
+    task: Task,
+) -> Result<u8, ProgramFault> {
+    match task {
+        Task::Solve => solve(rt, game, words),
+        Task::Replay => replay(rt, game, words),
     }
 }
 
 // Solves the board of a file, or of the standard input where no file is named.
-fn solve_game<G: Game>(
-    rt: &HostRuntime,
-    game: &G,
-    words: &ArgMatches<'_>,
-) -> Result<u8, ProgramFault> {
+fn solve<G: Game>(rt: &HostRuntime, game: &G, words: &ArgMatches<'_>) -> Result<u8, ProgramFault> {
     let alloc = rt.alloc();
     let budget = words
         .get_one::<u32>("budget")
         .unwrap_or(words::DEFAULT_BUDGET);
     let mut out = ToWriter::new(rt.stdout());
     match words.get_str("BOARD") {
-        Some(path) => match File::open(rt, path) {
-            Ok(file) => run_solve(alloc, game, &mut FromReader::new(file), budget, &mut out),
-            Err(_) => Err(ProgramFault::Read(Input::Board)),
-        },
-        None => run_solve(
-            alloc,
-            game,
-            &mut FromReader::new(rt.stdin()),
-            budget,
-            &mut out,
-        ),
+        Some(path) => {
+            let mut board = open(rt, path, Input::Board)?;
+            run_solve(alloc, game, &mut board, budget, &mut out)
+        }
+        None => {
+            let mut board = FromReader::new(rt.stdin());
+            run_solve(alloc, game, &mut board, budget, &mut out)
+        }
+    }
+}
+
+// Replays the moves of a file on the board of a file.
+fn replay<G: Game>(rt: &HostRuntime, game: &G, words: &ArgMatches<'_>) -> Result<u8, ProgramFault> {
+    let (Some(board), Some(moves)) = (words.get_str("BOARD"), words.get_str("MOVES")) else {
+        return Ok(REFUSED);
+    };
+    let mut board = open(rt, board, Input::Board)?;
+    let mut moves = open(rt, moves, Input::Moves)?;
+    let mut out = ToWriter::new(rt.stdout());
+    run_replay(rt.alloc(), game, &mut board, &mut moves, &mut out)
+}
+
+// The file with this path, to be read as this input.
+fn open(rt: &HostRuntime, path: &str, input: Input) -> Result<FromReader<File>, ProgramFault> {
+    match File::open(rt, path) {
+        Ok(file) => Ok(FromReader::new(file)),
+        Err(error) if error.kind() == io::ErrorKind::OutOfMemory => Err(ProgramFault::Memory),
+        Err(_) => Err(ProgramFault::Read(input)),
     }
 }

@@ -1,9 +1,10 @@
 use crate::faults::{Input, Output, ProgramFault};
-use crate::runs::{run_deal, run_solve};
+use crate::runs::{run_deal, run_replay, run_solve};
 use fc_cards::Card;
 use fc_io::testing::Failing;
 use fc_io::{FromReader, FromSlice, ToArray};
 use fc_moves::{BakersGame, FreeCell, Game, Kings, allows, apply, read_move};
+use fc_replay::ReplayFault;
 use fc_text::{BoardFault, read_board};
 use std::alloc::Global;
 use std::io;
@@ -306,6 +307,18 @@ fn tells_faults(rt: HostRuntime) -> Result<(), Fail> {
             "board: card JD is missing",
             3,
         ),
+        (ProgramFault::TooLong(Input::Moves), "moves: too long", 3),
+        (
+            ProgramFault::Moves(ReplayFault::BadMove(1)),
+            "step 1: not a move",
+            3,
+        ),
+        (
+            ProgramFault::Moves(ReplayFault::NotAllowed(3)),
+            "step 3: not allowed",
+            3,
+        ),
+        (ProgramFault::Read(Input::Moves), "cannot read the moves", 5),
         (ProgramFault::Read(Input::Board), "cannot read the board", 5),
         (
             ProgramFault::Write(Output::Answer),
@@ -319,5 +332,87 @@ fn tells_faults(rt: HostRuntime) -> Result<(), Fail> {
         assert!(rt; told.as_str() == text);
         assert_eq!(rt; fault.status(), status);
     }
+    Ok(())
+}
+
+// Two kings lie on two queens of other suits.
+const TWO_KINGS: &[u8] = b"Foundations: H-J C-K D-K S-J\nQS KH\nQH KS\n";
+
+// The boards after `1a` and then `1h`.
+const TWO_BOARDS: &[u8] = b"Foundations: H-J C-K D-K S-J
+Freecells: KH - - -
+: QS
+: QH KS
+:
+:
+:
+:
+:
+:
+Foundations: H-J C-K D-K S-Q
+Freecells: KH - - -
+:
+: QH KS
+:
+:
+:
+:
+:
+:
+";
+
+#[test]
+fn replays_moves(rt: HostRuntime) -> Result<(), Fail> {
+    let game = free_cell(4)?;
+    let mut out = ToArray::<400>::new();
+    let mut board = FromSlice::new(TWO_KINGS);
+    let mut moves = FromSlice::new(b"1a 1H\r\n");
+    let result = run_replay(rt.alloc(), &game, &mut board, &mut moves, &mut out);
+    assert_eq!(rt; result, Ok(0));
+    assert_eq!(rt; out.held(), TWO_BOARDS);
+    let faults = [
+        (
+            b"1a 1h 1h".as_slice(),
+            ReplayFault::NotAllowed(3),
+            TWO_BOARDS,
+        ),
+        (b"9h".as_slice(), ReplayFault::BadMove(1), b"".as_slice()),
+    ];
+    for (text, fault, printed) in faults {
+        let mut written = ToArray::<400>::new();
+        let mut start = FromSlice::new(TWO_KINGS);
+        let mut list = FromSlice::new(text);
+        let stopped = run_replay(rt.alloc(), &game, &mut start, &mut list, &mut written);
+        assert_eq!(rt; stopped, Err(ProgramFault::Moves(fault)));
+        assert_eq!(rt; written.held(), printed);
+    }
+    Ok(())
+}
+
+#[test]
+fn replays_over_failing_devices(rt: HostRuntime) -> Result<(), Fail> {
+    let game = free_cell(4)?;
+    let text = b"1a 1h";
+    for calls in 0..=text.len() as u32 {
+        let mut out = ToArray::<400>::new();
+        let mut board = FromSlice::new(TWO_KINGS);
+        let mut moves = Failing::new(FromSlice::new(text), calls);
+        let result = run_replay(rt.alloc(), &game, &mut board, &mut moves, &mut out);
+        assert_eq!(rt; result, Err(ProgramFault::Read(Input::Moves)));
+        assert_eq!(rt; out.held(), b"".as_slice());
+    }
+    for calls in 0..TWO_BOARDS.len() as u32 {
+        let mut sink = Failing::new(ToArray::<400>::new(), calls);
+        let mut start = FromSlice::new(TWO_KINGS);
+        let mut list = FromSlice::new(text);
+        let failed = run_replay(rt.alloc(), &game, &mut start, &mut list, &mut sink);
+        assert_eq!(rt; failed, Err(ProgramFault::Write(Output::Answer)));
+        assert_eq!(rt; sink.device.held(), &TWO_BOARDS[..calls as usize]);
+    }
+    let mut out = ToArray::<400>::new();
+    let mut board = FromSlice::new(TWO_KINGS);
+    let mut moves = FromReader::new(io::repeat(b' '));
+    let result = run_replay(rt.alloc(), &game, &mut board, &mut moves, &mut out);
+    assert_eq!(rt; result, Err(ProgramFault::TooLong(Input::Moves)));
     Ok(())
 }

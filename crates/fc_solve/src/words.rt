@@ -6,17 +6,20 @@ use std::alloc::{AllocError, Global};
 /// The budget where none is given, in stored positions.
 pub const DEFAULT_BUDGET: u32 = 100_000;
 
-/// The program's command line: `deal` and `solve`.
+/// The program's command line: `deal`, `solve` and `replay`.
 pub fn command<'a>(alloc: Global) -> Result<Command<'a>, AllocError> {
     Command::new(alloc, "fc_solve")
         .bin_name("fc_solve")?
         .version("0.1.0")
-        .about("Deals FreeCell boards, and solves them with answers that are proved.")
+        .about(
+            "Deals FreeCell boards, solves them with answers that are proved, and replays moves.",
+        )
         .after_help("Example: fc_solve deal 1 | fc_solve solve --budget 1000")
         .subcommand_required(true)
         .arg_required_else_help(true)
         .subcommand(deal_command(alloc)?)?
-        .subcommand(solve_command(alloc)?)
+        .subcommand(solve_command(alloc)?)?
+        .subcommand(replay_command(alloc)?)
 }
 
 // `deal N`.
@@ -57,7 +60,21 @@ const SOLVE_HELP: &str =
 The status is 0 for a solution, 1 where the board can't be won, 2 on giving up, 3 for what was asked or read and
 isn't right, 4 for want of memory, 5 where reading or writing failed.
 
-Example: fc_solve solve --game bakers --cells 3 boards/two-kings.txt";
+Example: fc_solve solve --game bakers --cells 3 boards/one-king.txt";
+
+// `replay [GAME] BOARD MOVES`.
+fn replay_command<'a>(alloc: Global) -> Result<Command<'a>, AllocError> {
+    let board = Arg::new(alloc, "BOARD")
+        .required(true)
+        .help("The file of the board's text");
+    let moves = Arg::new(alloc, "MOVES").required(true).help(
+        "The file of the moves, two letters each, parted by blanks or lines",
+    );
+    let command = Command::new(alloc, "replay")
+        .about("Prints the board after each move, up to the first that isn't allowed")
+        .after_help("Example: fc_solve replay boards/three-spades.txt moves.txt");
+    with_game(alloc, command)?.arg(board)?.arg(moves)
+}
 
 // The names of the games.
 static GAMES: [&str; 2] = ["freecell", "bakers"];
