@@ -1,3 +1,4 @@
+pub mod EndLemmas
 pub mod PlayLemmas
 pub mod ReplayLoop
 pub mod TokenLemmas

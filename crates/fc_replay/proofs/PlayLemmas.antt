@@ -13,7 +13,7 @@ use Rattle.fc_moves.proofs.StepLemmas.{move_same, source_is_there}
 use Rattle.fc_text.specs.Printed.{board_text}
 use Rattle.fc_replay.specs.Token.{SpellsMove}
 use Rattle.fc_replay.specs.Played.{SpellMoves, Passes, Plays, board_after, boards_text}
-use Rattle.fc_replay.specs.Laws.{PlayedTokensRun, TokensPlayInOneWay}
+use Rattle.fc_replay.specs.Laws.{PlayedTokensRun}
 
 -- no letter is of two places
 letter_once : (p q : Place) → IsThere p → IsThere q → place_letter p ≡ place_letter q → p ≡ q
@@ -38,7 +38,7 @@ spelled_once token m n one two =
     (letter_once m.to n.to one.0.to two.0.to to)
 
 -- no move is a step to two boards
-step_once : (g : GameRules) (b : Board) (m : Move) (x y : Board) → Step g b m x → Step g b m y → x ≡ y
+pub step_once : (g : GameRules) (b : Board) (m : Move) (x y : Board) → Step g b m x → Step g b m y → x ≡ y
 step_once g b m x y p q =
     let both : Some p.card ≡ Some q.card = sym p.playable ∙ q.playable in
     let card : p.card ≡ q.card = cc both in
@@ -83,7 +83,7 @@ boards_text_push n boards c =
 pub plays_none : (g : GameRules) (b : Board) → Plays g b [] []
 plays_none g b = record { moves = []; spelled = refl; passed = refl }
 
-no_moves_pass : (g : GameRules) (b : Board) (ms : List Move) (boards : List Board) → ms ≡ [] → Passes g b ms boards → boards ≡ []
+pub no_moves_pass : (g : GameRules) (b : Board) (ms : List Move) (boards : List Board) → ms ≡ [] → Passes g b ms boards → boards ≡ []
 no_moves_pass g b [] boards e passed = passed
 no_moves_pass g b (m ∷ ms) boards e passed = absurd (cc e)
 
@@ -106,21 +106,3 @@ passed_run g b (t ∷ tokens) (m ∷ ms) (c ∷ boards) (one, spelled) (step, pa
 
 pub played_tokens_run : PlayedTokensRun
 played_tokens_run g b tokens boards played = passed_run g b tokens played.moves boards played.spelled played.passed
-
--- tokens play through one list of boards
-passed_once : (g : GameRules) (b : Board) (tokens : List (List ℕ)) (ms ns : List Move) (xs ys : List Board) → SpellMoves tokens ms
-    → SpellMoves tokens ns → Passes g b ms xs → Passes g b ns ys → xs ≡ ys
-passed_once g b [] ms ns xs ys one two p q = no_moves_pass g b ms xs one p ∙ sym (no_moves_pass g b ns ys two q)
-passed_once g b (t ∷ tokens) [] ns xs ys none two p q = absurd none
-passed_once g b (t ∷ tokens) (m ∷ ms) [] xs ys one none p q = absurd none
-passed_once g b (t ∷ tokens) (m ∷ ms) (n ∷ ns) [] ys one two none q = absurd none
-passed_once g b (t ∷ tokens) (m ∷ ms) (n ∷ ns) (x ∷ xs) [] one two p none = absurd none
-passed_once g b (t ∷ tokens) (m ∷ ms) (n ∷ ns) (x ∷ xs) (y ∷ ys) (s, one) (u, two) (p, ps) (q, qs) =
-    let same : m ≡ n = spelled_once t m n s u in
-    let head : x ≡ y = step_once g b m x y p (subst (λ k. Step g b k y) (sym same) q) in
-    ap (λ z. z ∷ xs) head
-    ∙ ap (λ zs. y ∷ zs) (passed_once g y tokens ms ns xs ys one two (subst (λ z. Passes g z ms xs) head ps) qs)
-
-pub tokens_play_in_one_way : TokensPlayInOneWay
-tokens_play_in_one_way g b tokens xs ys one two =
-    passed_once g b tokens one.moves two.moves xs ys one.spelled two.spelled one.passed two.passed

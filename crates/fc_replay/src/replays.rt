@@ -1,4 +1,4 @@
-ghost use Rattle.std.specs.Prelude.{◌≡◌, ◌≤◌, ◌⊎◌, ◌↔◌, length, IsTrue, IsErrOf};
+ghost use Rattle.std.specs.Prelude.{◌≤◌, ◌⊎◌, ◌↔◌, length, IsTrue, IsErrOf};
 ghost use Rattle.fc_io.specs.Moves.{Stays};
 ghost use Rattle.fc_position.specs.Position.{Fits};
 ghost use Rattle.fc_replay.specs.Token.{move_tokens};
@@ -19,7 +19,8 @@ use fc_text::print_board;
 ///
 /// # Errors
 /// The first step whose token is no move or isn't allowed, steps counting from 1: the boards before it stand written.
-/// Or `Write` where the sink has failed: a front of the boards is written.
+/// Or `Write` where the sink failed at the board of an allowed move: a front of the boards up to that one is written. A
+/// sink that had failed before the call takes nothing, and fails at the first board.
 pub fn replay<G: Game, K: Sink>(
     game: &G,
     position: &Position,

@@ -79,16 +79,14 @@ fn replays_to_the_first_token_that_is_no_move(rt: HostRuntime) -> Result<(), Fai
     let (answer, sink) = replayed(&game, FOUR_CARDS, b"9h")?;
     assert_eq!(rt; answer, Err(ReplayFault::BadMove(1)));
     assert_eq!(rt; sink.held(), b"".as_slice());
-    for text in [
-        b"1a 1h h1 2h".as_slice(),
-        b"1a 1h 2hh",
-        b"1a,1h",
-        b"1a 1h 2",
-    ] {
+    let texts: [(&[u8], u32, &str); 4] = [
+        (b"1a 1h h1 2h", 3, TWO_BOARDS),
+        (b"1a 1h 2hh", 3, TWO_BOARDS),
+        (b"1a 1h 2", 3, TWO_BOARDS),
+        (b"1a,1h", 1, ""),
+    ];
+    for (text, step, boards) in texts {
         let (answer, sink) = replayed(&game, FOUR_CARDS, text)?;
-        let is_joined = text.len() == 5;
-        let step = if is_joined { 1 } else { 3 };
-        let boards = if is_joined { "" } else { TWO_BOARDS };
         assert_eq!(rt; answer, Err(ReplayFault::BadMove(step)));
         assert_eq!(rt; sink.held(), boards.as_bytes());
     }
