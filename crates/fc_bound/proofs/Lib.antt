@@ -1,0 +1,3 @@
+pub mod AboveLemmas
+pub mod CountLemmas
+pub mod HeldLemmas
