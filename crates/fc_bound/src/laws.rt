@@ -1,6 +1,12 @@
 //! Laws of the bound, each the contract of a function that does nothing.
 
-ghost use Rattle.fc_bound.specs.Laws.{StepsLowerTheBoundByOne, WinsNeedTheBound, ClassMatesHaveOneBound};
+ghost use Rattle.fc_bound.specs.Laws.{TestsTellTheCards, StepsLowerTheBoundByOne, WinsNeedTheBound, ClassMatesHaveOneBound};
+
+/// The bound counts exactly the cards that are not home, and the cards that stand above a lower card of their own suit
+/// in their column.
+pub fn tests_tell_the_cards()
+    ensures { TestsTellTheCards }
+{}
 
 /// A step from a position lowers the bound by one at most, in every game.
 pub fn steps_lower_the_bound_by_one()
