@@ -1,5 +1,5 @@
 -- Counts over the cards: what one card changes, and what adds up.
-use Rattle.std.proofs.Common.{◌≡◌, ◌≢◌, ℕ, ◌+◌, ◌-◌, ◌*◌, ◌<◌, ◌≤◌, zero, suc, Bool, false, cond, List, [], refl, ◌∙◌, ap, ⊎_elim, arith}
+use Rattle.std.proofs.Common.{◌≡◌, ◌≢◌, ℕ, ◌+◌, ◌-◌, ◌*◌, ◌<◌, ◌≤◌, zero, suc, Bool, false, cond, List, [], refl, ◌∙◌, ap, subst, ⊎_elim, arith}
 use Rattle.std.specs.Prelude.{nat_lt, sum_by, count_by, slice_index}
 use Rattle.std.specs.List.{range_with_len}
 use Rattle.std.proofs.lemmas.Bool.{cases_eq}
@@ -120,9 +120,10 @@ away-more : (homes : List ℕ) (n s c : ℕ) → s < 4 → c ≡ 4 * n + s
 away-more homes n s c below is =
     let suits : suit c ≡ s = omega arith in
     let ranks : rank c ≡ suc n = omega arith in
+    let first : away_at homes c ≡ cond (nat_lt (slice_index homes s) (rank c)) 1 0 =
+    ap (λ k. cond (nat_lt (slice_index homes k) (rank c)) 1 0) suits in
     let at : away_at homes c ≡ cond (nat_lt (slice_index homes s) (suc n)) 1 0 =
-    ap (λ k. cond (nat_lt (slice_index homes k) (rank c)) 1 0) suits
-    ∙ ap (λ k. cond (nat_lt (slice_index homes s) k) 1 0) ranks in
+    subst (λ k. away_at homes c ≡ cond (nat_lt (slice_index homes s) k) 1 0) ranks first in
     go (slice_index homes s) n (away_at homes c) at
   where
     go : (h n x : ℕ) → x ≡ cond (nat_lt h (suc n)) 1 0 → (n - h) + x ≡ suc n - h

@@ -87,7 +87,7 @@ held_away b c p held =
     column_away b f.place c p f.inside (above-one c (column b f.place) f.passes).stands
 
 -- a card that is next is not held back: every lower card of its suit is home
-next_free : (b : Board) (u : ℕ) → IsPosition b → IsNext b.homes u → is_held_back b u ≡ false
+pub next_free : (b : Board) (u : ℕ) → IsPosition b → IsNext b.homes u → is_held_back b u ≡ false
 next_free b u p next = not_true (is_held_back b u) (λ held.
     let f = found (is_above_lower u) b.columns held in
     let one = above-one u (column b f.place) f.passes in
@@ -168,17 +168,17 @@ step_lowers g b c m p step =
     subst (λ x. bound b ≤ bound x + 1) (sym step.after) (moved g b m.from step.card m.to p step.playable step.takes)
 
 -- a place that takes a card can receive it
-receives : (g : GameRules) (b : Board) (u : ℕ) (to : Place) → Takes g b u to → Receives b u to
+pub receives : (g : GameRules) (b : Board) (u : ℕ) (to : Place) → Takes g b u to → Receives b u to
 receives g b u (Column j) t = t.0
 receives g b u (Cell j) t = (t.1, t.2)
 receives g b u Home t = t
 
-step_position : (g : GameRules) (b c : Board) (m : Move) → IsPosition b → Step g b m c → IsPosition c
+pub step_position : (g : GameRules) (b c : Board) (m : Move) → IsPosition b → Step g b m c → IsPosition c
 step_position g b c m p step =
     subst IsPosition (sym step.after) (position-moved b m.from step.card m.to p step.playable (receives g b step.card m.to step.takes))
 
 -- the bound of a position with every card home is 0
-won_none : (b : Board) → IsPosition b → IsWon b → bound b ≡ 0
+pub won_none : (b : Board) → IsPosition b → IsWon b → bound b ≡ 0
 unfolding bound
 won_none b p won =
     let home_all : (c : ℕ) → c < 52 → is_away b c ≡ false = λ c below.

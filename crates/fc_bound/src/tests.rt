@@ -70,3 +70,21 @@ fn six_cards_above_lower_ones(rt: HostRuntime) -> Result<(), Fail> {
     assert_eq!(rt; bound(&board), 30);
     Ok(())
 }
+
+// Deal 1; another program counted twelve cards above lower ones.
+#[test]
+fn a_deal(rt: HostRuntime) -> Result<(), Fail> {
+    let texts: [&[u8]; 8] = [
+        b"JD KD 2S 4C 3S 6D 6S",
+        b"2D KC KS 5C TD 8S 9C",
+        b"9H 9S 9D TS 4S 8D 2H",
+        b"JC 5S QD QH TH QS 6H",
+        b"5D AD JS 4H 8H 6C",
+        b"7H QC AS AC 2C 3D",
+        b"7C KH AH 4D JH 8C",
+        b"5H 3H 3C 7S 7D TC",
+    ];
+    let board = position(&texts, b"", [0; 4])?;
+    assert_eq!(rt; bound(&board), 64);
+    Ok(())
+}
