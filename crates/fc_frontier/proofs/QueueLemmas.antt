@@ -1,14 +1,15 @@
 -- Lemmas on queues: where a pair goes, and which pair comes first.
 use Rattle.std.proofs.Common.{◌≡◌, ℕ, ◌+◌, ◌<◌, ◌≤◌, suc, true, false, leb, List, [], ◌∷◌, ◌++◌, length, get_or, take, drop, refl, sym, ◌∙◌, ap, subst, ⊎_elim, arith, add-one}
-use Rattle.std.specs.Prelude.{All, Option, Some, None, Result, Ok, Err, OnOk, OnErr, option_to_list, fold, remove, slice_index_or}
+use Rattle.std.specs.Prelude.{◌==◌, ◌&&◌, cond, All, Option, Some, None, Result, Ok, Err, OnOk, OnErr, option_to_list, fold, remove, slice_index_or}
 use Rattle.std.specs.List.Sorted.{IsPermutation}
-use Rattle.std.proofs.lemmas.Bool.{cases_lt}
+use Rattle.std.proofs.lemmas.Bool.{cases_lt, cases_eq}
 use Rattle.std.proofs.lemmas.Bool.Decides.{nat_tests}
 use Rattle.std.proofs.lemmas.List.{append-nil, get_or_read, take-append-drop, drop_more, length-take, length-drop, get_or-take, get_or-drop}
-use Rattle.std.proofs.lemmas.List.Sums.{fold_push, fold-append}
+use Rattle.std.proofs.lemmas.List.Sums.{fold_push, fold-append, sum_by-cons}
 use Rattle.std.proofs.lemmas.List.Elements.{All-cons, All-head, All-tail, All-append, All-weaker}
-use Rattle.std.proofs.lemmas.List.Sorted.{IsPermutation-refl, IsPermutation-sym, IsPermutation-trans, IsPermutation-cons, IsPermutation-middle, IsPermutation-append_left, length_permutation, All-permutation}
+use Rattle.std.proofs.lemmas.List.Sorted.{IsPermutation-refl, IsPermutation-sym, IsPermutation-trans, IsPermutation-cons, IsPermutation-middle, IsPermutation-append_left, length_permutation, All-permutation, sum_by-IsPermutation}
 use Rattle.fc_frontier.specs.Queue.{Adds, IsLeast, IsPlaceOfNext, inserted, in_order}
+use Rattle.fc_frontier.specs.Laws.{AddsCountOnce, times}
 
 -- a pair that has no greater f than the first goes before it, and else after it
 pub inserted-before : (p q : ℕ × ℕ) (qs : List (ℕ × ℕ)) → p.0 ≤ q.0 → inserted p (q ∷ qs) ≡ p ∷ q ∷ qs
@@ -163,3 +164,27 @@ near-least p near far rest is below from least =
     let small : p.0 < 1024 = All-head (λ q. q.0 < 1024) p rest (subst (All (λ q. q.0 < 1024)) is below) in
     All-append (λ q. p.0 ≤ q.0) near far least
     (All-weaker (λ q. 1024 ≤ q.0) (λ q. p.0 ≤ q.0) (λ q h. omega arith) far from)
+
+-- two pairs that differ are told apart by their tests
+apart_test : (a b c d : ℕ) → (a ≡ c → b ≡ d → ⊥) → ◌≡◌ {A = ℕ} (cond ((a == c) && (b == d)) 1 0) 0
+apart_test a b c d apart =
+    ⊎_elim (λ e. ⊎_elim (λ f. absurd (apart e f)) (λ ne. grind (arith, nat_tests)) (cases_eq b d))
+    (λ ne. grind (arith, nat_tests)) (cases_eq a c)
+
+same_pair : (p q : ℕ × ℕ) → p.0 ≡ q.0 → p.1 ≡ q.1 → q ≡ p
+same_pair p q e f =
+    let first : ◌≡◌ {A = ℕ × ℕ} q (p.0, q.1) = ap (λ k. (k, q.1)) (sym e) in
+    let second : ◌≡◌ {A = ℕ × ℕ} (p.0, q.1) p = ap (λ k. (p.0, k)) (sym f) in
+    first ∙ second
+
+-- one pair more is that pair once more, and no other
+pub adds_once : AddsCountOnce
+adds_once old new pair other added =
+    let one : ◌≡◌ {A = ℕ} (cond ((pair.0 == pair.0) && (pair.1 == pair.1)) 1 0) 1 = grind (arith, nat_tests) in (
+      omega (arith, counted pair, one),
+      λ apart. omega (arith, counted other, apart_test pair.0 pair.1 other.0 other.1 (λ e f. apart (same_pair pair other e f))),
+    )
+  where
+    counted : (q : ℕ × ℕ) → times q new ≡ cond ((pair.0 == q.0) && (pair.1 == q.1)) 1 0 + times q old
+    counted q = sum_by-IsPermutation (λ x. cond ((x.0 == q.0) && (x.1 == q.1)) 1 0) (pair ∷ old) new added
+        ∙ sum_by-cons (λ x. cond ((x.0 == q.0) && (x.1 == q.1)) 1 0) pair old

@@ -11,6 +11,7 @@ pub use lists::ListFrontier;
 
 mod buckets;
 mod frontiers;
+pub mod laws;
 mod lists;
 mod stacks;
 #[cfg(test)]

@@ -1,0 +1,4 @@
+pub mod AboveLemmas
+pub mod CountLemmas
+pub mod HeldLemmas
+pub mod TellLemmas

@@ -1,0 +1,27 @@
+-- What the laws of this crate state.
+use Rattle.std.specs.Prelude.{◌≡◌, ℕ, ◌+◌, ◌≤◌, ◌↔◌, IsTrue, length, List}
+use Rattle.fc_position.specs.Board.{Board, IsHome}
+use Rattle.fc_position.specs.Position.{IsPosition}
+use Rattle.fc_moves.specs.declared.steps.Move.{Move}
+use Rattle.fc_moves.specs.GameRules.{GameRules}
+use Rattle.fc_moves.specs.Run.{Wins}
+use Rattle.fc_moves.specs.Step.{Step}
+use Rattle.fc_canonical.specs.Class.{SameClass}
+use Rattle.fc_bound.specs.Bound.{bound, is_away, is_held_back, StandsAboveLower}
+
+-- the tests by which the bound counts tell exactly the cards that are not home, and those above a lower card of their suit
+abbrev pub TestsTellTheCards : Type 0
+TestsTellTheCards = (b : Board) (c : ℕ) → (IsTrue (is_away b c) ↔ (¬ IsHome b.homes c))
+    × (IsTrue (is_held_back b c) ↔ StandsAboveLower b c)
+
+-- a step from a position lowers the bound by one at most
+abbrev pub StepsLowerTheBoundByOne : Type 0
+StepsLowerTheBoundByOne = (g : GameRules) (b c : Board) (m : Move) → IsPosition b → Step g b m c → bound b ≤ bound c + 1
+
+-- every list of moves that wins from a position has at least as many moves as the bound says
+abbrev pub WinsNeedTheBound : Type 0
+WinsNeedTheBound = (g : GameRules) (b : Board) (ms : List Move) → IsPosition b → Wins g b ms → bound b ≤ length ms
+
+-- boards of one class have one bound
+abbrev pub ClassMatesHaveOneBound : Type 0
+ClassMatesHaveOneBound = (b c : Board) → SameClass b c → bound b ≡ bound c

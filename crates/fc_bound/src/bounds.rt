@@ -1,0 +1,52 @@
+ghost use Rattle.std.specs.Prelude.{◌≡◌, ℕ, ◌≤◌, count_by};
+ghost use Rattle.fc_position.specs.Board.{count_in_column};
+ghost use Rattle.fc_position.specs.Position.{IsPosition};
+ghost use Rattle.fc_moves.specs.GameRules.{all_cards};
+ghost use Rattle.fc_bound.specs.Bound.{bound, is_above_lower, is_away};
+
+use fc_cards::{Card, Suit};
+use fc_position::Position;
+
+// How many cards are not home.
+fn away(position: &Position) -> u8
+    ensures value { result ≡ count_by (is_away position.now) all_cards }
+    ensures whole { IsPosition position.now }
+{
+    let black = position.home(Suit::C) + position.home(Suit::S);
+    let red = position.home(Suit::D) + position.home(Suit::H);
+    52 - black - red
+}
+
+// How many cards of a column stand above a lower card of their own suit.
+fn above_lower(cards: &[Card]) -> u8
+    requires once { (c : ℕ) → count_in_column c cards.now ≤ 1 }
+    ensures value { result ≡ count_by (λ c. is_above_lower c cards.now) all_cards }
+{
+    // Of each suit the least rank so far, 14 where there is none.
+    let mut least = [14; 4];
+    let mut count = 0;
+    for card in cards {
+        let suit = card.suit().index() as usize;
+        let rank = card.rank();
+        if least[suit] < rank {
+            count += 1;
+        } else {
+            least[suit] = rank;
+        }
+    }
+    count
+}
+
+/// The number of cards that are not home, plus the number of cards that stand above a lower card of their own suit in
+/// their column: at most 104. No list of moves that wins from the position is shorter.
+pub fn bound(position: &Position) -> u8
+    ensures value { result ≡ bound position.now }
+    ensures most { result ≤ 104 }
+    ensures whole { IsPosition position.now }
+{
+    let mut total = away(position);
+    for i in 0..8 {
+        total += above_lower(position.column(i));
+    }
+    total
+}

@@ -1,0 +1,24 @@
+//! Laws of the bound, each the contract of a function that does nothing.
+
+ghost use Rattle.fc_bound.specs.Laws.{TestsTellTheCards, StepsLowerTheBoundByOne, WinsNeedTheBound, ClassMatesHaveOneBound};
+
+/// The bound counts exactly the cards that are not home, and the cards that stand above a lower card of their own suit
+/// in their column.
+pub fn tests_tell_the_cards()
+    ensures { TestsTellTheCards }
+{}
+
+/// A step from a position lowers the bound by one at most, in every game.
+pub fn steps_lower_the_bound_by_one()
+    ensures { StepsLowerTheBoundByOne }
+{}
+
+/// Every list of moves that wins from a position has at least as many moves as the bound says, in every game.
+pub fn wins_need_the_bound()
+    ensures { WinsNeedTheBound }
+{}
+
+/// Positions of one class have one bound.
+pub fn class_mates_have_one_bound()
+    ensures { ClassMatesHaveOneBound }
+{}
