@@ -1,4 +1,4 @@
-use Rattle.std.proofs.Common.{rules, ◌≡◌, [], Ok, Err, IsTrue, refl, sym, ap, subst, ⊎_elim}
+use Rattle.std.proofs.Common.{rules, ◌≡◌, Ok, IsTrue, refl, sym, ap, subst, ⊎_elim}
 use Rattle.fc_replay.specs.Played.{Replays, BeginsWithStep}
 use Rattle.fc_replay.specs.Token.{move_tokens}
 use Rattle.fc_solve.specs.Runs.{Device, GivesBoard, GivesMoves, IsReplayOf}
