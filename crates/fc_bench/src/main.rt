@@ -3,10 +3,14 @@
 #![tactic(auto)]
 
 use arrayvec::ArrayVec;
+use fc_bound::bound;
 use fc_canonical::{Key, canonical, distinct_moves, key};
 use fc_cards::{Card, Place, Suit};
+use fc_frontier::{BucketFrontier, Frontier};
+use fc_home::settle;
 use fc_moves::{FreeCell, Move, allows, apply, moves};
 use fc_position::Position;
+use std::alloc::Global;
 use std::rt::Clock;
 use std::time::Instant;
 use std::{array, env, io};
@@ -118,6 +122,38 @@ fn list_moves(game: &FreeCell, position: &mut Position, rounds: u32) -> usize {
     count
 }
 
+/// Settles a position by rule 2 again and again, with the last card of a column going to a cell and back.
+fn settle_positions(game: &FreeCell, position: &mut Position, rounds: u32) -> usize {
+    let mut count = 0usize;
+    for i in 0..rounds {
+        count = count.wrapping_add(settle(game, position, 2).len());
+        let column = Place::Column((i % 8) as u8);
+        if position.cell(0).is_some() {
+            position.shift(Place::Cell(0), column);
+        } else if position.playable(column).is_some() {
+            position.shift(column, Place::Cell(0));
+        }
+    }
+    count
+}
+
+/// Pushes so many pairs over 40 values of f, and takes them out again.
+fn fill_and_drain(alloc: Global, pairs: u32) -> usize {
+    let mut queue = BucketFrontier::new(alloc);
+    for node in 0..pairs {
+        if queue.push(60 + node % 40, node).is_err() {
+            break;
+        }
+    }
+    let mut count = 0usize;
+    for _ in 0..pairs {
+        if let Some((f, _)) = queue.pop_least() {
+            count = count.wrapping_add(f as usize);
+        }
+    }
+    count
+}
+
 /// The key of a position in its plain form: the canonical position is made, and its bytes are written.
 fn plain_key(position: &Position) -> Key {
     let sorted = canonical(position);
@@ -209,7 +245,7 @@ fn report(
 
 /// Measures each call so often.
 fn bench(
-    rt: &(impl Clock + Print),
+    rt: &(impl Clock + Print + AllocGlobal),
     position: &Position,
     game: &FreeCell,
     rounds: u32,
@@ -240,7 +276,7 @@ fn bench(
 
 /// Measures each call on classes so often, and its plain form.
 fn bench_classes(
-    rt: &(impl Clock + Print),
+    rt: &(impl Clock + Print + AllocGlobal),
     position: &Position,
     game: &FreeCell,
     rounds: u32,
@@ -260,7 +296,29 @@ fn bench_classes(
     let distinct = measured(rt, || {
         ask(position, rounds, |board| plain_distinct(game, board))
     })?;
-    report(rt, "distinct_moves, plainly", calls, distinct, bytes, calls)
+    report(rt, "distinct_moves, plainly", calls, distinct, bytes, calls)?;
+    bench_search_parts(rt, position, game, rounds, bytes)
+}
+
+/// Measures what a search does with each position beside its key, and a queue of so many pairs.
+fn bench_search_parts(
+    rt: &(impl Clock + Print + AllocGlobal),
+    position: &Position,
+    game: &FreeCell,
+    rounds: u32,
+    bytes: u64,
+) -> io::Result<()> {
+    let calls = u64::from(rounds);
+    let mut board = position.copy();
+    let settled = measured(rt, || settle_positions(game, &mut board, rounds))?;
+    report(rt, "settle, by rule 2", calls, settled, bytes, calls)?;
+    let bounds = measured(rt, || {
+        ask(position, rounds, |board| bound(board) as usize)
+    })?;
+    report(rt, "bound", calls, bounds, bytes, calls)?;
+    let alloc = rt.alloc();
+    let queue = measured(rt, || fill_and_drain(alloc, rounds))?;
+    report(rt, "push and pop_least", 2 * calls, queue, bytes, calls)
 }
 
 fn main(rt: HostRuntime) -> io::Result<()> {
