@@ -1,10 +1,12 @@
 -- How the faults of the program end it.
-use Rattle.std.specs.Prelude.{ℕ}
+use Rattle.std.specs.Prelude.{ℕ, List, codes}
 use Rattle.fc_io.specs.declared.transfers.ReadFault.{ReadFault}
 use Rattle.fc_io.specs.declared.transfers.ReadFault.TheVariants.{Failed, TooLong as too_many, Memory as refused}
 use Rattle.fc_replay.specs.declared.faults.ReplayFault.{ReplayFault}
 use Rattle.fc_replay.specs.declared.faults.ReplayFault.TheVariants.{BadMove, NotAllowed, Write as unwritten}
-use Rattle.fc_solve.specs.declared.faults.Input.TheVariants.{Moves as of_moves}
+use Rattle.fc_solve.specs.declared.faults.Input.{Input}
+use Rattle.fc_solve.specs.declared.faults.Input.TheVariants.{Board as of_board, Moves as of_moves}
+use Rattle.fc_solve.specs.declared.faults.Output.{Output}
 use Rattle.fc_solve.specs.declared.faults.Output.TheVariants.{Answer as of_answer}
 use Rattle.fc_solve.specs.declared.faults.ProgramFault.{ProgramFault}
 use Rattle.fc_solve.specs.declared.faults.ProgramFault.TheVariants.{Number, Budget, Board, TooLong, Moves, Read, Write, Memory}
@@ -31,3 +33,11 @@ abbrev pub replay_fault : ReplayFault → ProgramFault
 replay_fault (BadMove step) = Moves (BadMove step)
 replay_fault (NotAllowed step) = Moves (NotAllowed step)
 replay_fault unwritten = Write of_answer
+
+-- how an input and an output are named
+abbrev pub input_text : Input → List ℕ
+input_text of_board = codes "board"
+input_text of_moves = codes "moves"
+
+abbrev pub output_text : Output → List ℕ
+output_text of_answer = codes "answer"

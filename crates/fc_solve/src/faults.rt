@@ -1,5 +1,5 @@
-ghost use Rattle.std.specs.Prelude.{◌≡◌};
-ghost use Rattle.fc_solve.specs.Fault.{fault_status};
+ghost use Rattle.std.specs.Prelude.{◌≡◌, Some};
+ghost use Rattle.fc_solve.specs.Fault.{fault_status, input_text, output_text};
 
 use fc_replay::ReplayFault;
 use fc_text::BoardFault;
@@ -21,6 +21,8 @@ pub enum Output {
 }
 
 impl fmt::Display for Input {
+    ghost output = { λ input. Some (input_text input) };
+
     fn fmt<W: fmt::Write>(&self, f: &mut fmt::Formatter<W>) -> fmt::Result {
         match self {
             Input::Board => f.write_str("board"),
@@ -30,6 +32,8 @@ impl fmt::Display for Input {
 }
 
 impl fmt::Display for Output {
+    ghost output = { λ output. Some (output_text output) };
+
     fn fmt<W: fmt::Write>(&self, f: &mut fmt::Formatter<W>) -> fmt::Result {
         match self {
             Output::Answer => f.write_str("answer"),

@@ -364,12 +364,13 @@ Freecells: KH - - -
 #[test]
 fn replays_moves(rt: HostRuntime) -> Result<(), Fail> {
     let game = free_cell(4)?;
-    let mut out = ToArray::<400>::new();
-    let mut board = FromSlice::new(TWO_KINGS);
-    let mut moves = FromSlice::new(b"1a 1H\r\n");
+    // Each device moves one byte a call.
+    let mut out = Failing::new(ToArray::<400>::new(), 1000);
+    let mut board = Failing::new(FromSlice::new(TWO_KINGS), 1000);
+    let mut moves = Failing::new(FromSlice::new(b"1a 1H\r\n"), 1000);
     let result = run_replay(rt.alloc(), &game, &mut board, &mut moves, &mut out);
     assert_eq!(rt; result, Ok(0));
-    assert_eq!(rt; out.held(), TWO_BOARDS);
+    assert_eq!(rt; out.device.held(), TWO_BOARDS);
     let faults = [
         (
             b"1a 1h 1h".as_slice(),
