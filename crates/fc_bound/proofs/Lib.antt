@@ -1,4 +1,5 @@
 pub mod AboveLemmas
 pub mod CountLemmas
 pub mod HeldLemmas
+pub mod TableLemmas
 pub mod TellLemmas

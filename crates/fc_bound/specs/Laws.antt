@@ -3,11 +3,12 @@ use Rattle.std.specs.Prelude.{◌≡◌, ℕ, ◌+◌, ◌≤◌, ◌↔◌, IsT
 use Rattle.fc_position.specs.Board.{Board, IsHome}
 use Rattle.fc_position.specs.Position.{IsPosition}
 use Rattle.fc_moves.specs.declared.steps.Move.{Move}
-use Rattle.fc_moves.specs.GameRules.{GameRules}
-use Rattle.fc_moves.specs.Run.{Wins}
+use Rattle.fc_moves.specs.GameRules.{GameRules, IsPositionOf}
+use Rattle.fc_moves.specs.Run.{Wins, CannotWin}
 use Rattle.fc_moves.specs.Step.{Step}
 use Rattle.fc_canonical.specs.Class.{SameClass}
 use Rattle.fc_bound.specs.Bound.{bound, is_away, is_held_back, StandsAboveLower}
+use Rattle.fc_bound.specs.Table.{Table, IsClosedBelow, IsClosedInside, IsClosed}
 
 -- the tests by which the bound counts tell exactly the cards that are not home, and those above a lower card of their suit
 abbrev pub TestsTellTheCards : Type 0
@@ -25,3 +26,22 @@ WinsNeedTheBound = (g : GameRules) (b : Board) (ms : List Move) → IsPosition b
 -- boards of one class have one bound
 abbrev pub ClassMatesHaveOneBound : Type 0
 ClassMatesHaveOneBound = (b c : Board) → SameClass b c → bound b ≡ bound c
+
+-- a table closed below n from a position of the game leaves no winning list shorter than n
+abbrev pub ClosedBelowLeavesNoShorterList : Type 0
+ClosedBelowLeavesNoShorterList = (g : GameRules) (rule : ℕ) (p : Board) (n : ℕ) (T : Table) (ms : List Move) → IsPositionOf g p
+    → IsClosedBelow g rule p n T → Wins g p ms → n ≤ length ms
+
+-- a closed table leaves no winning list at all
+abbrev pub ClosedLeavesNoList : Type 0
+ClosedLeavesNoList = (g : GameRules) (rule : ℕ) (p : Board) (T : Table) → IsPositionOf g p → IsClosed g rule p T → CannotWin g p
+
+-- a table that is closed inside n leaves no winning list shorter than n either
+abbrev pub ClosedInsideLeavesNoShorterList : Type 0
+ClosedInsideLeavesNoShorterList = (g : GameRules) (rule : ℕ) (p : Board) (n : ℕ) (T : Table) (ms : List Move) → IsPositionOf g p
+    → IsClosedInside g rule p n T → Wins g p ms → n ≤ length ms
+
+-- a table closed below n is closed inside n
+abbrev pub ClosedBelowIsClosedInside : Type 0
+ClosedBelowIsClosedInside = (g : GameRules) (rule : ℕ) (p : Board) (n : ℕ) (T : Table) → IsClosedBelow g rule p n T
+    → IsClosedInside g rule p n T

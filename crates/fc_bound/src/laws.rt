@@ -1,6 +1,6 @@
 //! Laws of the bound, each the contract of a function that does nothing.
 
-ghost use Rattle.fc_bound.specs.Laws.{TestsTellTheCards, StepsLowerTheBoundByOne, WinsNeedTheBound, ClassMatesHaveOneBound};
+ghost use Rattle.fc_bound.specs.Laws.{TestsTellTheCards, StepsLowerTheBoundByOne, WinsNeedTheBound, ClassMatesHaveOneBound, ClosedBelowLeavesNoShorterList, ClosedLeavesNoList, ClosedInsideLeavesNoShorterList, ClosedBelowIsClosedInside};
 
 /// The bound counts exactly the cards that are not home, and the cards that stand above a lower card of their own suit
 /// in their column.
@@ -21,4 +21,26 @@ pub fn wins_need_the_bound()
 /// Positions of one class have one bound.
 pub fn class_mates_have_one_bound()
     ensures { ClassMatesHaveOneBound }
+{}
+
+/// A table of classes and costs that is closed below n, from a position that fits the game, leaves no winning list
+/// shorter than n, in every game and by every home rule.
+pub fn closed_below_leaves_no_shorter_list()
+    ensures { ClosedBelowLeavesNoShorterList }
+{}
+
+/// A closed table leaves no winning list at all, in every game and by every home rule.
+pub fn closed_leaves_no_list()
+    ensures { ClosedLeavesNoList }
+{}
+
+/// A table that lists won classes, where their cost and their bound reach n, leaves no winning list shorter than n
+/// either.
+pub fn closed_inside_leaves_no_shorter_list()
+    ensures { ClosedInsideLeavesNoShorterList }
+{}
+
+/// A table that is closed below n is closed inside n.
+pub fn closed_below_is_closed_inside()
+    ensures { ClosedBelowIsClosedInside }
 {}
