@@ -1,5 +1,6 @@
 pub mod AboveLemmas
 pub mod CountLemmas
 pub mod HeldLemmas
+pub mod LookLemmas
 pub mod TableLemmas
 pub mod TellLemmas

@@ -8,7 +8,7 @@ use Rattle.fc_moves.specs.Run.{Wins, CannotWin}
 use Rattle.fc_moves.specs.Step.{Step}
 use Rattle.fc_canonical.specs.Class.{SameClass}
 use Rattle.fc_bound.specs.Bound.{bound, is_away, is_held_back, StandsAboveLower}
-use Rattle.fc_bound.specs.Table.{Table, IsClosedBelow, IsClosedInside, IsClosed}
+use Rattle.fc_bound.specs.Table.{Table, StepsCovered, StepsListed, ClassesCovered, ClassesListed, ListsFitting, IsClosedBelow, IsClosedInside, IsClosed, IsSeenClosedBelow, IsSeenClosed}
 
 -- the tests by which the bound counts tell exactly the cards that are not home, and those above a lower card of their suit
 abbrev pub TestsTellTheCards : Type 0
@@ -45,3 +45,25 @@ ClosedInsideLeavesNoShorterList = (g : GameRules) (rule : ℕ) (p : Board) (n : 
 abbrev pub ClosedBelowIsClosedInside : Type 0
 ClosedBelowIsClosedInside = (g : GameRules) (rule : ℕ) (p : Board) (n : ℕ) (T : Table) → IsClosedBelow g rule p n T
     → IsClosedInside g rule p n T
+
+-- of two positions of the game that are of one class, each class that the steps of the one lead to is covered, looked at
+-- once, exactly where the steps of the other are covered
+abbrev pub OneBoardOfAClassIsEnough : Type 0
+OneBoardOfAClassIsEnough = (g : GameRules) (rule : ℕ) (n : ℕ) (T : Table) (x y : Board) (d : ℕ) → IsPositionOf g x → IsPositionOf g y
+    → SameClass x y → ClassesCovered g rule n T x d ↔ StepsCovered g rule n T y d
+
+-- the same of being listed
+abbrev pub OneBoardIsEnoughWithoutBound : Type 0
+OneBoardIsEnoughWithoutBound = (g : GameRules) (rule : ℕ) (T : Table) (x y : Board) → IsPositionOf g x → IsPositionOf g y
+    → SameClass x y → ClassesListed g rule T x ↔ StepsListed g rule T y
+
+-- where a look at the listed boards alone, by one step to each class, shows a table to be closed below n, it is, and
+-- where it is, that look shows it
+abbrev pub ClosedBelowIsSeen : Type 0
+ClosedBelowIsSeen = (g : GameRules) (rule : ℕ) (p : Board) (n : ℕ) (T : Table) → IsPositionOf g p → ListsFitting g T
+    → IsSeenClosedBelow g rule p n T ↔ IsClosedBelow g rule p n T
+
+-- the same of closed tables
+abbrev pub ClosedIsSeen : Type 0
+ClosedIsSeen = (g : GameRules) (rule : ℕ) (p : Board) (T : Table) → IsPositionOf g p → ListsFitting g T
+    → IsSeenClosed g rule p T ↔ IsClosed g rule p T

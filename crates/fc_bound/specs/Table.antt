@@ -9,7 +9,8 @@ use Rattle.fc_canonical.specs.Class.{SameClass}
 use Rattle.fc_home.specs.Settles.{Settles}
 use Rattle.fc_bound.specs.Bound.{bound}
 
--- a table is a list of pairs: a board, which stands for its class, and a cost, in moves from the start
+-- a table is a list of pairs: a board, which stands for its class, and a cost, in moves from the start; what is said here
+-- of a table holds as well where a class is listed twice
 abbrev pub Table : Type 0
 Table = List (Board × ℕ)
 
@@ -55,3 +56,29 @@ pub record IsClosed (g : GameRules) (rule : ℕ) (p : Board) (T : Table) : Type 
   pub not_won : (e : Board × ℕ) → Contains T e → IsWon e.0 → ⊥
   pub start : (q : Board) (k : ℕ) → Settles g rule p k q → ListsClass T q
   pub steps : (e : Board × ℕ) (x : Board) → Contains T e → IsPositionOf g x → SameClass x e.0 → StepsListed g rule T x
+
+-- a listed board is a position of the game wherever any board of its class is one
+abbrev pub ListsFitting : GameRules → Table → Type 0
+ListsFitting g T = (e : Board × ℕ) (x : Board) → Contains T e → IsPositionOf g x → SameClass x e.0 → IsPositionOf g e.0
+
+-- of a board that d moves lead to: of each class that its steps lead to, one board that a step leads to is covered, once settled
+abbrev pub ClassesCovered : GameRules → ℕ → ℕ → Table → Board → ℕ → Type 0
+ClassesCovered g rule n T x d = (m : Move) (y : Board) → Step g x m y
+    → (l : Move) × (w z : Board) × (k : ℕ) × Step g x l w × SameClass y w × Settles g rule w k z × Covered n T z (d + 1 + k)
+
+-- of each class that the board's steps lead to, one board that a step leads to is listed, once settled
+abbrev pub ClassesListed : GameRules → ℕ → Table → Board → Type 0
+ClassesListed g rule T x = (m : Move) (y : Board) → Step g x m y
+    → (l : Move) × (w z : Board) × (k : ℕ) × Step g x l w × SameClass y w × Settles g rule w k z × ListsClass T z
+
+-- what is looked at to see that a table is closed below n: the listed boards alone, and one step to each class
+pub record IsSeenClosedBelow (g : GameRules) (rule : ℕ) (p : Board) (n : ℕ) (T : Table) : Type 0 where
+  pub not_won : (e : Board × ℕ) → Contains T e → IsWon e.0 → ⊥
+  pub start : (q : Board) × (k : ℕ) × Settles g rule p k q × Covered n T q k
+  pub steps : (e : Board × ℕ) → Contains T e → IsPositionOf g e.0 → e.1 + bound e.0 < n → ClassesCovered g rule n T e.0 e.1
+
+-- what is looked at to see that a table is closed
+pub record IsSeenClosed (g : GameRules) (rule : ℕ) (p : Board) (T : Table) : Type 0 where
+  pub not_won : (e : Board × ℕ) → Contains T e → IsWon e.0 → ⊥
+  pub start : (q : Board) × (k : ℕ) × Settles g rule p k q × ListsClass T q
+  pub steps : (e : Board × ℕ) → Contains T e → IsPositionOf g e.0 → ClassesListed g rule T e.0

@@ -1,6 +1,6 @@
-//! Laws of the bound, each the contract of a function that does nothing.
+//! Laws of the bound and of closed tables, each the contract of a function that does nothing.
 
-ghost use Rattle.fc_bound.specs.Laws.{TestsTellTheCards, StepsLowerTheBoundByOne, WinsNeedTheBound, ClassMatesHaveOneBound, ClosedBelowLeavesNoShorterList, ClosedLeavesNoList, ClosedInsideLeavesNoShorterList, ClosedBelowIsClosedInside};
+ghost use Rattle.fc_bound.specs.Laws.{TestsTellTheCards, StepsLowerTheBoundByOne, WinsNeedTheBound, ClassMatesHaveOneBound, ClosedBelowLeavesNoShorterList, ClosedLeavesNoList, ClosedInsideLeavesNoShorterList, ClosedBelowIsClosedInside, OneBoardOfAClassIsEnough, OneBoardIsEnoughWithoutBound, ClosedBelowIsSeen, ClosedIsSeen};
 
 /// The bound counts exactly the cards that are not home, and the cards that stand above a lower card of their own suit
 /// in their column.
@@ -43,4 +43,27 @@ pub fn closed_inside_leaves_no_shorter_list()
 /// A table that is closed below n is closed inside n.
 pub fn closed_below_is_closed_inside()
     ensures { ClosedBelowIsClosedInside }
+{}
+
+/// One position of a listed class is enough: of two positions of one class that fit the game, each class that the steps
+/// of the one lead to is covered, looked at once, exactly where the steps of the other are covered.
+pub fn one_board_of_a_class_is_enough()
+    ensures { OneBoardOfAClassIsEnough }
+{}
+
+/// The same where the bound isn't looked at: the classes are listed exactly where the other's steps are.
+pub fn one_board_is_enough_without_bound()
+    ensures { OneBoardIsEnoughWithoutBound }
+{}
+
+/// A table is closed below n exactly where a look at its listed boards alone, by one step to each class, shows it, if a
+/// listed board fits the game wherever a position of its class does.
+pub fn closed_below_is_seen()
+    ensures { ClosedBelowIsSeen }
+{}
+
+/// A table is closed exactly where a look at its listed boards alone, by one step to each class, shows it, if a listed
+/// board fits the game wherever a position of its class does.
+pub fn closed_is_seen()
+    ensures { ClosedIsSeen }
 {}
