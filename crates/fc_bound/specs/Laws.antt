@@ -1,5 +1,5 @@
 -- What the laws of this crate state.
-use Rattle.std.specs.Prelude.{◌≡◌, ℕ, ◌+◌, ◌≤◌, ◌↔◌, IsTrue, length, List}
+use Rattle.std.specs.Prelude.{◌≡◌, ℕ, ◌+◌, ◌<◌, ◌≤◌, ◌↔◌, IsTrue, length, List, [], Contains}
 use Rattle.fc_position.specs.Board.{Board, IsHome}
 use Rattle.fc_position.specs.Position.{IsPosition}
 use Rattle.fc_moves.specs.declared.steps.Move.{Move}
@@ -67,3 +67,22 @@ ClosedBelowIsSeen = (g : GameRules) (rule : ℕ) (p : Board) (n : ℕ) (T : Tabl
 abbrev pub ClosedIsSeen : Type 0
 ClosedIsSeen = (g : GameRules) (rule : ℕ) (p : Board) (T : Table) → IsPositionOf g p → ListsFitting g T
     → IsSeenClosed g rule p T ↔ IsClosed g rule p T
+
+-- of a table that is closed inside n, the pairs whose cost and bound are below n are a table closed below n
+abbrev pub RowsInsideAreClosedBelow : Type 0
+RowsInsideAreClosedBelow = (g : GameRules) (rule : ℕ) (p : Board) (n : ℕ) (S T : Table) → IsClosedInside g rule p n T
+    → ((e : Board × ℕ) → Contains S e ↔ (Contains T e × (e.1 + bound e.0 < n))) → IsClosedBelow g rule p n S
+
+-- a table that is closed inside every number is closed
+abbrev pub ClosedInsideAllIsClosed : Type 0
+ClosedInsideAllIsClosed = (g : GameRules) (rule : ℕ) (p : Board) (T : Table) → ((n : ℕ) → IsClosedInside g rule p n T)
+    → IsClosed g rule p T
+
+-- a table with the boards of a closed one, at whatever costs, is closed
+abbrev pub CostsOfClosedTablesAreFree : Type 0
+CostsOfClosedTablesAreFree = (g : GameRules) (rule : ℕ) (p : Board) (S T : Table) → IsClosed g rule p T
+    → ((x : Board) → ((d : ℕ) × Contains S (x, d)) ↔ ((d : ℕ) × Contains T (x, d))) → IsClosed g rule p S
+
+-- no empty table is closed, since every position settles
+abbrev pub NoEmptyTableIsClosed : Type 0
+NoEmptyTableIsClosed = (g : GameRules) (rule : ℕ) (p : Board) → IsPosition p → IsClosed g rule p [] → ⊥

@@ -1,6 +1,6 @@
 //! Laws of the bound and of closed tables, each the contract of a function that does nothing.
 
-ghost use Rattle.fc_bound.specs.Laws.{TestsTellTheCards, StepsLowerTheBoundByOne, WinsNeedTheBound, ClassMatesHaveOneBound, ClosedBelowLeavesNoShorterList, ClosedLeavesNoList, ClosedInsideLeavesNoShorterList, ClosedBelowIsClosedInside, OneBoardOfAClassIsEnough, OneBoardIsEnoughWithoutBound, ClosedBelowIsSeen, ClosedIsSeen};
+ghost use Rattle.fc_bound.specs.Laws.{TestsTellTheCards, StepsLowerTheBoundByOne, WinsNeedTheBound, ClassMatesHaveOneBound, ClosedBelowLeavesNoShorterList, ClosedLeavesNoList, ClosedInsideLeavesNoShorterList, ClosedBelowIsClosedInside, OneBoardOfAClassIsEnough, OneBoardIsEnoughWithoutBound, ClosedBelowIsSeen, ClosedIsSeen, RowsInsideAreClosedBelow, ClosedInsideAllIsClosed, CostsOfClosedTablesAreFree, NoEmptyTableIsClosed};
 
 /// The bound counts exactly the cards that are not home, and the cards that stand above a lower card of their own suit
 /// in their column.
@@ -66,4 +66,24 @@ pub fn closed_below_is_seen()
 /// board fits the game wherever a position of its class does.
 pub fn closed_is_seen()
     ensures { ClosedIsSeen }
+{}
+
+/// Of a table that is closed inside n, the classes whose cost and bound are below n are a table closed below n.
+pub fn rows_inside_are_closed_below()
+    ensures { RowsInsideAreClosedBelow }
+{}
+
+/// A table that is closed inside every number is closed.
+pub fn closed_inside_all_is_closed()
+    ensures { ClosedInsideAllIsClosed }
+{}
+
+/// A table with the boards of a closed one is closed, whatever its costs are.
+pub fn costs_of_closed_tables_are_free()
+    ensures { CostsOfClosedTablesAreFree }
+{}
+
+/// No empty table is closed, since every position settles.
+pub fn no_empty_table_is_closed()
+    ensures { NoEmptyTableIsClosed }
 {}
