@@ -1,4 +1,7 @@
 pub mod AboveLemmas
 pub mod CountLemmas
 pub mod HeldLemmas
+pub mod LookLemmas
+pub mod RowLemmas
+pub mod TableLemmas
 pub mod TellLemmas

@@ -1,0 +1,109 @@
+-- What a closed table leaves: no short list that wins, or none at all.
+use Rattle.std.proofs.Common.{ℕ, ◌+◌, ◌-◌, ◌≤◌, zero, suc, [], ◌∷◌, length, sym, ◌∙◌, ap, subst, ⊎_elim, zero-add, arith}
+use Rattle.std.proofs.lemmas.Bool.{cases_lt}
+use Rattle.fc_position.specs.Board.{Board}
+use Rattle.fc_moves.specs.GameRules.{GameRules, IsPositionOf}
+use Rattle.fc_moves.proofs.StepLemmas.{step_keeps}
+use Rattle.fc_home.specs.Laws.{WinsWithin}
+use Rattle.fc_home.specs.Settles.{Settles}
+use Rattle.fc_home.proofs.LossLemmas.{settle_loses_nothing}
+use Rattle.fc_home.proofs.SettleLemmas.{settles_keep}
+use Rattle.fc_home.proofs.WayLemmas.{settles_all}
+use Rattle.fc_bound.specs.Bound.{bound}
+use Rattle.fc_bound.specs.Laws.{ClosedInsideLeavesNoShorterList, ClosedBelowIsClosedInside, ClosedBelowLeavesNoShorterList, ClosedLeavesNoList}
+use Rattle.fc_bound.specs.Table.{Table, ListsClass, Lists, Covered, IsClosedInside, IsClosed}
+use Rattle.fc_bound.proofs.HeldLemmas.{class_bound, wins_need}
+
+-- a board from which so many moves win has no greater bound
+within_bound : (g : GameRules) (x : Board) (most : ℕ) → IsPositionOf g x → WinsWithin g x most → bound x ≤ most
+within_bound g x most p (ms, few, wins) = let need = wins_need g x ms p.position wins in omega (arith, few, need)
+
+-- through the boards that the table lists no list of less than n moves wins, of the lists with at most so many moves left
+abbrev Long : GameRules → ℕ → Table → ℕ → Type 0
+Long g n T most = (x : Board) (d : ℕ) → IsPositionOf g x → Lists T x d → WinsWithin g x most → n ≤ d + most
+
+-- nor through a covered board
+covered_long : (g : GameRules) (n : ℕ) (T : Table) (x : Board) (d most : ℕ) → Long g n T most → IsPositionOf g x
+    → Covered n T x d → WinsWithin g x most → n ≤ d + most
+covered_long g n T x d most long p covered wins =
+    ⊎_elim (λ far. let need = within_bound g x most p wins in omega (arith, far, need)) (λ lists. long x d p lists wins) covered
+
+-- nor through a board that settles to a covered one
+settled_long : (g : GameRules) (rule : ℕ) (n : ℕ) (T : Table) (x : Board) (d most : ℕ) → ((less : ℕ) → less ≤ most → Long g n T less)
+    → IsPositionOf g x → ((q : Board) (k : ℕ) → Settles g rule x k q → Covered n T q (d + k)) → WinsWithin g x most → n ≤ d + most
+settled_long g rule n T x d most long p covered wins =
+    let way = settles_all g rule x p.position in
+    let k = way.0 in
+    let q = way.1 in
+    let left = (settle_loses_nothing g rule x q k most p.position way.2).0 wins in
+    let still = covered_long g n T q (d + k) (most - k) (long (most - k) (omega arith)) (settles_keep g rule x q k p way.2)
+    (covered q k way.2) left.1 in
+    omega (arith, left.0, still)
+
+-- nor, by the steps, through a listed board of which some list of moves wins
+listed_long : (g : GameRules) (rule : ℕ) (p : Board) (n : ℕ) (T : Table) (fuel : ℕ) → IsClosedInside g rule p n T
+    → (most : ℕ) → most ≤ fuel → Long g n T most
+listed_long g rule p n T fuel closed most fuelled x d px (e, listed, same, cost) ([], few, (z, run, won)) =
+    let equal = class_bound x e.0 same in
+    ⊎_elim
+    (λ inside. absurd (closed.not_won e listed (omega (arith, inside, equal)) (sym same.homes ∙ ap (λ b. b.homes) (sym run) ∙ won)))
+    (λ far. let need = within_bound g x most px ([], few, (z, run, won)) in omega (arith, far, need, cost))
+    (cases_lt (e.1 + bound x) n)
+listed_long g rule p n T zero closed most fuelled x d px lists (m ∷ ms, few, wins) = absurd (omega (arith, few, fuelled))
+listed_long g rule p n T (suc fuel) closed most fuelled x d px (e, listed, same, cost) (m ∷ ms, few, (z, (y, step, rest), won)) =
+    ⊎_elim
+    (λ inside.
+    let short : length ms ≤ fuel = omega (arith, few, fuelled) in
+    let later = settled_long g rule n T y (e.1 + 1) (length ms)
+    (λ less le. listed_long g rule p n T fuel closed less (omega (arith, le, short)))
+    (step_keeps g x y m px step) (λ q k settles. closed.steps e x listed px same inside m y q k step settles)
+    (ms, omega arith, (z, rest, won)) in
+    omega (arith, later, few, cost))
+    (λ far. let need = within_bound g x most px (m ∷ ms, few, (z, (y, step, rest), won)) in omega (arith, far, need, cost))
+    (cases_lt (e.1 + bound x) n)
+
+-- so none of less than n moves wins from the start
+pub inside_long : ClosedInsideLeavesNoShorterList
+inside_long g rule p n T ms px closed wins =
+    let long = settled_long g rule n T p 0 (length ms) (λ less le. listed_long g rule p n T (length ms) closed less le) px
+    (λ q k settles. subst (Covered n T q) (sym (zero-add k)) (closed.start q k settles)) (ms, omega arith, wins) in
+    omega (arith, long)
+
+-- what is closed below n is closed inside n
+pub below_inside : ClosedBelowIsClosedInside
+below_inside g rule p n T closed = record {
+  not_won = λ e listed _. closed.not_won e listed;
+  start = closed.start;
+  steps = closed.steps;
+}
+
+pub below_long : ClosedBelowLeavesNoShorterList
+below_long g rule p n T ms px closed wins = inside_long g rule p n T ms px (below_inside g rule p n T closed) wins
+
+-- from a board that settles to a listed one none wins, where none of at most as many moves wins from listed ones
+settled_never : (g : GameRules) (rule : ℕ) (T : Table) (x : Board) (most : ℕ)
+    → ((less : ℕ) (z : Board) → less ≤ most → IsPositionOf g z → ListsClass T z → WinsWithin g z less → ⊥)
+    → IsPositionOf g x → ((q : Board) (k : ℕ) → Settles g rule x k q → ListsClass T q) → WinsWithin g x most → ⊥
+settled_never g rule T x most never p listed wins =
+    let way = settles_all g rule x p.position in
+    let k = way.0 in
+    let q = way.1 in
+    let left = (settle_loses_nothing g rule x q k most p.position way.2).0 wins in
+    never (most - k) q (omega arith) (settles_keep g rule x q k p way.2) (listed q k way.2) left.1
+
+-- from a listed board of a closed table no list wins
+listed_never : (g : GameRules) (rule : ℕ) (p : Board) (T : Table) (fuel : ℕ) → IsClosed g rule p T → (most : ℕ) (x : Board)
+    → most ≤ fuel → IsPositionOf g x → ListsClass T x → WinsWithin g x most → ⊥
+listed_never g rule p T fuel closed most x fuelled px (e, listed, same) ([], few, (z, run, won)) =
+    closed.not_won e listed (sym same.homes ∙ ap (λ b. b.homes) (sym run) ∙ won)
+listed_never g rule p T zero closed most x fuelled px lists (m ∷ ms, few, wins) = absurd (omega (arith, few, fuelled))
+listed_never g rule p T (suc fuel) closed most x fuelled px (e, listed, same) (m ∷ ms, few, (z, (y, step, rest), won)) =
+    let short : length ms ≤ fuel = omega (arith, few, fuelled) in
+    settled_never g rule T y (length ms) (λ less w le. listed_never g rule p T fuel closed less w (omega (arith, le, short)))
+    (step_keeps g x y m px step) (λ q k settles. closed.steps e x listed px same m y q k step settles)
+    (ms, omega arith, (z, rest, won))
+
+pub closed_never : ClosedLeavesNoList
+closed_never g rule p T px closed ms wins =
+    settled_never g rule T p (length ms) (λ less z le. listed_never g rule p T (length ms) closed less z le) px
+    (λ q k settles. closed.start q k settles) (ms, omega arith, wins)

@@ -1,0 +1,84 @@
+-- Tables of classes and costs, and when such a table is a proof that no winning list is short, or that there is none.
+use Rattle.std.specs.Prelude.{ℕ, ◌+◌, ◌<◌, ◌≤◌, ◌⊎◌, List, Contains}
+use Rattle.fc_position.specs.Board.{Board}
+use Rattle.fc_position.specs.Position.{IsWon}
+use Rattle.fc_moves.specs.declared.steps.Move.{Move}
+use Rattle.fc_moves.specs.GameRules.{GameRules, IsPositionOf}
+use Rattle.fc_moves.specs.Step.{Step}
+use Rattle.fc_canonical.specs.Class.{SameClass}
+use Rattle.fc_home.specs.Settles.{Settles}
+use Rattle.fc_bound.specs.Bound.{bound}
+
+-- a table is a list of pairs: a board, which stands for its class, and a cost, in moves from the start; what is said here
+-- of a table holds as well where a class is listed twice
+abbrev pub Table : Type 0
+Table = List (Board × ℕ)
+
+-- the table lists the class of the board, at any cost
+abbrev pub ListsClass : Table → Board → Type 0
+ListsClass T x = (e : Board × ℕ) × Contains T e × SameClass x e.0
+
+-- the table lists the class of the board at a cost of at most d
+abbrev pub Lists : Table → Board → ℕ → Type 0
+Lists T x d = (e : Board × ℕ) × Contains T e × SameClass x e.0 × (e.1 ≤ d)
+
+-- a board that d moves lead to is covered: its bound leaves no list of less than n moves through it, or it is listed
+abbrev pub Covered : ℕ → Table → Board → ℕ → Type 0
+Covered n T x d = (n ≤ d + bound x) ⊎ Lists T x d
+
+-- of a board that d moves lead to: where each of its steps leads, once settled, is covered
+abbrev pub StepsCovered : GameRules → ℕ → ℕ → Table → Board → ℕ → Type 0
+StepsCovered g rule n T x d =
+    (m : Move) (y z : Board) (k : ℕ) → Step g x m y → Settles g rule y k z → Covered n T z (d + 1 + k)
+
+-- where each step of the board leads, once settled, is listed
+abbrev pub StepsListed : GameRules → ℕ → Table → Board → Type 0
+StepsListed g rule T x = (m : Move) (y z : Board) (k : ℕ) → Step g x m y → Settles g rule y k z → ListsClass T z
+
+-- no listed board is won; the start, once settled, is covered; and from every position of a listed class, unless its cost
+-- and its bound reach n, the steps are covered
+pub record IsClosedBelow (g : GameRules) (rule : ℕ) (p : Board) (n : ℕ) (T : Table) : Type 0 where
+  pub not_won : (e : Board × ℕ) → Contains T e → IsWon e.0 → ⊥
+  pub start : (q : Board) (k : ℕ) → Settles g rule p k q → Covered n T q k
+  pub steps : (e : Board × ℕ) (x : Board) → Contains T e → IsPositionOf g x → SameClass x e.0 → e.1 + bound x < n
+      → StepsCovered g rule n T x e.1
+
+-- the same while a search runs: a won class may be listed where its cost and its bound reach n
+pub record IsClosedInside (g : GameRules) (rule : ℕ) (p : Board) (n : ℕ) (T : Table) : Type 0 where
+  pub not_won : (e : Board × ℕ) → Contains T e → e.1 + bound e.0 < n → IsWon e.0 → ⊥
+  pub start : (q : Board) (k : ℕ) → Settles g rule p k q → Covered n T q k
+  pub steps : (e : Board × ℕ) (x : Board) → Contains T e → IsPositionOf g x → SameClass x e.0 → e.1 + bound x < n
+      → StepsCovered g rule n T x e.1
+
+-- no listed board is won; the start, once settled, is listed; and so is all that steps from positions of listed classes
+-- lead to, once settled: the costs don't matter
+pub record IsClosed (g : GameRules) (rule : ℕ) (p : Board) (T : Table) : Type 0 where
+  pub not_won : (e : Board × ℕ) → Contains T e → IsWon e.0 → ⊥
+  pub start : (q : Board) (k : ℕ) → Settles g rule p k q → ListsClass T q
+  pub steps : (e : Board × ℕ) (x : Board) → Contains T e → IsPositionOf g x → SameClass x e.0 → StepsListed g rule T x
+
+-- a listed board is a position of the game wherever any board of its class is one
+abbrev pub ListsFitting : GameRules → Table → Type 0
+ListsFitting g T = (e : Board × ℕ) (x : Board) → Contains T e → IsPositionOf g x → SameClass x e.0 → IsPositionOf g e.0
+
+-- of a board that d moves lead to: of each class that its steps lead to, one board that a step leads to is covered, once settled
+abbrev pub ClassesCovered : GameRules → ℕ → ℕ → Table → Board → ℕ → Type 0
+ClassesCovered g rule n T x d = (m : Move) (y : Board) → Step g x m y
+    → (l : Move) × (w z : Board) × (k : ℕ) × Step g x l w × SameClass y w × Settles g rule w k z × Covered n T z (d + 1 + k)
+
+-- of each class that the board's steps lead to, one board that a step leads to is listed, once settled
+abbrev pub ClassesListed : GameRules → ℕ → Table → Board → Type 0
+ClassesListed g rule T x = (m : Move) (y : Board) → Step g x m y
+    → (l : Move) × (w z : Board) × (k : ℕ) × Step g x l w × SameClass y w × Settles g rule w k z × ListsClass T z
+
+-- what is looked at to see that a table is closed below n: the listed boards alone, and one step to each class
+pub record IsSeenClosedBelow (g : GameRules) (rule : ℕ) (p : Board) (n : ℕ) (T : Table) : Type 0 where
+  pub not_won : (e : Board × ℕ) → Contains T e → IsWon e.0 → ⊥
+  pub start : (q : Board) × (k : ℕ) × Settles g rule p k q × Covered n T q k
+  pub steps : (e : Board × ℕ) → Contains T e → IsPositionOf g e.0 → e.1 + bound e.0 < n → ClassesCovered g rule n T e.0 e.1
+
+-- what is looked at to see that a table is closed
+pub record IsSeenClosed (g : GameRules) (rule : ℕ) (p : Board) (T : Table) : Type 0 where
+  pub not_won : (e : Board × ℕ) → Contains T e → IsWon e.0 → ⊥
+  pub start : (q : Board) × (k : ℕ) × Settles g rule p k q × ListsClass T q
+  pub steps : (e : Board × ℕ) → Contains T e → IsPositionOf g e.0 → ClassesListed g rule T e.0
