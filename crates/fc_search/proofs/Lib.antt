@@ -1,0 +1,3 @@
+pub mod KeptLemmas
+pub mod StoreLemmas
+pub mod TurnLemmas

@@ -1,0 +1,5 @@
+pub mod Graph
+pub mod Store
+pub mod Turn
+pub mod Kept
+pub mod Shown
