@@ -1,26 +1,23 @@
 -- Lemmas on what a search keeps: what a pair that is taken tells, and what stays when a key is put in.
-use Rattle.std.proofs.Common.{◌≡◌, ℕ, ◌+◌, ◌*◌, ◌<◌, ◌≤◌, ◌⊎◌, suc, zero, Some, None, Option, List, [], ◌∷◌, ◌++◌, length, map, refl, sym, ◌∙◌, ap, subst, inl, inr, ⊎_elim, arith}
+use Rattle.std.proofs.Common.{◌≡◌, ℕ, ◌+◌, ◌*◌, ◌<◌, ◌≤◌, ◌⊎◌, suc, zero, Some, List, [], ◌∷◌, length, refl, sym, ◌∙◌, ap, subst, inl, inr, ⊎_elim, arith}
 use Rattle.std.specs.Prelude.{slice_get, Contains}
-use Rattle.std.specs.List.Sorted.{IsPermutation}
 use Rattle.std.proofs.lemmas.Bool.{cases_eq}
-use Rattle.std.proofs.lemmas.Option.{none-some, slice_get_within, some_pair_parts}
-use Rattle.std.proofs.lemmas.List.{length_push}
-use Rattle.std.proofs.lemmas.List.Elements.{Contains-append_cases, Contains-append_left, Contains-append_right, Contains-push}
+use Rattle.std.proofs.lemmas.Option.{slice_get_within, some_pair_parts}
+use Rattle.std.proofs.lemmas.List.Elements.{Contains-append_cases, Contains-append_right}
 use Rattle.std.proofs.lemmas.List.Sorted.{Contains-permutation, IsPermutation-sym}
-use Rattle.indexmap.specs.Layout.{length-set_value_at}
 use Rattle.fc_frontier.specs.Queue.{Adds, IsLeast}
 use Rattle.fc_search.specs.declared.books.Mark.{Mark}
-use Rattle.fc_search.specs.declared.books.Offered.TheVariants.{Known, Lowered, Added, Full}
-use Rattle.fc_search.specs.Graph.{Graph, Reached, IsLawful, IsClosedInside, Lists}
-use Rattle.fc_search.specs.Store.{Store, Stands, IsNew, Offers, IsTaken}
-use Rattle.fc_search.specs.Kept.{HasAt, IsExpanded, IsSettled, IsNeeded, Comes, IsSound, IsKept}
+use Rattle.fc_search.specs.declared.books.Offered.TheVariants.{Lowered, Added}
+use Rattle.fc_search.specs.Graph.{Graph, Reached}
+use Rattle.fc_search.specs.Store.{Store, Stands, IsNew, Offers}
+use Rattle.fc_search.specs.Kept.{HasAt, IsExpanded, IsSettled, IsNeeded, Comes, IsSound}
 use Rattle.fc_search.proofs.StoreLemmas.{set_here, set_elsewhere, push_here, push_elsewhere}
 
 -- pairs that are put in and taken out
-pub front_there : (p : ℕ × ℕ) (ps : List (ℕ × ℕ)) → Contains (p ∷ ps) p
+pub front_there : {X : Type 0} (p : X) (ps : List X) → Contains (p ∷ ps) p
 front_there p ps = (0, omega arith, refl)
 
-pub front_cases : (p q : ℕ × ℕ) (ps : List (ℕ × ℕ)) → Contains (p ∷ ps) q → (p ≡ q) ⊎ Contains ps q
+pub front_cases : {X : Type 0} (p q : X) (ps : List X) → Contains (p ∷ ps) q → (p ≡ q) ⊎ Contains ps q
 front_cases p q ps h = elim (Contains-append_cases (p ∷ []) ps q h) [ inl (zero, lt, e) ↦ inl e | inl (suc k, lt, e) ↦ absurd (omega (arith, lt)) | inr there ↦ inr there ]
 
 pub added_there : (old new : List (ℕ × ℕ)) (p : ℕ × ℕ) → Adds old new p → Contains new p
@@ -83,18 +80,15 @@ module _ {K : Type 0} where
     pub opened : Adds old.waiting new.waiting (f, i)
     pub was : (IsNew old y × (i ≡ length old.stored)) ⊎ ((m : Mark) × Stands old i y m × (e.cost < m.cost))
 
-  pub puts_lowered : (budget : ℕ) (old new : Store K) (y : K) (e : Mark) (f : ℕ) → Offers budget old new y e f Lowered
-      → (i : ℕ) × Puts old new y e f i
-  puts_lowered budget old new y e f (i, m, at, (lt, stored, opened)) = (
-    i,
-    record {
-      here = subst (λ es. slice_get es i ≡ Some (y, e)) (sym stored) (set_here old.stored i y m e at);
-      back = λ j x n ne there. sym (set_elsewhere old.stored i j e ne) ∙ ap (λ es. slice_get es j) (sym stored) ∙ there;
-      on = λ j x n ne there. ap (λ es. slice_get es j) stored ∙ set_elsewhere old.stored i j e ne ∙ there;
-      opened = opened;
-      was = inr (m, at, lt);
-    },
-  )
+  pub puts_lowered : (budget : ℕ) (old new : Store K) (y : K) (e : Mark) (f : ℕ)
+      → (h : Offers budget old new y e f Lowered) → Puts old new y e f h.0
+  puts_lowered budget old new y e f (i, m, at, (lt, stored, opened)) = record {
+    here = subst (λ es. slice_get es i ≡ Some (y, e)) (sym stored) (set_here old.stored i y m e at);
+    back = λ j x n ne there. sym (set_elsewhere old.stored i j e ne) ∙ ap (λ es. slice_get es j) (sym stored) ∙ there;
+    on = λ j x n ne there. ap (λ es. slice_get es j) stored ∙ set_elsewhere old.stored i j e ne ∙ there;
+    opened = opened;
+    was = inr (m, at, lt);
+  }
 
   pub puts_added : (budget : ℕ) (old new : Store K) (y : K) (e : Mark) (f : ℕ) → Offers budget old new y e f Added
       → Puts old new y e f (length old.stored)

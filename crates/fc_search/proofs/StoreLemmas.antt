@@ -1,10 +1,9 @@
 -- Lemmas on stored keys: which is found, which is new, and what stands after one is put in.
-use Rattle.std.proofs.Common.{◌≡◌, ◌≢◌, ℕ, ◌+◌, ◌<◌, ◌≤◌, ◌⊎◌, Bool, true, false, not, suc, zero, Some, None, Option, List, [], ◌∷◌, ◌++◌, length, map, cond, refl, sym, ◌∙◌, ap, subst, inl, inr, ⊎_elim, arith, add-one, true≢false, nat_lt, is_some}
+use Rattle.std.proofs.Common.{◌≡◌, ℕ, ◌+◌, ◌<◌, Bool, true, false, not, suc, zero, Some, None, Option, List, [], ◌∷◌, ◌++◌, length, cond, refl, sym, ◌∙◌, ap, subst, arith, true≢false, nat_lt, is_some}
 use Rattle.std.specs.Prelude.{slice_get, position}
 use Rattle.std.specs.List.{position_or_len}
 use Rattle.std.specs.Map.{keys_of, lookup}
-use Rattle.std.proofs.lemmas.Bool.{cases_eq}
-use Rattle.std.proofs.lemmas.Option.{none-some, slice_get_within, slice_get_past, cond_some}
+use Rattle.std.proofs.lemmas.Option.{none-some, cond_some}
 use Rattle.std.specs.Prelude.{Result, Ok, Err, IfOk}
 use Rattle.indexmap.specs.IndexMap.{set_value_at}
 use Rattle.fc_frontier.specs.Queue.{Adds}

@@ -1,12 +1,12 @@
 -- Lemmas on offering the children of a key one after the other.
-use Rattle.std.proofs.Common.{◌≡◌, ℕ, ◌+◌, ◌<◌, ◌≤◌, ◌⊎◌, Some, None, Option, List, [], ◌∷◌, ◌++◌, length, refl, sym, ◌∙◌, ap, subst, inl, inr, arith}
+use Rattle.std.proofs.Common.{◌≡◌, ℕ, ◌+◌, ◌≤◌, ◌⊎◌, Option, List, ◌∷◌, length, refl, sym, ◌∙◌, ap, subst, inl, inr, arith}
 use Rattle.std.proofs.lemmas.List.{length_push}
 use Rattle.indexmap.specs.Layout.{length-set_value_at}
 use Rattle.fc_search.specs.declared.books.Mark.{Mark}
 use Rattle.fc_search.specs.declared.books.Offered.{Offered}
 use Rattle.fc_search.specs.declared.books.Offered.TheVariants.{Known, Lowered, Added, Full}
 use Rattle.fc_search.specs.declared.spaces.Child.{Child}
-use Rattle.fc_search.specs.Store.{Store, Stands, Meets, Offers}
+use Rattle.fc_search.specs.Store.{Store, Offers}
 use Rattle.fc_search.specs.Turn.{Expands, mark_of}
 
 module _ {K : Type 0} where

@@ -1,5 +1,5 @@
 -- What a search keeps from turn to turn.
-use Rattle.std.specs.Prelude.{◌≡◌, ℕ, ◌+◌, ◌*◌, ◌<◌, ◌≤◌, ◌⊎◌, length, Contains}
+use Rattle.std.specs.Prelude.{◌≡◌, ℕ, ◌+◌, ◌*◌, ◌≤◌, ◌⊎◌, length, Contains}
 use Rattle.fc_search.specs.declared.books.Mark.{Mark}
 use Rattle.fc_search.specs.Graph.{Graph, Reached}
 use Rattle.fc_search.specs.Store.{Store, Stands}

@@ -3,3 +3,5 @@ pub mod Store
 pub mod Turn
 pub mod Kept
 pub mod Shown
+pub mod Search
+pub mod Sums

@@ -1,5 +1,5 @@
 -- What a search holds by its status, and what one that is done shows.
-use Rattle.std.specs.Prelude.{◌≡◌, ℕ, ◌+◌, ◌<◌, ◌≤◌, List, length, slice_get, Option, Some, All}
+use Rattle.std.specs.Prelude.{◌≡◌, ℕ, ◌+◌, ◌<◌, ◌≤◌, List, length, slice_get, Some}
 use Rattle.fc_search.specs.declared.books.Mark.{Mark}
 use Rattle.fc_search.specs.declared.turns.Status.{Status}
 use Rattle.fc_search.specs.declared.turns.Status.TheVariants.{Running, Shortest, CannotWin, GaveUp, Stopped}

@@ -1,12 +1,12 @@
 -- One turn of a search.
-use Rattle.std.specs.Prelude.{◌≡◌, ℕ, ◌+◌, ◌<◌, ◌≤◌, ◌⊎◌, List, [], ◌∷◌, Contains, Option, Some, None}
+use Rattle.std.specs.Prelude.{◌≡◌, ℕ, ◌+◌, ◌-◌, ◌*◌, ◌<◌, ◌≤◌, ◌⊎◌, List, [], ◌∷◌, length, sum_by, Contains, Option, Some, None}
 use Rattle.fc_search.specs.declared.books.Mark.{Mark}
 use Rattle.fc_search.specs.declared.books.Offered.TheVariants.{Known, Lowered, Added, Full}
 use Rattle.fc_search.specs.declared.spaces.Child.{Child}
 use Rattle.fc_search.specs.declared.turns.Status.{Status}
 use Rattle.fc_search.specs.declared.turns.Status.TheVariants.{Running, Shortest, CannotWin, GaveUp, Stopped}
 use Rattle.fc_search.specs.Graph.{Graph}
-use Rattle.fc_search.specs.Store.{Store, Stands, Offers, IsTaken}
+use Rattle.fc_search.specs.Store.{Store, Offers, IsTaken}
 
 module _ {K : Type 0} where
   -- the children of a key: each is at the end of an edge, and each edge's end is one, at no more
@@ -55,3 +55,8 @@ module _ {K : Type 0} where
   Takes g budget old new CannotWin = (old.waiting ≡ []) × (new ≡ old)
   Takes g budget old new (GaveUp x number) = ExpandsTaken g budget old new number (Some x)
   Takes g budget old new Stopped = ⊥
+
+  -- how much a search may still do: it falls with each turn that leaves the search running
+  abbrev pub work_left : ℕ → Store K → ℕ
+  work_left budget s =
+      2 * (sum_by (λ e. e.1.cost) s.stored + (budget - length s.stored) * (53 * budget + 54)) + length s.waiting

@@ -69,13 +69,20 @@ impl<K: ExactKey, F: Frontier + Drop> Book<K, F> {
         self.table.len()
     }
 
-    /// The key that is stored under a number, and its mark.
-    pub fn entry(&self, number: u32) -> (&K, Mark)
+    /// The key that is stored under a number, and its mark; `None` for a number that no key has.
+    pub fn entry(&self, number: u32) -> Option<(&K, Mark)>
+        ensures value { MatchOption result (length self.now.stored ≤ number) (λ e. Stands self.now number e.0.now e.1) }
+    {
+        let (key, mark) = self.table.get_index(number as usize)?;
+        Some((key, *mark))
+    }
+
+    /// The key that is stored under a number that has one, and its mark.
+    pub fn at(&self, number: u32) -> (&K, Mark)
         requires within { number < length self.now.stored }
         ensures stands { Stands self.now number result.0.now result.1 }
     {
-        let (key, mark) = self.table.get_index(number as usize).unwrap();
-        (key, *mark)
+        self.entry(number).unwrap()
     }
 
     /// Offers a key with a mark, to be open at `f`. At `Err` a growth was refused, and nothing is known of the book.

@@ -3,10 +3,14 @@
 
 pub use books::{Book, Mark, Offered};
 pub use keys::ExactKey;
+pub use searches::{Search, SearchFault, Step};
 pub use spaces::{Child, Space};
-pub use turns::Status;
+pub use turns::{MOST_BUDGET, Status};
 
 mod books;
 mod keys;
+mod searches;
 mod spaces;
+#[cfg(test)]
+mod tests;
 mod turns;

@@ -66,7 +66,7 @@ pub(crate) fn advance<K: ExactKey, F: Frontier + Drop, S: Space<K>>(
     let Some((f, number)) = book.take() else {
         return Ok(Status::CannotWin);
     };
-    let (key, mark) = book.entry(number);
+    let (key, mark) = book.at(number);
     if space.is_won(key) {
         return Ok(Status::Shortest(number));
     }

@@ -1,4 +1,4 @@
-use Rattle.std.proofs.Common.{ℕ, ◌≤◌, length, Option}
+use Rattle.std.proofs.Common.{◌≤◌, length, Option}
 use Rattle.fc_search.specs.Store.{Store}
 use Rattle.fc_search.specs.Turn.{Expands}
 use Rattle.fc_search.proofs.turns.expand.Given as goal

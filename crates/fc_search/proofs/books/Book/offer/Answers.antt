@@ -1,6 +1,4 @@
-use Rattle.std.proofs.Common.{◌≡◌, sym, ap, subst}
-use Rattle.fc_search.specs.declared.books.Mark.{Mark}
-use Rattle.fc_search.specs.Store.{Stands}
+use Rattle.std.proofs.Common.{◌≡◌, ap}
 use Rattle.fc_search.proofs.StoreLemmas.{none_passes, none_from_found, found_passes, seen_stands, meets-offers}
 use Rattle.fc_search.proofs.books.Book.offer.Goals as goal
 
