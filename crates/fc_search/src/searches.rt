@@ -1,6 +1,6 @@
 ghost use Rattle.std.specs.Prelude.{◌≡◌, ◌<◌, ◌≤◌, ◌↔◌, ◌⊎◌, length, IfOk, IfErr, OnOk, OnErr, MatchOption};
 ghost use Rattle.fc_search.specs.Search.{Begins, Turns, Runs, reply_of};
-ghost use Rattle.fc_search.specs.Shown.{Shows};
+ghost use Rattle.fc_search.specs.Shown.{Holds, Shows};
 ghost use Rattle.fc_search.specs.Store.{Stands};
 ghost use Rattle.fc_search.specs.Turn.{work_left};
 
@@ -84,9 +84,10 @@ impl<K: ExactKey, F: Frontier + Drop, S: Space<K> + Drop> Search<K, F, S> {
         })
     }
 
-    /// Where the search stands.
+    /// Where the search stands. What it holds by that is kept from turn to turn; what it shows follows from it.
     pub fn status(&self) -> &Status<K>
         ensures value { result.now ≡ self.now.status }
+        ensures holds { Holds (S.graph self.now.space) self.now.budget self.now.store self.now.status }
         ensures shows { Shows (S.graph self.now.space) self.now.budget self.now.store self.now.status }
     {
         &self.status
