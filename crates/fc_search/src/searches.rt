@@ -84,6 +84,21 @@ impl<K: ExactKey, F: Frontier + Drop, S: Space<K> + Drop> Search<K, F, S> {
         })
     }
 
+    /// The space that is searched.
+    pub fn space(&self) -> &S
+        ensures value { result.now ≡ self.now.space }
+    {
+        &self.space
+    }
+
+    /// How many keys may be stored, 1 to 4,000,000.
+    pub fn budget(&self) -> u32
+        ensures value { result ≡ self.now.budget }
+        ensures most { result ≤ 4000000 }
+    {
+        self.budget
+    }
+
     /// Where the search stands. What it holds by that is kept from turn to turn; what it shows follows from it.
     pub fn status(&self) -> &Status<K>
         ensures value { result.now ≡ self.now.status }

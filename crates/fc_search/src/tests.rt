@@ -168,6 +168,8 @@ fn an_odd_sum_cannot_be_reached(rt: HostRuntime) -> Result<(), Fail> {
 fn three_are_too_few<F: Frontier + Drop>(rt: &impl Abort, alloc: Global) -> Result<(), Fail> {
     let (search, turns) = searched::<F>(alloc, 6, 3)?;
     assert!(rt; matches!(search.status(), Status::GaveUp(6, 0)));
+    assert_eq!(rt; search.budget(), 3);
+    assert_eq!(rt; search.space().goal, 6);
     assert_eq!(rt; search.len(), 3);
     assert_eq!(rt; turns, 0);
     let start = Mark { cost: 0, parent: 0 };
