@@ -1,0 +1,47 @@
+-- Questions that a search answers, each seen as a graph whose edges have costs.
+use Rattle.std.specs.Prelude.{◌≡◌, ℕ, ◌+◌, ◌<◌, ◌≤◌, ◌⊎◌, suc, zero, List, Contains}
+
+-- a question over keys: where it starts and at which cost, which edges lead on and what each costs, a lower bound of
+-- what is still to pay, which keys are won, and at which costs the question has an answer
+pub record Graph (K : Type 0) : Type 1 where
+  pub starts : K → ℕ → Type 0
+  pub edge : K → ℕ → K → Type 0
+  pub bound : K → ℕ
+  pub won : K → Type 0
+  pub wins : ℕ → Type 0
+
+module _ {K : Type 0} where
+  -- so many edges lead to the key from a start, at this cost in all
+  abbrev pub ReachedBy : ℕ → Graph K → K → ℕ → Type 0
+  ReachedBy zero g y cost = g.starts y cost
+  ReachedBy (suc edges) g y cost =
+      (x : K) × (d : ℕ) × (c : ℕ) × ReachedBy edges g x d × g.edge x c y × (cost ≡ d + c)
+
+  -- the key can be reached at this cost
+  abbrev pub Reached : Graph K → K → ℕ → Type 0
+  Reached g y cost = (edges : ℕ) × ReachedBy edges g y cost
+
+  -- a table of keys and costs lists the key at no more than this cost
+  abbrev pub Lists : List (K × ℕ) → K → ℕ → Type 0
+  Lists table y cost = (d : ℕ) × Contains table (y, d) × (d ≤ cost)
+
+  -- what is reached at this cost can't be won below n, or the table lists it
+  abbrev pub Covers : Graph K → ℕ → List (K × ℕ) → K → ℕ → Type 0
+  Covers g n table y cost = (n ≤ cost + g.bound y) ⊎ Lists table y cost
+
+  -- a table of reached keys that leaves no answer below n: no key below n is won, and all that starts, and all that an
+  -- edge leads to from a key below n, is covered
+  pub record IsClosedInside (g : Graph K) (n : ℕ) (table : List (K × ℕ)) : Type 0 where
+    pub reached : (x : K) (d : ℕ) → Contains table (x, d) → Reached g x d
+    pub not_won : (x : K) (d : ℕ) → Contains table (x, d) → d + g.bound x < n → g.won x → ⊥
+    pub starts : (x : K) (d : ℕ) → g.starts x d → Covers g n table x d
+    pub edges : (x : K) (d : ℕ) (c : ℕ) (y : K) → Contains table (x, d) → d + g.bound x < n → g.edge x c y
+        → Covers g n table y (d + c)
+
+  -- what a search asks of its question: a won key that is reached is an answer, a table that is closed inside n leaves no
+  -- answer below n, and an edge costs 1 to 53, a start at most 53
+  pub record IsLawful (g : Graph K) : Type 0 where
+    pub answers : (x : K) (d : ℕ) → Reached g x d → g.won x → g.wins d
+    pub closed : (n : ℕ) (table : List (K × ℕ)) → IsClosedInside g n table → (m : ℕ) → g.wins m → n ≤ m
+    pub edges : (x : K) (c : ℕ) (y : K) → g.edge x c y → (1 ≤ c) × (c ≤ 53)
+    pub starts : (x : K) (d : ℕ) → g.starts x d → d ≤ 53

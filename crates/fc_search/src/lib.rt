@@ -1,0 +1,16 @@
+//! The search for a cheapest answer, over any space of keys: best first, in turns, within a budget of stored keys.
+#![tactic(auto)]
+
+pub use books::{Book, Mark, Offered};
+pub use keys::ExactKey;
+pub use searches::{Search, SearchFault, Step};
+pub use spaces::{Child, Space};
+pub use turns::{MOST_BUDGET, Status};
+
+mod books;
+mod keys;
+mod searches;
+mod spaces;
+#[cfg(test)]
+mod tests;
+mod turns;
