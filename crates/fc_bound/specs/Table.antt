@@ -61,7 +61,8 @@ pub record IsClosed (g : GameRules) (rule : ℕ) (p : Board) (T : Table) : Type 
 abbrev pub ListsFitting : GameRules → Table → Type 0
 ListsFitting g T = (e : Board × ℕ) (x : Board) → Contains T e → IsPositionOf g x → SameClass x e.0 → IsPositionOf g e.0
 
--- of a board that d moves lead to: of each class that its steps lead to, one board that a step leads to is covered, once settled
+-- of a board that d moves lead to: of each class that its steps lead to, one board that a step leads to is covered, once
+-- settled
 abbrev pub ClassesCovered : GameRules → ℕ → ℕ → Table → Board → ℕ → Type 0
 ClassesCovered g rule n T x d = (m : Move) (y : Board) → Step g x m y
     → (l : Move) × (w z : Board) × (k : ℕ) × Step g x l w × SameClass y w × Settles g rule w k z × Covered n T z (d + 1 + k)
