@@ -1,6 +1,8 @@
 //! Laws of the bound and of closed tables, each the contract of a function that does nothing.
 
-ghost use Rattle.fc_bound.specs.Laws.{TestsTellTheCards, StepsLowerTheBoundByOne, WinsNeedTheBound, ClassMatesHaveOneBound, ClosedBelowLeavesNoShorterList, ClosedLeavesNoList, ClosedInsideLeavesNoShorterList, ClosedBelowIsClosedInside, OneBoardOfAClassIsEnough, OneBoardIsEnoughWithoutBound, ClosedBelowIsSeen, ClosedIsSeen, RowsInsideAreClosedBelow, ClosedInsideAllIsClosed, CostsOfClosedTablesAreFree, NoEmptyTableIsClosed, CanonicalBoardsFit};
+ghost use Rattle.fc_bound.specs.Laws.{TestsTellTheCards, StepsLowerTheBoundByOne, WinsNeedTheBound, ClassMatesHaveOneBound};
+ghost use Rattle.fc_bound.specs.Laws.{ClosedBelowLeavesNoShorterList, ClosedLeavesNoList, ClosedInsideLeavesNoShorterList, ClosedBelowIsClosedInside};
+ghost use Rattle.fc_bound.specs.Laws.{OneBoardOfAClassIsEnough, OneBoardIsEnoughWithoutBound, ClosedBelowIsSeen, ClosedIsSeen, RowsInsideAreClosedBelow, ClosedInsideAllIsClosed, CostsOfClosedTablesAreFree, NoEmptyTableIsClosed, CanonicalBoardsFit};
 
 /// The bound counts exactly the cards that are not home, and the cards that stand above a lower card of their own suit
 /// in their column.
