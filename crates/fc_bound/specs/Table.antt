@@ -22,7 +22,7 @@ ListsClass T x = (e : Board × ℕ) × Contains T e × SameClass x e.0
 abbrev pub Lists : Table → Board → ℕ → Type 0
 Lists T x d = (e : Board × ℕ) × Contains T e × SameClass x e.0 × (e.1 ≤ d)
 
--- a board that d moves lead to is covered: its bound leaves no list of less than n moves through it, or it is listed
+-- a board that d moves lead to is covered: its bound leaves no list of fewer than n moves through it, or it is listed
 abbrev pub Covered : ℕ → Table → Board → ℕ → Type 0
 Covered n T x d = (n ≤ d + bound x) ⊎ Lists T x d
 
