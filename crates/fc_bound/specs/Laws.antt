@@ -7,6 +7,7 @@ use Rattle.fc_moves.specs.GameRules.{GameRules, IsPositionOf}
 use Rattle.fc_moves.specs.Run.{Wins, CannotWin}
 use Rattle.fc_moves.specs.Step.{Step}
 use Rattle.fc_canonical.specs.Class.{SameClass}
+use Rattle.fc_canonical.specs.Order.{IsCanonical}
 use Rattle.fc_bound.specs.Bound.{bound, is_away, is_held_back, StandsAboveLower}
 use Rattle.fc_bound.specs.Table.{Table, StepsCovered, StepsListed, ClassesCovered, ClassesListed, ListsFitting, IsClosedBelow, IsClosedInside, IsClosed, IsSeenClosedBelow, IsSeenClosed}
 
@@ -86,3 +87,7 @@ CostsOfClosedTablesAreFree = (g : GameRules) (rule : ℕ) (p : Board) (S T : Tab
 -- no empty table is closed, since every position settles
 abbrev pub NoEmptyTableIsClosed : Type 0
 NoEmptyTableIsClosed = (g : GameRules) (rule : ℕ) (p : Board) → IsPosition p → IsClosed g rule p [] → ⊥
+
+-- a canonical board is a position of the game wherever any board of its class is one
+abbrev pub CanonicalBoardsFit : Type 0
+CanonicalBoardsFit = (g : GameRules) (x c : Board) → IsPositionOf g x → SameClass x c → IsCanonical c → IsPositionOf g c

@@ -22,7 +22,7 @@ ListsClass T x = (e : Board × ℕ) × Contains T e × SameClass x e.0
 abbrev pub Lists : Table → Board → ℕ → Type 0
 Lists T x d = (e : Board × ℕ) × Contains T e × SameClass x e.0 × (e.1 ≤ d)
 
--- a board that d moves lead to is covered: its bound leaves no list of less than n moves through it, or it is listed
+-- a board that d moves lead to is covered: its bound leaves no list of fewer than n moves through it, or it is listed
 abbrev pub Covered : ℕ → Table → Board → ℕ → Type 0
 Covered n T x d = (n ≤ d + bound x) ⊎ Lists T x d
 
@@ -61,7 +61,8 @@ pub record IsClosed (g : GameRules) (rule : ℕ) (p : Board) (T : Table) : Type 
 abbrev pub ListsFitting : GameRules → Table → Type 0
 ListsFitting g T = (e : Board × ℕ) (x : Board) → Contains T e → IsPositionOf g x → SameClass x e.0 → IsPositionOf g e.0
 
--- of a board that d moves lead to: of each class that its steps lead to, one board that a step leads to is covered, once settled
+-- of a board that d moves lead to: of each class that its steps lead to, one board that a step leads to is covered, once
+-- settled
 abbrev pub ClassesCovered : GameRules → ℕ → ℕ → Table → Board → ℕ → Type 0
 ClassesCovered g rule n T x d = (m : Move) (y : Board) → Step g x m y
     → (l : Move) × (w z : Board) × (k : ℕ) × Step g x l w × SameClass y w × Settles g rule w k z × Covered n T z (d + 1 + k)

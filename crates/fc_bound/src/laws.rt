@@ -1,6 +1,8 @@
 //! Laws of the bound and of closed tables, each the contract of a function that does nothing.
 
-ghost use Rattle.fc_bound.specs.Laws.{TestsTellTheCards, StepsLowerTheBoundByOne, WinsNeedTheBound, ClassMatesHaveOneBound, ClosedBelowLeavesNoShorterList, ClosedLeavesNoList, ClosedInsideLeavesNoShorterList, ClosedBelowIsClosedInside, OneBoardOfAClassIsEnough, OneBoardIsEnoughWithoutBound, ClosedBelowIsSeen, ClosedIsSeen, RowsInsideAreClosedBelow, ClosedInsideAllIsClosed, CostsOfClosedTablesAreFree, NoEmptyTableIsClosed};
+ghost use Rattle.fc_bound.specs.Laws.{TestsTellTheCards, StepsLowerTheBoundByOne, WinsNeedTheBound, ClassMatesHaveOneBound};
+ghost use Rattle.fc_bound.specs.Laws.{ClosedBelowLeavesNoShorterList, ClosedLeavesNoList, ClosedInsideLeavesNoShorterList, ClosedBelowIsClosedInside};
+ghost use Rattle.fc_bound.specs.Laws.{OneBoardOfAClassIsEnough, OneBoardIsEnoughWithoutBound, ClosedBelowIsSeen, ClosedIsSeen, RowsInsideAreClosedBelow, ClosedInsideAllIsClosed, CostsOfClosedTablesAreFree, NoEmptyTableIsClosed, CanonicalBoardsFit};
 
 /// The bound counts exactly the cards that are not home, and the cards that stand above a lower card of their own suit
 /// in their column.
@@ -86,4 +88,9 @@ pub fn costs_of_closed_tables_are_free()
 /// No empty table is closed, since every position settles.
 pub fn no_empty_table_is_closed()
     ensures { NoEmptyTableIsClosed }
+{}
+
+/// A canonical board fits the game wherever any position of its class does.
+pub fn canonical_boards_fit()
+    ensures { CanonicalBoardsFit }
 {}
