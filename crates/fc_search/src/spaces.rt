@@ -3,7 +3,7 @@ ghost use Rattle.fc_search.specs.Graph.{Graph, IsLawful, Reached};
 ghost use Rattle.fc_search.specs.Turn.{AreChildren};
 
 /// A key at the end of an edge, what the edge costs, and the bound of the key.
-#[derive(Drop)]
+#[derive(Default, Drop)]
 pub struct Child<K> {
     pub key: K,
     pub cost: u8,
