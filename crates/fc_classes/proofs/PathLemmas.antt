@@ -13,14 +13,14 @@ use Rattle.fc_canonical.proofs.ClassLemmas.{class-sym, class-trans, class_step}
 use Rattle.fc_home.specs.Settles.{Settles, SettlesBy, sent_home}
 use Rattle.fc_home.proofs.MateLemmas.{class_settle}
 use Rattle.fc_home.proofs.SettleLemmas.{settles_keep, settles_run, settled_stays, sent_position, total, total-most, turn_total}
-use Rattle.fc_search.specs.Graph.{Reached, ReachedBy}
+use Rattle.fc_best_first.specs.Graph.{Reached, ReachedBy}
 use Rattle.fc_classes.specs.Classes.{SettlesTo, LeadsTo, classes}
 use Rattle.fc_classes.specs.Key.{IsKeyIn, spelled}
 use Rattle.fc_classes.specs.Laws.{ReachedKeysAreOfPositions, ReachedKeysAreRunTo}
 use Rattle.fc_classes.proofs.KeyLemmas.{key_spells}
 
 -- what settles by no move stays as it is
-settles_none : (g : GameRules) (rule : ℕ) (b q : Board) → Settles g rule b 0 q → q ≡ b
+pub settles_none : (g : GameRules) (rule : ℕ) (b q : Board) → Settles g rule b 0 q → q ≡ b
 settles_none g rule b q ([], long, (same, none)) = same
 settles_none g rule b q (m ∷ ms, long, by) = absurd (omega (arith, long))
 
@@ -42,12 +42,12 @@ pub reached_of_positions : ReachedKeysAreOfPositions
 reached_of_positions g rule p x cost pp h = reached_spells h.0 g rule p x cost pp h.1
 
 -- runs are joined
-run_on : (g : GameRules) (b c d : Board) (ms ns : List Move) → Run g b ms c → Run g c ns d → Run g b (ms ++ ns) d
+pub run_on : (g : GameRules) (b c d : Board) (ms ns : List Move) → Run g b ms c → Run g c ns d → Run g b (ms ++ ns) d
 run_on g b c d [] ns same more = subst (λ x. Run g x ns d) same more
 run_on g b c d (m ∷ ms) ns (mid, step, rest) more = (mid, step, run_on g mid c d ms ns rest more)
 
 -- class-mates of the game run alike
-run_mate : (g : GameRules) (b c x : Board) (ms : List Move) → IsPositionOf g b → IsPositionOf g c → SameClass b c → Run g b ms x
+pub run_mate : (g : GameRules) (b c x : Board) (ms : List Move) → IsPositionOf g b → IsPositionOf g c → SameClass b c → Run g b ms x
     → (ns : List Move) × (y : Board) × (length ns ≡ length ms) × Run g c ns y × SameClass x y
 run_mate g b c x [] p q s same = ([], c, refl, refl, subst (λ y. SameClass y c) (sym same) s)
 run_mate g b c x (m ∷ ms) p q s (mid, step, rest) =

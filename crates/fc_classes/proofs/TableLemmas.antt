@@ -15,27 +15,23 @@ use Rattle.fc_bound.specs.Table as boards
 use Rattle.fc_bound.proofs.HeldLemmas.{class_bound}
 use Rattle.fc_bound.proofs.LookLemmas.{one_enough}
 use Rattle.fc_bound.proofs.TableLemmas.{inside_long}
-use Rattle.fc_search.specs.Graph.{IsClosedInside, Covers}
-use Rattle.fc_classes.specs.Classes.{classes}
+use Rattle.fc_best_first.specs.Graph.{IsClosedInside, Covers}
+use Rattle.fc_classes.specs.Classes.{classes, as_boards}
 use Rattle.fc_classes.specs.Key.{spelled}
 use Rattle.fc_classes.specs.Laws.{ClassesAreLawful}
 use Rattle.fc_classes.proofs.KeyLemmas.{key_spells}
 use Rattle.fc_classes.proofs.OrderLemmas.{has_key}
 use Rattle.fc_classes.proofs.PathLemmas.{reached_of_positions, reached_wins, settling_few, edge_costs}
 
--- the boards that the keys of a table spell, at the same costs
-abbrev as_boards : List (List ℕ × ℕ) → boards.Table
-as_boards table = map (λ e. (spelled e.0, e.1)) table
-
 -- what the one lists, the other does
-board_listed : (table : List (List ℕ × ℕ)) (x : List ℕ) (d : ℕ) → Contains table (x, d) → Contains (as_boards table) (spelled x, d)
+pub board_listed : (table : List (List ℕ × ℕ)) (x : List ℕ) (d : ℕ) → Contains table (x, d) → Contains (as_boards table) (spelled x, d)
 board_listed [] x d (k, lt, e) = absurd (omega (arith, lt))
 board_listed (f ∷ table) x d (zero, lt, e) = (0, omega arith, ap (λ h. (spelled h.0, h.1)) e)
 board_listed (f ∷ table) x d (suc k, lt, e) =
     Contains-append_right ((spelled f.0, f.1) ∷ []) (as_boards table) (spelled x, d)
     (board_listed table x d (k, omega (arith, lt), e))
 
-key_listed : (table : List (List ℕ × ℕ)) (e : Board × ℕ) → Contains (as_boards table) e
+pub key_listed : (table : List (List ℕ × ℕ)) (e : Board × ℕ) → Contains (as_boards table) e
     → (x : List ℕ) × (d : ℕ) × Contains table (x, d) × (e ≡ (spelled x, d))
 key_listed [] e (k, lt, same) = absurd (omega (arith, lt))
 key_listed (f ∷ table) e (zero, lt, same) = (f.0, f.1, (0, omega arith, refl), sym same)
@@ -77,7 +73,7 @@ steps_board g rule p n table pp closed x d listed inside m y step =
     (m, y, z, k, step, class-refl y, way.2, subst (boards.Covered n (as_boards table) z) cost covered)
 
 -- of the listed boards
-closed_board : (g : GameRules) (rule : ℕ) (p : Board) (n : ℕ) (table : List (List ℕ × ℕ)) → IsPositionOf g p
+pub closed_board : (g : GameRules) (rule : ℕ) (p : Board) (n : ℕ) (table : List (List ℕ × ℕ)) → IsPositionOf g p
     → IsClosedInside (classes g rule p) n table → boards.IsClosedInside g rule p n (as_boards table)
 closed_board g rule p n table pp closed = record {
   not_won = λ e listed inside won.

@@ -1,5 +1,5 @@
 -- The classes of the positions of a game as a graph: settled positions, known by their keys.
-use Rattle.std.specs.Prelude.{◌≡◌, ℕ, ◌+◌, List}
+use Rattle.std.specs.Prelude.{◌≡◌, ℕ, ◌+◌, List, map}
 use Rattle.fc_position.specs.Board.{Board}
 use Rattle.fc_position.specs.Position.{IsWon}
 use Rattle.fc_moves.specs.declared.steps.Move.{Move}
@@ -9,7 +9,8 @@ use Rattle.fc_canonical.specs.Key.{IsKeyOf}
 use Rattle.fc_canonical.specs.Laws.{WinsIn}
 use Rattle.fc_home.specs.Settles.{Settles}
 use Rattle.fc_bound.specs.Bound.{bound}
-use Rattle.fc_search.specs.Graph.{Graph}
+use Rattle.fc_bound.specs.Table.{Table}
+use Rattle.fc_best_first.specs.Graph.{Graph}
 use Rattle.fc_classes.specs.Key.{IsKeyIn, spelled}
 
 -- the position settles in so many moves to one with this key
@@ -30,3 +31,7 @@ classes g rule p = record {
   won = λ x. IsWon (spelled x);
   wins = WinsIn g p;
 }
+
+-- the boards that the keys of a table spell, at the same costs
+abbrev pub as_boards : List (List ℕ × ℕ) → Table
+as_boards table = map (λ e. (spelled e.0, e.1)) table

@@ -5,7 +5,7 @@ ghost use Rattle.fc_classes.specs.Key.{bytes_exact};
 
 use fc_canonical::{Key, key};
 use fc_position::Position;
-use fc_search::ExactKey;
+use fc_best_first::ExactKey;
 use std::hash::{Hash, Hasher};
 use std::marker::Model;
 
@@ -51,6 +51,15 @@ impl ClassKey {
         ensures whole { IsPosition position.now }
     {
         ClassKey { key: key(position) }
+    }
+
+    /// A copy of the key without its class.
+    pub fn copied(&self) -> Key
+        ensures value { result.items ≡ self.now }
+    {
+        let mut copy = Key::new();
+        copy.try_extend_from_slice(self.key.as_slice()).unwrap();
+        copy
     }
 
     /// The bytes of the key.
