@@ -1,7 +1,4 @@
-pub mod Graph
-pub mod Store
-pub mod Turn
-pub mod Kept
-pub mod Shown
+pub mod Answer
 pub mod Search
-pub mod Sums
+pub mod Table
+pub mod Walk

@@ -1,48 +1,47 @@
--- A search as a whole: what it is of, where it stands, and what a turn does to it.
-use Rattle.std.specs.Prelude.{◌≡◌, ℕ, ◌+◌, ◌⊎◌, suc, zero, [], ◌∷◌, Result, Ok, Err}
-use Rattle.fc_frontier.specs.Queue.{Adds}
-use Rattle.fc_search.specs.declared.turns.Status.{Status}
-use Rattle.fc_search.specs.declared.turns.Status.TheVariants.{Running, Stopped}
-use Rattle.fc_search.specs.declared.searches.Step.{Step}
-use Rattle.fc_search.specs.declared.searches.Step.TheVariants.{More, Done}
-use Rattle.fc_search.specs.declared.searches.SearchFault.{SearchFault}
-use Rattle.fc_search.specs.declared.searches.SearchFault.TheVariants as fault
-use Rattle.fc_search.specs.Graph.{Graph}
-use Rattle.fc_search.specs.Store.{Store}
-use Rattle.fc_search.specs.Turn.{Takes}
+-- A search of a position's classes as a whole: how it begins, runs and is answered.
+use Rattle.std.specs.Prelude.{◌≡◌, ℕ, ◌<◌, ◌≤◌, ◌⊎◌, List, [], length, Result, Ok}
+use Rattle.fc_position.specs.Board.{Board}
+use Rattle.fc_moves.specs.GameRules.{GameRules}
+use Rattle.fc_best_first.specs.declared.books.Mark.{Mark}
+use Rattle.fc_best_first.specs.declared.turns.Status.{Status}
+use Rattle.fc_best_first.specs.declared.turns.Status.TheVariants.{Running, Shortest, CannotWin, GaveUp, Stopped}
+use Rattle.fc_best_first.specs.declared.searches.SearchFault.{SearchFault}
+use Rattle.fc_best_first.specs.declared.searches.SearchFault.TheVariants as fault
+use Rattle.fc_best_first.specs.Search.{Begins, Runs}
+use Rattle.fc_best_first.specs.Store.{Store, Stands}
+use Rattle.fc_classes.specs.Classes.{classes}
+use Rattle.fc_search.specs.declared.answers.Answer.{Answer}
+use Rattle.fc_search.specs.declared.answers.Answer.TheVariants as answer
+use Rattle.fc_search.specs.Answer.{IsRight, IsBacked, IsByRule, IsEarned, CanBeWritten}
 
--- a search: the space that it is of, its budget, what it stores and has open, and where it stands
-pub record Progress (S : Type 0) (K : Type 0) : Type 0 where
-  pub space : S
-  pub budget : ℕ
-  pub store : Store K
-  pub status : Status K
+-- the answer is of the kind of the status that a search ends with: as many moves as the won class costs, that no list
+-- wins, or the budget
+abbrev pub IsOfStatus : Store (List ℕ) → ℕ → Status (List ℕ) → Answer → Type 0
+IsOfStatus s budget (Shortest number) (answer.Shortest moves table) =
+    (x : List ℕ) × (mark : Mark) × Stands s number x mark × (length moves ≡ mark.cost)
+IsOfStatus s budget CannotWin (answer.CannotWin table) = Unit {0}
+IsOfStatus s budget (GaveUp y number) (answer.GaveUp told) = told ≡ budget
+IsOfStatus s budget status answer = ⊥
 
-module _ {K : Type 0} where
-  -- the key that starts is stored under 0, as its own parent, and open at its cost plus bound
-  abbrev pub Begins : Graph K → Store K → Type 0
-  Begins g s = (x : K) × (cost : ℕ) × g.starts x cost × (s.stored ≡ (x, record { cost = cost; parent = 0 }) ∷ [])
-      × Adds [] s.waiting (cost + g.bound x, 0)
+-- all that an answer of a search for the board is: right, backed, by its rule, earned, and such as can be written
+pub record Answers (g : GameRules) (rule : ℕ) (b : Board) (budget : ℕ) (answer : Answer) : Type 0 where
+  pub right : IsRight g b budget answer
+  pub backed : IsBacked g b answer
+  pub ruled : IsByRule rule answer
+  pub earned : IsEarned g rule b budget answer
+  pub written : CanBeWritten answer
 
-  -- what a turn answers, by the status that it leaves
-  abbrev pub reply_of : Status K → Result Step SearchFault
-  reply_of Running = Ok More
-  reply_of Stopped = Err fault.Stopped
-  reply_of _ = Ok Done
+-- why a search isn't answered: it is still running, it was stopped, or it is done and a growth was refused
+abbrev pub IsUnanswered : Status (List ℕ) → SearchFault → Type 0
+IsUnanswered Running told = told ≡ fault.NotDone
+IsUnanswered Stopped told = told ≡ fault.Stopped
+IsUnanswered done told = told ≡ fault.Memory
 
-  -- one turn of a search, by its status: a running one takes a pair, or a growth was refused and it is stopped; one that
-  -- is done or stopped stays as it is
-  abbrev pub Turns : Graph K → ℕ → Status K → Store K → Store K → Status K → Result Step SearchFault → Type 0
-  Turns g budget Running old new after reply =
-      (Takes g budget old new after × (reply ≡ reply_of after)) ⊎ ((after ≡ Stopped) × (reply ≡ Err fault.Memory))
-  Turns g budget before old new after reply = (new ≡ old) × (after ≡ before) × (reply ≡ reply_of before)
-
-  -- so many turns, one after the other
-  abbrev pub TurnsOn : ℕ → Graph K → ℕ → Status K → Store K → Store K → Status K → Type 0
-  TurnsOn zero g budget before old new after = (new ≡ old) × (after ≡ before)
-  TurnsOn (suc turns) g budget before old new after = (mid : Store K) × (between : Status K) × (reply : Result Step SearchFault)
-      × Turns g budget before old mid between reply × TurnsOn turns g budget between mid new after
-
-  -- some number of turns
-  abbrev pub Runs : Graph K → ℕ → Status K → Store K → Store K → Status K → Type 0
-  Runs g budget before old new after = (turns : ℕ) × TurnsOn turns g budget before old new after
+-- the answer is that of a search that began, and ran to its end within the budget
+pub record IsRunToEnd (g : GameRules) (rule : ℕ) (b : Board) (budget : ℕ) (answer : Answer) : Type 0 where
+  pub first : Store (List ℕ)
+  pub begins : Begins (classes g rule b) first
+  pub last : Store (List ℕ)
+  pub status : Status (List ℕ)
+  pub runs : Runs (classes g rule b) budget Running first last status
+  pub answered : IsOfStatus last budget status answer

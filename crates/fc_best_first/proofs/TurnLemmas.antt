@@ -1,0 +1,47 @@
+-- Lemmas on offering the children of a key one after the other.
+use Rattle.std.proofs.Common.{◌≡◌, ℕ, ◌+◌, ◌≤◌, ◌⊎◌, Option, List, ◌∷◌, length, refl, sym, ◌∙◌, ap, subst, inl, inr, arith}
+use Rattle.std.proofs.lemmas.List.{length_push}
+use Rattle.indexmap.specs.Layout.{length-set_value_at}
+use Rattle.fc_best_first.specs.declared.books.Mark.{Mark}
+use Rattle.fc_best_first.specs.declared.books.Offered.{Offered}
+use Rattle.fc_best_first.specs.declared.books.Offered.TheVariants.{Known, Lowered, Added, Full}
+use Rattle.fc_best_first.specs.declared.spaces.Child.{Child}
+use Rattle.fc_best_first.specs.Store.{Store, Offers}
+use Rattle.fc_best_first.specs.Turn.{Expands, mark_of}
+
+module _ {K : Type 0} where
+  -- no offer goes past the budget
+  pub offers_room : (budget : ℕ) (old new : Store K) (x : K) (m : Mark) (f : ℕ) (o : Offered K)
+      → length old.stored ≤ budget → Offers budget old new x m f o → length new.stored ≤ budget
+  offers_room budget old new x m f Known room h = subst (λ s. length s.stored ≤ budget) (sym h.3.1) room
+  offers_room budget old new x m f Lowered room h =
+      let same : length new.stored ≡ length old.stored = ap length h.3.1 ∙ length-set_value_at old.stored h.0 m in
+      omega arith
+  offers_room budget old new x m f Added room h =
+      let more = ap length h.2 ∙ length_push old.stored (x, m) in
+      omega (arith, more, h.1)
+  offers_room budget old new x m f (Full y) room h = subst (λ s. length s.stored ≤ budget) (sym h.3) room
+
+  -- a child that found its place, and the others after it
+  pub expands_on : (budget number cost : ℕ) (child : Child K) (children : List (Child K)) (old mid new : Store K)
+      (left_out : Option K) (r b : ℕ) (o : Offered K) → r ≡ child.cost → b ≡ child.bound
+      → ((y : K) → o ≡ Full y → ⊥)
+      → Offers budget old mid child.key (record { cost = cost + r; parent = number }) (cost + r + b) o
+      → Expands budget number cost children mid new left_out
+      → Expands budget number cost (child ∷ children) old new left_out
+  expands_on budget number cost child children old mid new left_out r b o e f placed offers rest =
+      inr (mid, by o placed at_child, rest)
+    where
+      at_child : Offers budget old mid child.key (mark_of number cost child) (cost + child.cost + child.bound) o
+      at_child = subst (λ v. Offers budget old mid child.key (mark_of number cost child) (cost + child.cost + v) o) f
+          (subst (λ v. Offers budget old mid child.key (record { cost = cost + v; parent = number }) (cost + v + b) o) e offers)
+
+      by : (p : Offered K) → ((y : K) → p ≡ Full y → ⊥)
+          → Offers budget old mid child.key (mark_of number cost child) (cost + child.cost + child.bound) p
+          → Offers budget old mid child.key (mark_of number cost child) (cost + child.cost + child.bound) Known
+          ⊎ (Offers budget old mid child.key (mark_of number cost child) (cost + child.cost + child.bound) Lowered
+          ⊎ Offers budget old mid child.key (mark_of number cost child) (cost + child.cost + child.bound) Added)
+      by Known q h = inl h
+      by Lowered q h = inr (inl h)
+      by Added q h = inr (inr h)
+      by (Full y) q h = absurd (q y refl)

@@ -1,0 +1,28 @@
+use Rattle.std.proofs.Common.{◌∙◌}
+use Rattle.fc_best_first.proofs.RunLemmas.{runs_on, runs_none, turns_along}
+use Rattle.fc_best_first.proofs.searches.Search.run.Goals as goal
+
+pub loop-preserved : goal.loop-preserved
+loop-preserved g c =
+    let first = c.args.self.now in
+    let now = c.loop.self in
+    let next = c.turn.new.self in
+    record {
+      space = c.in_ok-turn.ensures.space ∙ c.loop.invariant.space;
+      budget = c.in_ok-turn.ensures.budget ∙ c.loop.invariant.budget;
+      onward = λ new after runs. c.loop.invariant.onward new after
+          (runs_on (g.S.Space.graph first.space) first.budget now.status next.status after now.store next.store new _
+          (turns_along g.S.Space.graph now.space first.space now.budget first.budget now.status next.status now.store next.store
+          _ c.loop.invariant.space c.loop.invariant.budget c.in_ok-turn.ensures.turns) runs);
+    }
+
+pub returns-clause-runs : goal.returns-clause-runs
+returns-clause-runs g c =
+    let first = c.args.self.now in
+    let now = c.loop.self in
+    let next = c.turn.new.self in
+    c.loop.invariant.onward next.store next.status
+    (runs_on (g.S.Space.graph first.space) first.budget now.status next.status next.status now.store next.store next.store _
+    (turns_along g.S.Space.graph now.space first.space now.budget first.budget now.status next.status now.store next.store
+    _ c.loop.invariant.space c.loop.invariant.budget c.in_ok-turn.ensures.turns)
+    (runs_none (g.S.Space.graph first.space) first.budget next.status next.store))

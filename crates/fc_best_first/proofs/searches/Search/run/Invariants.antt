@@ -1,0 +1,18 @@
+use Rattle.std.proofs.Common.{◌≡◌}
+use Rattle.fc_best_first.specs.declared.turns.Status.{Status}
+use Rattle.fc_best_first.specs.Search.{Runs}
+use Rattle.fc_best_first.specs.Store.{Store}
+use Rattle.fc_best_first.specs.Turn.{work_left}
+use Rattle.fc_best_first.proofs.searches.Search.run.Given as goal
+
+abbrev pub invariant-loop : goal.invariant-loop
+invariant-loop g l = record {
+  space : l.self.space ≡ l.initial.self.space;
+  budget : l.self.budget ≡ l.initial.self.budget;
+  onward : (new : Store g.row.K.Denot) (after : Status g.row.K.Denot)
+      → Runs (g.S.Space.graph l.initial.self.space) l.initial.self.budget l.self.status l.self.store new after
+      → Runs (g.S.Space.graph l.initial.self.space) l.initial.self.budget l.initial.self.status l.initial.self.store new after;
+}
+
+abbrev pub decreases-loop : goal.decreases-loop
+decreases-loop g l = work_left l.self.budget l.self.store

@@ -1,0 +1,26 @@
+use Rattle.std.proofs.Common.{◌<◌, subst}
+use Rattle.fc_best_first.specs.Shown.{Holds}
+use Rattle.fc_best_first.specs.Turn.{Takes, work_left}
+use Rattle.fc_best_first.proofs.SearchLemmas.{takes_holds, takes_less}
+use Rattle.fc_best_first.proofs.searches.Search.turn.Goals as goal
+use Rattle.fc_best_first.proofs.searches.Search.turn.Goals.{in-Running-status, in_default-status}
+
+pub invariant_of-self : goal.invariant_of-self
+invariant_of-self g c =
+    let graph = g.S.Space.graph c.self.inside.space in (
+      c.self.invariant.0,
+      takes_holds graph c.self.inside.budget (g.met.S.Space.lawful c.self.inside.space) c.self.inside.book c.advance.new.book
+          (subst (Holds graph c.self.inside.budget c.self.inside.book) c.in-Running.is c.self.invariant.1) c.in-Ok.status
+          c.in-Ok.ensures.takes,
+    )
+
+pub returns-after-status-clause-falls : goal.returns-after-status-clause-falls
+returns-after-status-clause-falls g c =
+    let graph = g.S.Space.graph c.self.inside.space in
+    elim c.match-status.branch [
+      | in-Running-status w ↦ λ e. subst (λ p. work_left p.budget c.advance.new.book < work_left p.budget p.store) c.self.view_is
+          (takes_less graph c.self.inside.budget (g.met.S.Space.lawful c.self.inside.space) c.self.inside.book c.advance.new.book
+          (subst (Holds graph c.self.inside.budget c.self.inside.book) c.in-Running.is c.self.invariant.1)
+          (subst (Takes graph c.self.inside.budget c.self.inside.book c.advance.new.book) w.in-Running-status.is c.in-Ok.ensures.takes))
+      | in_default-status w ↦ λ e. absurd (cc)
+    ]

@@ -1,0 +1,7 @@
+pub mod Graph
+pub mod Store
+pub mod Turn
+pub mod Kept
+pub mod Shown
+pub mod Search
+pub mod Sums

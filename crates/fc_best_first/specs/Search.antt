@@ -1,0 +1,48 @@
+-- A search as a whole: what it is of, where it stands, and what a turn does to it.
+use Rattle.std.specs.Prelude.{◌≡◌, ℕ, ◌+◌, ◌⊎◌, suc, zero, [], ◌∷◌, Result, Ok, Err}
+use Rattle.fc_frontier.specs.Queue.{Adds}
+use Rattle.fc_best_first.specs.declared.turns.Status.{Status}
+use Rattle.fc_best_first.specs.declared.turns.Status.TheVariants.{Running, Stopped}
+use Rattle.fc_best_first.specs.declared.searches.Step.{Step}
+use Rattle.fc_best_first.specs.declared.searches.Step.TheVariants.{Running as running, Done}
+use Rattle.fc_best_first.specs.declared.searches.SearchFault.{SearchFault}
+use Rattle.fc_best_first.specs.declared.searches.SearchFault.TheVariants as fault
+use Rattle.fc_best_first.specs.Graph.{Graph}
+use Rattle.fc_best_first.specs.Store.{Store}
+use Rattle.fc_best_first.specs.Turn.{Takes}
+
+-- a search: the space that it is of, its budget, what it stores and has open, and where it stands
+pub record Progress (S : Type 0) (K : Type 0) : Type 0 where
+  pub space : S
+  pub budget : ℕ
+  pub store : Store K
+  pub status : Status K
+
+module _ {K : Type 0} where
+  -- the key that starts is stored under 0, as its own parent, and open at its cost plus bound
+  abbrev pub Begins : Graph K → Store K → Type 0
+  Begins g s = (x : K) × (cost : ℕ) × g.starts x cost × (s.stored ≡ (x, record { cost = cost; parent = 0 }) ∷ [])
+      × Adds [] s.waiting (cost + g.bound x, 0)
+
+  -- what a turn answers, by the status that it leaves
+  abbrev pub reply_of : Status K → Result Step SearchFault
+  reply_of Running = Ok running
+  reply_of Stopped = Err fault.Stopped
+  reply_of _ = Ok Done
+
+  -- one turn of a search, by its status: a running one takes a pair, or a growth was refused and it is stopped; one that
+  -- is done or stopped stays as it is
+  abbrev pub Turns : Graph K → ℕ → Status K → Store K → Store K → Status K → Result Step SearchFault → Type 0
+  Turns g budget Running old new after reply =
+      (Takes g budget old new after × (reply ≡ reply_of after)) ⊎ ((after ≡ Stopped) × (reply ≡ Err fault.Memory))
+  Turns g budget before old new after reply = (new ≡ old) × (after ≡ before) × (reply ≡ reply_of before)
+
+  -- so many turns, one after the other
+  abbrev pub TurnsOn : ℕ → Graph K → ℕ → Status K → Store K → Store K → Status K → Type 0
+  TurnsOn zero g budget before old new after = (new ≡ old) × (after ≡ before)
+  TurnsOn (suc turns) g budget before old new after = (mid : Store K) × (between : Status K) × (reply : Result Step SearchFault)
+      × Turns g budget before old mid between reply × TurnsOn turns g budget between mid new after
+
+  -- some number of turns
+  abbrev pub Runs : Graph K → ℕ → Status K → Store K → Store K → Status K → Type 0
+  Runs g budget before old new after = (turns : ℕ) × TurnsOn turns g budget before old new after

@@ -1,0 +1,126 @@
+ghost use Rattle.std.specs.Prelude.{◌≡◌, ◌^◌, ◌<◌, ◌≤◌, ℕ, [], length, slice_get, IfOk, IfSome, IfNone, MatchOption};
+ghost use Rattle.fc_frontier.specs.Queue.{Adds, IsLeast};
+ghost use Rattle.fc_best_first.specs.Store.{Store, Stands, IsNew, Meets, Offers};
+
+use crate::keys::ExactKey;
+use fc_frontier::{Frontier, Full};
+use indexmap::IndexMap;
+use std::alloc::Global;
+use std::marker::Model;
+
+/// What is kept of a stored key: the cost at which it was reached, and the number of the key that it came from.
+#[derive(Clone, Copy, Debug, PartialEq, Eq)]
+pub struct Mark {
+    pub cost: u32,
+    pub parent: u32,
+}
+
+/// What became of a key that was offered: it was stored at no more, it was stored at more and its cost fell, it was
+/// added, or there was no place for it.
+#[derive(Drop)]
+pub enum Offered<K> {
+    Known,
+    Lowered,
+    Added,
+    Full(K),
+}
+
+/// The keys that are stored, each with its mark, in the order of their numbers, and the pairs that are open.
+#[derive(Drop)]
+pub struct Book<K: ExactKey, F: Frontier + Drop> {
+    table: IndexMap<K, Mark>,
+    queue: F,
+}
+
+impl<K: ExactKey, F: Frontier + Drop> Model for Book<K, F> {
+    ghost use Rattle.fc_best_first.specs.Store.{Store};
+
+    ghost Value = { Store K };
+
+    ghost view = { λ s. record { stored = s.table.entries; waiting = F.pairs s.queue } };
+}
+
+impl<K: ExactKey, F: Frontier + Drop> Book<K, F> {
+    /// Nothing stored and nothing open. Takes no memory yet.
+    pub fn new(alloc: Global) -> Self
+        ensures stored { result.stored ≡ [] }
+        ensures waiting { result.waiting ≡ [] }
+    {
+        Book {
+            table: IndexMap::new(alloc),
+            queue: F::new(alloc),
+        }
+    }
+
+    /// Takes out an open pair of least f; `None` exactly where none is open.
+    pub fn take(&mut self) -> Option<(u32, u32)>
+        ensures taken { IfSome result (λ p. Adds self.new.waiting self.old.waiting p) }
+        ensures least { IfSome result (λ p. IsLeast p self.old.waiting) }
+        ensures kept { self.new.stored ≡ self.old.stored }
+        ensures none { IfNone result ((self.old.waiting ≡ []) × (self.new ≡ self.old)) }
+    {
+        self.queue.pop_least()
+    }
+
+    /// How many keys are stored.
+    pub fn len(&self) -> usize
+        ensures size { result ≡ length self.now.stored }
+    {
+        self.table.len()
+    }
+
+    /// The key that is stored under a number, and its mark; `None` for a number that no key has.
+    pub fn entry(&self, number: u32) -> Option<(&K, Mark)>
+        ensures value { MatchOption result (length self.now.stored ≤ number) (λ e. Stands self.now number e.0.now e.1) }
+    {
+        let (key, mark) = self.table.get_index(number as usize)?;
+        Some((key, *mark))
+    }
+
+    /// The key that is stored under a number that has one, and its mark.
+    pub fn at(&self, number: u32) -> (&K, Mark)
+        requires within { number < length self.now.stored }
+        ensures stands { Stands self.now number result.0.now result.1 }
+    {
+        self.entry(number).unwrap()
+    }
+
+    /// Offers a key with a mark, to be open at `f`. At `Err` a growth was refused, and nothing is known of the book.
+    pub fn offer(&mut self, budget: u32, key: K, mark: Mark, f: u32) -> Result<Offered<K>, Full>
+        requires room { length self.old.stored ≤ budget }
+        ensures offers { IfOk result (λ offered. Offers budget self.old self.new key mark f offered) }
+    {
+        match self.table.get_index_of(&key) {
+            Some(number) => self.meet(number, mark, f),
+            None => self.add(budget, key, mark, f),
+        }
+    }
+
+    // Offers a key that is stored.
+    fn meet(&mut self, number: usize, mark: Mark, f: u32) -> Result<Offered<K>, Full>
+        requires within { number < length self.old.stored }
+        requires room { number < 2 ^ 32 }
+        ensures offers { IfOk result (λ offered. (x : K) (was : Mark) → Stands self.old number x was → Meets self.old self.new number was mark f offered) }
+    {
+        if self.table[number].cost <= mark.cost {
+            return Ok(Offered::Known);
+        }
+        self.table[number] = mark;
+        self.queue.push(f, number as u32)?;
+        Ok(Offered::Lowered)
+    }
+
+    // Offers a key that isn't stored.
+    fn add(&mut self, budget: u32, key: K, mark: Mark, f: u32) -> Result<Offered<K>, Full>
+        requires new { IsNew self.old key }
+        ensures offers { IfOk result (λ offered. Offers budget self.old self.new key mark f offered) }
+    {
+        let number = self.table.len();
+        if number >= budget as usize {
+            return Ok(Offered::Full(key));
+        }
+        self.table.insert(key, mark)?;
+        self.queue.push(f, number as u32)?;
+        Ok(Offered::Added)
+    }
+}

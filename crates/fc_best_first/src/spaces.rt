@@ -1,0 +1,52 @@
+ghost use Rattle.std.specs.Prelude.{◌≡◌, ◌≤◌, ◌↔◌, ℕ, List, [], ◌∷◌, IsTrue, MatchOption};
+ghost use Rattle.fc_best_first.specs.Graph.{Graph, IsLawful, Reached};
+ghost use Rattle.fc_best_first.specs.Turn.{AreChildren};
+
+/// A key at the end of an edge, what the edge costs, and the bound of the key.
+#[derive(Default, Drop)]
+pub struct Child<K> {
+    pub key: K,
+    pub cost: u8,
+    pub bound: u8,
+}
+
+/// A question that a search can answer.
+pub trait Space<K> {
+    ghost use Rattle.fc_best_first.specs.declared.spaces.Child.{Child};
+
+    // The question as a graph.
+    ghost graph: { Self → Graph K };
+
+    /// What is left of the children of a key.
+    type Walk: Drop;
+
+    // The children that are left.
+    ghost rest: { Self.Walk → List (Child K) };
+
+    /// The key that starts, and its cost.
+    fn start(&self) -> Child<K>
+        ensures starts { (graph self.now).starts result.key result.cost }
+        ensures alone { (x : K) (d : ℕ) → (graph self.now).starts x d → (x ≡ result.key) × (result.cost ≤ d) }
+        ensures bound { result.bound ≡ (graph self.now).bound result.key };
+
+    /// Whether a key that was reached is won.
+    fn is_won(&self, key: &K) -> bool
+        requires reached { (d : ℕ) × Reached (graph self.now) key.now d }
+        ensures value { IsTrue result ↔ (graph self.now).won key.now };
+
+    /// The lower bound of a key that was reached.
+    fn bound(&self, key: &K) -> u8
+        requires reached { (d : ℕ) × Reached (graph self.now) key.now d }
+        ensures value { result ≡ (graph self.now).bound key.now };
+
+    /// The children of a key that was reached.
+    fn children(&self, key: &K) -> Self::Walk
+        requires reached { (d : ℕ) × Reached (graph self.now) key.now d }
+        ensures children { AreChildren (graph self.now) key.now (rest result) };
+
+    /// The next of the children that are left.
+    fn next(&self, walk: &mut Self::Walk) -> Option<Child<K>>
+        ensures next { MatchOption result (rest walk.old ≡ []) (λ child. rest walk.old ≡ child ∷ rest walk.new) };
+
+    ghost lawful: { (s : Self) → IsLawful (graph s) };
+}

@@ -1,0 +1,81 @@
+ghost use Rattle.std.specs.Prelude.{◌≡◌, ◌+◌, ◌*◌, ◌<◌, ◌≤◌, ℕ, List, length, Option, IfOk, MatchOption};
+ghost use Rattle.fc_best_first.specs.Graph.{IsLawful, Reached};
+ghost use Rattle.fc_best_first.specs.Store.{Store};
+ghost use Rattle.fc_best_first.specs.Turn.{AreChildren, Expands, Takes};
+ghost use Rattle.fc_best_first.specs.Kept.{IsKept};
+
+use crate::books::{Book, Mark, Offered};
+use crate::keys::ExactKey;
+use crate::spaces::{Child, Space};
+use fc_frontier::{Frontier, Full};
+
+/// The greatest budget, in stored keys.
+pub const MOST_BUDGET: u32 = 4_000_000;
+
+/// Where a search stands: it is running; the key with this number is won, and its cost is the least answer; there is no
+/// answer; it gave up, having found no place for this key, which came from the key with this number; or memory stopped it.
+#[derive(Drop)]
+pub enum Status<K> {
+    Running,
+    Shortest(u32),
+    CannotWin,
+    GaveUp(K, u32),
+    Stopped,
+}
+
+// Offers the children of the key with this number, which is stored at this cost; the key that found no place, if there
+// is one. At `Err` a growth was refused, and nothing is known of the book.
+fn expand<K: ExactKey, F: Frontier + Drop, S: Space<K>>(
+    space: &S,
+    book: &mut Book<K, F>,
+    budget: u32,
+    number: u32,
+    cost: u32,
+    walk: S::Walk,
+) -> Result<Option<K>, Full>
+    requires room { length book.old.stored ≤ budget }
+    requires low { cost ≤ 53 * 4000000 }
+    ensures expands { IfOk result (λ left_out. Expands budget number cost (S.rest walk) book.old book.new left_out) }
+{
+    let mut walk = walk;
+    while let Some(child) = space.next(&mut walk) {
+        let reached = cost + u32::from(child.cost);
+        let mark = Mark {
+            cost: reached,
+            parent: number,
+        };
+        let f = reached + u32::from(child.bound);
+        if let Offered::Full(key) = book.offer(budget, child.key, mark, f)? {
+            return Ok(Some(key));
+        }
+    }
+    Ok(None)
+}
+
+// One turn of a running search, and the status that it leaves. At `Err` a growth was refused, and nothing is known of
+// the book.
+pub(crate) fn advance<K: ExactKey, F: Frontier + Drop, S: Space<K>>(
+    space: &S,
+    book: &mut Book<K, F>,
+    budget: u32,
+) -> Result<Status<K>, Full>
+    requires kept { IsKept (S.graph space.now) budget book.old }
+    requires budget { budget ≤ 4000000 }
+    ensures takes { IfOk result (λ status. Takes (S.graph space.now) budget book.old book.new status) }
+{
+    let Some((f, number)) = book.take() else {
+        return Ok(Status::CannotWin);
+    };
+    let (key, mark) = book.at(number);
+    if space.is_won(key) {
+        return Ok(Status::Shortest(number));
+    }
+    if mark.cost + u32::from(space.bound(key)) < f {
+        return Ok(Status::Running);
+    }
+    let walk = space.children(key);
+    match expand(space, book, budget, number, mark.cost, walk)? {
+        Some(key) => Ok(Status::GaveUp(key, number)),
+        None => Ok(Status::Running),
+    }
+}

@@ -1,0 +1,91 @@
+-- Keys read back.
+use Rattle.std.proofs.Common.{◌≡◌, ℕ, Option, Some, None, List, [], ◌∷◌, ◌++◌, length, map, take, drop, refl, sym, ◌∙◌, ap, subst, append_assoc, arith}
+use Rattle.std.specs.Prelude.{All}
+use Rattle.std.specs.List.{flat_map}
+use Rattle.std.proofs.lemmas.List.{take_at, drop_at, length-map, append-nil}
+use Rattle.std.proofs.lemmas.List.Elements.{All-head, All-tail}
+use Rattle.std.proofs.lemmas.Bool.Decides.{nat_tests}
+use Rattle.fc_position.specs.Board.{Board}
+use Rattle.fc_position.specs.Position.{IsPosition}
+use Rattle.fc_moves.specs.GameRules.{GameRules, IsPositionOf}
+use Rattle.fc_canonical.specs.Class.{SameClass}
+use Rattle.fc_canonical.specs.Key.{column_bytes, board_bytes, BeginsWithKey}
+use Rattle.fc_canonical.specs.Order.{IsCanonical, cell_byte}
+use Rattle.fc_canonical.specs.Parts.{IsSmall}
+use Rattle.fc_canonical.proofs.KeyLemmas.{small_cells, same_board, key_front, key_begins_once}
+use Rattle.fc_bound.proofs.FitLemmas.{canonical_fits}
+use Rattle.fc_classes.specs.Key.{IsKeyIn, spelled, spelled_cell, spelled_columns}
+use Rattle.fc_classes.specs.Laws.{KeysSpellPositions}
+
+-- each part is read back
+cell_back : (x : Option ℕ) → IsSmall x → spelled_cell (cell_byte x) ≡ x
+cell_back None small = refl
+cell_back (Some c) small = grind (arith, nat_tests)
+
+cells_back : (xs : List (Option ℕ)) → All IsSmall xs → map spelled_cell (map cell_byte xs) ≡ xs
+cells_back [] all = refl
+cells_back (x ∷ xs) all =
+    ap (λ y. y ∷ map spelled_cell (map cell_byte xs)) (cell_back x (All-head IsSmall x xs all))
+    ∙ ap (λ ys. x ∷ ys) (cells_back xs (All-tail IsSmall x xs all))
+
+columns_back : (xs : List (List ℕ)) → spelled_columns (length xs) (flat_map column_bytes xs) ≡ xs
+columns_back [] = refl
+columns_back (x ∷ xs) =
+    let rest = flat_map column_bytes xs in
+    ap (λ l. l ∷ spelled_columns (length xs) (drop (length x) (x ++ rest))) (take_at x rest (length x) refl)
+    ∙ ap (λ l. x ∷ spelled_columns (length xs) l) (drop_at x rest (length x) refl)
+    ∙ ap (λ l. x ∷ l) (columns_back xs)
+
+-- the bytes of a position spell it
+pub spelled_back : (b : Board) → IsPosition b → spelled (board_bytes b) ≡ b
+unfolding spelled
+spelled_back b p =
+    let cells : length (map cell_byte b.cells) ≡ 4 = length-map b.cells cell_byte ∙ p.cells in
+    let columns = flat_map column_bytes b.columns in
+    let split : board_bytes b ≡ b.homes ++ (map cell_byte b.cells ++ columns) = append_assoc b.homes (map cell_byte b.cells) columns in
+    let homes : take 4 (board_bytes b) ≡ b.homes = ap (take 4) split ∙ take_at b.homes (map cell_byte b.cells ++ columns) 4 p.homes in
+    let after : drop 4 (board_bytes b) ≡ map cell_byte b.cells ++ columns =
+    ap (drop 4) split ∙ drop_at b.homes (map cell_byte b.cells ++ columns) 4 p.homes in
+    let middle : take 4 (drop 4 (board_bytes b)) ≡ map cell_byte b.cells =
+    ap (take 4) after ∙ take_at (map cell_byte b.cells) columns 4 cells in
+    let last : drop 8 (board_bytes b) ≡ columns = drop_at (b.homes ++ map cell_byte b.cells) columns 8 (key_front b p) in
+    same_board (spelled (board_bytes b)) b
+    (ap (spelled_columns 8) last ∙ ap (λ n. spelled_columns n columns) (sym p.columns) ∙ columns_back b.columns)
+    (ap (map spelled_cell) middle ∙ cells_back b.cells (small_cells b p)) homes
+
+-- the key of a position of the game spells a canonical position of the game, of the same class
+pub key_spells : KeysSpellPositions
+key_spells g b key p k =
+    let c = k.canonical in
+    let pc = canonical_fits g b c p k.class k.ordered in
+    let back : spelled key ≡ c = ap spelled k.bytes ∙ spelled_back c pc.position in (
+      record {
+        position = subst (IsPositionOf g) (sym back) pc;
+        ordered = subst IsCanonical (sym back) k.ordered;
+        bytes = k.bytes ∙ ap board_bytes (sym back);
+      },
+      subst (SameClass b) (sym back) k.class,
+    )
+
+-- what is read at the front of a key of the game is the position that it spells
+pub key_read : (g : GameRules) (key : List ℕ) (b : Board) (n : ℕ) → IsKeyIn g key → BeginsWithKey key b n → b ≡ spelled key
+key_read g key b n k read =
+    let own : BeginsWithKey key (spelled key) (length (board_bytes (spelled key))) = record {
+      position = k.position.position;
+      ordered = k.ordered;
+      rest = [];
+      parts = k.bytes ∙ sym (append-nil (board_bytes (spelled key)));
+      size = refl;
+    } in
+    (key_begins_once key b (spelled key) n (length (board_bytes (spelled key))) read own).0
+
+-- and there is one
+pub key_begins : (g : GameRules) (key : List ℕ) → IsKeyIn g key
+    → BeginsWithKey key (spelled key) (length (board_bytes (spelled key)))
+key_begins g key k = record {
+  position = k.position.position;
+  ordered = k.ordered;
+  rest = [];
+  parts = k.bytes ∙ sym (append-nil (board_bytes (spelled key)));
+  size = refl;
+}

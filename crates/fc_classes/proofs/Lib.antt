@@ -1,0 +1,4 @@
+pub mod KeyLemmas
+pub mod OrderLemmas
+pub mod PathLemmas
+pub mod TableLemmas

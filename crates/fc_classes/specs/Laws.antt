@@ -1,0 +1,36 @@
+-- What the laws of this crate state.
+use Rattle.std.specs.Prelude.{◌≡◌, ℕ, length, List}
+use Rattle.fc_position.specs.Board.{Board}
+use Rattle.fc_moves.specs.declared.steps.Move.{Move}
+use Rattle.fc_moves.specs.GameRules.{GameRules, IsPositionOf}
+use Rattle.fc_moves.specs.Run.{Run}
+use Rattle.fc_canonical.specs.Class.{SameClass}
+use Rattle.fc_canonical.specs.Key.{IsKeyOf}
+use Rattle.fc_home.specs.Settles.{Settles}
+use Rattle.fc_best_first.specs.Graph.{IsLawful, Reached}
+use Rattle.fc_classes.specs.Classes.{classes}
+use Rattle.fc_classes.specs.Key.{IsKeyIn, spelled}
+
+-- every position has a key
+abbrev pub PositionsHaveKeys : Type 0
+PositionsHaveKeys = (b : Board) → (key : List ℕ) × IsKeyOf b key
+
+-- the key of a position of the game spells a canonical position of the game, of the same class
+abbrev pub KeysSpellPositions : Type 0
+KeysSpellPositions = (g : GameRules) (b : Board) (key : List ℕ) → IsPositionOf g b → IsKeyOf b key
+    → IsKeyIn g key × SameClass b (spelled key)
+
+-- a reached key spells a canonical position of the game, which is settled
+abbrev pub ReachedKeysAreOfPositions : Type 0
+ReachedKeysAreOfPositions = (g : GameRules) (rule : ℕ) (p : Board) (x : List ℕ) (cost : ℕ) → IsPositionOf g p
+    → Reached (classes g rule p) x cost → IsKeyIn g x × Settles g rule (spelled x) 0 (spelled x)
+
+-- to a position of a class that is reached at a cost, a list of so many moves leads
+abbrev pub ReachedKeysAreRunTo : Type 0
+ReachedKeysAreRunTo = (g : GameRules) (rule : ℕ) (p : Board) (x : List ℕ) (cost : ℕ) → IsPositionOf g p
+    → Reached (classes g rule p) x cost
+    → (ms : List Move) × (b : Board) × (length ms ≡ cost) × Run g p ms b × SameClass b (spelled x)
+
+-- a search of the classes of a game answers what lists of moves from a position of the game can do
+abbrev pub ClassesAreLawful : Type 0
+ClassesAreLawful = (g : GameRules) (rule : ℕ) (p : Board) → IsPositionOf g p → IsLawful (classes g rule p)

@@ -1,0 +1,12 @@
+//! The positions of a game as a question of the search: classes of settled positions, known by their keys, as a graph.
+//!
+//! An edge is a step and what settles after it, and costs one for each move. That a search of the graph answers what
+//! lists of moves can do is a law.
+#![tactic(auto)]
+
+pub use keys::ClassKey;
+
+mod keys;
+pub mod laws;
+#[cfg(test)]
+mod tests;

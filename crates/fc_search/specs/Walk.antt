@@ -1,0 +1,33 @@
+-- The way from the start to a stored class, by the marks of the classes.
+use Rattle.std.specs.Prelude.{◌≡◌, ℕ, ◌+◌, ◌≤◌, List, [], ◌∷◌, length, Option, Some, None}
+use Rattle.fc_position.specs.Board.{Board}
+use Rattle.fc_moves.specs.declared.steps.Move.{Move}
+use Rattle.fc_moves.specs.GameRules.{GameRules}
+use Rattle.fc_moves.specs.Run.{Run}
+use Rattle.fc_moves.specs.Step.{Step}
+use Rattle.fc_best_first.specs.declared.books.Mark.{Mark}
+use Rattle.fc_best_first.specs.Store.{Store, Stands}
+use Rattle.fc_canonical.specs.Class.{SameClass}
+use Rattle.fc_classes.specs.Classes.{SettlesTo}
+use Rattle.fc_classes.specs.Key.{spelled}
+
+-- from the class with the one number each class of the list comes from the one before it, and the last has the other number
+abbrev pub IsWay : Store (List ℕ) → ℕ → List ℕ → ℕ → Type 0
+IsWay s number [] target = number ≡ target
+IsWay s number (next ∷ rest) target =
+    ((x : List ℕ) × (mark : Mark) × Stands s next x mark × (mark.parent ≡ number)) × IsWay s next rest target
+
+-- the moves lead from the one board to a board of the class with this number, and are no more than it costs
+abbrev pub IsAtClass : GameRules → Store (List ℕ) → Board → ℕ → List Move → Board → Type 0
+IsAtClass g s p number made b = (x : List ℕ) × (mark : Mark) × Stands s number x mark × Run g p made b
+    × SameClass b (spelled x) × (length made ≤ mark.cost)
+
+-- a step from the board leads to one that settles in so many moves to one with the key
+abbrev pub StepsTo : GameRules → ℕ → Board → List ℕ → Move → ℕ → Type 0
+StepsTo g rule b key m count = (z : Board) × Step g b m z × SettlesTo g rule z count key
+
+-- of the steps that lead to the key, the fewest home moves follow this one; none leads there
+abbrev pub IsBestStep : GameRules → ℕ → Board → List ℕ → Option Move → Type 0
+IsBestStep g rule b key None = (m : Move) (count : ℕ) → StepsTo g rule b key m count → ⊥
+IsBestStep g rule b key (Some best) = (least : ℕ) × StepsTo g rule b key best least
+    × ((m : Move) (count : ℕ) → StepsTo g rule b key m count → least ≤ count)
