@@ -394,6 +394,14 @@ fn replays_moves(rt: HostRuntime) -> Result<(), Fail> {
 fn replays_over_failing_devices(rt: HostRuntime) -> Result<(), Fail> {
     let game = free_cell(4)?;
     let text = b"1a 1h";
+    for calls in 0..=TWO_KINGS.len() as u32 {
+        let mut none = ToArray::<400>::new();
+        let mut start = Failing::new(FromSlice::new(TWO_KINGS), calls);
+        let mut list = FromSlice::new(text);
+        let unread = run_replay(rt.alloc(), &game, &mut start, &mut list, &mut none);
+        assert_eq!(rt; unread, Err(ProgramFault::Read(Input::Board)));
+        assert_eq!(rt; none.held(), b"".as_slice());
+    }
     for calls in 0..=text.len() as u32 {
         let mut out = ToArray::<400>::new();
         let mut board = FromSlice::new(TWO_KINGS);
