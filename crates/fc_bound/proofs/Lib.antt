@@ -6,3 +6,4 @@ pub mod LookLemmas
 pub mod RowLemmas
 pub mod TableLemmas
 pub mod TellLemmas
+pub mod WitnessLemmas

@@ -1,9 +1,9 @@
 -- What the laws of this crate state.
 use Rattle.std.specs.Prelude.{◌≡◌, ℕ, ◌+◌, ◌<◌, ◌≤◌, ◌↔◌, IsTrue, length, List, [], Contains}
 use Rattle.fc_position.specs.Board.{Board, IsHome}
-use Rattle.fc_position.specs.Position.{IsPosition}
+use Rattle.fc_position.specs.Position.{IsShaped, IsPosition, Fits}
 use Rattle.fc_moves.specs.declared.steps.Move.{Move}
-use Rattle.fc_moves.specs.GameRules.{GameRules, IsPositionOf}
+use Rattle.fc_moves.specs.GameRules.{GameRules, Opens, IsPositionOf}
 use Rattle.fc_moves.specs.Run.{Wins, CannotWin}
 use Rattle.fc_moves.specs.Step.{Step}
 use Rattle.fc_canonical.specs.Class.{SameClass}
@@ -36,6 +36,25 @@ ClosedBelowLeavesNoShorterList = (g : GameRules) (rule : ℕ) (p : Board) (n : �
 -- a closed table leaves no winning list at all
 abbrev pub ClosedLeavesNoList : Type 0
 ClosedLeavesNoList = (g : GameRules) (rule : ℕ) (p : Board) (T : Table) → IsPositionOf g p → IsClosed g rule p T → CannotWin g p
+
+-- some table is closed for the board, and closed below every number, and yet a list of moves wins from the board
+pub record IsClosedYetWon (g : GameRules) (rule : ℕ) (p : Board) : Type 0 where
+  pub table : Table
+  pub moves : List Move
+  pub closed : IsClosed g rule p table
+  pub below : (n : ℕ) → IsClosedBelow g rule p n table
+  pub wins : Wins g p moves
+
+-- so it is from a position that doesn't fit the game: in each game with less than four cells in which the king of spades
+-- may go to an empty column, and by each home rule
+abbrev pub ClosedTablesNeedFitting : Type 0
+ClosedTablesNeedFitting = (g : GameRules) (rule : ℕ) → g.cells < 4 → Opens g 51
+    → (p : Board) × IsPosition p × IsClosedYetWon g rule p
+
+-- and from a board that fits, but on which a card has two places: in each game with a cell, and by each home rule
+abbrev pub ClosedTablesNeedPositions : Type 0
+ClosedTablesNeedPositions = (g : GameRules) (rule : ℕ) → 0 < g.cells
+    → (p : Board) × IsShaped p × Fits g.cells p × IsClosedYetWon g rule p
 
 -- a table that is closed inside n leaves no winning list shorter than n either
 abbrev pub ClosedInsideLeavesNoShorterList : Type 0

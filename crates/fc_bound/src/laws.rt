@@ -2,6 +2,7 @@
 
 ghost use Rattle.fc_bound.specs.Laws.{TestsTellTheCards, StepsLowerTheBoundByOne, WinsNeedTheBound, ClassMatesHaveOneBound};
 ghost use Rattle.fc_bound.specs.Laws.{ClosedBelowLeavesNoShorterList, ClosedLeavesNoList, ClosedInsideLeavesNoShorterList, ClosedBelowIsClosedInside};
+ghost use Rattle.fc_bound.specs.Laws.{ClosedTablesNeedFitting, ClosedTablesNeedPositions};
 ghost use Rattle.fc_bound.specs.Laws.{OneBoardOfAClassIsEnough, OneBoardIsEnoughWithoutBound, ClosedBelowIsSeen, ClosedIsSeen, RowsInsideAreClosedBelow, ClosedInsideAllIsClosed, CostsOfClosedTablesAreFree, NoEmptyTableIsClosed, CanonicalBoardsFit};
 
 /// The bound counts exactly the cards that are not home, and the cards that stand above a lower card of their own suit
@@ -34,6 +35,19 @@ pub fn closed_below_leaves_no_shorter_list()
 /// A closed table leaves no winning list at all, in every game and by every home rule.
 pub fn closed_leaves_no_list()
     ensures { ClosedLeavesNoList }
+{}
+
+/// A closed table proves nothing of a position that doesn't fit the game: in each game with fewer than four cells in
+/// which the king of spades may go to an empty column, and by each home rule, some table is closed for a position from
+/// which a list wins.
+pub fn closed_tables_need_fitting()
+    ensures { ClosedTablesNeedFitting }
+{}
+
+/// Nor of a board on which a card has two places, even one that fits: in each game with a cell, and by each home rule,
+/// some table is closed for such a board from which a list wins.
+pub fn closed_tables_need_positions()
+    ensures { ClosedTablesNeedPositions }
 {}
 
 /// A table that lists won classes, where their cost and their bound reach n, leaves no winning list shorter than n
