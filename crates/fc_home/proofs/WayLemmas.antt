@@ -67,7 +67,7 @@ decide_free (suc depth) g homes c =
     (λ u. either (IsHome homes u) (IsFreeWithin depth g homes u) (decide_home homes u) (decide_free depth g homes u)))
 
 -- whether a card goes home
-decide_goes : (rule : ℕ) (g : GameRules) (homes : List ℕ) (c : ℕ) → Decided (GoesHome rule g homes c)
+pub decide_goes : (rule : ℕ) (g : GameRules) (homes : List ℕ) (c : ℕ) → Decided (GoesHome rule g homes c)
 decide_goes zero g homes c = inr (λ f. f)
 decide_goes (suc zero) g homes c =
     both (IsNext homes c) ((u : ℕ) → Stands g u c → IsHome homes u) (decide_next homes c)
