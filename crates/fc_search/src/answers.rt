@@ -40,6 +40,13 @@ impl MoveList {
         MoveList { moves }
     }
 
+    /// The moves.
+    pub fn as_slice(&self) -> &[Move]
+        ensures value { result.now ≡ self.now }
+    {
+        self.moves.as_slice()
+    }
+
     /// How many moves there are.
     pub fn len(&self) -> usize
         ensures value { result ≡ length self.now }

@@ -1,6 +1,6 @@
 use Rattle.std.proofs.Common.{◌<◌, length}
-use Rattle.fc_solve.proofs.PlainLemmas.{WalkedBack}
-use Rattle.fc_solve.proofs.plain.moves_to.Given as goal
+use Rattle.fc_plain.proofs.PlainLemmas.{WalkedBack}
+use Rattle.fc_plain.proofs.plain.moves_to.Given as goal
 
 -- the visit is there, and the moves so far lead from it to the one that was asked for
 abbrev pub invariant-loop-at : goal.invariant-loop-at

@@ -13,9 +13,9 @@ use Rattle.fc_moves.specs.Step.{Step}
 use Rattle.fc_moves.specs.Run.{Run, IsShortest, CanReach, ReachesMore}
 use Rattle.fc_text.proofs.HomeLemmas.{Contains-at}
 use Rattle.fc_text.proofs.ReaderLemmas.{at_push}
-use Rattle.fc_solve.specs.Answer.{ReachesAtMost}
-use Rattle.fc_solve.specs.declared.plain.Visit.{Visit}
-use Rattle.fc_solve.specs.Plain.{IsAt, ComesFrom, HasSources, HasParents, IsStored, IsNew, IsLookedAt, Kept, IsFull, LeadsTo}
+use Rattle.fc_plain.specs.Answer.{ReachesAtMost}
+use Rattle.fc_plain.specs.declared.plain.Visit.{Visit}
+use Rattle.fc_plain.specs.Plain.{IsAt, ComesFrom, HasSources, HasParents, IsStored, IsNew, IsLookedAt, Kept, IsFull, LeadsTo}
 
 -- a visit keeps its number when more are stored
 pub at_front : (xs ys : List Visit) (k : ℕ) (v : Visit) → IsAt xs k v → IsAt (xs ++ ys) k v

@@ -3,10 +3,10 @@ use Rattle.std.proofs.lemmas.Option.{slice_get-get_or}
 use Rattle.fc_cards.specs.declared.places.Place.TheVariants.{Column}
 use Rattle.fc_moves.specs.declared.steps.Move.{Move}
 use Rattle.fc_moves.specs.Step.{Step, Allows, ListsMoves}
-use Rattle.fc_solve.specs.declared.plain.Visit.{Visit}
-use Rattle.fc_solve.specs.Plain.{IsAt, Offers}
-use Rattle.fc_solve.proofs.ExpandLemmas.{looking_none, looking_next, looking_full, looking_done, read_at, read_again, listed_allowed, looking_there}
-use Rattle.fc_solve.proofs.plain.expand.Goals as goal
+use Rattle.fc_plain.specs.declared.plain.Visit.{Visit}
+use Rattle.fc_plain.specs.Plain.{IsAt, Offers}
+use Rattle.fc_plain.proofs.ExpandLemmas.{looking_none, looking_next, looking_full, looking_done, read_at, read_again, listed_allowed, looking_there}
+use Rattle.fc_plain.proofs.plain.expand.Goals as goal
 
 pub loop-m-init : goal.loop-m-init
 loop-m-init g c = looking_none (g.G.Game.game c.args.game.now) c.args.budget c.args.number c.args.visits.now.items

@@ -10,9 +10,9 @@ use Rattle.fc_moves.specs.declared.steps.Move.{Move}
 use Rattle.fc_moves.specs.GameRules.{GameRules}
 use Rattle.fc_moves.specs.Step.{Step, Allows, ListsMoves}
 use Rattle.fc_text.proofs.HomeLemmas.{Contains-at}
-use Rattle.fc_solve.specs.declared.plain.Visit.{Visit}
-use Rattle.fc_solve.specs.Plain.{IsAt, IsStored, Kept, Extends, Offers, Expands}
-use Rattle.fc_solve.proofs.PlainLemmas.{at_front, at_last, at_same, stored_more, push_keeps}
+use Rattle.fc_plain.specs.declared.plain.Visit.{Visit}
+use Rattle.fc_plain.specs.Plain.{IsAt, IsStored, Kept, Extends, Offers, Expands}
+use Rattle.fc_plain.proofs.PlainLemmas.{at_front, at_last, at_same, stored_more, push_keeps}
 
 -- the results of the first moves of a list are stored
 abbrev pub AreStored : GameRules → Visit → List Move → ℕ → List Visit → Type 0

@@ -1,10 +1,10 @@
 use Rattle.std.proofs.Common.{rules, ◌+◌, ◌-◌, ◌<◌, ◌≤◌, length, true, false, refl, arith, subst}
 use Rattle.fc_position.specs.Position.{IsWon}
-use Rattle.fc_solve.specs.declared.plain.Visit.{Visit}
-use Rattle.fc_solve.specs.Plain.{IsAt, Expands}
-use Rattle.fc_solve.proofs.ExpandLemmas.{read_at}
-use Rattle.fc_solve.proofs.SearchLemmas.{searching_start, searching_parents, searching_won, searching_full, searching_next, searching_over, searching_won_within, searching_over_within}
-use Rattle.fc_solve.proofs.plain.search.Goals as goal
+use Rattle.fc_plain.specs.declared.plain.Visit.{Visit}
+use Rattle.fc_plain.specs.Plain.{IsAt, Expands}
+use Rattle.fc_plain.proofs.ExpandLemmas.{read_at}
+use Rattle.fc_plain.proofs.SearchLemmas.{searching_start, searching_parents, searching_won, searching_full, searching_next, searching_over, searching_won_within, searching_over_within}
+use Rattle.fc_plain.proofs.plain.search.Goals as goal
 
 pub loop-number-init : goal.loop-number-init
 loop-number-init g c =

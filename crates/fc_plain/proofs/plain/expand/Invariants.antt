@@ -1,5 +1,5 @@
-use Rattle.fc_solve.proofs.ExpandLemmas.{Looking}
-use Rattle.fc_solve.proofs.plain.expand.Given as goal
+use Rattle.fc_plain.proofs.ExpandLemmas.{Looking}
+use Rattle.fc_plain.proofs.plain.expand.Given as goal
 
 -- the results of the moves before this one are stored
 abbrev pub invariant-loop-m : goal.invariant-loop-m

@@ -3,13 +3,23 @@
 ghost use Rattle.std.specs.Prelude.{◌≡◌, ℕ, ◌+◌, ◌<◌, ◌≤◌, length, IfOk, vec_len};
 ghost use Rattle.fc_moves.specs.GameRules.{GameRules, IsPositionOf};
 ghost use Rattle.fc_moves.specs.Step.{Step};
-ghost use Rattle.fc_solve.specs.Answer.{IsRight, IsWithin};
-ghost use Rattle.fc_solve.specs.Plain.{Kept, HasParents, HasSources, Offers, Expands, LeadsTo};
+ghost use Rattle.fc_plain.specs.Answer.{IsRight, IsWithin};
+ghost use Rattle.fc_plain.specs.Plain.{Kept, HasParents, HasSources, Offers, Expands, LeadsTo};
 
-use crate::answers::Answer;
 use fc_moves::{Game, Move, apply, moves};
 use fc_position::Position;
 use std::alloc::{AllocError, Global};
+
+/// What the search answers of a position and a budget.
+#[derive(Debug, Drop)]
+pub enum Answer {
+    /// Moves that win, and no list of moves that wins is shorter.
+    Shortest(Vec<Move>),
+    /// No list of moves wins.
+    CannotWin,
+    /// More positions than the budget, which is told, can be reached.
+    GaveUp(u32),
+}
 
 /// A position that was met: how many moves lead to it, the number of the visit that it was met from, and the last move.
 /// The start is met from itself.

@@ -6,7 +6,7 @@ use Rattle.fc_moves.specs.declared.steps.Move.{Move}
 use Rattle.fc_moves.specs.GameRules.{GameRules}
 use Rattle.fc_moves.specs.Step.{Step}
 use Rattle.fc_moves.specs.Run.{Run}
-use Rattle.fc_solve.specs.declared.plain.Visit.{Visit}
+use Rattle.fc_plain.specs.declared.plain.Visit.{Visit}
 
 -- the visit with this number
 abbrev pub IsAt : List Visit → ℕ → Visit → Type 0

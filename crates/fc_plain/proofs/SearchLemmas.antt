@@ -6,11 +6,11 @@ use Rattle.fc_position.specs.Position.{IsPosition, IsWon}
 use Rattle.fc_moves.specs.declared.steps.Move.{Move}
 use Rattle.fc_moves.specs.GameRules.{GameRules}
 use Rattle.fc_moves.specs.Run.{Run, IsShortest, CannotWin, ReachesMore}
-use Rattle.fc_solve.specs.declared.plain.Visit.{Visit}
-use Rattle.fc_solve.specs.Answer.{ReachesAtMost}
-use Rattle.fc_solve.specs.Plain.{IsAt, StartsAt, HasParents, HasSources, LeadsTo, Kept, Extends, Expands}
-use Rattle.fc_solve.proofs.PlainLemmas.{won_shortest, none_wins, full_reaches, start_kept, turn_done, won_within, over_within}
-use Rattle.fc_solve.proofs.ExpandLemmas.{still_there}
+use Rattle.fc_plain.specs.declared.plain.Visit.{Visit}
+use Rattle.fc_plain.specs.Answer.{ReachesAtMost}
+use Rattle.fc_plain.specs.Plain.{IsAt, StartsAt, HasParents, HasSources, LeadsTo, Kept, Extends, Expands}
+use Rattle.fc_plain.proofs.PlainLemmas.{won_shortest, none_wins, full_reaches, start_kept, turn_done, won_within, over_within}
+use Rattle.fc_plain.proofs.ExpandLemmas.{still_there}
 
 -- between two turns: the first visit is of the start, and those before a number were looked at
 pub record Searching (g : GameRules) (start : Board) (budget : ℕ) (number : ℕ) (visits : List Visit) : Type 0 where

@@ -1,6 +1,6 @@
 use Rattle.std.proofs.Common.{◌-◌}
-use Rattle.fc_solve.proofs.SearchLemmas.{Searching}
-use Rattle.fc_solve.proofs.plain.search.Given as goal
+use Rattle.fc_plain.proofs.SearchLemmas.{Searching}
+use Rattle.fc_plain.proofs.plain.search.Given as goal
 
 -- the visits start at the start, and those before this one were looked at
 abbrev pub invariant-loop-number : goal.invariant-loop-number

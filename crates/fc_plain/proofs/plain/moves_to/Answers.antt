@@ -1,8 +1,8 @@
 use Rattle.std.proofs.Common.{rules, arith, refl}
 use Rattle.std.proofs.lemmas.Option.{slice_get_read}
-use Rattle.fc_solve.specs.Plain.{IsAt}
-use Rattle.fc_solve.proofs.PlainLemmas.{walk_none, walk_back, walk_whole, parent_before}
-use Rattle.fc_solve.proofs.plain.moves_to.Goals as goal
+use Rattle.fc_plain.specs.Plain.{IsAt}
+use Rattle.fc_plain.proofs.PlainLemmas.{walk_none, walk_back, walk_whole, parent_before}
+use Rattle.fc_plain.proofs.plain.moves_to.Goals as goal
 
 pub loop-at-init : goal.loop-at-init
 loop-at-init c = record {

@@ -1,12 +1,11 @@
 -- What the solver answers, and when an answer is right: lists of moves alone, whatever the search keeps.
-use Rattle.std.specs.Prelude.{◌≡◌, ℕ, ◌<◌, ◌≤◌, List, length, All, Contains}
+use Rattle.std.specs.Prelude.{◌≡◌, ℕ, ◌<◌, ◌≤◌, List, length, Contains}
 use Rattle.fc_position.specs.Board.{Board}
 use Rattle.fc_moves.specs.declared.steps.Move.{Move}
 use Rattle.fc_moves.specs.GameRules.{GameRules}
-use Rattle.fc_moves.specs.MoveText.{HasText}
 use Rattle.fc_moves.specs.Run.{Run, IsShortest, CannotWin, ReachesMore}
-use Rattle.fc_solve.specs.declared.answers.Answer.{Answer}
-use Rattle.fc_solve.specs.declared.answers.Answer.TheVariants.{Shortest, CannotWin as cannot_win, GaveUp}
+use Rattle.fc_plain.specs.declared.plain.Answer.{Answer}
+use Rattle.fc_plain.specs.declared.plain.Answer.TheVariants.{Shortest, CannotWin as cannot_win, GaveUp}
 
 -- the answer is right for a board and a budget: the moves win and none win in fewer, or no moves win, or the budget is
 -- told and more positions than that can be reached
@@ -14,12 +13,6 @@ abbrev pub IsRight : GameRules → Board → ℕ → Answer → Type 0
 IsRight g b budget (Shortest moves) = IsShortest g b moves.items
 IsRight g b budget cannot_win = CannotWin g b
 IsRight g b budget (GaveUp told) = (told ≡ budget) × ReachesMore g b budget
-
--- each move of the answer has a text
-abbrev pub MovesHaveTexts : Answer → Type 0
-MovesHaveTexts (Shortest moves) = All HasText moves.items
-MovesHaveTexts cannot_win = Unit {0}
-MovesHaveTexts (GaveUp told) = Unit {0}
 
 -- at most so many boards, and every board that fewer moves than a number lead to is among them
 pub record ReachesAtMost (g : GameRules) (b : Board) (budget : ℕ) (count : ℕ) : Type 0 where
