@@ -60,19 +60,16 @@ pub fn settle<G: Game>(game: &G, position: &mut Position, rule: u8) -> ArrayVec<
 
 // The first card that goes home by the rule. The next cards are asked by rising number, and no more are asked once one
 // goes.
-fn first_home<G: Game>(
-    game: &G,
-    position: &Position,
-    rule: u8,
-    known: &mut Known,
-) -> Option<Goer>
+fn first_home<G: Game>(game: &G, position: &Position, rule: u8, known: &mut Known) -> Option<Goer>
     requires known { IsKnown (G.game game.now) position.now.homes known.old }
     ensures first { IfSome result (λ goer. IsFirstHome rule (G.game game.now) position.now goer.from goer.card) }
     ensures none { IfNone result (NoneGoesHome rule (G.game game.now) position.now) }
     ensures known { IsKnown (G.game game.now) position.now.homes known.new }
     ensures whole { IsPosition position.now }
 {
-    let mut nexts = next_cards(position);
+    let mut nexts = [None; 4];
+    add_columns(position, &mut nexts);
+    add_cells(position, &mut nexts);
     while let Some(goer) = least(&nexts) {
         if goes_home(game, position, rule, goer.card, known) {
             return Some(goer);
@@ -82,16 +79,25 @@ fn first_home<G: Game>(
     None
 }
 
-// The next card of each suit that is playable, in the order of the suits.
-fn next_cards(position: &Position) -> [Option<Goer>; 4]
-    ensures nexts { HasNexts (IsNext position.now.homes) position.now 12 result }
+// Finds the next cards that are the last of a column.
+fn add_columns(position: &Position, nexts: &mut [Option<Goer>; 4])
+    requires before { HasNexts (IsNext position.now.homes) position.now 0 nexts.old }
+    ensures after { HasNexts (IsNext position.now.homes) position.now 8 nexts.new }
     ensures whole { IsPosition position.now }
 {
-    let mut nexts = [None; 4];
-    for number in 0..12 {
-        add_next(position, source(number), &mut nexts);
+    for i in 0..8 {
+        add_next(position, Place::Column(i), nexts);
     }
-    nexts
+}
+
+// Finds those in a cell too.
+fn add_cells(position: &Position, nexts: &mut [Option<Goer>; 4])
+    requires before { HasNexts (IsNext position.now.homes) position.now 8 nexts.old }
+    ensures after { HasNexts (IsNext position.now.homes) position.now 12 nexts.new }
+{
+    for i in 0..4 {
+        add_next(position, Place::Cell(i), nexts);
+    }
 }
 
 // Adds the playable card of a place to those of the places before it, where it is next.
@@ -125,20 +131,8 @@ fn earlier(one: Option<Goer>, other: Option<Goer>) -> Option<Goer>
     ensures earlier { IsEarlier one other result }
 {
     match (one, other) {
-        (Some(first), Some(second)) => Some(if second.card < first.card { second } else { first }),
         (None, _) => other,
-        _ => one,
-    }
-}
-
-// The place with this number from which cards may go: the columns from 0 on, the cells from 8 on.
-fn source(number: u8) -> Place
-    requires below { number < 12 }
-    ensures number { place_number result ≡ number }
-    ensures there { IsThere result }
-{
-    match number {
-        0..8 => Place::Column(number),
-        _ => Place::Cell(number - 8),
+        (_, None) => one,
+        (Some(first), Some(second)) => { if second.card < first.card { other } else { one } }
     }
 }

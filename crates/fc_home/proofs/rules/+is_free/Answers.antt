@@ -44,8 +44,7 @@ returns g t c =
     let game = g.G.Game.game c.args.game.now in
     let homes = c.args.position.now.homes in
     let next = c.is_next.ensures.value.0 c.if-not-is_next.false in
-    let told : IsTrue true ↔ IsFree game homes c.args.card =
-    (
+    let told : IsTrue true ↔ IsFree game homes c.args.card = (
       λ _. free_by_hosts game homes c.args.card (g.met.G.Game.sound c.args.game.now) next
           (λ u stands. all_looked_at (λ n. IsHome homes n ⊎ IsFree game homes n) c.hosts_of-hosts.result.items c.as_slice-host-items.result.now
           c.loop-host.host-index u c.as_slice-host-items.ensures.value c.loop-host-test.false c.loop-host.invariant.looked

@@ -13,6 +13,6 @@ decreases-is_free g l = rank l.card
 abbrev pub invariant-loop-host : goal.invariant-loop-host
 invariant-loop-host g l = record {
   looked : (k d : ℕ) → k < l.host-index
-    → IsHome l.position.homes (get_or l.host-items k d) ⊎ IsFree (g.G.Game.game l.game) l.position.homes (get_or l.host-items k d);
+      → IsHome l.position.homes (get_or l.host-items k d) ⊎ IsFree (g.G.Game.game l.game) l.position.homes (get_or l.host-items k d);
   known : IsKnown (g.G.Game.game l.game) l.position.homes l.known;
 }

@@ -10,7 +10,7 @@ use Rattle.fc_home.proofs.settling.first_home.Goals as goal
 pub returns-then-goes_home-clause-first : goal.returns-then-goes_home-clause-first
 returns-then-goes_home-clause-first g c =
     least_first c.args.rule (g.G.Game.game c.args.game.now) c.args.position.now c.loop-goer.nexts c.in-Some.goer
-    c.next_cards-nexts.ensures.whole c.loop-goer.invariant.nexts c.in-Some.ensures.least (c.goes_home.ensures.value.0 c.if-goes_home.true)
+    c.add_columns.ensures.whole c.loop-goer.invariant.nexts c.in-Some.ensures.least (c.goes_home.ensures.value.0 c.if-goes_home.true)
 
 pub loop-goer-preserved : goal.loop-goer-preserved
 loop-goer-preserved g c =
@@ -27,5 +27,5 @@ loop-goer-preserved g c =
 
 pub returns-clause-none : goal.returns-clause-none
 returns-clause-none g c =
-    least_none c.args.rule (g.G.Game.game c.args.game.now) c.args.position.now c.loop-goer.nexts c.next_cards-nexts.ensures.whole
+    least_none c.args.rule (g.G.Game.game c.args.game.now) c.args.position.now c.loop-goer.nexts c.add_columns.ensures.whole
     c.loop-goer.invariant.nexts c.in_default.ensures.least
