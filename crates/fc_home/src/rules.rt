@@ -1,4 +1,4 @@
-ghost use Rattle.std.specs.Prelude.{◌≡◌, ◌↔◌, IsTrue};
+ghost use Rattle.std.specs.Prelude.{◌↔◌, IsTrue};
 ghost use Rattle.fc_position.specs.Board.{IsHome, IsNext};
 ghost use Rattle.fc_home.specs.HomeRule.{IsForced, IsFree, GoesHome};
 ghost use Rattle.fc_home.specs.Known.{IsKnown, IsLevel};

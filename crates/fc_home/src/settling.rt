@@ -1,11 +1,10 @@
-ghost use Rattle.std.specs.Prelude.{◌≡◌, ℕ, ◌+◌, ◌≤◌, ◌<◌, ◌↔◌, length, IsTrue, IfSome, IfNone};
+ghost use Rattle.std.specs.Prelude.{◌+◌, ◌≤◌, length, IfSome, IfNone};
 ghost use Rattle.fc_cards.specs.declared.places.Place.{Place};
 ghost use Rattle.fc_position.specs.Board.{IsNext};
 ghost use Rattle.fc_position.specs.Position.{IsPosition, Fits};
 ghost use Rattle.fc_moves.specs.MoveText.{IsThere};
 ghost use Rattle.fc_moves.specs.Run.{Run};
 ghost use Rattle.fc_moves.specs.Step.{place_number};
-ghost use Rattle.fc_home.specs.HomeRule.{GoesHome};
 ghost use Rattle.fc_home.specs.Known.{IsKnown};
 ghost use Rattle.fc_home.specs.Nexts.{HasNexts, IsLeastBelow, IsEarlier};
 ghost use Rattle.fc_home.specs.Settles.{IsFirstHome, NoneGoesHome, SettlesBy, Settles};
