@@ -17,9 +17,8 @@ use Rattle.fc_canonical.proofs.DistinctLemmas.{source_once}
 use Rattle.fc_home.specs.declared.settling.Goer.{Goer}
 use Rattle.fc_home.specs.HomeRule.{IsFreeWithin, GoesHome}
 use Rattle.fc_home.specs.Laws.{PositionsSettle, PositionsSettleInOneWay, SettlingMovesAreOne}
-use Rattle.fc_home.specs.Search.{IsFirstBelow}
 use Rattle.fc_home.specs.Settles.{IsFirstHome, NoneGoesHome, SettlesBy, sent_home}
-use Rattle.fc_home.proofs.SearchLemmas.{first_of_none, GoesAfter, GoesBefore, first_stays, first_changes, first_found, none_found, stays_at_none, stays_at_stuck}
+use Rattle.fc_home.proofs.SearchLemmas.{IsFirstBelow, first_of_none, GoesAfter, GoesBefore, first_stays, first_changes, first_found, none_found, stays_at_none, stays_at_stuck}
 use Rattle.fc_home.proofs.SettleLemmas.{total, turn_total, sent_position}
 
 -- what holds, or doesn't
