@@ -3,9 +3,9 @@
 
 mod answers;
 mod faults;
-mod runs;
 #[cfg(test)]
 mod random_tests;
+mod runs;
 #[cfg(test)]
 mod tests;
 mod words;

@@ -47,7 +47,9 @@ fn random_board(numbers: &mut Numbers, cells: u32) -> Result<Position, Fail> {
         if numbers.below(4) == 0 && (place as u32) < cells && held[place].is_none() {
             held[place] = Some(card);
         } else {
-            columns[place % 3].try_push(card).map_err(|_| "a full column")?;
+            columns[place % 3]
+                .try_push(card)
+                .map_err(|_| "a full column")?;
         }
     }
     Ok(Position::from_parts(columns, held, homes)?)

@@ -11,8 +11,8 @@ use fc_deal::{deal, deal_text};
 use fc_io::{ReadFault, Sink, Source, read_to_vec, read_up_to, write_all};
 use fc_moves::Game;
 use fc_position::Position;
-use fc_search::{MOST_BUDGET, solve};
 use fc_replay::{ReplayFault, replay};
+use fc_search::{MOST_BUDGET, solve};
 use fc_text::read_board;
 use std::alloc::Global;
 

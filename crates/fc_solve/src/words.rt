@@ -48,7 +48,9 @@ fn solve_command<'a>(alloc: Global) -> Result<Command<'a>, AllocError> {
     let rule = Arg::new(alloc, "rule")
         .long("rule")
         .value_name("R")
-        .help("Which cards go home at once: none (0), those on which no card left can stand (1), or all free cards (2)")
+        .help(
+            "Which cards go home at once: none (0), those on which no card left can stand (1), or all free cards (2)",
+        )
         .value_parser(value_parser!(u8).range(0..=2))
         .default_value("2");
     let board = Arg::new(alloc, "BOARD").help(
