@@ -11,6 +11,7 @@ use std::process::Abort;
 use std::test::Fail;
 
 // Numbers that look random: those of the generator of C's older libraries.
+#[derive(Drop)]
 struct Numbers {
     state: u32,
 }
