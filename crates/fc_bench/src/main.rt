@@ -8,7 +8,7 @@ use fc_canonical::{Key, canonical, distinct_moves, key};
 use fc_cards::{Card, Place, Suit};
 use fc_frontier::{BucketFrontier, Frontier};
 use fc_home::settle;
-use fc_moves::{FreeCell, Move, allows, apply, moves};
+use fc_moves::{FreeCell, Game, Move, allows, apply, moves};
 use fc_position::Position;
 use std::alloc::Global;
 use std::rt::Clock;
@@ -41,6 +41,17 @@ fn start() -> Option<Position> {
             let card = Card::read(word.get(..2)?)?;
             column.try_push(card).ok()?;
         }
+    }
+    Position::from_parts(columns, [None; 4], [0; 4]).ok()
+}
+
+/// All 52 cards in so many columns, 1 to 4, the kings deepest: in one, or by suit, the clubs in the last.
+fn piled(count: u8) -> Option<Position> {
+    let mut columns: [ArrayVec<Card, 52>; 8] = Default::default();
+    for number in 0..52 {
+        let card = Card::from_index(51 - number)?;
+        let place = (3 - card.suit().index()).checked_rem(count)?;
+        columns.get_mut(place as usize)?.try_push(card).ok()?;
     }
     Position::from_parts(columns, [None; 4], [0; 4]).ok()
 }
@@ -122,19 +133,96 @@ fn list_moves(game: &FreeCell, position: &mut Position, rounds: u32) -> usize {
     count
 }
 
-/// Settles a position by rule 2 again and again, with the last card of a column going to a cell and back.
-fn settle_positions(game: &FreeCell, position: &mut Position, rounds: u32) -> usize {
+/// Settles a position by a call again and again, with the last card of a column going to a cell and back.
+fn settle_positions<F: FnMut(&mut Position) -> usize>(
+    position: &Position,
+    rounds: u32,
+    mut settled: F,
+) -> usize
+    requires { F.IsAlwaysCallable settled }
+{
+    let mut board = position.copy();
     let mut count = 0usize;
     for i in 0..rounds {
-        count = count.wrapping_add(settle(game, position, 2).len());
+        count = count.wrapping_add(settled(&mut board));
         let column = Place::Column((i % 8) as u8);
-        if position.cell(0).is_some() {
-            position.shift(Place::Cell(0), column);
-        } else if position.playable(column).is_some() {
-            position.shift(column, Place::Cell(0));
+        if board.cell(0).is_some() {
+            board.shift(Place::Cell(0), column);
+        } else if board.playable(column).is_some() {
+            board.shift(column, Place::Cell(0));
         }
     }
     count
+}
+
+/// Settles a copy of a position by a call again and again.
+fn settle_copies<F: FnMut(&mut Position) -> usize>(
+    position: &Position,
+    rounds: u32,
+    mut settled: F,
+) -> usize
+    requires { F.IsAlwaysCallable settled }
+{
+    let mut count = 0usize;
+    for _ in 0..rounds {
+        let mut board = position.copy();
+        count = count.wrapping_add(settled(&mut board));
+    }
+    count
+}
+
+/// Whether a card is free, in its plain form: each card that may stand on one is looked at, down so many ranks.
+fn plain_free(game: &FreeCell, position: &Position, card: Card, depth: u8) -> bool {
+    if depth == 0 || position.home(card.suit()) + 1 != card.rank() {
+        return false;
+    }
+    let hosts = game.hosts_of(card);
+    for host in hosts.as_slice() {
+        let is_home = host.rank() <= position.home(host.suit());
+        if !is_home && !plain_free(game, position, *host, depth - 1) {
+            return false;
+        }
+    }
+    true
+}
+
+/// Where the first card that goes home by rule 2 lies, in its plain form: each place is asked.
+fn plain_first(game: &FreeCell, position: &Position) -> Option<Place> {
+    let mut least = 52;
+    let mut place = None;
+    for number in 0..12 {
+        let from = match number {
+            0..8 => Place::Column(number),
+            _ => Place::Cell(number - 8),
+        };
+        if let Some(card) = position.playable(from)
+            && card.index() < least
+            && plain_free(game, position, card, 13)
+        {
+            least = card.index();
+            place = Some(from);
+        }
+    }
+    place
+}
+
+/// Settles a position by rule 2 in its plain form: after each move, all is asked again.
+fn plain_settle(game: &FreeCell, position: &mut Position) -> ArrayVec<Move, 52> {
+    let mut moves = ArrayVec::new();
+    for _ in 0..53 {
+        let Some(from) = plain_first(game, position) else {
+            break;
+        };
+        let m = Move {
+            from,
+            to: Place::Home,
+        };
+        if allows(game, position, m) {
+            apply(game, position, m);
+        }
+        let _ = moves.try_push(m);
+    }
+    moves
 }
 
 /// Pushes so many pairs over 40 values of f, and takes them out again.
@@ -309,9 +397,18 @@ fn bench_search_parts(
     bytes: u64,
 ) -> io::Result<()> {
     let calls = u64::from(rounds);
-    let mut board = position.copy();
-    let settled = measured(rt, || settle_positions(game, &mut board, rounds))?;
+    let settled = measured(rt, || {
+        settle_positions(position, rounds, |board| settle(game, board, 2).len())
+    })?;
     report(rt, "settle, by rule 2", calls, settled, bytes, calls)?;
+    let settled = measured(rt, || {
+        settle_positions(position, rounds, |board| plain_settle(game, board).len())
+    })?;
+    report(rt, "settle, plainly", calls, settled, bytes, calls)?;
+    if let (Some(pile), Some(suits)) = (piled(1), piled(4)) {
+        bench_settle(rt, "one column", &pile, game, rounds / 16, bytes, calls)?;
+        bench_settle(rt, "four columns", &suits, game, rounds / 16, bytes, calls)?;
+    }
     let bounds = measured(rt, || {
         ask(position, rounds, |board| bound(board) as usize)
     })?;
@@ -319,6 +416,28 @@ fn bench_search_parts(
     let alloc = rt.alloc();
     let queue = measured(rt, || fill_and_drain(alloc, rounds))?;
     report(rt, "push and pop_least", 2 * calls, queue, bytes, calls)
+}
+
+/// Measures settling a copy of a position where many cards go, so often, and its plain form.
+fn bench_settle(
+    rt: &(impl Clock + Print),
+    name: &str,
+    position: &Position,
+    game: &FreeCell,
+    rounds: u32,
+    bytes: u64,
+    copies: u64,
+) -> io::Result<()> {
+    let calls = u64::from(rounds);
+    println!(rt; "52 cards in {name}, with the copy of the position:")?;
+    let settled = measured(rt, || {
+        settle_copies(position, rounds, |board| settle(game, board, 2).len())
+    })?;
+    report(rt, "  settle, by rule 2", calls, settled, bytes, copies)?;
+    let settled = measured(rt, || {
+        settle_copies(position, rounds, |board| plain_settle(game, board).len())
+    })?;
+    report(rt, "  settle, plainly", calls, settled, bytes, copies)
 }
 
 fn main(rt: HostRuntime) -> io::Result<()> {

@@ -107,6 +107,7 @@ impl<K: ExactKey, F: Frontier + Drop, S: Space<K> + Drop> Search<K, F, S> {
         ensures value { result.now ≡ self.now.status }
         ensures holds { Holds (S.graph self.now.space) self.now.budget self.now.store self.now.status }
         ensures shows { Shows (S.graph self.now.space) self.now.budget self.now.store self.now.status }
+        ensures most { self.now.budget ≤ 4000000 }
     {
         &self.status
     }

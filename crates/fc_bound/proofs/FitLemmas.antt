@@ -14,7 +14,7 @@ use Rattle.fc_canonical.proofs.Rearrange.{one_full}
 use Rattle.fc_bound.specs.Laws.{CanonicalBoardsFit}
 
 -- where the options from n on are empty, at most n are full
-few_full : (n : ℕ) (xs : List (Option ℕ)) → ((i : ℕ) → n ≤ i → get_or xs i None ≡ None) → sum_by one_full xs ≤ n
+pub few_full : (n : ℕ) (xs : List (Option ℕ)) → ((i : ℕ) → n ≤ i → get_or xs i None ≡ None) → sum_by one_full xs ≤ n
 few_full n [] empty = omega arith
 few_full zero (x ∷ xs) empty =
     let none : one_full x ≡ 0 = ap one_full (empty 0 (omega arith)) in

@@ -1,8 +1,10 @@
 pub mod AboveLemmas
 pub mod CountLemmas
+pub mod EveryLemmas
 pub mod FitLemmas
 pub mod HeldLemmas
 pub mod LookLemmas
 pub mod RowLemmas
 pub mod TableLemmas
 pub mod TellLemmas
+pub mod WitnessLemmas

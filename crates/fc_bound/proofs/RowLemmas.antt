@@ -3,10 +3,10 @@ use Rattle.std.proofs.Common.{ℕ, ◌+◌, ◌<◌, ◌↔◌, inl, inr, ⊎_el
 use Rattle.std.specs.Prelude.{Contains}
 use Rattle.std.proofs.lemmas.Bool.{cases_lt}
 use Rattle.fc_position.specs.Board.{Board}
-use Rattle.fc_home.proofs.WayLemmas.{settles_all}
 use Rattle.fc_bound.specs.Bound.{bound}
 use Rattle.fc_bound.specs.Laws.{RowsInsideAreClosedBelow, ClosedInsideAllIsClosed, CostsOfClosedTablesAreFree, NoEmptyTableIsClosed}
 use Rattle.fc_bound.specs.Table.{Table, ListsClass, Covered}
+use Rattle.fc_bound.proofs.EveryLemmas.{every_settles}
 use Rattle.fc_bound.proofs.HeldLemmas.{class_bound}
 
 -- what a table covers is covered by its pairs whose cost and bound are below n
@@ -53,7 +53,7 @@ costs_free g rule p S T closed boards = record {
   over x (e, listed, same) = let other = (boards e.0).1 (e.1, listed) in ((e.0, other.0), other.1, same)
 
 pub empty_open : NoEmptyTableIsClosed
-empty_open g rule p pp closed =
-    let way = settles_all g rule p pp in
+empty_open g rule p closed =
+    let way = every_settles g rule p in
     let found = closed.start way.1 way.0 way.2 in
     absurd (omega (arith, found.1.1))

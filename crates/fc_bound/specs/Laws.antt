@@ -1,15 +1,16 @@
 -- What the laws of this crate state.
-use Rattle.std.specs.Prelude.{◌≡◌, ℕ, ◌+◌, ◌<◌, ◌≤◌, ◌↔◌, IsTrue, length, List, [], Contains}
+use Rattle.std.specs.Prelude.{◌≡◌, ℕ, ◌+◌, ◌<◌, ◌≤◌, ◌↔◌, IsTrue, length, List, [], Option, Contains}
 use Rattle.fc_position.specs.Board.{Board, IsHome}
-use Rattle.fc_position.specs.Position.{IsPosition}
+use Rattle.fc_position.specs.Position.{IsShaped, IsPosition, Fits}
 use Rattle.fc_moves.specs.declared.steps.Move.{Move}
-use Rattle.fc_moves.specs.GameRules.{GameRules, IsPositionOf}
+use Rattle.fc_moves.specs.GameRules.{GameRules, Opens, IsPositionOf}
 use Rattle.fc_moves.specs.Run.{Wins, CannotWin}
 use Rattle.fc_moves.specs.Step.{Step}
 use Rattle.fc_canonical.specs.Class.{SameClass}
 use Rattle.fc_canonical.specs.Order.{IsCanonical}
+use Rattle.fc_home.specs.Settles.{Settles}
 use Rattle.fc_bound.specs.Bound.{bound, is_away, is_held_back, StandsAboveLower}
-use Rattle.fc_bound.specs.Table.{Table, StepsCovered, StepsListed, ClassesCovered, ClassesListed, ListsFitting, IsClosedBelow, IsClosedInside, IsClosed, IsSeenClosedBelow, IsSeenClosed}
+use Rattle.fc_bound.specs.Table.{Table, StepsCovered, StepsListed, ClassesCovered, ClassesListed, ListsFitting, IsClosedBelow, IsClosedInside, IsClosed, IsSeenClosedBelow, IsSeenClosed, SettlesEach, IsLossless, IsClosedBy}
 
 -- the tests by which the bound counts tell exactly the cards that are not home, and those above a lower card of their suit
 abbrev pub TestsTellTheCards : Type 0
@@ -36,6 +37,36 @@ ClosedBelowLeavesNoShorterList = (g : GameRules) (rule : ℕ) (p : Board) (n : �
 -- a closed table leaves no winning list at all
 abbrev pub ClosedLeavesNoList : Type 0
 ClosedLeavesNoList = (g : GameRules) (rule : ℕ) (p : Board) (T : Table) → IsPositionOf g p → IsClosed g rule p T → CannotWin g p
+
+-- nor does one that is closed by any way of settling by which every position of the game settles, and nothing is lost
+abbrev pub ClosedByAnySettlingLeavesNoList : Type 0
+ClosedByAnySettlingLeavesNoList = (settle : Board → Option (ℕ × Board)) (g : GameRules) (p : Board) (T : Table) → IsPositionOf g p
+    → SettlesEach settle g → IsLossless settle g → IsClosedBy settle g p T → CannotWin g p
+
+-- where positions need not settle, that fails: in every game a table is closed by some lossless way of settling, for a
+-- position of the game from which a list of moves wins
+abbrev pub ClosedTablesNeedSettling : Type 0
+ClosedTablesNeedSettling = (g : GameRules) → (settle : Board → Option (ℕ × Board)) × (p : Board) × (T : Table) × (ms : List Move)
+    × IsPositionOf g p × IsLossless settle g × IsClosedBy settle g p T × Wins g p ms
+
+-- some table is closed for the board, and closed below every number, and yet a list of moves wins from the board
+pub record IsClosedYetWon (g : GameRules) (rule : ℕ) (p : Board) : Type 0 where
+  pub table : Table
+  pub moves : List Move
+  pub closed : IsClosed g rule p table
+  pub below : (n : ℕ) → IsClosedBelow g rule p n table
+  pub wins : Wins g p moves
+
+-- so it is from a position that doesn't fit the game: in each game with less than four cells in which the king of spades
+-- may go to an empty column, and by each home rule
+abbrev pub ClosedTablesNeedFitting : Type 0
+ClosedTablesNeedFitting = (g : GameRules) (rule : ℕ) → g.cells < 4 → Opens g 51
+    → (p : Board) × IsPosition p × IsClosedYetWon g rule p
+
+-- and from a board that fits, but on which a card has two places: in each game with a cell, and by each home rule
+abbrev pub ClosedTablesNeedPositions : Type 0
+ClosedTablesNeedPositions = (g : GameRules) (rule : ℕ) → 0 < g.cells
+    → (p : Board) × IsShaped p × Fits g.cells p × IsClosedYetWon g rule p
 
 -- a table that is closed inside n leaves no winning list shorter than n either
 abbrev pub ClosedInsideLeavesNoShorterList : Type 0
@@ -84,9 +115,13 @@ abbrev pub CostsOfClosedTablesAreFree : Type 0
 CostsOfClosedTablesAreFree = (g : GameRules) (rule : ℕ) (p : Board) (S T : Table) → IsClosed g rule p T
     → ((x : Board) → ((d : ℕ) × Contains S (x, d)) ↔ ((d : ℕ) × Contains T (x, d))) → IsClosed g rule p S
 
--- no empty table is closed, since every position settles
+-- every board settles by every home rule, whether or not it is a position
+abbrev pub EveryBoardSettles : Type 0
+EveryBoardSettles = (g : GameRules) (rule : ℕ) (b : Board) → (count : ℕ) × (q : Board) × Settles g rule b count q
+
+-- so no empty table is closed
 abbrev pub NoEmptyTableIsClosed : Type 0
-NoEmptyTableIsClosed = (g : GameRules) (rule : ℕ) (p : Board) → IsPosition p → IsClosed g rule p [] → ⊥
+NoEmptyTableIsClosed = (g : GameRules) (rule : ℕ) (p : Board) → IsClosed g rule p [] → ⊥
 
 -- a canonical board is a position of the game wherever any board of its class is one
 abbrev pub CanonicalBoardsFit : Type 0

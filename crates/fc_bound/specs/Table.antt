@@ -1,11 +1,12 @@
 -- Tables of classes and costs, and when such a table is a proof that no winning list is short, or that there is none.
-use Rattle.std.specs.Prelude.{ℕ, ◌+◌, ◌<◌, ◌≤◌, ◌⊎◌, List, Contains}
+use Rattle.std.specs.Prelude.{◌≡◌, ℕ, ◌+◌, ◌-◌, ◌<◌, ◌≤◌, ◌⊎◌, List, Option, Some, Contains}
 use Rattle.fc_position.specs.Board.{Board}
 use Rattle.fc_position.specs.Position.{IsWon}
 use Rattle.fc_moves.specs.declared.steps.Move.{Move}
 use Rattle.fc_moves.specs.GameRules.{GameRules, IsPositionOf}
 use Rattle.fc_moves.specs.Step.{Step}
 use Rattle.fc_canonical.specs.Class.{SameClass}
+use Rattle.fc_home.specs.Laws.{WinsWithin}
 use Rattle.fc_home.specs.Settles.{Settles}
 use Rattle.fc_bound.specs.Bound.{bound}
 
@@ -56,6 +57,28 @@ pub record IsClosed (g : GameRules) (rule : ℕ) (p : Board) (T : Table) : Type 
   pub not_won : (e : Board × ℕ) → Contains T e → IsWon e.0 → ⊥
   pub start : (q : Board) (k : ℕ) → Settles g rule p k q → ListsClass T q
   pub steps : (e : Board × ℕ) (x : Board) → Contains T e → IsPositionOf g x → SameClass x e.0 → StepsListed g rule T x
+
+-- any way of settling at all, which tells of a board in how many moves it settles and to which board, if it settles
+abbrev pub SettlesTo : (Board → Option (ℕ × Board)) → Board → ℕ → Board → Type 0
+SettlesTo settle b k q = settle b ≡ Some (k, q)
+
+-- by it every position of the game settles
+abbrev pub SettlesEach : (Board → Option (ℕ × Board)) → GameRules → Type 0
+SettlesEach settle g = (b : Board) → IsPositionOf g b → (k : ℕ) × (q : Board) × SettlesTo settle b k q
+
+-- it leads from positions of the game to positions of the game, and loses nothing: where a list of at most so many moves
+-- wins, the settling moves are no more, and a list of at most the others wins from the settled position
+pub record IsLossless (settle : Board → Option (ℕ × Board)) (g : GameRules) : Type 0 where
+  pub keeps : (b q : Board) (k : ℕ) → IsPositionOf g b → SettlesTo settle b k q → IsPositionOf g q
+  pub loses_nothing : (b q : Board) (k most : ℕ) → IsPositionOf g b → SettlesTo settle b k q → WinsWithin g b most
+      → (k ≤ most) × WinsWithin g q (most - k)
+
+-- closed, with such a way of settling in place of a home rule
+pub record IsClosedBy (settle : Board → Option (ℕ × Board)) (g : GameRules) (p : Board) (T : Table) : Type 0 where
+  pub not_won : (e : Board × ℕ) → Contains T e → IsWon e.0 → ⊥
+  pub start : (q : Board) (k : ℕ) → SettlesTo settle p k q → ListsClass T q
+  pub steps : (e : Board × ℕ) (x : Board) → Contains T e → IsPositionOf g x → SameClass x e.0
+      → (m : Move) (y z : Board) (k : ℕ) → Step g x m y → SettlesTo settle y k z → ListsClass T z
 
 -- a listed board is a position of the game wherever any board of its class is one
 abbrev pub ListsFitting : GameRules → Table → Type 0

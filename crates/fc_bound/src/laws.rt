@@ -2,7 +2,8 @@
 
 ghost use Rattle.fc_bound.specs.Laws.{TestsTellTheCards, StepsLowerTheBoundByOne, WinsNeedTheBound, ClassMatesHaveOneBound};
 ghost use Rattle.fc_bound.specs.Laws.{ClosedBelowLeavesNoShorterList, ClosedLeavesNoList, ClosedInsideLeavesNoShorterList, ClosedBelowIsClosedInside};
-ghost use Rattle.fc_bound.specs.Laws.{OneBoardOfAClassIsEnough, OneBoardIsEnoughWithoutBound, ClosedBelowIsSeen, ClosedIsSeen, RowsInsideAreClosedBelow, ClosedInsideAllIsClosed, CostsOfClosedTablesAreFree, NoEmptyTableIsClosed, CanonicalBoardsFit};
+ghost use Rattle.fc_bound.specs.Laws.{ClosedByAnySettlingLeavesNoList, ClosedTablesNeedSettling, ClosedTablesNeedFitting, ClosedTablesNeedPositions};
+ghost use Rattle.fc_bound.specs.Laws.{OneBoardOfAClassIsEnough, OneBoardIsEnoughWithoutBound, ClosedBelowIsSeen, ClosedIsSeen, RowsInsideAreClosedBelow, ClosedInsideAllIsClosed, CostsOfClosedTablesAreFree, EveryBoardSettles, NoEmptyTableIsClosed, CanonicalBoardsFit};
 
 /// The bound counts exactly the cards that are not home, and the cards that stand above a lower card of their own suit
 /// in their column.
@@ -34,6 +35,31 @@ pub fn closed_below_leaves_no_shorter_list()
 /// A closed table leaves no winning list at all, in every game and by every home rule.
 pub fn closed_leaves_no_list()
     ensures { ClosedLeavesNoList }
+{}
+
+/// Nor does a table that is closed by any other way of settling, if every position of the game settles by it and nothing
+/// is lost; the home rules are such ways.
+pub fn closed_by_any_settling_leaves_no_list()
+    ensures { ClosedByAnySettlingLeavesNoList }
+{}
+
+/// Where positions need not settle, a closed table proves nothing: in every game, by some way of settling that loses
+/// nothing, some table is closed for a position from which a list wins.
+pub fn closed_tables_need_settling()
+    ensures { ClosedTablesNeedSettling }
+{}
+
+/// A closed table proves nothing of a position that doesn't fit the game: in each game with fewer than four cells in
+/// which the king of spades may go to an empty column, and by each home rule, some table is closed for a position from
+/// which a list wins.
+pub fn closed_tables_need_fitting()
+    ensures { ClosedTablesNeedFitting }
+{}
+
+/// Nor of a board on which a card has two places, even one that fits: in each game with a cell, and by each home rule,
+/// some table is closed for such a board from which a list wins.
+pub fn closed_tables_need_positions()
+    ensures { ClosedTablesNeedPositions }
 {}
 
 /// A table that lists won classes, where their cost and their bound reach n, leaves no winning list shorter than n
@@ -85,7 +111,12 @@ pub fn costs_of_closed_tables_are_free()
     ensures { CostsOfClosedTablesAreFree }
 {}
 
-/// No empty table is closed, since every position settles.
+/// Every board settles by every home rule, in every game, whether or not each card has one place.
+pub fn every_board_settles()
+    ensures { EveryBoardSettles }
+{}
+
+/// No empty table is closed, for any board, since every board settles.
 pub fn no_empty_table_is_closed()
     ensures { NoEmptyTableIsClosed }
 {}

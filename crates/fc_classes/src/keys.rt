@@ -3,9 +3,9 @@ ghost use Rattle.fc_position.specs.Position.{IsPosition};
 ghost use Rattle.fc_canonical.specs.Key.{IsKeyOf, BeginsWithKey};
 ghost use Rattle.fc_classes.specs.Key.{bytes_exact};
 
+use fc_best_first::ExactKey;
 use fc_canonical::{Key, key};
 use fc_position::Position;
-use fc_best_first::ExactKey;
 use std::hash::{Hash, Hasher};
 use std::marker::Model;
 

@@ -15,7 +15,7 @@ own_count : (homes : List ℕ) (u s : ℕ) → length homes ≡ 4 → s ≡ suit
 own_count homes u s four e =
     ap (slice_index (with_home homes u)) e ∙ get_or-set_same homes (suit u) (rank u) 0 (omega arith)
 
-other_count : (homes : List ℕ) (u s : ℕ) → (s ≡ suit u → ⊥) → slice_index (with_home homes u) s ≡ slice_index homes s
+pub other_count : (homes : List ℕ) (u s : ℕ) → (s ≡ suit u → ⊥) → slice_index (with_home homes u) s ≡ slice_index homes s
 other_count homes u s ne = get_or-set_other homes (suit u) s (rank u) 0 ne
 
 -- a card that is home stays home, the card itself is home, and no other is
@@ -38,7 +38,7 @@ home-cases homes u c four next home =
     (cases_eq (suit c) (suit u))
 
 -- a card that is next is home or still next
-next-kept : (homes : List ℕ) (u c : ℕ) → length homes ≡ 4 → IsNext homes u → IsNext homes c
+pub next-kept : (homes : List ℕ) (u c : ℕ) → length homes ≡ 4 → IsNext homes u → IsNext homes c
     → IsHome (with_home homes u) c ⊎ IsNext (with_home homes u) c
 next-kept homes u c four next also =
     ⊎_elim (λ e. inl (omega (arith, own_count homes u (suit c) four e, ap (slice_index homes) e, next, also)))

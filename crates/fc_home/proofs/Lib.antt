@@ -1,7 +1,9 @@
 pub mod CountLemmas
 pub mod CoverLemmas
+pub mod KnownLemmas
 pub mod LossLemmas
 pub mod MateLemmas
+pub mod NextLemmas
 pub mod RuleLemmas
 pub mod SearchLemmas
 pub mod SettleLemmas

@@ -11,8 +11,15 @@ use Rattle.fc_moves.specs.Step.{place_number}
 use Rattle.fc_moves.proofs.StepLemmas.{place_once, source_there, source_is_there, source_most}
 use Rattle.fc_home.specs.declared.settling.Goer.{Goer}
 use Rattle.fc_home.specs.HomeRule.{GoesHome}
-use Rattle.fc_home.specs.Search.{IsFirstBelow}
 use Rattle.fc_home.specs.Settles.{IsFirstHome, NoneGoesHome}
+
+-- of the cards that lie playable at places with numbers below n, this one goes home first, or none goes
+abbrev pub IsFirstBelow : ℕ → GameRules → Board → ℕ → Option Goer → Type 0
+IsFirstBelow rule g b n None =
+    (other : Place) (d : ℕ) → place_number other < n → playable b other ≡ Some d → GoesHome rule g b.homes d → ⊥
+IsFirstBelow rule g b n (Some goer) =
+    (playable b goer.from ≡ Some goer.card) × GoesHome rule g b.homes goer.card
+    × ((other : Place) (d : ℕ) → place_number other < n → playable b other ≡ Some d → GoesHome rule g b.homes d → goer.card ≤ d)
 
 -- no card lies at a place with a number below zero
 pub first_of_none : (rule : ℕ) (g : GameRules) (b : Board) → IsFirstBelow rule g b 0 None
@@ -28,7 +35,7 @@ GoesBefore None d = Unit {0}
 GoesBefore (Some goer) d = d < goer.card
 
 -- a place up to this one is an earlier one or this one
-up_to : (b : Board) (from other : Place) (d : ℕ) → IsPosition b → IsThere from → playable b other ≡ Some d
+pub up_to : (b : Board) (from other : Place) (d : ℕ) → IsPosition b → IsThere from → playable b other ≡ Some d
     → place_number other < place_number from + 1 → (place_number other < place_number from) ⊎ (other ≡ from)
 up_to b from other d p at there below =
     ⊎_elim (λ lt. inl lt)

@@ -17,9 +17,8 @@ use Rattle.fc_canonical.proofs.DistinctLemmas.{source_once}
 use Rattle.fc_home.specs.declared.settling.Goer.{Goer}
 use Rattle.fc_home.specs.HomeRule.{IsFreeWithin, GoesHome}
 use Rattle.fc_home.specs.Laws.{PositionsSettle, PositionsSettleInOneWay, SettlingMovesAreOne}
-use Rattle.fc_home.specs.Search.{IsFirstBelow}
 use Rattle.fc_home.specs.Settles.{IsFirstHome, NoneGoesHome, SettlesBy, sent_home}
-use Rattle.fc_home.proofs.SearchLemmas.{first_of_none, GoesAfter, GoesBefore, first_stays, first_changes, first_found, none_found, stays_at_none, stays_at_stuck}
+use Rattle.fc_home.proofs.SearchLemmas.{IsFirstBelow, first_of_none, GoesAfter, GoesBefore, first_stays, first_changes, first_found, none_found, stays_at_none, stays_at_stuck}
 use Rattle.fc_home.proofs.SettleLemmas.{total, turn_total, sent_position}
 
 -- what holds, or doesn't
@@ -67,7 +66,7 @@ decide_free (suc depth) g homes c =
     (λ u. either (IsHome homes u) (IsFreeWithin depth g homes u) (decide_home homes u) (decide_free depth g homes u)))
 
 -- whether a card goes home
-decide_goes : (rule : ℕ) (g : GameRules) (homes : List ℕ) (c : ℕ) → Decided (GoesHome rule g homes c)
+pub decide_goes : (rule : ℕ) (g : GameRules) (homes : List ℕ) (c : ℕ) → Decided (GoesHome rule g homes c)
 decide_goes zero g homes c = inr (λ f. f)
 decide_goes (suc zero) g homes c =
     both (IsNext homes c) ((u : ℕ) → Stands g u c → IsHome homes u) (decide_next homes c)

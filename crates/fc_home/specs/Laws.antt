@@ -1,12 +1,13 @@
 -- What the laws of this crate state.
-use Rattle.std.specs.Prelude.{◌≡◌, ℕ, ◌-◌, ◌≤◌, ◌⊎◌, ◌↔◌, length, List}
+use Rattle.std.specs.Prelude.{◌≡◌, ℕ, ◌-◌, ◌≤◌, ◌⊎◌, ◌↔◌, length, List, slice_set}
+use Rattle.fc_cards.specs.Card.{rank, suit}
 use Rattle.fc_position.specs.Board.{Board, IsHome, IsNext}
 use Rattle.fc_position.specs.Position.{IsPosition}
 use Rattle.fc_moves.specs.declared.steps.Move.{Move}
 use Rattle.fc_moves.specs.GameRules.{GameRules, IsGame, IsPositionOf, Stands}
 use Rattle.fc_moves.specs.Run.{Run, Wins}
 use Rattle.fc_canonical.specs.Class.{SameClass}
-use Rattle.fc_home.specs.HomeRule.{IsForced, IsFree}
+use Rattle.fc_home.specs.HomeRule.{IsForced, IsFree, GoesHome}
 use Rattle.fc_home.specs.Settles.{SettlesBy, Settles}
 
 -- by the rules of a game, a card is free exactly where it is next and each card that may stand on it is home or free
@@ -17,6 +18,11 @@ CardsAreFreeByOthers = (g : GameRules) (homes : List ℕ) (c : ℕ) → IsGame g
 -- a forced card is free
 abbrev pub ForcedCardsAreFree : Type 0
 ForcedCardsAreFree = (g : GameRules) (homes : List ℕ) (c : ℕ) → IsForced g homes c → IsFree g homes c
+
+-- a card that goes home by a rule still does so once another next card is home
+abbrev pub GoersStay : Type 0
+GoersStay = (rule : ℕ) (g : GameRules) (homes : List ℕ) (c u : ℕ) → length homes ≡ 4 → GoesHome rule g homes c → IsNext homes u
+    → (u ≡ c → ⊥) → GoesHome rule g (slice_set homes (suit u) (rank u)) c
 
 -- the moves by which a board settles are steps, one by one
 abbrev pub SettlingIsARun : Type 0

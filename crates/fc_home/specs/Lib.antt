@@ -1,4 +1,5 @@
 pub mod HomeRule
+pub mod Known
 pub mod Laws
-pub mod Search
+pub mod Nexts
 pub mod Settles

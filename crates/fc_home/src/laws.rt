@@ -1,6 +1,6 @@
 //! Laws of the definitions, each the contract of a function that does nothing.
 
-ghost use Rattle.fc_home.specs.Laws.{CardsAreFreeByOthers, ForcedCardsAreFree, SettlingIsARun, SettlingKeepsPositions, SettledBoardsStay, PositionsSettle, PositionsSettleInOneWay, SettlingMovesAreOne, ClassMatesSettleAlike, SettlingLosesNothing};
+ghost use Rattle.fc_home.specs.Laws.{CardsAreFreeByOthers, ForcedCardsAreFree, GoersStay, SettlingIsARun, SettlingKeepsPositions, SettledBoardsStay, PositionsSettle, PositionsSettleInOneWay, SettlingMovesAreOne, ClassMatesSettleAlike, SettlingLosesNothing};
 
 /// By the rules of a game, a card is free exactly where it is next and each card that may stand on it is home or free.
 pub fn cards_are_free_by_others()
@@ -10,6 +10,11 @@ pub fn cards_are_free_by_others()
 /// A forced card is free.
 pub fn forced_cards_are_free()
     ensures { ForcedCardsAreFree }
+{}
+
+/// A card that goes home by a rule still does so once another next card is home.
+pub fn goers_stay()
+    ensures { GoersStay }
 {}
 
 /// The moves by which a board settles are steps, one by one, each allowed by the rules.

@@ -7,6 +7,7 @@
 pub use rules::free;
 pub use settling::{forced, settle};
 
+mod known;
 pub mod laws;
 mod rules;
 mod settling;

@@ -1,8 +1,10 @@
-ghost use Rattle.std.specs.Prelude.{◌≡◌, ◌↔◌, IsTrue};
+ghost use Rattle.std.specs.Prelude.{◌↔◌, IsTrue};
 ghost use Rattle.fc_position.specs.Board.{IsHome, IsNext};
 ghost use Rattle.fc_home.specs.HomeRule.{IsForced, IsFree, GoesHome};
+ghost use Rattle.fc_home.specs.Known.{IsKnown, IsLevel};
 
-use fc_cards::Card;
+use crate::known::Known;
+use fc_cards::{Card, Suit};
 use fc_moves::Game;
 use fc_position::Position;
 
@@ -11,26 +13,25 @@ use fc_position::Position;
 pub fn free<G: Game>(game: &G, position: &Position, card: Card) -> bool
     ensures value { IsTrue result ↔ IsFree (G.game game.now) position.now.homes card }
 {
-    if !is_next(position, card) {
-        return false;
-    }
-    let hosts = game.hosts_of(card);
-    for host in hosts.as_slice() {
-        if !is_home(position, *host) && !free(game, position, *host) {
-            return false;
-        }
-    }
-    true
+    is_free(game, position, card, &mut Known::new())
 }
 
 // Whether the card goes home by the rule, wherever it lies.
-pub(crate) fn goes_home<G: Game>(game: &G, position: &Position, rule: u8, card: Card) -> bool
+pub(crate) fn goes_home<G: Game>(
+    game: &G,
+    position: &Position,
+    rule: u8,
+    card: Card,
+    known: &mut Known,
+) -> bool
+    requires known { IsKnown (G.game game.now) position.now.homes known.old }
     ensures value { IsTrue result ↔ GoesHome rule (G.game game.now) position.now.homes card }
+    ensures known { IsKnown (G.game game.now) position.now.homes known.new }
 {
     match rule {
         0 => false,
         1 => is_forced(game, position, card),
-        _ => free(game, position, card),
+        _ => is_free(game, position, card, known),
     }
 }
 
@@ -41,6 +42,9 @@ fn is_forced<G: Game>(game: &G, position: &Position, card: Card) -> bool
     if !is_next(position, card) {
         return false;
     }
+    if is_level(position, card) {
+        return true;
+    }
     let hosts = game.hosts_of(card);
     for host in hosts.as_slice() {
         if !is_home(position, *host) {
@@ -48,6 +52,30 @@ fn is_forced<G: Game>(game: &G, position: &Position, card: Card) -> bool
         }
     }
     true
+}
+
+// Whether the card is free. What is known of the next cards isn't asked again, and what is found out is kept.
+fn is_free<G: Game>(game: &G, position: &Position, card: Card, known: &mut Known) -> bool
+    requires known { IsKnown (G.game game.now) position.now.homes known.old }
+    ensures value { IsTrue result ↔ IsFree (G.game game.now) position.now.homes card }
+    ensures known { IsKnown (G.game game.now) position.now.homes known.new }
+{
+    if !is_next(position, card) {
+        return false;
+    }
+    if is_level(position, card) {
+        return true;
+    }
+    if let Some(answer) = known.of(card.suit()) {
+        return answer;
+    }
+    let hosts = game.hosts_of(card);
+    for host in hosts.as_slice() {
+        if !is_home(position, *host) && !is_free(game, position, *host, known) {
+            return known.keep(card.suit(), false);
+        }
+    }
+    known.keep(card.suit(), true)
 }
 
 // Whether the card is home.
@@ -58,8 +86,19 @@ fn is_home(position: &Position, card: Card) -> bool
 }
 
 // Whether the card is the next of its suit to go home.
-fn is_next(position: &Position, card: Card) -> bool
+pub(crate) fn is_next(position: &Position, card: Card) -> bool
     ensures value { IsTrue result ↔ IsNext position.now.homes card }
 {
     position.home(card.suit()) + 1 == card.rank()
+}
+
+// Whether every card of a lower rank is home, so that no game has a card left to stand on this one.
+fn is_level(position: &Position, card: Card) -> bool
+    ensures value { IsTrue result ↔ IsLevel position.now.homes card }
+{
+    let lower = card.rank() - 1;
+    lower <= position.home(Suit::C)
+        && lower <= position.home(Suit::D)
+        && lower <= position.home(Suit::H)
+        && lower <= position.home(Suit::S)
 }

@@ -1,19 +1,22 @@
-ghost use Rattle.std.specs.Prelude.{◌≡◌, ℕ, ◌+◌, ◌≤◌, ◌<◌, ◌↔◌, length, IsTrue, IfSome, IfNone};
+ghost use Rattle.std.specs.Prelude.{◌+◌, ◌≤◌, length, IfSome, IfNone};
 ghost use Rattle.fc_cards.specs.declared.places.Place.{Place};
+ghost use Rattle.fc_position.specs.Board.{IsNext};
 ghost use Rattle.fc_position.specs.Position.{IsPosition, Fits};
 ghost use Rattle.fc_moves.specs.MoveText.{IsThere};
 ghost use Rattle.fc_moves.specs.Run.{Run};
 ghost use Rattle.fc_moves.specs.Step.{place_number};
-ghost use Rattle.fc_home.specs.Search.{IsFirstBelow};
+ghost use Rattle.fc_home.specs.Known.{IsKnown};
+ghost use Rattle.fc_home.specs.Nexts.{HasNexts, IsLeastBelow, IsEarlier};
 ghost use Rattle.fc_home.specs.Settles.{IsFirstHome, NoneGoesHome, SettlesBy, Settles};
 
-use crate::rules::goes_home;
+use crate::known::Known;
+use crate::rules::{goes_home, is_next};
 use arrayvec::ArrayVec;
 use fc_cards::{Card, Place};
 use fc_moves::{Game, Move};
 use fc_position::Position;
 
-// A playable card that goes home, and where it lies.
+// A playable card that is next in its suit, and where it lies.
 #[derive(Clone, Copy)]
 struct Goer {
     card: Card,
@@ -27,7 +30,7 @@ pub fn forced<G: Game>(game: &G, position: &Position) -> Option<Card>
     ensures none { IfNone result (NoneGoesHome 1 (G.game game.now) position.now) }
     ensures whole { IsPosition position.now }
 {
-    let goer = first_home(game, position, 1)?;
+    let goer = first_home(game, position, 1, &mut Known::new())?;
     Some(goer.card)
 }
 
@@ -42,8 +45,10 @@ pub fn settle<G: Game>(game: &G, position: &mut Position, rule: u8) -> ArrayVec<
     ensures fits { Fits (G.game game.now).cells position.old → Fits (G.game game.now).cells position.new }
 {
     let mut moves = ArrayVec::new();
-    while let Some(goer) = first_home(game, position, rule) {
+    let mut known = Known::new();
+    while let Some(goer) = first_home(game, position, rule, &mut known) {
         position.shift(goer.from, Place::Home);
+        known.send(goer.card.suit());
         moves.push(Move {
             from: goer.from,
             to: Place::Home,
@@ -52,59 +57,81 @@ pub fn settle<G: Game>(game: &G, position: &mut Position, rule: u8) -> ArrayVec<
     moves
 }
 
-// The first card that goes home by the rule.
-fn first_home<G: Game>(game: &G, position: &Position, rule: u8) -> Option<Goer>
+// The first card that goes home by the rule. The next cards are asked by rising number, and no more are asked once one
+// goes.
+fn first_home<G: Game>(game: &G, position: &Position, rule: u8, known: &mut Known) -> Option<Goer>
+    requires known { IsKnown (G.game game.now) position.now.homes known.old }
     ensures first { IfSome result (λ goer. IsFirstHome rule (G.game game.now) position.now goer.from goer.card) }
     ensures none { IfNone result (NoneGoesHome rule (G.game game.now) position.now) }
+    ensures known { IsKnown (G.game game.now) position.now.homes known.new }
     ensures whole { IsPosition position.now }
 {
-    let mut first = None;
-    for number in 0..12 {
-        first = earlier(game, position, rule, first, source(number));
+    let mut nexts = [None; 4];
+    add_columns(position, &mut nexts);
+    add_cells(position, &mut nexts);
+    while let Some(goer) = least(&nexts) {
+        if goes_home(game, position, rule, goer.card, known) {
+            return Some(goer);
+        }
+        nexts[goer.card.suit().index() as usize] = None;
     }
-    first
+    None
 }
 
-// Of the first card that goes home from the places before this one, and the card of this one, the one that goes first.
-fn earlier<G: Game>(
-    game: &G,
-    position: &Position,
-    rule: u8,
-    first: Option<Goer>,
-    from: Place,
-) -> Option<Goer>
+// Finds the next cards that are the last of a column.
+fn add_columns(position: &Position, nexts: &mut [Option<Goer>; 4])
+    requires before { HasNexts (IsNext position.now.homes) position.now 0 nexts.old }
+    ensures after { HasNexts (IsNext position.now.homes) position.now 8 nexts.new }
+    ensures whole { IsPosition position.now }
+{
+    for i in 0..8 {
+        add_next(position, Place::Column(i), nexts);
+    }
+}
+
+// Finds those in a cell too.
+fn add_cells(position: &Position, nexts: &mut [Option<Goer>; 4])
+    requires before { HasNexts (IsNext position.now.homes) position.now 8 nexts.old }
+    ensures after { HasNexts (IsNext position.now.homes) position.now 12 nexts.new }
+{
+    for i in 0..4 {
+        add_next(position, Place::Cell(i), nexts);
+    }
+}
+
+// Adds the playable card of a place to those of the places before it, where it is next.
+fn add_next(position: &Position, from: Place, nexts: &mut [Option<Goer>; 4])
     requires there { IsThere from }
-    requires before { IsFirstBelow rule (G.game game.now) position.now (place_number from) first }
-    ensures after { IsFirstBelow rule (G.game game.now) position.now (place_number from + 1) result }
+    requires before { HasNexts (IsNext position.now.homes) position.now (place_number from) nexts.old }
+    ensures after { HasNexts (IsNext position.now.homes) position.now (place_number from + 1) nexts.new }
     ensures whole { IsPosition position.now }
 {
     let Some(card) = position.playable(from) else {
-        return first;
+        return;
     };
-    if comes_before(card, &first) && goes_home(game, position, rule, card) {
-        return Some(Goer { card, from });
+    if is_next(position, card) {
+        nexts[card.suit().index() as usize] = Some(Goer { card, from });
+    }
+}
+
+// The first of the cards by number.
+fn least(nexts: &[Option<Goer>; 4]) -> Option<Goer>
+    ensures least { IsLeastBelow 4 nexts.now result }
+{
+    let mut first = None;
+    for goer in nexts {
+        first = earlier(first, *goer);
     }
     first
 }
 
-// Whether the card's number is less than that of the first card so far, if there is one.
-fn comes_before(card: Card, first: &Option<Goer>) -> bool
-    ensures value { IsTrue result ↔ IfSome first.now (λ goer. card < goer.card) }
+// Of two cards the one with the lower number, if there is one.
+fn earlier(one: Option<Goer>, other: Option<Goer>) -> Option<Goer>
+    ensures earlier { IsEarlier one other result }
 {
-    match first {
-        Some(goer) => card < goer.card,
-        None => true,
-    }
-}
-
-// The place with this number from which cards may go: the columns from 0 on, the cells from 8 on.
-fn source(number: u8) -> Place
-    requires below { number < 12 }
-    ensures number { place_number result ≡ number }
-    ensures there { IsThere result }
-{
-    match number {
-        0..8 => Place::Column(number),
-        _ => Place::Cell(number - 8),
+    match (one, other) {
+        (None, _) => other,
+        (_, None) => one,
+        (Some(first), Some(second)) => { if second.card < first.card { other } else { one } }
     }
 }

@@ -14,6 +14,19 @@ use Rattle.fc_search.specs.declared.answers.Answer.{Answer}
 use Rattle.fc_search.specs.declared.answers.Answer.TheVariants as answer
 use Rattle.fc_search.specs.Answer.{IsRight, IsBacked, IsByRule, IsEarned, CanBeWritten}
 
+-- a question: by how few moves of the game a list wins from the start, searched under a home rule
+pub record Question (G : Type 0) : Type 0 where
+  pub game : G
+  pub rule : ℕ
+  pub start : Board
+
+-- where a search stands: its question, its budget, what it stores and has open, and its status
+pub record State (G : Type 0) : Type 0 where
+  pub question : Question G
+  pub budget : ℕ
+  pub store : Store (List ℕ)
+  pub status : Status (List ℕ)
+
 -- the answer is of the kind of the status that a search ends with: as many moves as the won class costs, that no list
 -- wins, or the budget
 abbrev pub IsOfStatus : Store (List ℕ) → ℕ → Status (List ℕ) → Answer → Type 0

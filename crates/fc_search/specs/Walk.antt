@@ -1,5 +1,5 @@
 -- The way from the start to a stored class, by the marks of the classes.
-use Rattle.std.specs.Prelude.{◌≡◌, ℕ, ◌+◌, ◌≤◌, List, [], ◌∷◌, length, Option, Some, None}
+use Rattle.std.specs.Prelude.{◌≡◌, ◌≢◌, ℕ, ◌+◌, ◌≤◌, List, [], ◌∷◌, length}
 use Rattle.fc_position.specs.Board.{Board}
 use Rattle.fc_moves.specs.declared.steps.Move.{Move}
 use Rattle.fc_moves.specs.GameRules.{GameRules}
@@ -11,11 +11,17 @@ use Rattle.fc_canonical.specs.Class.{SameClass}
 use Rattle.fc_classes.specs.Classes.{SettlesTo}
 use Rattle.fc_classes.specs.Key.{spelled}
 
--- from the class with the one number each class of the list comes from the one before it, and the last has the other number
+-- the class with this number is its own parent: it starts
+abbrev pub IsStart : Store (List ℕ) → ℕ → Type 0
+IsStart s number = (x : List ℕ) × (mark : Mark) × Stands s number x mark × (mark.parent ≡ number)
+
+-- from the class with the one number each class of the list comes from the one before it, which is another one, and the
+-- last has the other number
 abbrev pub IsWay : Store (List ℕ) → ℕ → List ℕ → ℕ → Type 0
 IsWay s number [] target = number ≡ target
 IsWay s number (next ∷ rest) target =
-    ((x : List ℕ) × (mark : Mark) × Stands s next x mark × (mark.parent ≡ number)) × IsWay s next rest target
+    ((x : List ℕ) × (mark : Mark) × Stands s next x mark × (mark.parent ≡ number) × (number ≢ next))
+    × IsWay s next rest target
 
 -- the moves lead from the one board to a board of the class with this number, and are no more than it costs
 abbrev pub IsAtClass : GameRules → Store (List ℕ) → Board → ℕ → List Move → Board → Type 0
@@ -26,8 +32,6 @@ IsAtClass g s p number made b = (x : List ℕ) × (mark : Mark) × Stands s numb
 abbrev pub StepsTo : GameRules → ℕ → Board → List ℕ → Move → ℕ → Type 0
 StepsTo g rule b key m count = (z : Board) × Step g b m z × SettlesTo g rule z count key
 
--- of the steps that lead to the key, the fewest home moves follow this one; none leads there
-abbrev pub IsBestStep : GameRules → ℕ → Board → List ℕ → Option Move → Type 0
-IsBestStep g rule b key None = (m : Move) (count : ℕ) → StepsTo g rule b key m count → ⊥
-IsBestStep g rule b key (Some best) = (least : ℕ) × StepsTo g rule b key best least
-    × ((m : Move) (count : ℕ) → StepsTo g rule b key m count → least ≤ count)
+-- a step from the board, with the home moves that follow it, leads to the key by at most so many moves
+abbrev pub LeadsWithin : GameRules → ℕ → Board → List ℕ → ℕ → Move → Type 0
+LeadsWithin g rule b key most m = (count : ℕ) × StepsTo g rule b key m count × (1 + count ≤ most)

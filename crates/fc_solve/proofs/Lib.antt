@@ -1,6 +1,2 @@
-pub mod PlainLemmas
-pub mod ExpandLemmas
-pub mod SearchLemmas
 pub mod ListTextLemmas
-pub mod AnswerLemmas
 pub mod ReplayLemmas

@@ -12,12 +12,12 @@ use Rattle.fc_replay.specs.declared.faults.ReplayFault.{ReplayFault}
 use Rattle.fc_replay.specs.declared.faults.ReplayFault.TheVariants.{BadMove, NotAllowed, Write as unwritten}
 use Rattle.fc_replay.specs.Played.{Replays}
 use Rattle.fc_replay.specs.Token.{move_tokens}
-use Rattle.fc_solve.specs.declared.answers.Answer.{Answer}
+use Rattle.fc_search.specs.declared.answers.Answer.{Answer}
+use Rattle.fc_search.specs.Search.{Answers, IsRunToEnd}
 use Rattle.fc_solve.specs.declared.faults.Input.TheVariants.{Board as of_board, Moves as of_moves}
 use Rattle.fc_solve.specs.declared.faults.Output.TheVariants.{Answer as of_answer}
 use Rattle.fc_solve.specs.declared.faults.ProgramFault.{ProgramFault}
 use Rattle.fc_solve.specs.declared.faults.ProgramFault.TheVariants.{Number, Budget, Board as bad_board, TooLong, Moves, Read, Write, Memory}
-use Rattle.fc_solve.specs.Answer.{IsRight, IsWithin}
 use Rattle.fc_solve.specs.AnswerText.{answer_text, status_of}
 
 -- a device before and after a run: the bytes that it tells or holds, if it tells any, and whether it has failed then
@@ -26,7 +26,7 @@ pub record Device : Type 0 where
   pub new : Option (List ℕ)
   pub failed : Bool
 
--- so many positions may be stored
+-- so many classes may be stored
 pub record IsBudget (budget : ℕ) : Type 0 where
   pub least : 1 ≤ budget
   pub greatest : budget ≤ 4000000
@@ -51,39 +51,40 @@ pub record GivesFault (n : ℕ) (source : Device) (fault : BoardFault) : Type 0 
   pub here : IsBoardFault n text fault
 
 -- solving was answered: the budget is one, the source gave the text of a position, and the sink took the text of an
--- answer that is right for it and was found within the budget, and whose status is told
-pub record IsSolved (g : GameRules) (budget : ℕ) (source sink : Device) (status : ℕ) : Type 0 where
+-- answer that is right for it and backed, of a search by the home rule that ran to its end within the budget, and whose
+-- status is told
+pub record IsSolved (g : GameRules) (rule : ℕ) (budget : ℕ) (source sink : Device) (status : ℕ) : Type 0 where
   pub budgeted : IsBudget budget
   pub start : Board
   pub given : GivesBoard g.cells source start
   pub answer : Answer
-  pub right : IsRight g start budget answer
-  pub within : IsWithin g start budget answer
+  pub answers : Answers g rule start budget answer
+  pub ran : IsRunToEnd g rule start budget answer
   pub written : Takes sink.old sink.new (answer_text answer)
   pub sound : IsTrue sink.failed → ⊥
   pub told : status ≡ status_of answer
 
 -- the sink failed while it was given the text of an answer that is right for the position that the source gave
-pub record IsUnwritten (g : GameRules) (budget : ℕ) (source sink : Device) : Type 0 where
+pub record IsUnwritten (g : GameRules) (rule : ℕ) (budget : ℕ) (source sink : Device) : Type 0 where
   pub start : Board
   pub given : GivesBoard g.cells source start
   pub answer : Answer
-  pub right : IsRight g start budget answer
+  pub answers : Answers g rule start budget answer
   pub front : TakesFront sink.old sink.new (answer_text answer)
   pub failed : IsTrue sink.failed
 
 -- why solving was not answered, each fault only where those before it have no cause; before the last one nothing was
 -- written
-abbrev pub IsSolveFault : GameRules → ℕ → Device → Device → ProgramFault → Type 0
-IsSolveFault g budget source sink Budget = (IsBudget budget → ⊥) × Stays source.old source.new × Stays sink.old sink.new
-IsSolveFault g budget source sink (Read of_board) = IsBudget budget × IsTrue source.failed × Stays sink.old sink.new
-IsSolveFault g budget source sink (bad_board fault) = IsBudget budget × GivesFault g.cells source fault × Stays sink.old sink.new
-IsSolveFault g budget source sink Memory = IsBudget budget × ((b : Board) × GivesBoard g.cells source b) × Stays sink.old sink.new
-IsSolveFault g budget source sink (Write of_answer) = IsBudget budget × IsUnwritten g budget source sink
-IsSolveFault g budget source sink (Read of_moves) = ⊥
-IsSolveFault g budget source sink (Number n) = ⊥
-IsSolveFault g budget source sink (TooLong input) = ⊥
-IsSolveFault g budget source sink (Moves fault) = ⊥
+abbrev pub IsSolveFault : GameRules → ℕ → ℕ → Device → Device → ProgramFault → Type 0
+IsSolveFault g rule budget source sink Budget = (IsBudget budget → ⊥) × Stays source.old source.new × Stays sink.old sink.new
+IsSolveFault g rule budget source sink (Read of_board) = IsBudget budget × IsTrue source.failed × Stays sink.old sink.new
+IsSolveFault g rule budget source sink (bad_board fault) = IsBudget budget × GivesFault g.cells source fault × Stays sink.old sink.new
+IsSolveFault g rule budget source sink Memory = IsBudget budget × ((b : Board) × GivesBoard g.cells source b) × Stays sink.old sink.new
+IsSolveFault g rule budget source sink (Write of_answer) = IsBudget budget × IsUnwritten g rule budget source sink
+IsSolveFault g rule budget source sink (Read of_moves) = ⊥
+IsSolveFault g rule budget source sink (Number n) = ⊥
+IsSolveFault g rule budget source sink (TooLong input) = ⊥
+IsSolveFault g rule budget source sink (Moves fault) = ⊥
 
 -- a deal was printed: the number is one of a deal, and the sink took its text
 pub record IsDealt (n : ℕ) (sink : Device) (status : ℕ) : Type 0 where

@@ -1,49 +1,38 @@
-ghost use Rattle.std.specs.Prelude.{◌≡◌, ◌++◌, IfOk, OnOk, All, map, length};
-ghost use Rattle.std.specs.List.{join_with_byte};
-ghost use Rattle.fc_moves.specs.MoveText.{HasText, move_text};
-ghost use Rattle.fc_solve.specs.Answer.{MovesHaveTexts};
+//! How an answer is printed, and the exit status that goes with it.
+
+ghost use Rattle.std.specs.Prelude.{◌≡◌, ◌++◌, IfOk, OnOk, All};
+ghost use Rattle.fc_moves.specs.MoveText.{HasText};
+ghost use Rattle.fc_search.specs.Answer.{CanBeWritten};
 ghost use Rattle.fc_solve.specs.AnswerText.{answer_text, list_text, shortest_text, gave_up_text, status_of};
 
 use fc_moves::{Move, move_text};
+use fc_search::Answer;
 use itoa::Buffer;
 use std::alloc::{AllocError, Global};
 
-/// What a search answers of a position and a budget.
-#[derive(Debug, Drop)]
-pub enum Answer {
-    /// Moves that win, and no list of moves that wins is shorter.
-    Shortest(Vec<Move>),
-    /// No list of moves wins.
-    CannotWin,
-    /// More positions than the budget, which is told, can be reached.
-    GaveUp(u32),
+/// The lines that tell an answer: `shortest N` and the moves, `can't be won`, or `gave up B`.
+///
+/// # Errors
+/// A growth of memory was refused.
+pub fn answer_text(alloc: Global, answer: &Answer) -> Result<Vec<u8>, AllocError>
+    requires texts { CanBeWritten answer.now }
+    ensures text { IfOk result (λ t. t.items ≡ answer_text answer.now) }
+{
+    match answer {
+        Answer::Shortest(moves, _) => shortest_text(alloc, moves.as_slice()),
+        Answer::CannotWin(_) => Vec::from_slice(alloc, b"can't be won\n"),
+        Answer::GaveUp(budget) => gave_up_text(alloc, *budget),
+    }
 }
 
-impl Answer {
-    /// The lines that tell the answer: `shortest N` and the moves, `can't be won`, or `gave up B`. Each move has a text.
-    ///
-    /// # Errors
-    /// A growth of memory was refused.
-    pub fn text(&self, alloc: Global) -> Result<Vec<u8>, AllocError>
-        requires texts { MovesHaveTexts self.now }
-        ensures text { IfOk result (λ t. t.items ≡ answer_text self.now) }
-    {
-        match self {
-            Answer::Shortest(moves) => shortest_text(alloc, moves.as_slice()),
-            Answer::CannotWin => Vec::from_slice(alloc, b"can't be won\n"),
-            Answer::GaveUp(budget) => gave_up_text(alloc, *budget),
-        }
-    }
-
-    /// The exit status that tells the answer: 0 for moves, 1 where no list wins, 2 on giving up.
-    pub fn status(&self) -> u8
-        ensures value { result ≡ status_of self.now }
-    {
-        match self {
-            Answer::Shortest(_) => 0,
-            Answer::CannotWin => 1,
-            Answer::GaveUp(_) => 2,
-        }
+/// The exit status that tells an answer: 0 for moves, 1 where no list wins, 2 on giving up.
+pub fn status_of(answer: &Answer) -> u8
+    ensures value { result ≡ status_of answer.now }
+{
+    match answer {
+        Answer::Shortest(_, _) => 0,
+        Answer::CannotWin(_) => 1,
+        Answer::GaveUp(_) => 2,
     }
 }
 

@@ -3,7 +3,8 @@
 
 mod answers;
 mod faults;
-mod plain;
+#[cfg(test)]
+mod random_tests;
 mod runs;
 #[cfg(test)]
 mod tests;
@@ -95,7 +96,7 @@ fn choose_game(rt: &HostRuntime, words: &ArgMatches<'_>, task: Task) -> Result<u
 }
 
 // Does the task in this game.
-fn perform<G: Game>(
+fn perform<G: Game + Drop>(
     rt: &HostRuntime,
     game: &G,
     words: &ArgMatches<'_>,
@@ -108,20 +109,28 @@ fn perform<G: Game>(
 }
 
 // Solves the board of a file, or of the standard input where no file is named.
-fn solve<G: Game>(rt: &HostRuntime, game: &G, words: &ArgMatches<'_>) -> Result<u8, ProgramFault> {
+fn solve<G: Game + Drop>(
+    rt: &HostRuntime,
+    game: &G,
+    words: &ArgMatches<'_>,
+) -> Result<u8, ProgramFault> {
     let alloc = rt.alloc();
     let budget = words
         .get_one::<u32>("budget")
         .unwrap_or(words::DEFAULT_BUDGET);
+    let rule = words.get_one::<u8>("rule").unwrap_or(words::DEFAULT_RULE);
+    if rule > words::DEFAULT_RULE {
+        return Ok(REFUSED);
+    }
     let mut out = ToWriter::new(rt.stdout());
     match words.get_str("BOARD") {
         Some(path) => {
             let mut board = open(rt, path, Input::Board)?;
-            run_solve(alloc, game, &mut board, budget, &mut out)
+            run_solve(alloc, game, rule, &mut board, budget, &mut out)
         }
         None => {
             let mut board = FromReader::new(rt.stdin());
-            run_solve(alloc, game, &mut board, budget, &mut out)
+            run_solve(alloc, game, rule, &mut board, budget, &mut out)
         }
     }
 }

@@ -5,13 +5,14 @@ ghost use Rattle.fc_io.specs.Moves.{GivesAtMost};
 ghost use Rattle.fc_solve.specs.Runs.{IsSolved, IsSolveFault, GivesBoard, IsReadFault, IsDealt, IsDealFault, IsReplayed, IsReplayFault};
 ghost use Rattle.fc_solve.specs.Fault.{moves_fault, replay_fault};
 
+use crate::answers::{answer_text, status_of};
 use crate::faults::{Input, Output, ProgramFault};
-use crate::plain::search;
 use fc_deal::{deal, deal_text};
 use fc_io::{ReadFault, Sink, Source, read_to_vec, read_up_to, write_all};
 use fc_moves::Game;
 use fc_position::Position;
 use fc_replay::{ReplayFault, replay};
+use fc_search::{MOST_BUDGET, solve};
 use fc_text::read_board;
 use std::alloc::Global;
 
@@ -21,39 +22,40 @@ const LONGEST_BOARD: usize = 4096;
 /// The most bytes that a text of moves may have.
 const LONGEST_MOVES: usize = 1_048_576;
 
-/// The greatest budget of stored positions.
-const GREATEST_BUDGET: u32 = 4_000_000;
-
-/// Reads a board of the game, searches with at most `budget` stored positions, and writes the answer: the moves of a
-/// shortest list, that no list of moves wins, or that more than `budget` positions can be reached. The status tells
-/// which: 0, 1 or 2.
+/// Reads a board of the game, searches under a home rule of at most 2 with at most `budget` stored classes, and writes the
+/// answer: the moves of a shortest list, that no list of moves wins, or that more than `budget` positions can be reached.
+/// The status tells which: 0, 1 or 2.
 ///
 /// # Errors
 /// In this order: a budget outside 1 to 4,000,000; a board that can't be read; a text that is none of the game; want of
 /// memory; an answer that can't be written, of which a front may be written. After any other fault nothing is.
-pub fn run_solve<G: Game, S: Source, K: Sink>(
+pub fn run_solve<G: Game + Drop, S: Source, K: Sink>(
     alloc: Global,
     game: &G,
+    rule: u8,
     board: &mut S,
     budget: u32,
     out: &mut K,
 ) -> Result<u8, ProgramFault>
-    ensures answered { IfOk result (IsSolved (G.game game.now) budget
+    requires rule { rule ≤ 2 }
+    ensures answered { IfOk result (IsSolved (G.game game.now) rule budget
         record { old = S.told board.old; new = S.told board.new; failed = S.has_failed board.new }
         record { old = K.held out.old; new = K.held out.new; failed = K.has_failed out.new }) }
-    ensures fault { IfErr result (IsSolveFault (G.game game.now) budget
+    ensures fault { IfErr result (IsSolveFault (G.game game.now) rule budget
         record { old = S.told board.old; new = S.told board.new; failed = S.has_failed board.new }
         record { old = K.held out.old; new = K.held out.new; failed = K.has_failed out.new }) }
     ensures taken { GivesAtMost (S.told board.old) (S.told board.new) 4097 }
 {
-    if budget == 0 || budget > GREATEST_BUDGET {
+    if budget == 0 || budget > MOST_BUDGET {
         return Err(ProgramFault::Budget);
     }
     let start = read_position(board, game.cells())?;
-    let answer = search(alloc, game, &start, budget)?;
-    let text = answer.text(alloc)?;
+    let Ok(answer) = solve(alloc, game, rule, &start, budget) else {
+        return Err(ProgramFault::Memory);
+    };
+    let text = answer_text(alloc, &answer)?;
     match write_all(out, text.as_slice()) {
-        Ok(()) => Ok(answer.status()),
+        Ok(()) => Ok(status_of(&answer)),
         Err(_) => Err(ProgramFault::Write(Output::Answer)),
     }
 }

@@ -50,7 +50,7 @@ fn free_cell(cells: u8) -> Result<FreeCell, Fail> {
 }
 
 // Solves a text under a budget, and compares the answer and what is written.
-fn expect<G: Game>(
+fn expect<G: Game + Drop>(
     alloc: Global,
     game: &G,
     text: &[u8],
@@ -60,7 +60,7 @@ fn expect<G: Game>(
 ) -> Result<(), Fail> {
     let mut source = FromSlice::new(text);
     let mut out = ToArray::<200>::new();
-    if run_solve(alloc, game, &mut source, budget, &mut out) != wanted {
+    if run_solve(alloc, game, 1, &mut source, budget, &mut out) != wanted {
         return Err("another answer".into());
     }
     if out.held() != printed {
@@ -70,7 +70,7 @@ fn expect<G: Game>(
 }
 
 // Solves a text, and follows the printed moves, of which there are so many, to a board with every card home.
-fn expect_moves<G: Game>(
+fn expect_moves<G: Game + Drop>(
     alloc: Global,
     game: &G,
     text: &[u8],
@@ -79,7 +79,7 @@ fn expect_moves<G: Game>(
 ) -> Result<(), Fail> {
     let mut source = FromSlice::new(text);
     let mut out = ToArray::<200>::new();
-    if run_solve(alloc, game, &mut source, 4000, &mut out) != Ok(0) {
+    if run_solve(alloc, game, 1, &mut source, 4000, &mut out) != Ok(0) {
         return Err("another answer".into());
     }
     let line = out.held().strip_prefix(head).ok_or("another length")?;
@@ -118,12 +118,10 @@ fn tells_games_apart(rt: HostRuntime) -> Result<(), Fail> {
     expect_moves(rt.alloc(), &none, THREE_SPADES, b"shortest 4\n", 4)?;
     let kings = Kings::new(free_cell(1)?);
     expect_moves(rt.alloc(), &kings, THREE_SPADES, b"shortest 4\n", 4)?;
-    // The king may stand in each of seven columns, and nothing else may move.
+    // The king may stand in each of seven columns, which is one class, and nothing else may move.
     let locked = Kings::new(free_cell(0)?);
-    let gave_up = b"gave up 6\n";
-    expect(rt.alloc(), &locked, THREE_SPADES, 6, Ok(2), gave_up)?;
     let lost = b"can't be won\n";
-    expect(rt.alloc(), &locked, THREE_SPADES, 7, Ok(1), lost)?;
+    expect(rt.alloc(), &locked, THREE_SPADES, 1, Ok(1), lost)?;
     expect(rt.alloc(), &locked, THREE_SPADES, 100_000, Ok(1), lost)?;
     let bakers = BakersGame::new(4).ok_or("at most four cells")?;
     expect(
@@ -143,6 +141,19 @@ fn tells_games_apart(rt: HostRuntime) -> Result<(), Fail> {
         Err(ProgramFault::Board(fault)),
         b"",
     )
+}
+
+#[test]
+fn stores_as_many_classes_as_are_needed(rt: HostRuntime) -> Result<(), Fail> {
+    let game = free_cell(4)?;
+    let gave_up = b"gave up 1\n";
+    expect(rt.alloc(), &game, QUEEN_UNDER_KING, 1, Ok(2), gave_up)?;
+    let mut source = FromSlice::new(QUEEN_UNDER_KING);
+    let mut out = ToArray::<200>::new();
+    let result = run_solve(rt.alloc(), &game, 1, &mut source, 2, &mut out);
+    assert_eq!(rt; result, Ok(0));
+    assert!(rt; out.held().starts_with(b"shortest 3\n"));
+    Ok(())
 }
 
 #[test]
@@ -197,7 +208,7 @@ fn reads_byte_by_byte(rt: HostRuntime) -> Result<(), Fail> {
     let game = free_cell(4)?;
     let mut source = Failing::new(FromSlice::new(ONE_KING), 1000);
     let mut out = Failing::new(ToArray::<200>::new(), 1000);
-    let result = run_solve(rt.alloc(), &game, &mut source, 100, &mut out);
+    let result = run_solve(rt.alloc(), &game, 1, &mut source, 100, &mut out);
     assert_eq!(rt; result, Ok(0));
     assert_eq!(rt; out.device.held(), b"shortest 1\nah\n".as_slice());
     Ok(())
@@ -210,7 +221,7 @@ fn tells_failing_devices(rt: HostRuntime) -> Result<(), Fail> {
     for calls in 0..=ONE_KING.len() as u32 {
         let mut source = Failing::new(FromSlice::new(ONE_KING), calls);
         let mut out = ToArray::<200>::new();
-        let result = run_solve(rt.alloc(), &game, &mut source, 100, &mut out);
+        let result = run_solve(rt.alloc(), &game, 1, &mut source, 100, &mut out);
         assert_eq!(rt; result, Err(ProgramFault::Read(Input::Board)));
         assert_eq!(rt; out.held(), b"".as_slice());
     }
@@ -218,7 +229,7 @@ fn tells_failing_devices(rt: HostRuntime) -> Result<(), Fail> {
     for calls in 0..printed.len() as u32 {
         let mut source = FromSlice::new(ONE_KING);
         let mut out = Failing::new(ToArray::<200>::new(), calls);
-        let result = run_solve(rt.alloc(), &game, &mut source, 100, &mut out);
+        let result = run_solve(rt.alloc(), &game, 1, &mut source, 100, &mut out);
         assert_eq!(rt; result, Err(ProgramFault::Write(Output::Answer)));
         assert_eq!(rt; out.device.held(), &printed[..calls as usize]);
     }
@@ -229,7 +240,7 @@ fn tells_failing_devices(rt: HostRuntime) -> Result<(), Fail> {
 fn stops_a_reader_that_never_ends(rt: HostRuntime) -> Result<(), Fail> {
     let mut source = FromReader::new(io::repeat(b' '));
     let mut out = ToArray::<200>::new();
-    let result = run_solve(rt.alloc(), &free_cell(4)?, &mut source, 100, &mut out);
+    let result = run_solve(rt.alloc(), &free_cell(4)?, 1, &mut source, 100, &mut out);
     let wanted = ProgramFault::Board(BoardFault::TooLong);
     assert_eq!(rt; result, Err(wanted));
     assert_eq!(rt; out.held(), b"".as_slice());

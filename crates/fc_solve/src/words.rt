@@ -3,8 +3,11 @@
 use clap::{Arg, ArgAction, Command, value_parser};
 use std::alloc::{AllocError, Global};
 
-/// The budget where none is given, in stored positions.
+/// The budget where none is given, in stored classes.
 pub const DEFAULT_BUDGET: u32 = 100_000;
+
+/// The home rule where none is given, and the greatest one.
+pub const DEFAULT_RULE: u8 = 2;
 
 /// The program's command line: `deal`, `solve` and `replay`.
 pub fn command<'a>(alloc: Global) -> Result<Command<'a>, AllocError> {
@@ -34,14 +37,22 @@ fn deal_command<'a>(alloc: Global) -> Result<Command<'a>, AllocError> {
         .arg(number)
 }
 
-// `solve [--budget B] [GAME] [BOARD]`.
+// `solve [--budget B] [GAME] [--rule R] [BOARD]`.
 fn solve_command<'a>(alloc: Global) -> Result<Command<'a>, AllocError> {
     let budget = Arg::new(alloc, "budget")
         .long("budget")
         .value_name("B")
-        .help("How many positions may be stored, 1 to 4000000")
+        .help("How many classes of positions may be stored, 1 to 4000000")
         .value_parser(value_parser!(u32))
         .default_value("100000");
+    let rule = Arg::new(alloc, "rule")
+        .long("rule")
+        .value_name("R")
+        .help(
+            "Which cards go home at once: none (0), those on which no card left can stand (1), or all free cards (2)",
+        )
+        .value_parser(value_parser!(u8).range(0..=2))
+        .default_value("2");
     let board = Arg::new(alloc, "BOARD").help(
         "The file of the board's text; standard input where none is given",
     );
@@ -51,7 +62,7 @@ fn solve_command<'a>(alloc: Global) -> Result<Command<'a>, AllocError> {
         )
         .after_help(SOLVE_HELP)
         .arg(budget)?;
-    with_game(alloc, command)?.arg(board)
+    with_game(alloc, command)?.arg(rule)?.arg(board)
 }
 
 /// What an answer looks like, an example, and what the statuses say.

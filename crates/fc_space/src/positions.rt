@@ -7,13 +7,13 @@ ghost use Rattle.fc_classes.specs.Key.{IsKeyIn, spelled};
 ghost use Rattle.fc_classes.proofs.TableLemmas.{lawful};
 
 use arrayvec::ArrayVec;
+use fc_best_first::{Child, Space};
 use fc_bound::bound;
 use fc_canonical::{distinct_moves, read_key};
 use fc_classes::ClassKey;
 use fc_home::settle;
 use fc_moves::{Game, Move, apply};
 use fc_position::Position;
-use fc_best_first::{Child, Space};
 
 /// The question how few moves of a game win from a position that fits it, searched by classes of positions that are
 /// settled by a home rule, at most 2.

@@ -1,11 +1,11 @@
 use crate::Positions;
 use arrayvec::ArrayVec;
+use fc_best_first::{Search, Status};
 use fc_cards::Card;
 use fc_classes::ClassKey;
 use fc_frontier::{BucketFrontier, Frontier, ListFrontier};
 use fc_moves::{BakersGame, FreeCell, Game, Kings};
 use fc_position::Position;
-use fc_best_first::{Search, Status};
 use std::alloc::Global;
 use std::process::Abort;
 use std::test::Fail;

@@ -2,6 +2,7 @@ use Rattle.std.proofs.Common.{sym, subst, refl}
 use Rattle.std.specs.Prelude.{Contains}
 use Rattle.fc_position.specs.Board.{IsHome}
 use Rattle.fc_moves.specs.GameRules.{Stands}
+use Rattle.fc_home.proofs.KnownLemmas.{level_forced}
 use Rattle.fc_home.proofs.RuleLemmas.{not_forced, all_looked_at}
 use Rattle.fc_home.proofs.rules.is_forced.Goals as goal
 
@@ -30,3 +31,12 @@ returns g c =
         λ _. refl,
       );
     }
+
+pub returns-then-is_level : goal.returns-then-is_level
+returns-then-is_level g c = record {
+  value = (
+    λ _. level_forced (g.G.Game.game c.args.game.now) c.args.position.now.homes c.args.card (g.met.G.Game.sound c.args.game.now)
+        (c.is_next.ensures.value.0 c.if-not-is_next.false) (c.is_level.ensures.value.0 c.if-is_level.true),
+    λ _. refl,
+  );
+}

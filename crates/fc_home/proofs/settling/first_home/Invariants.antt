@@ -1,11 +1,16 @@
-use Rattle.std.proofs.Common.{◌<◌}
-use Rattle.fc_position.specs.Position.{IsPosition}
-use Rattle.fc_home.specs.Search.{IsFirstBelow}
+use Rattle.std.proofs.Common.{is_some, count_by}
+use Rattle.fc_home.specs.HomeRule.{GoesHome}
+use Rattle.fc_home.specs.Known.{IsKnown}
+use Rattle.fc_home.specs.Nexts.{HasNexts}
 use Rattle.fc_home.proofs.settling.first_home.Given as goal
 
--- of the places so far, this is the first card; looking at one has told that the position is one
-abbrev pub invariant-loop-number : goal.invariant-loop-number
-invariant-loop-number g l = record {
-  first : IsFirstBelow l.rule (g.G.Game.game l.game) l.position l.number l.first;
-  whole : 0 < l.number → IsPosition l.position;
+-- each playable card that goes home is still in the list, and what is known holds
+abbrev pub invariant-loop-goer : goal.invariant-loop-goer
+invariant-loop-goer g l = record {
+  nexts : HasNexts (GoesHome l.rule (g.G.Game.game l.game) l.position.homes) l.position 12 l.nexts;
+  known : IsKnown (g.G.Game.game l.game) l.position.homes l.known;
 }
+
+-- so many cards are in the list
+abbrev pub decreases-loop-goer : goal.decreases-loop-goer
+decreases-loop-goer g l = count_by is_some l.nexts

@@ -1,6 +1,8 @@
 use Rattle.std.proofs.Common.{◌<◌, length, refl, lit<, arith}
 use Rattle.fc_cards.specs.declared.places.Place.TheVariants.{Home}
 use Rattle.fc_moves.specs.declared.steps.Move.{Move}
+use Rattle.fc_cards.specs.Suit.{suit_index}
+use Rattle.fc_home.proofs.NextLemmas.{turn_known}
 use Rattle.fc_home.proofs.SettleLemmas.{after_turn, after_all, settles_run, turn_total, turn_fits}
 use Rattle.fc_home.proofs.settling.settle.Goals as goal
 
@@ -34,6 +36,10 @@ loop-goer-preserved g c =
       count = omega (arith, more.0, c.push.ensures.len, c.loop-goer.invariant.count);
       fits = λ fits. turn_fits c.args.rule game c.loop-goer.position c.shift.new.self m c.in-Some.goer.card
           c.in-Some.ensures.whole first refl after (c.loop-goer.invariant.fits fits);
+      known =
+          turn_known c.args.rule game c.loop-goer.position c.shift.new.self c.in-Some.goer.from c.in-Some.goer.card
+          (suit_index c.suit.result) c.first_home.new.known c.send.new.self c.in-Some.ensures.whole first after c.suit.ensures
+          c.in-Some.ensures.known c.send.ensures.left;
     }
 
 pub returns-clause-settled : goal.returns-clause-settled

@@ -1,0 +1,3 @@
+mod ExpandLemmas
+mod PlainLemmas
+mod SearchLemmas

@@ -1,0 +1,4 @@
+mod AnswerLemmas
+mod NeedLemmas
+mod RowLemmas
+mod WalkLemmas

@@ -1,0 +1,145 @@
+-- Work that was needed: the boards of the keys that a search had to store.
+use Rattle.std.proofs.Common.{◌≡◌, ◌≢◌, ℕ, zero, suc, ◌+◌, ◌<◌, ◌≤◌, List, [], ◌∷◌, ◌++◌, length, get_or, Some, refl, sym, ◌∙◌, ap, subst, inl, inr, ⊎_elim, arith}
+use Rattle.std.specs.Prelude.{All, AllPairs, slice_get}
+use Rattle.std.proofs.lemmas.List.Elements.{All-cons}
+use Rattle.std.proofs.lemmas.List.Kept.{AllPairs-cons}
+use Rattle.std.proofs.lemmas.Option.{slice_get-get_or}
+use Rattle.fc_position.specs.Board.{Board}
+use Rattle.fc_moves.specs.GameRules.{GameRules, IsPositionOf}
+use Rattle.fc_moves.specs.Run.{CanReach, ReachesMore, Wins}
+use Rattle.fc_moves.proofs.StepLemmas.{step_keeps, run_keeps}
+use Rattle.fc_canonical.specs.Class.{SameClass}
+use Rattle.fc_canonical.specs.Key.{IsKeyOf}
+use Rattle.fc_canonical.proofs.ClassLemmas.{class-refl, class-sym, class-trans, class_step}
+use Rattle.fc_canonical.proofs.KeyLemmas.{keys_tell}
+use Rattle.fc_home.specs.Settles.{Settles}
+use Rattle.fc_home.proofs.MateLemmas.{class_settle}
+use Rattle.fc_home.proofs.SettleLemmas.{settles_keep, settles_run}
+use Rattle.fc_bound.specs.Bound.{bound}
+use Rattle.fc_bound.proofs.HeldLemmas.{class_bound}
+use Rattle.fc_best_first.specs.Kept as kept
+use Rattle.fc_best_first.specs.Shown.{AreNeeded}
+use Rattle.fc_classes.specs.Classes.{classes}
+use Rattle.fc_classes.specs.Key.{spelled}
+use Rattle.fc_classes.proofs.PathLemmas.{reached_of_positions, reached_run_to, settles_none, run_on}
+use Rattle.fc_search.specs.Answer.{IsNeeded, NeedsMore}
+
+-- a position of the game whose key had to be stored
+record Needed (g : GameRules) (rule : ℕ) (p : Board) (x : List ℕ) : Type 0 where
+  board : Board
+  needed : IsNeeded g rule p board
+  key : IsKeyOf board x
+  position : IsPositionOf g board
+
+-- each key that came by needed work is that of a board that was needed
+board_of : (g : GameRules) (rule : ℕ) (p : Board) (y : List ℕ) → IsPositionOf g p → kept.IsNeeded (classes g rule p) y
+    → Needed g rule p y
+board_of g rule p y pp (inl (d, (q, settles, key))) = record {
+  board = q;
+  needed = inl (d, settles);
+  key = key;
+  position = settles_keep g rule p q d pp settles;
+}
+board_of g rule p y pp (inr (x, d, c, reached, (kw, (m, z, count, step, (q, settles, key), paid)), least)) =
+    let before = reached_run_to g rule p x d pp reached in
+    let b = before.1 in
+    let same = before.4 in
+    let back = class-sym b (spelled x) same in
+    let pb = run_keeps g p b before.0 pp before.3 in
+    let there = class_step g (spelled x) b z m kw.position pb back step in
+    let settled = class_settle g rule z there.1 q count there.3 settles in
+    let still = class_settle g rule (spelled x) b (spelled x) 0 back (reached_of_positions g rule p x d pp reached).1 in
+    let stays = subst (Settles g rule b 0) (settles_none g rule b still.0 still.1) still.1 in
+    let alike = class_bound b (spelled x) same in record {
+      board = settled.0;
+      needed = inr (
+        before.0,
+        b,
+        there.0,
+        there.1,
+        count,
+        before.3,
+        stays,
+        there.2,
+        settled.1,
+        λ wins w. let most = least (length wins) (wins, refl, w) in let long = before.2 in omega (arith, most, long, alike),
+      );
+      key = record {
+        canonical = key.canonical;
+        class = class-trans settled.0 q key.canonical (class-sym q settled.0 settled.2) key.class;
+        ordered = key.ordered;
+        bytes = key.bytes;
+      };
+      position = settles_keep g rule there.1 settled.0 count (step_keeps g b there.1 there.0 pb there.2) settled.1;
+    }
+
+-- the boards of different keys, one for each
+record Boards (g : GameRules) (rule : ℕ) (p : Board) (keys : List (List ℕ)) : Type 0 where
+  boards : List Board
+  count : length boards ≡ length keys
+  different : AllPairs (λ x y. SameClass x y → ⊥) boards
+  needed : All (IsNeeded g rule p) boards
+  of : (i : ℕ) (b : Board) → slice_get boards i ≡ Some b
+      → (x : List ℕ) × (slice_get keys i ≡ Some x) × IsKeyOf b x × IsPositionOf g b
+
+boards_of : (g : GameRules) (rule : ℕ) (p : Board) (keys : List (List ℕ)) → IsPositionOf g p
+    → ((i j : ℕ) (x : List ℕ) → slice_get keys i ≡ Some x → slice_get keys j ≡ Some x → i ≡ j)
+    → ((i : ℕ) (x : List ℕ) → slice_get keys i ≡ Some x → kept.IsNeeded (classes g rule p) x) → Boards g rule p keys
+boards_of g rule p [] pp once needed = record {
+  boards = [];
+  count = refl;
+  different = λ i j d lt within. absurd (omega (arith, within));
+  needed = λ k d lt. absurd (omega (arith, lt));
+  of = λ i b at. absurd (cc);
+}
+boards_of g rule p (x ∷ keys) pp once needed =
+    let rest = boards_of g rule p keys pp (λ i j y a b. let e = once (suc i) (suc j) y a b in omega (arith, e)) (λ i y a. needed (suc i) y a) in
+    let first = board_of g rule p x pp (needed 0 x refl) in
+    let others : All (λ c. SameClass first.board c → ⊥) rest.boards = λ k d lt same.
+    let c = get_or rest.boards k d in
+    let at = rest.of k c (slice_get-get_or rest.boards k d lt) in
+    let keys_same : at.0 ≡ x =
+    (keys_tell c first.board at.0 x at.3.position first.position.position at.2 first.key).1 (class-sym first.board c same) in
+    let twice = once 0 (suc k) x refl (at.1 ∙ ap (λ y. Some y) keys_same) in
+    omega (arith, twice) in record {
+      boards = first.board ∷ rest.boards;
+      count = ap suc rest.count;
+      different = AllPairs-cons (λ y z. SameClass y z → ⊥) first.board rest.boards others rest.different;
+      needed = All-cons (IsNeeded g rule p) first.board rest.boards first.needed rest.needed;
+      of = front rest first;
+    }
+  where
+    front : (rest : Boards g rule p keys) (first : Needed g rule p x) (i : ℕ) (b : Board)
+        → slice_get (first.board ∷ rest.boards) i ≡ Some b
+        → (y : List ℕ) × (slice_get (x ∷ keys) i ≡ Some y) × IsKeyOf b y × IsPositionOf g b
+    front rest first zero b at =
+        let same : first.board ≡ b = cc in
+        (x, refl, subst (λ c. IsKeyOf c x) same first.key, subst (IsPositionOf g) same first.position)
+    front rest first (suc i) b at = rest.of i b at
+
+-- so where different keys came by needed work, so many classes had to be stored
+pub needs_more : (g : GameRules) (rule : ℕ) (p : Board) (budget : ℕ) (keys : List (List ℕ)) → IsPositionOf g p
+    → AreNeeded (classes g rule p) (budget + 1) keys → NeedsMore g rule p budget
+needs_more g rule p budget keys pp are =
+    let bs = boards_of g rule p keys pp are.once are.needed in record {
+      boards = bs.boards;
+      count = bs.count ∙ are.many;
+      different = bs.different;
+      needed = bs.needed;
+    }
+
+-- a board that is needed can be reached
+needed_reached : (g : GameRules) (rule : ℕ) (p z : Board) → IsNeeded g rule p z → CanReach g p z
+needed_reached g rule p z (inl (count, (ms, long, by))) = (ms, settles_run g rule p z ms by)
+needed_reached g rule p z (inr (ms, x, m, y, count, run, settled, step, (ns, long, by), least)) =
+    (ms ++ m ∷ ns, run_on g p x z ms (m ∷ ns) run (y, step, settles_run g rule y z ns by))
+
+-- so more positions than the budget can be reached
+pub needs_reach : (g : GameRules) (rule : ℕ) (p : Board) (budget : ℕ) → NeedsMore g rule p budget → ReachesMore g p budget
+needs_reach g rule p budget more = record {
+  boards = more.boards;
+  count = more.count;
+  different = λ i j d lt within same. more.different i j d lt within
+      (subst (SameClass (get_or more.boards i d)) same (class-refl (get_or more.boards i d)));
+  reached = λ k d lt. needed_reached g rule p (get_or more.boards k d) (more.needed k d lt);
+}

@@ -1,0 +1,128 @@
+-- The way from the start to a stored class.
+use Rattle.std.proofs.Common.{◌≡◌, ℕ, ◌+◌, ◌-◌, ◌<◌, ◌≤◌, ◌↔◌, List, [], ◌∷◌, ◌++◌, length, reverse, refl, sym, ◌∙◌, ap, subst, ⊎_elim, arith}
+use Rattle.std.specs.Prelude.{Option, Some, None, MatchOption}
+use Rattle.std.specs.Option.{IsSome}
+use Rattle.std.proofs.lemmas.List.{length-append, reverse-append}
+use Rattle.fc_position.specs.Board.{Board}
+use Rattle.fc_position.specs.Position.{IsPosition}
+use Rattle.fc_moves.specs.declared.steps.Move.{Move}
+use Rattle.fc_moves.specs.GameRules.{GameRules, IsPositionOf}
+use Rattle.fc_moves.specs.Run.{Run}
+use Rattle.fc_moves.specs.Step.{Step}
+use Rattle.fc_moves.proofs.StepLemmas.{step_keeps, run_keeps}
+use Rattle.fc_canonical.specs.Class.{SameClass}
+use Rattle.fc_canonical.specs.Key.{IsKeyOf}
+use Rattle.fc_canonical.proofs.ClassLemmas.{class-refl, class-sym, class-trans, class_step}
+use Rattle.fc_canonical.proofs.KeyLemmas.{keys_tell}
+use Rattle.fc_canonical.proofs.MoveLemmas.{step_once}
+use Rattle.fc_home.specs.Settles.{SettlesBy, Settles}
+use Rattle.fc_home.proofs.MateLemmas.{class_settle}
+use Rattle.fc_home.proofs.SettleLemmas.{settles_keep, settles_run}
+use Rattle.fc_home.proofs.WayLemmas.{settles_once}
+use Rattle.fc_best_first.specs.declared.books.Mark.{Mark}
+use Rattle.fc_best_first.specs.Kept.{IsSound, Comes}
+use Rattle.fc_best_first.specs.Store.{Store, Stands}
+use Rattle.fc_best_first.proofs.KeptLemmas.{same_entry}
+use Rattle.fc_classes.specs.Classes.{classes, SettlesTo, LeadsTo}
+use Rattle.fc_classes.specs.Key.{spelled}
+use Rattle.fc_classes.proofs.KeyLemmas.{key_spells}
+use Rattle.fc_classes.proofs.PathLemmas.{run_on}
+use Rattle.fc_search.specs.Walk.{IsStart, IsWay, IsAtClass, StepsTo, LeadsWithin}
+
+-- a move that leads to a key leads to one key, by one number of moves
+pub leads_once : (g : GameRules) (rule : ℕ) (b z q : Board) (key : List ℕ) (m : Move) (most : ℕ) (settling : List Move)
+    → IsPosition z → IsPosition q → Step g b m z → SettlesBy g rule z settling q → LeadsWithin g rule b key most m
+    → IsKeyOf q key × (1 + length settling ≤ most)
+leads_once g rule b z q key m most settling pz pq step by (count, (x, also, (y, settles, k)), le) =
+    let same : x ≡ z = step_once g b m x z also step in
+    let here = subst (λ v. Settles g rule v count y) same settles in
+    let one = settles_once g rule z y q count (length settling) pz here (settling, refl, by) in
+    let size : count ≡ length settling = one.0 in
+    (subst (λ v. IsKeyOf v key) one.1 k, omega (arith, size, le))
+
+-- two keys of one board are the same
+pub key_once : (q : Board) (k l : List ℕ) → IsPosition q → IsKeyOf q k → IsKeyOf q l → k ≡ l
+key_once q k l p a b = (keys_tell q q k l p p a b).1 (class-refl q)
+
+-- from the board that a walk came to, a step leads on to the next class within what is left of its cost
+pub leads_on : (g : GameRules) (rule : ℕ) (p : Board) (budget : ℕ) (s : Store (List ℕ)) → IsPositionOf g p
+    → IsSound (classes g rule p) budget s → (number next : ℕ) (made : List Move) (b : Board) (x : List ℕ) (mark : Mark)
+    → IsAtClass g s p number made b → Stands s next x mark → mark.parent ≡ number → (number ≡ next → ⊥)
+    → (length made ≤ mark.cost) × ((m : Move) × LeadsWithin g rule b x (mark.cost - length made) m)
+leads_on g rule p budget s pp sound number next made b x mark (y, mine, there, run, same, le) at parent other =
+    ⊎_elim
+    (λ (own, start). absurd (other (sym parent ∙ own)))
+    (λ (w, was, c, stands, (kw, (m, z, count, step, (q, settles, key), paid)), less).
+    let here = subst (λ n. Stands s n w was) parent stands in
+    let one = same_entry s number w y was mine here there in
+    let mates : SameClass b (spelled w) = subst (λ k. SameClass b (spelled k)) (sym one.0) same in
+    let cost : was.cost ≡ mine.cost = ap (λ n. n.cost) one.1 in
+    let pb = run_keeps g p b made pp run in
+    let next_step = class_step g (spelled w) b z m kw.position pb (class-sym b (spelled w) mates) step in
+    let settled = class_settle g rule z next_step.1 q count next_step.3 settles in
+    let left : 1 + count ≤ mark.cost - length made = omega (arith, less, paid, le, cost) in
+    let own_key : IsKeyOf settled.0 x = record {
+      canonical = key.canonical;
+      class = class-trans settled.0 q key.canonical (class-sym q settled.0 settled.2) key.class;
+      ordered = key.ordered;
+      bytes = key.bytes;
+    } in (
+      omega (arith, less, le, cost),
+      (next_step.0, (count, (next_step.1, next_step.2, (settled.0, settled.1, own_key)), left)),
+    ))
+    (sound.comes next x mark at)
+
+-- having walked on
+pub walked_on : (g : GameRules) (rule : ℕ) (p : Board) (budget : ℕ) (s : Store (List ℕ)) → IsPositionOf g p
+    → (number next : ℕ) (made more : List Move) (b c : Board) (x : List ℕ) (mark : Mark)
+    → IsAtClass g s p number made b → Stands s next x mark → length made ≤ mark.cost → Run g b more c
+    → length more ≤ mark.cost - length made → IsKeyOf c x → IsPositionOf g c → IsAtClass g s p next (made ++ more) c
+walked_on g rule p budget s pp number next made more b c x mark (y, mine, there, run, same, le) at room on few key pc = (
+  x,
+  mark,
+  at,
+  run_on g p b c made more run on,
+  (key_spells g c x pc key).1,
+  (let long = length-append made more in omega (arith, long, few, room)),
+)
+
+-- a walk begins at a class that starts, where the start settles
+pub walk_begins : (g : GameRules) (rule : ℕ) (p : Board) (budget : ℕ) (s : Store (List ℕ)) → IsPositionOf g p
+    → IsSound (classes g rule p) budget s → (number : ℕ) (settling : List Move) (q : Board) → IsStart s number
+    → SettlesBy g rule p settling q → IsPosition q → IsAtClass g s p number settling q
+walk_begins g rule p budget s pp sound number settling q (x, mark, at, own) by pq =
+    ⊎_elim
+    (λ (parent, (r, settles, key)).
+    let one = settles_once g rule p r q mark.cost (length settling) pp.position settles (settling, refl, by) in
+    let here : IsKeyOf q x = subst (λ v. IsKeyOf v x) one.1 key in
+    let pr = settles_keep g rule p q (length settling) pp (settling, refl, by) in
+    let few : length settling ≤ mark.cost = let e = one.0 in omega (arith, e) in
+    (x, mark, at, settles_run g rule p q settling by, (key_spells g q x pr here).1, few))
+    (λ (w, was, c, stands, (kw, (m, z, count, step, to, paid)), less).
+    let here = subst (λ n. Stands s n w was) own stands in
+    let same = same_entry s number w x was mark here at in
+    let cost : was.cost ≡ mark.cost = ap (λ n. n.cost) same.1 in
+    absurd (omega (arith, less, paid, cost)))
+    (sound.comes number x mark at)
+
+-- a class's parent costs less than it does
+pub parent_less : (g : GameRules) (rule : ℕ) (p : Board) (budget : ℕ) (s : Store (List ℕ)) → IsSound (classes g rule p) budget s
+    → (number parent : ℕ) (x : List ℕ) (mark : Mark) → Stands s number x mark → mark.parent ≡ parent → (parent ≡ number → ⊥)
+    → (w : List ℕ) × (was : Mark) × Stands s parent w was × (was.cost < mark.cost)
+parent_less g rule p budget s sound number parent x mark at by other =
+    ⊎_elim
+    (λ (own, start). absurd (other (sym by ∙ own)))
+    (λ (w, was, c, stands, (kw, (m, z, count, step, to, paid)), less).
+    (w, was, subst (λ n. Stands s n w was) by stands, omega (arith, less, paid)))
+    (sound.comes number x mark at)
+
+-- what can't be absent is there
+pub found : {X : Type 0} (o : Option X) (P : X → Type 0) (N : Type 0) → MatchOption o N P → (N → ⊥) → IsSome o
+found None P N none never = absurd (never none)
+found (Some x) P N some never = refl
+
+-- the next class on a way, and what is left of it
+pub next_on : (s : Store (List ℕ)) (at next target : ℕ) (way rest : List ℕ) → way ≡ rest ++ next ∷ []
+    → IsWay s at (reverse way) target → IsWay s at (next ∷ reverse rest) target
+next_on s at next target way rest e leads =
+    subst (λ l. IsWay s at l target) (ap reverse e ∙ reverse-append rest (next ∷ [])) leads

@@ -1,0 +1,48 @@
+use Rattle.std.proofs.Common.{◌≡◌, ◌≤◌, length, take, refl, sym, ◌∙◌, ap, subst, arith}
+use Rattle.std.specs.List.Sorted.{IsPermutation}
+use Rattle.fc_classes.specs.Classes.{classes}
+use Rattle.fc_search.specs.declared.answers.Row.{Row}
+use Rattle.fc_search.specs.Table.{at_no_cost, costs_of, pairs_of, HaveKeysOnce}
+use Rattle.fc_search.proofs.RowLemmas.{listed_free, all_few, stored_once, no_cost_once, looked, stored_long}
+use Rattle.fc_search.proofs.searches.Search.table_of_all.Goals as goal
+
+pub loop-number-preserved : goal.loop-number-preserved
+loop-number-preserved g c =
+    let row : Row = record { key = c.copied.result; cost = 0 } in
+    ap pairs_of c.in_ok-push.ensures.items
+    ∙ listed_free c.args.self.now.store c.loop-number.number c.at.result.0.now c.at.result.1 c.loop-number.rows.items row
+    c.at.ensures.stands c.loop-number.invariant c.copied.ensures.value refl
+
+pub sorted-requires-clause-few : goal.sorted-requires-clause-few
+sorted-requires-clause-few g c =
+    let store = c.args.self.now.store in
+    let size = c.len-number-end.ensures.size in
+    let past = subst (λ s. length s.store.stored ≤ c.loop-number.number) c.self.view_is
+    (let end = c.loop-number-test.false in omega (arith, size, end)) in
+    let same = c.loop-number.invariant ∙ ap at_no_cost (looked store c.loop-number.number past) in
+    let few = all_few (costs_of store) c.loop-number.rows.items same in
+    let long = stored_long store in
+    let room = c.requires.sound.room in
+    let most = c.requires.most in
+    omega (arith, few, long, room, most)
+
+pub sorted-requires-clause-once : goal.sorted-requires-clause-once
+sorted-requires-clause-once g c =
+    let store = c.args.self.now.store in
+    let size = c.len-number-end.ensures.size in
+    let past = subst (λ s. length s.store.stored ≤ c.loop-number.number) c.self.view_is
+    (let end = c.loop-number-test.false in omega (arith, size, end)) in
+    let same = c.loop-number.invariant ∙ ap at_no_cost (looked store c.loop-number.number past) in
+    subst HaveKeysOnce (sym same)
+    (no_cost_once (costs_of store)
+    (stored_once (classes (g.G.Game.game c.args.self.now.question.game) c.args.self.now.question.rule c.args.self.now.question.start)
+    c.args.self.now.budget store c.requires.sound))
+
+pub returns-clause-rows : goal.returns-clause-rows
+returns-clause-rows g c =
+    let store = c.args.self.now.store in
+    let size = c.len-number-end.ensures.size in
+    let past = subst (λ s. length s.store.stored ≤ c.loop-number.number) c.self.view_is
+    (let end = c.loop-number-test.false in omega (arith, size, end)) in
+    let same = c.loop-number.invariant ∙ ap at_no_cost (looked store c.loop-number.number past) in
+    subst (λ l. IsPermutation l c.sorted.result.rows) same c.sorted.ensures.rows

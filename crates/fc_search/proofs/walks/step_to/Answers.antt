@@ -1,0 +1,27 @@
+use Rattle.std.proofs.Common.{◌≡◌, true, false, get_or, subst, sym, ◌∙◌, rules, arith}
+use Rattle.std.proofs.lemmas.Bool.Decides.{nat_tests}
+use Rattle.std.specs.Prelude.{Contains}
+use Rattle.fc_cards.specs.declared.places.Place.TheVariants.{Column}
+use Rattle.fc_moves.specs.declared.steps.Move.{Move}
+use Rattle.fc_canonical.proofs.MoveLemmas.{one_more}
+use Rattle.fc_search.specs.Walk.{LeadsWithin}
+use Rattle.fc_search.proofs.walks.step_to.Goals as goal
+
+pub loop-m-preserved : goal.loop-m-preserved
+loop-m-preserved g c =
+    let items = c.as_slice-m-items.result.now in
+    let d : Move = record { from = Column 0; to = Column 0 } in
+    one_more items c.loop-m.m-index d
+    (λ m. LeadsWithin (g.G.Game.game c.args.space.now.game) c.args.space.now.rule c.args.position.now c.args.key.now c.args.most m → ⊥)
+    c.loop-m-test.true c.loop-m.invariant
+    (λ leads. let yes = c.leads_within.ensures.value.1 leads in let no = c.if-leads_within.false in cc)
+
+pub returns : goal.returns
+returns g c = record {
+  first = λ m leads.
+      let found = subst (λ l. Contains l m) (sym c.as_slice-m-items.ensures.value)
+      (c.moves.ensures.complete m (leads.1.0, leads.1.1)) in
+      c.loop-m.invariant found.0 m (omega (arith, found.1))
+      (subst (LeadsWithin (g.G.Game.game c.args.space.now.game) c.args.space.now.rule c.args.position.now c.args.key.now c.args.most)
+      (sym found.2) leads);
+}

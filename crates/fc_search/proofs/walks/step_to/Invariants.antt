@@ -1,0 +1,9 @@
+use Rattle.std.proofs.Common.{ℕ, ◌<◌, get_or}
+use Rattle.fc_moves.specs.declared.steps.Move.{Move}
+use Rattle.fc_search.specs.Walk.{LeadsWithin}
+use Rattle.fc_search.proofs.walks.step_to.Given as goal
+
+-- none of the moves so far leads there
+abbrev pub invariant-loop-m : goal.invariant-loop-m
+invariant-loop-m g l = (k : ℕ) (d : Move) → k < l.m-index
+    → LeadsWithin (g.G.Game.game l.space.game) l.space.rule l.position l.key l.most (get_or l.m-items k d) → ⊥

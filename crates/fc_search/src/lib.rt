@@ -1,0 +1,16 @@
+//! Shortest solutions of a game's positions: the search over classes of settled positions, in turns, and its answers.
+//!
+//! An answer is right whatever the search keeps, and its table of classes backs it. Everything here is generic over the
+//! game, and the search over its queue.
+#![tactic(auto)]
+
+pub use answers::{Answer, MoveList, Table};
+pub use fc_best_first::{MOST_BUDGET, SearchFault, Step};
+pub use searches::{Search, solve};
+
+mod answers;
+mod searches;
+mod tables;
+#[cfg(test)]
+mod tests;
+mod walks;

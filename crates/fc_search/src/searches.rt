@@ -1,0 +1,184 @@
+ghost use Rattle.std.specs.Prelude.{◌≡◌, ◌<◌, ◌≤◌, ◌⊎◌, length, IfOk, IfErr, OnOk, OnErr};
+ghost use Rattle.fc_position.specs.Position.{Fits};
+ghost use Rattle.fc_moves.specs.GameRules.{IsPositionOf};
+ghost use Rattle.fc_best_first.specs.Search.{Begins, Turns, Runs, reply_of};
+ghost use Rattle.fc_best_first.specs.Shown.{Holds, Shows};
+ghost use Rattle.fc_best_first.specs.Store.{Stands};
+ghost use Rattle.fc_best_first.specs.Turn.{work_left};
+ghost use Rattle.fc_classes.specs.Classes.{classes};
+ghost use Rattle.fc_search.specs.Search.{Answers, IsOfStatus, IsUnanswered, IsRunToEnd};
+
+use crate::answers::Answer;
+use fc_best_first as best_first;
+use fc_best_first::{Mark, SearchFault, Status, Step};
+use fc_classes::ClassKey;
+use fc_frontier::{BucketFrontier, Frontier};
+use fc_moves::Game;
+use fc_position::Position;
+use fc_space::Positions;
+use std::alloc::{AllocError, Global};
+use std::marker::Model;
+
+/// A search for a shortest list of moves that wins from a position of a game, by classes of positions that are settled by
+/// a home rule, with a budget of stored classes.
+#[derive(Drop)]
+pub struct Search<F: Frontier + Drop, G: Game + Drop> {
+    pub(crate) alloc: Global,
+    pub(crate) search: best_first::Search<ClassKey, F, Positions<G>>,
+}
+
+impl<F: Frontier + Drop, G: Game + Drop> Model for Search<F, G> {
+    ghost use Rattle.fc_search.specs.Search.{State};
+
+    ghost Value = { State G };
+
+    ghost view = { λ s. record {
+      question = record { game = s.search.space.game; rule = s.search.space.rule; start = s.search.space.start };
+      budget = s.search.budget;
+      store = s.search.store;
+      status = s.search.status;
+    } };
+}
+
+impl<F: Frontier + Drop, G: Game + Drop> Search<F, G> {
+    /// A search that has had no turn, for a position that fits the game, a home rule of at most 2, and a budget of 1 to
+    /// 4,000,000 stored classes.
+    ///
+    /// # Errors
+    /// `Budget` outside that range, before any memory is asked for; `Memory` where a growth was refused.
+    pub fn new(
+        alloc: Global,
+        game: &G,
+        rule: u8,
+        position: &Position,
+        budget: u32,
+    ) -> Result<Self, SearchFault>
+        requires rule { rule ≤ 2 }
+        requires fits { Fits (G.game game.now).cells position.now }
+        ensures game { IfOk result (λ search. G.game search.question.game ≡ G.game game.now) }
+        ensures rule { IfOk result (λ search. search.question.rule ≡ rule) }
+        ensures start { IfOk result (λ search. search.question.start ≡ position.now) }
+        ensures budget { IfOk result (λ search. search.budget ≡ budget) }
+        ensures status { IfOk result (λ search. search.status ≡ Status.Running) }
+        ensures begins { IfOk result (λ search. Begins (classes (G.game game.now) rule position.now) search.store) }
+        ensures range { OnOk result ((1 ≤ budget) × (budget ≤ 4000000)) }
+        ensures fault { IfErr result (λ f. ((f ≡ SearchFault.Budget) × ((budget < 1) ⊎ (4000000 < budget))) ⊎ ((f ≡ SearchFault.Memory) × (1 ≤ budget) × (budget ≤ 4000000))) }
+    {
+        let space = Positions::new(game.copy(), rule, position.copy());
+        let search = best_first::Search::new(alloc, space, budget)?;
+        Ok(Search { alloc, search })
+    }
+
+    /// One turn: a running search takes one open class of least cost and bound. A search that is done answers `Done` and
+    /// stays as it is.
+    ///
+    /// # Errors
+    /// `Memory` where a growth was refused, and the search is stopped; `Stopped` from then on, and it stays as it is.
+    pub fn turn(&mut self) -> Result<Step, SearchFault>
+        ensures question { self.new.question ≡ self.old.question }
+        ensures budget { self.new.budget ≡ self.old.budget }
+        ensures turns { Turns (classes (G.game self.old.question.game) self.old.question.rule self.old.question.start) self.old.budget self.old.status self.old.store self.new.store self.new.status result }
+        ensures falls { result ≡ Ok Step.Running → work_left self.old.budget self.new.store < work_left self.old.budget self.old.store }
+    {
+        self.search.turn()
+    }
+
+    /// Turns until the search is done.
+    ///
+    /// # Errors
+    /// `Memory` where a growth was refused, and the search is stopped; `Stopped` where it was before.
+    pub fn run(&mut self) -> Result<(), SearchFault>
+        ensures question { self.new.question ≡ self.old.question }
+        ensures budget { self.new.budget ≡ self.old.budget }
+        ensures runs { Runs (classes (G.game self.old.question.game) self.old.question.rule self.old.question.start) self.old.budget self.old.status self.old.store self.new.store self.new.status }
+        ensures done { OnOk result (reply_of self.new.status ≡ Ok Step.Done) }
+        ensures fault { OnErr result (self.new.status ≡ Status.Stopped) }
+    {
+        self.search.run()
+    }
+
+    /// The answer of a search that is done. It never changes the search.
+    ///
+    /// # Errors
+    /// `Stopped` after a want of memory stopped the search; `NotDone` before it is done; `Memory` where a growth was
+    /// refused.
+    pub fn answer(&self) -> Result<Answer, SearchFault>
+        ensures answers { IfOk result (Answers (G.game self.now.question.game) self.now.question.rule self.now.question.start self.now.budget) }
+        ensures kind { IfOk result (IsOfStatus self.now.store self.now.budget self.now.status) }
+        ensures fault { IfErr result (IsUnanswered self.now.status) }
+    {
+        let answer = match self.search.status() {
+            Status::Running => return Err(SearchFault::NotDone),
+            Status::Stopped => return Err(SearchFault::Stopped),
+            Status::Shortest(number) => self.shortest(*number),
+            Status::CannotWin => self.cannot_win(),
+            Status::GaveUp(_, _) => Ok(Answer::GaveUp(self.search.budget())),
+        };
+        match answer {
+            Ok(answer) => Ok(answer),
+            Err(_) => Err(SearchFault::Memory),
+        }
+    }
+
+    // The key of the class with this number, and its mark.
+    pub(crate) fn at(&self, number: u32) -> (&ClassKey, Mark)
+        requires within { number < length self.now.store.stored }
+        ensures stands { Stands self.now.store number result.0.now result.1 }
+    {
+        self.search.entry(number).unwrap()
+    }
+
+    // The answer where the class with this number is won.
+    fn shortest(&self, number: u32) -> Result<Answer, AllocError>
+        requires held { Holds (classes (G.game self.now.question.game) self.now.question.rule self.now.question.start) self.now.budget self.now.store self.now.status }
+        requires shown { Shows (classes (G.game self.now.question.game) self.now.question.rule self.now.question.start) self.now.budget self.now.store self.now.status }
+        requires most { self.now.budget ≤ 4000000 }
+        requires fits { IsPositionOf (G.game self.now.question.game) self.now.question.start }
+        requires done { self.now.status ≡ Status.Shortest number }
+        ensures answers { IfOk result (Answers (G.game self.now.question.game) self.now.question.rule self.now.question.start self.now.budget) }
+        ensures kind { IfOk result (IsOfStatus self.now.store self.now.budget self.now.status) }
+    {
+        let moves = self.moves_to(number)?;
+        let table = self.table_below(moves.len())?;
+        Ok(Answer::Shortest(moves, table))
+    }
+
+    // The answer where no list wins.
+    fn cannot_win(&self) -> Result<Answer, AllocError>
+        requires held { Holds (classes (G.game self.now.question.game) self.now.question.rule self.now.question.start) self.now.budget self.now.store self.now.status }
+        requires shown { Shows (classes (G.game self.now.question.game) self.now.question.rule self.now.question.start) self.now.budget self.now.store self.now.status }
+        requires most { self.now.budget ≤ 4000000 }
+        requires fits { IsPositionOf (G.game self.now.question.game) self.now.question.start }
+        requires done { self.now.status ≡ Status.CannotWin }
+        ensures answers { IfOk result (Answers (G.game self.now.question.game) self.now.question.rule self.now.question.start self.now.budget) }
+        ensures kind { IfOk result (IsOfStatus self.now.store self.now.budget self.now.status) }
+    {
+        Ok(Answer::CannotWin(self.table_of_all()?))
+    }
+}
+
+/// The answer for a position that fits the game, under a home rule of at most 2, of a search that runs to its end with a
+/// budget of 1 to 4,000,000 stored classes. It gives up only where one more must be stored.
+///
+/// # Errors
+/// `Budget` outside that range, before any memory is asked for; `Memory` where a growth was refused.
+pub fn solve<G: Game + Drop>(
+    alloc: Global,
+    game: &G,
+    rule: u8,
+    position: &Position,
+    budget: u32,
+) -> Result<Answer, SearchFault>
+    requires rule { rule ≤ 2 }
+    requires fits { Fits (G.game game.now).cells position.now }
+    ensures answers { IfOk result (Answers (G.game game.now) rule position.now budget) }
+    ensures ran { IfOk result (IsRunToEnd (G.game game.now) rule position.now budget) }
+    ensures range { OnOk result ((1 ≤ budget) × (budget ≤ 4000000)) }
+    ensures fault { IfErr result (λ f. ((f ≡ SearchFault.Budget) × ((budget < 1) ⊎ (4000000 < budget))) ⊎ ((f ≡ SearchFault.Memory) × (1 ≤ budget) × (budget ≤ 4000000))) }
+{
+    let mut search: Search<BucketFrontier, G> = Search::new(alloc, game, rule, position, budget)?;
+    match search.run() {
+        Ok(()) => search.answer(),
+        Err(_) => Err(SearchFault::Memory),
+    }
+}

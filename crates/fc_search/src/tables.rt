@@ -1,0 +1,55 @@
+//! The table that backs the answer of a search that is done.
+
+ghost use Rattle.std.specs.Prelude.{◌≡◌, ◌≤◌, IfOk};
+ghost use Rattle.std.specs.List.Sorted.{IsPermutation};
+ghost use Rattle.fc_best_first.specs.Kept.{IsSound};
+ghost use Rattle.fc_classes.specs.Classes.{classes};
+ghost use Rattle.fc_search.specs.Table.{inside, at_no_cost, costs_of};
+
+use crate::answers::{Row, Table};
+use crate::searches::Search;
+use fc_best_first::Space;
+use fc_frontier::Frontier;
+use fc_moves::Game;
+use std::alloc::AllocError;
+
+impl<F: Frontier + Drop, G: Game + Drop> Search<F, G> {
+    // The stored classes whose cost and bound are below n.
+    pub(crate) fn table_below(&self, n: usize) -> Result<Table, AllocError>
+        requires sound { IsSound (classes (G.game self.now.question.game) self.now.question.rule self.now.question.start) self.now.budget self.now.store }
+        requires most { self.now.budget ≤ 4000000 }
+        ensures rule { IfOk result (λ table. table.rule ≡ self.now.question.rule) }
+        ensures rows { IfOk result (λ table. IsPermutation (inside n (costs_of self.now.store)) table.rows) }
+    {
+        let mut rows = Vec::new(self.alloc);
+        for number in 0..self.search.len() as u32 {
+            let (key, mark) = self.at(number);
+            let bound = self.search.space().bound(key);
+            if ((mark.cost + u32::from(bound)) as usize) < n {
+                rows.push(Row {
+                    key: key.copied(),
+                    cost: mark.cost,
+                })?;
+            }
+        }
+        Ok(Table::sorted(self.search.space().rule, rows))
+    }
+
+    // The stored classes, each at no cost.
+    pub(crate) fn table_of_all(&self) -> Result<Table, AllocError>
+        requires sound { IsSound (classes (G.game self.now.question.game) self.now.question.rule self.now.question.start) self.now.budget self.now.store }
+        requires most { self.now.budget ≤ 4000000 }
+        ensures rule { IfOk result (λ table. table.rule ≡ self.now.question.rule) }
+        ensures rows { IfOk result (λ table. IsPermutation (at_no_cost (costs_of self.now.store)) table.rows) }
+    {
+        let mut rows = Vec::new(self.alloc);
+        for number in 0..self.search.len() as u32 {
+            let (key, _mark) = self.at(number);
+            rows.push(Row {
+                key: key.copied(),
+                cost: 0,
+            })?;
+        }
+        Ok(Table::sorted(self.search.space().rule, rows))
+    }
+}
