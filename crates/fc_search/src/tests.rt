@@ -206,14 +206,14 @@ fn turned<F: Frontier + Drop>(
     let game = free_cell(4)?;
     let mut search: Search<F, FreeCell> = search_of(alloc, rule, start, budget)?;
     let mut running = 0;
-    for _turn in 0..1000 {
+    for turn in 0..1000u32 {
         if search.answer().err() != Some(SearchFault::NotDone) {
             return Err("an answer before the search is done".into());
         }
         if search.turn()? == Step::Done {
             break;
         }
-        running += 1;
+        running = turn + 1;
     }
     let first = report(&game, rule, start, &search.answer()?)?;
     if search.turn()? != Step::Done || report(&game, rule, start, &search.answer()?)? != first {

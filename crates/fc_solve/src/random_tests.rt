@@ -2,10 +2,11 @@
 
 use arrayvec::ArrayVec;
 use fc_cards::{Card, Suit};
+use fc_frontier::{BucketFrontier, Frontier, ListFrontier};
 use fc_moves::{BakersGame, FreeCell, Game, Kings};
 use fc_plain as plain;
 use fc_position::Position;
-use fc_search::{Answer, solve};
+use fc_search::{Answer, Search};
 use std::alloc::Global;
 use std::process::Abort;
 use std::test::Fail;
@@ -24,12 +25,12 @@ impl Numbers {
     }
 }
 
-// A board with the highest one to three cards of each suit left, in random columns, and in so many of the cells.
+// A board with none, the king, or the king and the queen of each suit left, in random columns, and in so many of the cells.
 fn random_board(numbers: &mut Numbers, cells: u32) -> Result<Position, Fail> {
     let mut left: ArrayVec<Card, 52> = ArrayVec::new();
     let mut homes = [13u8; 4];
     for (home, suit) in homes.iter_mut().zip([Suit::C, Suit::D, Suit::H, Suit::S]) {
-        let count = numbers.below(3) as u8;
+        let count = u8::try_from(numbers.below(3)).unwrap_or(0);
         *home = 13u8.saturating_sub(count);
         for rank in 14u8.saturating_sub(count)..14 {
             let card = Card::new(rank, suit).ok_or("a card")?;
@@ -44,7 +45,7 @@ fn random_board(numbers: &mut Numbers, cells: u32) -> Result<Position, Fail> {
             break;
         }
         let card = left.swap_remove(numbers.below(count) as usize % left.len());
-        let place = numbers.below(4) as usize;
+        let place = numbers.below(4) as usize % 4;
         if numbers.below(4) == 0 && (place as u32) < cells && held[place].is_none() {
             held[place] = Some(card);
         } else {
@@ -52,6 +53,9 @@ fn random_board(numbers: &mut Numbers, cells: u32) -> Result<Position, Fail> {
                 .try_push(card)
                 .map_err(|_| "a full column")?;
         }
+    }
+    if homes.iter().any(|count| *count > 13) {
+        return Err("a count above 13".into());
     }
     Ok(Position::from_parts(columns, held, homes)?)
 }
@@ -64,6 +68,21 @@ fn agree(answer: &Answer, plain: &plain::Answer) -> bool {
         (_, plain::Answer::GaveUp(_)) => true,
         _ => false,
     }
+}
+
+// The answer of a search with this queue.
+fn answer_of<F: Frontier + Drop, G: Game + Drop>(
+    alloc: Global,
+    game: &G,
+    rule: u8,
+    board: &Position,
+) -> Result<Answer, Fail> {
+    if rule > 2 || !board.fits(game.cells()) {
+        return Err("a rule or a board that doesn't fit".into());
+    }
+    let mut search: Search<F, G> = Search::new(alloc, game, rule, board, 4000)?;
+    search.run()?;
+    Ok(search.answer()?)
 }
 
 // Compares the answers for some boards of a game.
@@ -80,12 +99,11 @@ fn compare<G: Game + Drop>(
             return Err("a board that doesn't fit".into());
         }
         let plain = plain::search(alloc, game, &board, 300)?;
-        for rule in 0..3u8 {
-            if rule > 2 {
-                return Err("no rule".into());
-            }
-            let answer = solve(alloc, game, rule, &board, 4000)?;
-            assert!(rt; agree(&answer, &plain), "another answer");
+        for rule in 0..3 {
+            let list = answer_of::<ListFrontier, G>(alloc, game, rule, &board)?;
+            assert!(rt; agree(&list, &plain), "another answer with a list");
+            let buckets = answer_of::<BucketFrontier, G>(alloc, game, rule, &board)?;
+            assert!(rt; agree(&buckets, &plain), "another answer with buckets");
         }
     }
     Ok(())
