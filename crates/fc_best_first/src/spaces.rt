@@ -39,10 +39,11 @@ pub trait Space<K> {
         requires reached { (d : ℕ) × Reached (graph self.now) key.now d }
         ensures value { result ≡ (graph self.now).bound key.now };
 
-    /// The children of a key that was reached.
-    fn children(&self, key: &K) -> Self::Walk
+    /// The lower bound of a key that was reached, and its children.
+    fn visit(&self, key: &K) -> (u8, Self::Walk)
         requires reached { (d : ℕ) × Reached (graph self.now) key.now d }
-        ensures children { AreChildren (graph self.now) key.now (rest result) };
+        ensures bound { result.0 ≡ (graph self.now).bound key.now }
+        ensures children { AreChildren (graph self.now) key.now (rest result.1) };
 
     /// The next of the children that are left.
     fn next(&self, walk: &mut Self::Walk) -> Option<Child<K>>

@@ -66,12 +66,13 @@ impl Space<u32> for Sums {
         u32::from(self.goal).saturating_sub(*key) as u8
     }
 
-    fn children(&self, key: &u32) -> Addends {
-        Addends {
+    fn visit(&self, key: &u32) -> (u8, Addends) {
+        let addends = Addends {
             two: self.child(*key, 2, 3),
             four: self.child(*key, 4, 4),
             six: self.child(*key, 6, 9),
-        }
+        };
+        (self.bound(key), addends)
     }
 
     fn next(&self, walk: &mut Addends) -> Option<Child<u32>> {

@@ -70,10 +70,10 @@ pub(crate) fn advance<K: ExactKey, F: Frontier + Drop, S: Space<K>>(
     if space.is_won(key) {
         return Ok(Status::Shortest(number));
     }
-    if mark.cost + u32::from(space.bound(key)) < f {
+    let (bound, walk) = space.visit(key);
+    if mark.cost + u32::from(bound) < f {
         return Ok(Status::Running);
     }
-    let walk = space.children(key);
     match expand(space, book, budget, number, mark.cost, walk)? {
         Some(key) => Ok(Status::GaveUp(key, number)),
         None => Ok(Status::Running),

@@ -1,31 +1,34 @@
 -- The children of a class are the ends of its edges.
-use Rattle.std.proofs.Common.{rules, Option, Some, None, ◌≡◌, ℕ, ◌+◌, ◌<◌, ◌≤◌, List, [], ◌∷◌, ◌++◌, length, reverse, get_or, sym, ◌∙◌, ap, subst, ⊎_elim, arith}
+use Rattle.std.proofs.Common.{rules, Option, Some, None, ◌≡◌, ℕ, zero, suc, ◌+◌, ◌<◌, ◌≤◌, List, [], ◌∷◌, ◌++◌, length, map, reverse, get_or, refl, sym, ◌∙◌, ap, subst, arith}
 use Rattle.std.specs.Prelude.{Contains, IfNone, IsSome}
-use Rattle.std.proofs.lemmas.Bool.{cases_lt}
-use Rattle.std.proofs.lemmas.List.{get_or_default, length-append}
-use Rattle.std.proofs.lemmas.List.Elements.{Contains-append_left, Contains-push, Contains-push_cases}
+use Rattle.std.proofs.lemmas.List.{length-map, get_or-map, map-append, reverse-append}
+use Rattle.std.proofs.lemmas.List.Elements.{Contains-append_right, Contains-get_or}
 use Rattle.std.proofs.lemmas.List.Sorted.{Contains-permutation, IsPermutation-reverse, IsPermutation-sym}
-use Rattle.fc_position.specs.Board.{Board}
+use Rattle.fc_position.specs.Board.{Board, playable}
 use Rattle.fc_moves.specs.declared.steps.Move.{Move}
 use Rattle.fc_moves.specs.GameRules.{GameRules, IsPositionOf}
 use Rattle.fc_moves.proofs.StepLemmas.{step_keeps}
+use Rattle.fc_moves.specs.Step.{Allows}
 use Rattle.fc_canonical.specs.Class.{SameClass}
 use Rattle.fc_canonical.specs.Distinct.{ListsClasses}
 use Rattle.fc_canonical.specs.Key.{BeginsWithKey, board_bytes}
 use Rattle.fc_canonical.proofs.ClassLemmas.{class-refl, class-sym}
 use Rattle.fc_canonical.proofs.KeyLemmas.{keys_tell}
 use Rattle.fc_canonical.proofs.MoveLemmas.{step_once}
+use Rattle.fc_home.specs.Settles.{Settles}
 use Rattle.fc_home.proofs.MateLemmas.{class_settle}
 use Rattle.fc_home.proofs.SettleLemmas.{settles_keep}
 use Rattle.fc_home.proofs.WayLemmas.{settles_once}
 use Rattle.fc_bound.specs.Bound.{bound}
+use Rattle.fc_bound.proofs.EveryLemmas.{every_settles}
 use Rattle.fc_bound.proofs.HeldLemmas.{class_bound}
 use Rattle.fc_best_first.specs.declared.spaces.Child.{Child}
 use Rattle.fc_best_first.specs.Turn.{AreChildren}
 use Rattle.fc_classes.specs.Classes.{SettlesTo, classes}
 use Rattle.fc_classes.specs.Key.{IsKeyIn, spelled}
 use Rattle.fc_classes.proofs.KeyLemmas.{key_spells, key_begins}
-use Rattle.fc_space.specs.Children.{HaveChildren, IsChildOf, IsSettled}
+use Rattle.fc_classes.proofs.OrderLemmas.{has_key}
+use Rattle.fc_space.specs.Children.{HaveChildren, IsChildOf, IsSettled, AreAllowed, moved, child_by, children_by}
 
 -- a child's bound is that of its key
 pub child_bound : (g : GameRules) (rule : ℕ) (z : Board) (moves : ℕ) (child : Child (List ℕ)) → IsPositionOf g z
@@ -46,33 +49,68 @@ child_once g rule x z moves count child y px pz same (r, number, there, key, cos
     let tell = keys_tell r q child.key y pr.position pq.position key also in
     (tell.1 mates, omega (arith, cost, once.0))
 
--- before the first move there are no children
-pub children_none : (g : GameRules) (rule : ℕ) (b : Board) (moves : List Move) (children : List (Child (List ℕ))) → children ≡ []
-    → HaveChildren g rule b moves 0 children
-children_none g rule b moves children e = record {
-  count = ap length e;
-  children = λ child there. absurd (let few = there.1 in omega (arith, few, ap length e));
-  moves = λ k d below inside. absurd (omega (arith, below));
-}
+-- a child of its key, cost and bound alone
+same_child : (a b : Child (List ℕ)) → a.key ≡ b.key → a.cost ≡ b.cost → a.bound ≡ b.bound → a ≡ b
+same_child a b e f h = λ i. record { key = e i; cost = f i; bound = h i }
 
--- a move more, a child more
-pub children_more : (g : GameRules) (rule : ℕ) (b : Board) (moves : List Move) (n : ℕ) (old new : List (Child (List ℕ))) (m : Move)
-    (child : Child (List ℕ)) → HaveChildren g rule b moves n old → n < length moves → m ≡ get_or moves n m
-    → IsChildOf g rule b m child → new ≡ old ++ child ∷ [] → HaveChildren g rule b moves (n + 1) new
-children_more g rule b moves n old new m child before inside at is e = record {
-  count = ap length e ∙ length-append old (child ∷ []) ∙ ap (λ k. k + 1) before.count;
-  children = λ other there. ⊎_elim (λ earlier. before.children other earlier)
-      (λ same. (m, (n, inside, sym at), subst (IsChildOf g rule b m) same is))
-      (Contains-push_cases old child other (subst (λ l. Contains l other) e there));
-  moves = λ k d below within. ⊎_elim
-      (λ earlier. let w = before.moves k d earlier within in
-      (w.0, subst (λ l. Contains l w.0) (sym e) (Contains-append_left old (child ∷ []) w.0 w.1), w.2))
-      (λ late.
-      let last : k ≡ n = omega (arith, below, late) in
-      let here : m ≡ get_or moves k d = at ∙ get_or_default moves n m d inside ∙ ap (λ j. get_or moves j d) (sym last) in
-      (child, subst (λ l. Contains l child) (sym e) (Contains-push old child), subst (λ o. IsChildOf g rule b o child) here is))
-      (cases_lt k n);
-}
+-- the child by an allowed move is one to which it leads
+pub child_by_move : (g : GameRules) (rule : ℕ) (b : Board) (m : Move) → Allows g b m → IsChildOf g rule b m (child_by g rule b m)
+unfolding child_by
+child_by_move g rule b m (z, step) =
+    let there : moved b m (playable b m.from) ≡ z = ap (moved b m) step.playable ∙ sym step.after in
+    let settling = every_settles g rule (moved b m (playable b m.from)) in
+    let here = subst (λ v. Settles g rule v settling.0 settling.1) there settling.2 in
+    (z, step, (settling.1, settling.0, here, (has_key settling.1).1, refl, refl))
+
+-- and the only one
+pub child_is : (g : GameRules) (rule : ℕ) (b : Board) (m : Move) (child : Child (List ℕ)) → IsPositionOf g b
+    → IsChildOf g rule b m child → child ≡ child_by g rule b m
+child_is g rule b m child p is =
+    let own = child_by_move g rule b m (is.0, is.1) in
+    let z = is.0 in
+    let pz = step_keeps g b z m p is.1 in
+    let same = step_once g b m own.0 z own.1 is.1 in
+    let there = subst (λ v. IsSettled g rule v 1 (child_by g rule b m)) same own.2 in
+    let starts : SettlesTo g rule z there.1 (child_by g rule b m).key = (there.0, there.2, there.3) in
+    let once = child_once g rule z z 1 there.1 child (child_by g rule b m).key pz pz (class-refl z) is.2 starts in
+    let low = child_bound g rule z 1 child pz is.2 in
+    let own_low = child_bound g rule z 1 (child_by g rule b m) pz there in
+    same_child child (child_by g rule b m) once.0 (once.1 ∙ sym there.4)
+    (low ∙ ap (λ k. bound (spelled k)) once.0 ∙ sym own_low)
+
+-- what a function gives of a list is of its elements
+of_element : (f : Move → Child (List ℕ)) (moves : List Move) (child : Child (List ℕ)) → Contains (map f moves) child
+    → (m : Move) × Contains moves m × (f m ≡ child)
+of_element f [] child (k, lt, e) = absurd (omega (arith, lt))
+of_element f (m ∷ moves) child (zero, lt, e) = (m, (0, omega arith, refl), e)
+of_element f (m ∷ moves) child (suc k, lt, e) =
+    let rest = of_element f moves child (k, omega (arith, lt), e) in
+    (rest.0, Contains-append_right (m ∷ []) moves rest.0 rest.1, rest.2)
+
+-- allowed moves have their children
+pub have_children : (g : GameRules) (rule : ℕ) (b : Board) (moves : List Move) → AreAllowed g b moves
+    → HaveChildren g rule b moves (length moves) (map (child_by g rule b) moves)
+have_children g rule b moves allowed =
+    let f = child_by g rule b in record {
+      count = length-map moves f;
+      children = λ child there. let of = of_element f moves child there in
+          (of.0, of.1, subst (IsChildOf g rule b of.0) of.2 (child_by_move g rule b of.0 (allowed of.0 of.1)));
+      moves = λ k d below within.
+          let m = get_or moves k d in
+          let long : k < length (map f moves) = omega (arith, within, length-map moves f) in (
+            f m,
+            subst (Contains (map f moves)) (get_or-map f moves k d (f m) within) (Contains-get_or (map f moves) k (f m) long),
+            child_by_move g rule b m (allowed m (Contains-get_or moves k d within)),
+          );
+    }
+
+-- the last of the moves leads to the first of the children
+pub next_child : (g : GameRules) (rule : ℕ) (b : Board) (moves rest : List Move) (m : Move) (child : Child (List ℕ)) → IsPositionOf g b
+    → moves ≡ rest ++ m ∷ [] → IsChildOf g rule b m child → children_by g rule b moves ≡ child ∷ children_by g rule b rest
+next_child g rule b moves rest m child p e is =
+    let f = child_by g rule b in
+    ap (children_by g rule b) e ∙ ap reverse (map-append f rest (m ∷ [])) ∙ reverse-append (map f rest) (f m ∷ [])
+    ∙ ap (λ c. c ∷ children_by g rule b rest) (sym (child_is g rule b m child p is))
 
 -- the children by moves of which one leads to each class are the ends of the edges
 pub children_all : (g : GameRules) (rule : ℕ) (p : Board) (x : List ℕ) (moves : List Move) (children : List (Child (List ℕ)))

@@ -1,10 +1,10 @@
-ghost use Rattle.std.specs.Prelude.{◌≡◌, ◌≤◌, reverse};
+ghost use Rattle.std.specs.Prelude.{◌≡◌, ◌≤◌};
 ghost use Rattle.fc_position.specs.Position.{Fits, IsPosition};
 ghost use Rattle.fc_moves.specs.GameRules.{IsPositionOf};
-ghost use Rattle.fc_moves.specs.Step.{Allows};
 ghost use Rattle.fc_classes.specs.Classes.{classes};
 ghost use Rattle.fc_classes.specs.Key.{IsKeyIn, spelled};
 ghost use Rattle.fc_classes.proofs.TableLemmas.{lawful};
+ghost use Rattle.fc_space.specs.Children.{IsSettled, children_by};
 
 use arrayvec::ArrayVec;
 use fc_best_first::{Child, Space};
@@ -14,6 +14,7 @@ use fc_classes::ClassKey;
 use fc_home::settle;
 use fc_moves::{Game, Move, apply};
 use fc_position::Position;
+use std::marker::Model;
 
 /// The question how few moves of a game win from a position that fits it, searched by classes of positions that are
 /// settled by a home rule, at most 2.
@@ -26,15 +27,28 @@ pub struct Positions<G: Game + Drop> {
     pub ghost fits: { IsPositionOf (G.game game) start },
 }
 
-/// The children of a class that are left.
+/// The children of a class that are left: its position, and the moves that lead to them, the next one last.
 #[derive(Drop)]
-pub struct Children {
-    left: ArrayVec<Child<ClassKey>, 132>,
+pub struct Children<G: Game + Drop> {
+    game: G,
+    rule: u8,
+    position: Position,
+    left: ArrayVec<Move, 132>,
+}
+
+impl<G: Game + Drop> Model for Children<G> {
+    ghost use Rattle.std.specs.Prelude.{◌≤◌};
+    ghost use Rattle.fc_moves.specs.GameRules.{IsPositionOf};
+    ghost use Rattle.fc_space.specs.Children.{AreAllowed, Left};
+
+    ghost Value = { Left G };
+
+    ghost view = { λ s. record { game = s.game; rule = s.rule; position = s.position; moves = s.left.items } };
+
+    ghost invariant = { λ s. (s.rule ≤ 2) × IsPositionOf (G.game s.game) s.position × AreAllowed (G.game s.game) s.position s.left.items };
 }
 
 impl<G: Game + Drop> Positions<G> {
-    ghost use Rattle.fc_space.specs.Children.{IsSettled, IsChildOf};
-
     /// The question for a position that fits the game.
     pub fn new(game: G, rule: u8, start: Position) -> Self
         requires rule { rule ≤ 2 }
@@ -44,30 +58,6 @@ impl<G: Game + Drop> Positions<G> {
         ensures start { result.start ≡ start }
     {
         Positions { game, rule, start }
-    }
-
-    // The class that the position settles to, where so many moves led to the position.
-    fn settled(&self, position: Position, moves: u8) -> Child<ClassKey>
-        requires few { moves ≤ 1 }
-        ensures settled { IsSettled (G.game self.now.game) self.now.rule position moves result }
-    {
-        let mut position = position;
-        let settling = settle(&self.game, &mut position, self.rule);
-        Child {
-            key: ClassKey::of(&position),
-            cost: moves + settling.len() as u8,
-            bound: bound(&position),
-        }
-    }
-
-    // The child to which an allowed move leads.
-    fn child(&self, position: &Position, m: Move) -> Child<ClassKey>
-        requires allowed { Allows (G.game self.now.game) position.now m }
-        ensures child { IsChildOf (G.game self.now.game) self.now.rule position.now m result }
-    {
-        let mut next = position.copy();
-        apply(&self.game, &mut next, m);
-        self.settled(next, 1)
     }
 
     // The position that a key of the game spells.
@@ -80,15 +70,30 @@ impl<G: Game + Drop> Positions<G> {
     }
 }
 
+// The class that the position settles to by the rule, where so many moves led to the position.
+fn settled<G: Game>(game: &G, rule: u8, position: Position, moves: u8) -> Child<ClassKey>
+    requires known { rule ≤ 2 }
+    requires few { moves ≤ 1 }
+    ensures settled { IsSettled (G.game game.now) rule position moves result }
+{
+    let mut position = position;
+    let settling = settle(game, &mut position, rule);
+    Child {
+        key: ClassKey::of(&position),
+        cost: moves + settling.len() as u8,
+        bound: bound(&position),
+    }
+}
+
 impl<G: Game + Drop> Space<ClassKey> for Positions<G> {
     ghost graph = { λ s. classes (G.game s.game) s.rule s.start };
 
-    type Walk = Children;
+    type Walk = Children<G>;
 
-    ghost rest = { λ w. reverse w.left.items };
+    ghost rest = { λ w. children_by (G.game w.game) w.rule w.position w.moves };
 
     fn start(&self) -> Child<ClassKey> {
-        self.settled(self.start.copy(), 0)
+        settled(&self.game, self.rule, self.start.copy(), 0)
     }
 
     fn is_won(&self, key: &ClassKey) -> bool {
@@ -99,18 +104,24 @@ impl<G: Game + Drop> Space<ClassKey> for Positions<G> {
         bound(&self.position(key))
     }
 
-    fn children(&self, key: &ClassKey) -> Children {
+    fn visit(&self, key: &ClassKey) -> (u8, Children<G>) {
         let position = self.position(key);
-        let moves = distinct_moves(&self.game, &position);
-        let mut left = ArrayVec::new();
-        for m in moves.as_slice() {
-            left.push(self.child(&position, *m));
-        }
-        Children { left }
+        let low = bound(&position);
+        let left = distinct_moves(&self.game, &position);
+        let children = Children {
+            game: self.game.copy(),
+            rule: self.rule,
+            position,
+            left,
+        };
+        (low, children)
     }
 
-    fn next(&self, walk: &mut Children) -> Option<Child<ClassKey>> {
-        walk.left.pop()
+    fn next(&self, walk: &mut Children<G>) -> Option<Child<ClassKey>> {
+        let m = walk.left.pop()?;
+        let mut next = walk.position.copy();
+        apply(&walk.game, &mut next, m);
+        Some(settled(&walk.game, walk.rule, next, 1))
     }
 
     ghost lawful = { λ s. lawful (G.game s.game) s.rule s.start s.fits };

@@ -14,12 +14,6 @@ is_won-requires g c = record {
       c.requires.kept.sound c.in-Some.ensures.kept c.at.ensures.stands;
 }
 
-pub children-walk-requires : goal.children-walk-requires
-children-walk-requires g c = record {
-  reached = entry_reached (g.S.Space.graph c.args.space.now) c.args.budget c.args.book.now c.take.new.self c.in-Some.number _ _
-      c.requires.kept.sound c.in-Some.ensures.kept c.at.ensures.stands;
-}
-
 pub overflow_add-mark : goal.overflow_add-mark
 overflow_add-mark g c =
     let low = entry_low (g.S.Space.graph c.args.space.now) c.args.budget c.args.book.now c.take.new.self c.in-Some.number _ _
