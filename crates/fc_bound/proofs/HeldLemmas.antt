@@ -18,7 +18,7 @@ use Rattle.fc_moves.specs.declared.steps.Move.{Move}
 use Rattle.fc_moves.specs.GameRules.{GameRules, all_cards}
 use Rattle.fc_moves.specs.Step.{Step, Takes}
 use Rattle.fc_bound.specs.Bound.{bound, is_away, is_held_back, is_above_lower, stands_in}
-use Rattle.fc_bound.specs.Laws.{StepsLowerTheBoundByOne, WinsNeedTheBound, ClassMatesHaveOneBound}
+use Rattle.fc_bound.specs.Laws.{StepsLowerTheBoundByOne, StepsMoveTheBoundByTheirCard, WinsNeedTheBound, ClassMatesHaveOneBound}
 use Rattle.fc_bound.proofs.AboveLemmas.{above-one, above-other, not_true, stands-counted}
 use Rattle.fc_bound.proofs.CountLemmas.{count-same, count-but_one, count-of_two, count-none}
 
@@ -127,16 +127,22 @@ held-change b from u to below there =
     count-but_one u (is_held_back b) (is_held_back (placed (lifted b from) u to)) below
     (λ c other. held-moved b from u to c there (λ e. other (sym e)))
 
--- where the counts stay, as many cards are not home, and one more or less is held back
-stays : (b : Board) (from : Place) (u : ℕ) (to : Place) → u < 52 → playable b from ≡ Some u
-    → (placed (lifted b from) u to).homes ≡ b.homes → bound b ≤ bound (placed (lifted b from) u to) + 1
+-- where the counts stay, as many cards are not home, and the card that moves alone may be held back more or less
+pub bound-moved : (b : Board) (from : Place) (u : ℕ) (to : Place) → u < 52 → playable b from ≡ Some u
+    → (placed (lifted b from) u to).homes ≡ b.homes
+    → bound b + cond (is_held_back (placed (lifted b from) u to) u) 1 0 ≡ bound (placed (lifted b from) u to) + cond (is_held_back b u) 1 0
 unfolding bound
-stays b from u to below there homes =
-    let after : Board = placed (lifted b from) u to in
+bound-moved b from u to below there homes =
     let away : count_by (is_away b) all_cards ≡ count_by (is_away (placed (lifted b from) u to)) all_cards =
     count-same (is_away b) (is_away (placed (lifted b from) u to))
     (λ c _. ap (λ h. nat_lt (slice_index h (suit c)) (rank c)) (sym homes)) in
     let held = held-change b from u to below there in
+    omega arith
+
+stays : (b : Board) (from : Place) (u : ℕ) (to : Place) → u < 52 → playable b from ≡ Some u
+    → (placed (lifted b from) u to).homes ≡ b.homes → bound b ≤ bound (placed (lifted b from) u to) + 1
+stays b from u to below there homes =
+    let same = bound-moved b from u to below there homes in
     let most = bit_most (is_held_back b u) in
     omega arith
 
@@ -166,6 +172,18 @@ moved g b from u Home p there takes = goes_home b from u p (playable_below b fro
 pub step_lowers : StepsLowerTheBoundByOne
 step_lowers g b c m p step =
     subst (λ x. bound b ≤ bound x + 1) (sym step.after) (moved g b m.from step.card m.to p step.playable step.takes)
+
+-- a step that takes no card home changes the bound by its card alone
+pub step_moves : StepsMoveTheBoundByTheirCard
+step_moves g b c m u p step other there =
+    let same : step.card ≡ u = let e = step.playable in cc in
+    let after : c ≡ placed (lifted b m.from) u m.to = step.after ∙ ap (λ v. placed (lifted b m.from) v m.to) same in
+    rw after (bound-moved b m.from u m.to (playable_below b m.from u p there) there (kept m.to other))
+  where
+    kept : (to : Place) → to ≢ Home → (placed (lifted b m.from) u to).homes ≡ b.homes
+    kept (Column j) ne = homes-lifted b m.from
+    kept (Cell j) ne = homes-lifted b m.from
+    kept Home ne = absurd (ne refl)
 
 -- a place that takes a card can receive it
 pub receives : (g : GameRules) (b : Board) (u : ℕ) (to : Place) → Takes g b u to → Receives b u to

@@ -4,6 +4,7 @@ pub mod EveryLemmas
 pub mod FitLemmas
 pub mod HeldLemmas
 pub mod LookLemmas
+pub mod MovedLemmas
 pub mod RowLemmas
 pub mod TableLemmas
 pub mod TellLemmas

@@ -1,6 +1,7 @@
 -- What the laws of this crate state.
-use Rattle.std.specs.Prelude.{◌≡◌, ℕ, ◌+◌, ◌<◌, ◌≤◌, ◌↔◌, IsTrue, length, List, [], Option, Contains}
-use Rattle.fc_position.specs.Board.{Board, IsHome}
+use Rattle.std.specs.Prelude.{◌≡◌, ◌≢◌, ℕ, ◌+◌, ◌<◌, ◌≤◌, ◌↔◌, IsTrue, cond, length, List, [], Option, Some, Contains}
+use Rattle.fc_cards.specs.declared.places.Place.TheVariants.{Home}
+use Rattle.fc_position.specs.Board.{Board, playable, IsHome}
 use Rattle.fc_position.specs.Position.{IsShaped, IsPosition, Fits}
 use Rattle.fc_moves.specs.declared.steps.Move.{Move}
 use Rattle.fc_moves.specs.GameRules.{GameRules, Opens, IsPositionOf}
@@ -20,6 +21,12 @@ TestsTellTheCards = (b : Board) (c : ℕ) → (IsTrue (is_away b c) ↔ (¬ IsHo
 -- a step from a position lowers the bound by one at most
 abbrev pub StepsLowerTheBoundByOne : Type 0
 StepsLowerTheBoundByOne = (g : GameRules) (b c : Board) (m : Move) → IsPosition b → Step g b m c → bound b ≤ bound c + 1
+
+-- a step that takes no card home changes the bound only by whether its card is held back, before and after
+abbrev pub StepsMoveTheBoundByTheirCard : Type 0
+StepsMoveTheBoundByTheirCard = (g : GameRules) (b c : Board) (m : Move) (u : ℕ) → IsPosition b → Step g b m c → m.to ≢ Home
+    → playable b m.from ≡ Some u
+    → bound b + cond (is_held_back c u) 1 0 ≡ bound c + cond (is_held_back b u) 1 0
 
 -- every list of moves that wins from a position has at least as many moves as the bound says
 abbrev pub WinsNeedTheBound : Type 0

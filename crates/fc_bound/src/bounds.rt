@@ -1,10 +1,11 @@
-ghost use Rattle.std.specs.Prelude.{◌≡◌, ℕ, ◌≤◌, count_by};
-ghost use Rattle.fc_position.specs.Board.{count_in_column};
+ghost use Rattle.std.specs.Prelude.{◌≡◌, ℕ, ◌≤◌, false, count_by, MatchOption};
+ghost use Rattle.std.specs.List.{list_any};
+ghost use Rattle.fc_position.specs.Board.{count_in_column, playable};
 ghost use Rattle.fc_position.specs.Position.{IsPosition};
 ghost use Rattle.fc_moves.specs.GameRules.{all_cards};
-ghost use Rattle.fc_bound.specs.Bound.{bound, is_above_lower, is_away};
+ghost use Rattle.fc_bound.specs.Bound.{bound, is_above_lower, is_away, is_held_back, is_lower};
 
-use fc_cards::{Card, Suit};
+use fc_cards::{Card, Place, Suit};
 use fc_position::Position;
 
 // How many cards are not home.
@@ -35,6 +36,27 @@ fn above_lower(cards: &[Card]) -> u8
         }
     }
     count
+}
+
+// Whether one of the cards is a lower card of the suit.
+fn has_lower(cards: &[Card], card: Card) -> bool
+    ensures value { result ≡ list_any (is_lower card) cards.now }
+{
+    cards
+        .iter()
+        .any(|lower| lower.suit() == card.suit() && lower.rank() < card.rank())
+}
+
+/// Whether the playable card of a place stands above a lower card of its own suit in its column; not where there is no
+/// card. Whether it does, before and after, is all that a move to a column or a cell changes in the bound.
+pub fn is_held_back(position: &Position, from: Place) -> bool
+    ensures value { MatchOption (playable position.now from) (result ≡ false) (λ u. result ≡ is_held_back position.now u) }
+    ensures whole { IsPosition position.now }
+{
+    match (from, position.playable(from)) {
+        (Place::Column(i), Some(card)) => has_lower(position.column(i), card),
+        _ => false,
+    }
 }
 
 /// The number of cards that are not home, plus the number of cards that stand above a lower card of their own suit in

@@ -1,6 +1,6 @@
 //! Laws of the bound and of closed tables, each the contract of a function that does nothing.
 
-ghost use Rattle.fc_bound.specs.Laws.{TestsTellTheCards, StepsLowerTheBoundByOne, WinsNeedTheBound, ClassMatesHaveOneBound};
+ghost use Rattle.fc_bound.specs.Laws.{TestsTellTheCards, StepsLowerTheBoundByOne, StepsMoveTheBoundByTheirCard, WinsNeedTheBound, ClassMatesHaveOneBound};
 ghost use Rattle.fc_bound.specs.Laws.{ClosedBelowLeavesNoShorterList, ClosedLeavesNoList, ClosedInsideLeavesNoShorterList, ClosedBelowIsClosedInside};
 ghost use Rattle.fc_bound.specs.Laws.{ClosedByAnySettlingLeavesNoList, ClosedTablesNeedSettling, ClosedTablesNeedFitting, ClosedTablesNeedPositions};
 ghost use Rattle.fc_bound.specs.Laws.{OneBoardOfAClassIsEnough, OneBoardIsEnoughWithoutBound, ClosedBelowIsSeen, ClosedIsSeen, RowsInsideAreClosedBelow, ClosedInsideAllIsClosed, CostsOfClosedTablesAreFree, EveryBoardSettles, NoEmptyTableIsClosed, CanonicalBoardsFit};
@@ -14,6 +14,11 @@ pub fn tests_tell_the_cards()
 /// A step from a position lowers the bound by one at most, in every game.
 pub fn steps_lower_the_bound_by_one()
     ensures { StepsLowerTheBoundByOne }
+{}
+
+/// A step that takes no card home changes the bound only by whether its card is held back, before and after.
+pub fn steps_move_the_bound_by_their_card()
+    ensures { StepsMoveTheBoundByTheirCard }
 {}
 
 /// Every list of moves that wins from a position has at least as many moves as the bound says, in every game.

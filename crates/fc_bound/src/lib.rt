@@ -5,7 +5,7 @@
 //! proof, are laws.
 #![tactic(auto)]
 
-pub use bounds::bound;
+pub use bounds::{bound, is_held_back};
 
 mod bounds;
 pub mod laws;

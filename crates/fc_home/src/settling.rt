@@ -1,4 +1,4 @@
-ghost use Rattle.std.specs.Prelude.{◌+◌, ◌≤◌, length, IfSome, IfNone};
+ghost use Rattle.std.specs.Prelude.{◌+◌, ◌≤◌, ◌↔◌, length, IsTrue, IfSome, IfNone};
 ghost use Rattle.fc_cards.specs.declared.places.Place.{Place};
 ghost use Rattle.fc_position.specs.Board.{IsNext};
 ghost use Rattle.fc_position.specs.Position.{IsPosition, Fits};
@@ -32,6 +32,15 @@ pub fn forced<G: Game>(game: &G, position: &Position) -> Option<Card>
 {
     let goer = first_home(game, position, 1, &mut Known::new())?;
     Some(goer.card)
+}
+
+/// Whether no playable card goes home by a home rule, at most 2.
+pub fn is_settled<G: Game>(game: &G, position: &Position, rule: u8) -> bool
+    requires rule { rule ≤ 2 }
+    ensures value { IsTrue result ↔ NoneGoesHome rule (G.game game.now) position.now }
+    ensures whole { IsPosition position.now }
+{
+    first_home(game, position, rule, &mut Known::new()).is_none()
 }
 
 /// Settles a position by a home rule, at most 2: sends cards home one by one, always the one with the least number that

@@ -1,2 +1,4 @@
+pub mod BackLemmas
 pub mod ChildLemmas
+pub mod ShiftLemmas
 pub mod WonLemmas

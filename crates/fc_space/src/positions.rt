@@ -1,17 +1,20 @@
-ghost use Rattle.std.specs.Prelude.{◌≡◌, ◌≤◌};
+ghost use Rattle.std.specs.Prelude.{◌≡◌, ◌≤◌, IfSome};
 ghost use Rattle.fc_position.specs.Position.{Fits, IsPosition};
 ghost use Rattle.fc_moves.specs.GameRules.{IsPositionOf};
+ghost use Rattle.fc_moves.specs.Step.{Allows};
+ghost use Rattle.fc_bound.specs.Bound.{bound as bound_of};
 ghost use Rattle.fc_classes.specs.Classes.{classes};
 ghost use Rattle.fc_classes.specs.Key.{IsKeyIn, spelled};
 ghost use Rattle.fc_classes.proofs.TableLemmas.{lawful};
-ghost use Rattle.fc_space.specs.Children.{IsSettled, children_by};
+ghost use Rattle.fc_space.specs.Children.{IsSettled, IsChildOf, children_by};
 
 use arrayvec::ArrayVec;
 use fc_best_first::{Child, Space};
-use fc_bound::bound;
+use fc_bound::{bound, is_held_back};
 use fc_canonical::{distinct_moves, read_key};
 use fc_classes::ClassKey;
-use fc_home::settle;
+use fc_cards::Place;
+use fc_home::{is_settled, settle};
 use fc_moves::{Game, Move, apply};
 use fc_position::Position;
 use std::marker::Model;
@@ -27,25 +30,29 @@ pub struct Positions<G: Game + Drop> {
     pub ghost fits: { IsPositionOf (G.game game) start },
 }
 
-/// The children of a class that are left: its position, and the moves that lead to them, the next one last.
+/// The children of a class that are left: its position, with its bound, and the moves that lead to them, the next one
+/// last.
 #[derive(Drop)]
 pub struct Children<G: Game + Drop> {
     game: G,
     rule: u8,
     position: Position,
+    bound: u8,
     left: ArrayVec<Move, 132>,
 }
 
 impl<G: Game + Drop> Model for Children<G> {
-    ghost use Rattle.std.specs.Prelude.{◌≤◌};
+    ghost use Rattle.std.specs.Prelude.{◌≡◌, ◌≤◌};
     ghost use Rattle.fc_moves.specs.GameRules.{IsPositionOf};
+    ghost use Rattle.fc_bound.specs.Bound.{bound as bound_of};
     ghost use Rattle.fc_space.specs.Children.{AreAllowed, Left};
 
     ghost Value = { Left G };
 
     ghost view = { λ s. record { game = s.game; rule = s.rule; position = s.position; moves = s.left.items } };
 
-    ghost invariant = { λ s. (s.rule ≤ 2) × IsPositionOf (G.game s.game) s.position × AreAllowed (G.game s.game) s.position s.left.items };
+    ghost invariant = { λ s. (s.rule ≤ 2) × IsPositionOf (G.game s.game) s.position × AreAllowed (G.game s.game) s.position s.left.items
+        × (s.bound ≡ bound_of s.position) };
 }
 
 impl<G: Game + Drop> Positions<G> {
@@ -85,6 +92,73 @@ fn settled<G: Game>(game: &G, rule: u8, position: Position, moves: u8) -> Child<
     }
 }
 
+// The class of the position that a move led to, where no card goes home by the rule after it.
+fn settled_already<G: Game>(game: &G, rule: u8, position: &Position, bound: u8) -> Option<Child<ClassKey>>
+    requires known { rule ≤ 2 }
+    requires bound { bound ≡ bound_of position.now }
+    ensures settled { IfSome result (IsSettled (G.game game.now) rule position.now 1) }
+{
+    if !is_settled(game, position, rule) {
+        return None;
+    }
+    Some(Child {
+        key: ClassKey::of(position),
+        cost: 1,
+        bound,
+    })
+}
+
+// The child to which a move leads, made by moving the card forth and back; `None` where cards go home, which can't be
+// taken back. The position is as it was.
+fn child_by_shift<G: Game>(
+    game: &G,
+    rule: u8,
+    position: &mut Position,
+    bound: u8,
+    m: Move,
+) -> Option<Child<ClassKey>>
+    requires known { rule ≤ 2 }
+    requires bound { bound ≡ bound_of position.old }
+    requires allowed { Allows (G.game game.now) position.old m }
+    ensures child { IfSome result (IsChildOf (G.game game.now) rule position.old m) }
+    ensures same { position.new ≡ position.old }
+{
+    if m.to == Place::Home {
+        return None;
+    }
+    let before = is_held_back(position, m.from) as u8;
+    apply(game, position, m);
+    let after = is_held_back(position, m.to) as u8;
+    let child = settled_already(game, rule, position, bound + after - before);
+    position.shift(m.to, m.from);
+    child
+}
+
+// The child to which a move leads, made on a copy of the position.
+fn child_by_copy<G: Game>(game: &G, rule: u8, position: &Position, m: Move) -> Child<ClassKey>
+    requires known { rule ≤ 2 }
+    requires allowed { Allows (G.game game.now) position.now m }
+    ensures child { IsChildOf (G.game game.now) rule position.now m result }
+{
+    let mut next = position.copy();
+    apply(game, &mut next, m);
+    settled(game, rule, next, 1)
+}
+
+// The child to which a move leads. The position is as it was.
+fn child_by<G: Game>(game: &G, rule: u8, position: &mut Position, bound: u8, m: Move) -> Child<ClassKey>
+    requires known { rule ≤ 2 }
+    requires bound { bound ≡ bound_of position.old }
+    requires allowed { Allows (G.game game.now) position.old m }
+    ensures child { IsChildOf (G.game game.now) rule position.old m result }
+    ensures same { position.new ≡ position.old }
+{
+    match child_by_shift(game, rule, position, bound, m) {
+        Some(child) => child,
+        None => child_by_copy(game, rule, position, m),
+    }
+}
+
 impl<G: Game + Drop> Space<ClassKey> for Positions<G> {
     ghost graph = { λ s. classes (G.game s.game) s.rule s.start };
 
@@ -112,6 +186,7 @@ impl<G: Game + Drop> Space<ClassKey> for Positions<G> {
             game: self.game.copy(),
             rule: self.rule,
             position,
+            bound: low,
             left,
         };
         (low, children)
@@ -119,9 +194,7 @@ impl<G: Game + Drop> Space<ClassKey> for Positions<G> {
 
     fn next(&self, walk: &mut Children<G>) -> Option<Child<ClassKey>> {
         let m = walk.left.pop()?;
-        let mut next = walk.position.copy();
-        apply(&walk.game, &mut next, m);
-        Some(settled(&walk.game, walk.rule, next, 1))
+        Some(child_by(&walk.game, walk.rule, &mut walk.position, walk.bound, m))
     }
 
     ghost lawful = { λ s. lawful (G.game s.game) s.rule s.start s.fits };

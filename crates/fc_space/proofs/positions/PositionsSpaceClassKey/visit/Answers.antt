@@ -25,6 +25,7 @@ invariant_of-children g c =
       subst (λ r. IsPositionOf r c.position-position.result) (sym c.copy.ensures.value) position,
       subst (λ r. AreAllowed r c.position-position.result c.distinct_moves-left.result.items) (sym c.copy.ensures.value)
           c.distinct_moves-left.ensures.classes.allowed,
+      c.bound-low.ensures.value,
     )
 
 pub returns-clause-children : goal.returns-clause-children

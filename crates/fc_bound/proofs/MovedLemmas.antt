@@ -1,0 +1,110 @@
+-- What a move to a column or a cell changes in the bound: whether the card that moves is held back.
+use Rattle.std.proofs.Common.{◌≡◌, ◌≢◌, ℕ, ◌+◌, ◌<◌, ◌≤◌, zero, suc, Bool, true, false, cond, List, [], ◌∷◌, ◌++◌, Option, Some, None, length, get_or, refl, sym, ◌∙◌, ap, subst, ⊎_elim, arith}
+use Rattle.std.specs.Prelude.{◌==◌, ◌&&◌, ◌||◌, nat_lt, sum_by, MatchOption}
+use Rattle.std.specs.List.{list_any}
+use Rattle.std.proofs.lemmas.Bool.{cases_eq}
+use Rattle.std.proofs.lemmas.Bool.Decides.{nat_tests}
+use Rattle.std.proofs.lemmas.List.Sums.{sum_by_push, get_or-le-sum_by}
+use Rattle.fc_cards.specs.Card.{rank, suit}
+use Rattle.fc_cards.specs.declared.places.Place.{Place}
+use Rattle.fc_cards.specs.declared.places.Place.TheVariants.{Column, Cell, Home}
+use Rattle.fc_position.specs.Board.{Board, column, cell, playable, last_of, front_of, count_in_column, count_in_cell}
+use Rattle.fc_position.specs.Position.{IsPosition}
+use Rattle.fc_position.proofs.BoardLemmas.{front_last, column_there, cell_there}
+use Rattle.fc_canonical.proofs.KeyLemmas.{two_of_sum, places_most}
+use Rattle.fc_bound.specs.Bound.{is_held_back, is_above_lower, is_lower}
+use Rattle.fc_bound.proofs.AboveLemmas.{above-one, above-top, stands-counted, not_true, or-false}
+
+-- a list that passes nowhere passes not
+any_none : (test : List ℕ → Bool) (columns : List (List ℕ)) → ((k : ℕ) → k < length columns → test (get_or columns k []) ≡ false)
+    → list_any test columns ≡ false
+any_none test [] none = refl
+any_none test (x ∷ xs) none =
+    ap (λ t. t || list_any test xs) (none zero (omega arith)) ∙ any_none test xs (λ k within. none (suc k) (omega (arith, within)))
+
+-- a list that passes nowhere but at one place passes where that place does
+any_only : (test : List ℕ → Bool) (columns : List (List ℕ)) (i : ℕ) → i < length columns
+    → ((k : ℕ) → k ≢ i → k < length columns → test (get_or columns k []) ≡ false)
+    → list_any test columns ≡ test (get_or columns i [])
+any_only test [] i inside others = absurd (omega (arith, inside))
+any_only test (x ∷ xs) zero inside others =
+    ap (λ t. test x || t) (any_none test xs (λ k within. others (suc k) (λ e. omega (arith, e)) (omega (arith, within))))
+    ∙ or-false (test x)
+any_only test (x ∷ xs) (suc i) inside others =
+    ap (λ t. t || list_any test xs) (others zero (λ e. omega (arith, e)) (omega arith))
+    ∙ any_only test xs i (omega (arith, inside)) (λ k other within. others (suc k) (λ e. other (omega (arith, e))) (omega (arith, within)))
+
+one_itself : (u : ℕ) → ◌≡◌ {A = ℕ} (cond (u == u) 1 0) 1
+one_itself u = grind (arith, nat_tests)
+
+-- the last card of a column stands in it
+last_counted : (cards : List ℕ) (u : ℕ) → last_of cards ≡ Some u → 1 ≤ count_in_column u cards
+last_counted cards u last =
+    omega (
+      arith,
+      sum_by_push (λ x. cond (x == u) 1 0) (front_of cards) u,
+      one_itself u,
+      ap (count_in_column u) (front_last cards u last),
+    )
+
+-- a card is no lower than itself
+lower-push : (u : ℕ) (cards : List ℕ) → list_any (is_lower u) (cards ++ u ∷ []) ≡ list_any (is_lower u) cards
+lower-push u [] = grind (arith, nat_tests)
+lower-push u (d ∷ cards) = ap (λ t. is_lower u d || t) (lower-push u cards)
+
+-- the last card of a column is held back where it stands above a lower one there
+pub held-last : (b : Board) (i u : ℕ) → IsPosition b → last_of (column b i) ≡ Some u
+    → is_held_back b u ≡ list_any (is_lower u) (column b i)
+held-last b i u p last =
+    let inside = column_there b i u last in
+    let whole = front_last (column b i) u last in
+    any_only (is_above_lower u) b.columns i inside
+    (λ k other within. not_true (is_above_lower u (column b k)) (λ above.
+    let there = stands-counted (column b k) u (above-one u (column b k) above).stands in
+    omega (
+      arith,
+      there,
+      last_counted (column b i) u last,
+      two_of_sum (λ cards. count_in_column u cards) b.columns k i [] refl other within inside,
+      places_most b u p,
+    )))
+    ∙ ap (is_above_lower u) whole ∙ above-top u (front_of (column b i)) ∙ sym (lower-push u (front_of (column b i)))
+    ∙ ap (list_any (is_lower u)) (sym whole)
+
+-- a card in a cell is not held back
+pub held-cell : (b : Board) (i u : ℕ) → IsPosition b → cell b i ≡ Some u → is_held_back b u ≡ false
+held-cell b i u p held =
+    let one : count_in_cell u (cell b i) ≡ 1 = ap (count_in_cell u) held ∙ one_itself u in
+    any_none (is_above_lower u) b.columns
+    (λ k within. not_true (is_above_lower u (column b k)) (λ above.
+    let there = stands-counted (column b k) u (above-one u (column b k) above).stands in
+    omega (
+      arith,
+      there,
+      one,
+      get_or-le-sum_by (λ cards. count_in_column u cards) b.columns k [] within,
+      get_or-le-sum_by (λ c. count_in_cell u c) b.cells i None (cell_there b i u held),
+      places_most b u p,
+    )))
+
+-- what is told of the playable card of a column that has one
+pub told_column : (b : Board) (from : Place) (i u : ℕ) (r : Bool) → IsPosition b → from ≡ Column i → playable b from ≡ Some u
+    → r ≡ list_any (is_lower u) (column b i) → MatchOption (playable b from) (r ≡ false) (λ v. r ≡ is_held_back b v)
+told_column b from i u r p at there told =
+    let here : playable b (Column i) ≡ Some u = ap (playable b) (sym at) ∙ there in
+    subst (λ o. MatchOption o (r ≡ false) (λ v. r ≡ is_held_back b v)) (sym there) (told ∙ sym (held-last b i u p here))
+
+-- what is told of every other place
+pub told_other : (b : Board) (from : Place) → IsPosition b → ((i u : ℕ) → from ≡ Column i → playable b from ≡ Some u → ⊥)
+    → MatchOption (playable b from) (◌≡◌ {A = Bool} false false) (λ v. false ≡ is_held_back b v)
+told_other b (Column i) p other = go (last_of (column b i)) refl
+  where
+    go : (o : Option ℕ) → last_of (column b i) ≡ o → MatchOption o (◌≡◌ {A = Bool} false false) (λ v. false ≡ is_held_back b v)
+    go None e = refl
+    go (Some u) e = absurd (other i u refl e)
+told_other b (Cell i) p other = go (cell b i) refl
+  where
+    go : (o : Option ℕ) → cell b i ≡ o → MatchOption o (◌≡◌ {A = Bool} false false) (λ v. false ≡ is_held_back b v)
+    go None e = refl
+    go (Some u) e = sym (held-cell b i u p e)
+told_other b Home p other = refl
