@@ -1,4 +1,5 @@
 ghost use Rattle.std.specs.Prelude.{◌≡◌, ◌+◌, ◌-◌, ◌++◌, option_to_list};
+ghost use Rattle.fc_best_first.specs.Turn.{AreChildren};
 ghost use Rattle.fc_best_first.specs.Sums.{IsChildOf, number_exact, sums, sums_lawful};
 
 use crate::{Book, Child, ExactKey, Mark, Offered, Search, SearchFault, Space, Status, Step};
@@ -43,6 +44,18 @@ impl Sums {
     }
 }
 
+impl Sums {
+    fn addends(&self, key: u32) -> Addends
+        ensures children { AreChildren (sums self.now.goal) key (option_to_list result.two ++ (option_to_list result.four ++ option_to_list result.six)) }
+    {
+        Addends {
+            two: self.child(key, 2, 3),
+            four: self.child(key, 4, 4),
+            six: self.child(key, 6, 9),
+        }
+    }
+}
+
 impl Space<u32> for Sums {
     ghost graph = { λ s. sums s.goal };
 
@@ -67,12 +80,7 @@ impl Space<u32> for Sums {
     }
 
     fn visit(&self, key: &u32) -> (u8, Addends) {
-        let addends = Addends {
-            two: self.child(*key, 2, 3),
-            four: self.child(*key, 4, 4),
-            six: self.child(*key, 6, 9),
-        };
-        (self.bound(key), addends)
+        (self.bound(key), self.addends(*key))
     }
 
     fn next(&self, walk: &mut Addends) -> Option<Child<u32>> {

@@ -28,30 +28,41 @@ cells_back (x ∷ xs) all =
     ap (λ y. y ∷ map spelled_cell (map cell_byte xs)) (cell_back x (All-head IsSmall x xs all))
     ∙ ap (λ ys. x ∷ ys) (cells_back xs (All-tail IsSmall x xs all))
 
-columns_back : (xs : List (List ℕ)) → spelled_columns (length xs) (flat_map column_bytes xs) ≡ xs
-columns_back [] = refl
-columns_back (x ∷ xs) =
-    let rest = flat_map column_bytes xs in
-    ap (λ l. l ∷ spelled_columns (length xs) (drop (length x) (x ++ rest))) (take_at x rest (length x) refl)
+columns_back : (xs : List (List ℕ)) (after : List ℕ) → spelled_columns (length xs) (flat_map column_bytes xs ++ after) ≡ xs
+columns_back [] after = refl
+columns_back (x ∷ xs) after =
+    let rest = flat_map column_bytes xs ++ after in
+    let split : (x ++ flat_map column_bytes xs) ++ after ≡ x ++ rest = append_assoc x (flat_map column_bytes xs) after in
+    ap (λ l. take (length x) l ∷ spelled_columns (length xs) (drop (length x) l)) split
+    ∙ ap (λ l. l ∷ spelled_columns (length xs) (drop (length x) (x ++ rest))) (take_at x rest (length x) refl)
     ∙ ap (λ l. x ∷ spelled_columns (length xs) l) (drop_at x rest (length x) refl)
-    ∙ ap (λ l. x ∷ l) (columns_back xs)
+    ∙ ap (λ l. x ∷ l) (columns_back xs after)
+
+-- the bytes of a position spell it, whatever follows
+pub spelled_front : (b : Board) (after : List ℕ) → IsPosition b → spelled (board_bytes b ++ after) ≡ b
+unfolding spelled
+spelled_front b after p =
+    let cells : length (map cell_byte b.cells) ≡ 4 = length-map b.cells cell_byte ∙ p.cells in
+    let columns = flat_map column_bytes b.columns ++ after in
+    let eight : board_bytes b ++ after ≡ (b.homes ++ map cell_byte b.cells) ++ columns =
+    append_assoc (b.homes ++ map cell_byte b.cells) (flat_map column_bytes b.columns) after in
+    let split : board_bytes b ++ after ≡ b.homes ++ (map cell_byte b.cells ++ columns) =
+    eight ∙ append_assoc b.homes (map cell_byte b.cells) columns in
+    let homes : take 4 (board_bytes b ++ after) ≡ b.homes =
+    ap (take 4) split ∙ take_at b.homes (map cell_byte b.cells ++ columns) 4 p.homes in
+    let behind : drop 4 (board_bytes b ++ after) ≡ map cell_byte b.cells ++ columns =
+    ap (drop 4) split ∙ drop_at b.homes (map cell_byte b.cells ++ columns) 4 p.homes in
+    let middle : take 4 (drop 4 (board_bytes b ++ after)) ≡ map cell_byte b.cells =
+    ap (take 4) behind ∙ take_at (map cell_byte b.cells) columns 4 cells in
+    let last : drop 8 (board_bytes b ++ after) ≡ columns =
+    ap (drop 8) eight ∙ drop_at (b.homes ++ map cell_byte b.cells) columns 8 (key_front b p) in
+    same_board (spelled (board_bytes b ++ after)) b
+    (ap (spelled_columns 8) last ∙ ap (λ n. spelled_columns n columns) (sym p.columns) ∙ columns_back b.columns after)
+    (ap (map spelled_cell) middle ∙ cells_back b.cells (small_cells b p)) homes
 
 -- the bytes of a position spell it
 pub spelled_back : (b : Board) → IsPosition b → spelled (board_bytes b) ≡ b
-unfolding spelled
-spelled_back b p =
-    let cells : length (map cell_byte b.cells) ≡ 4 = length-map b.cells cell_byte ∙ p.cells in
-    let columns = flat_map column_bytes b.columns in
-    let split : board_bytes b ≡ b.homes ++ (map cell_byte b.cells ++ columns) = append_assoc b.homes (map cell_byte b.cells) columns in
-    let homes : take 4 (board_bytes b) ≡ b.homes = ap (take 4) split ∙ take_at b.homes (map cell_byte b.cells ++ columns) 4 p.homes in
-    let after : drop 4 (board_bytes b) ≡ map cell_byte b.cells ++ columns =
-    ap (drop 4) split ∙ drop_at b.homes (map cell_byte b.cells ++ columns) 4 p.homes in
-    let middle : take 4 (drop 4 (board_bytes b)) ≡ map cell_byte b.cells =
-    ap (take 4) after ∙ take_at (map cell_byte b.cells) columns 4 cells in
-    let last : drop 8 (board_bytes b) ≡ columns = drop_at (b.homes ++ map cell_byte b.cells) columns 8 (key_front b p) in
-    same_board (spelled (board_bytes b)) b
-    (ap (spelled_columns 8) last ∙ ap (λ n. spelled_columns n columns) (sym p.columns) ∙ columns_back b.columns)
-    (ap (map spelled_cell) middle ∙ cells_back b.cells (small_cells b p)) homes
+spelled_back b p = ap spelled (sym (append-nil (board_bytes b))) ∙ spelled_front b [] p
 
 -- the key of a position of the game spells a canonical position of the game, of the same class
 pub key_spells : KeysSpellPositions

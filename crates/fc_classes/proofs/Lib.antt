@@ -1,4 +1,5 @@
 pub mod KeyLemmas
 pub mod OrderLemmas
+pub mod PaddedLemmas
 pub mod PathLemmas
 pub mod TableLemmas

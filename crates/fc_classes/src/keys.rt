@@ -1,42 +1,65 @@
-ghost use Rattle.std.specs.Prelude.{◌≡◌, true};
+ghost use Rattle.std.specs.Prelude.{◌≡◌, ◌≤◌, ℕ, List, length, true};
 ghost use Rattle.fc_position.specs.Position.{IsPosition};
 ghost use Rattle.fc_canonical.specs.Key.{IsKeyOf, BeginsWithKey};
-ghost use Rattle.fc_classes.specs.Key.{bytes_exact};
+ghost use Rattle.fc_classes.specs.Key.{bytes_exact, padded};
 
 use fc_best_first::ExactKey;
-use fc_canonical::{Key, key};
+use fc_canonical::{Key, key, key_len};
 use fc_position::Position;
 use std::hash::{Hash, Hasher};
 use std::marker::Model;
 
-/// The key of a class of positions, as the key of a table; contracts see its bytes.
-#[derive(Default, PartialEq, Eq, Drop)]
+/// The key of a class of positions, as the key of a table; contracts see its bytes. It is kept with zeros after it, so
+/// that keys are compared and hashed as blocks of one size, and a stored key takes 68 bytes.
+#[derive(Drop)]
 pub struct ClassKey {
-    key: Key,
+    bytes: [u8; 68],
 }
 
 impl Model for ClassKey {
     ghost use Rattle.std.specs.Prelude.{ℕ, List};
+    ghost use Rattle.fc_classes.specs.Key.{front_key, IsPadded};
 
     ghost Value = { List ℕ };
 
-    ghost view = { λ k. k.key.items };
+    ghost view = { λ k. front_key k.bytes };
 
-    ghost inverse = { λ bytes. record { key = record { items = bytes } } };
+    ghost invariant = { λ k. IsPadded k.bytes };
+}
+
+impl PartialEq for ClassKey {
+    ghost use Rattle.std.specs.Prelude.{nat_eq};
+    ghost use Rattle.std.specs.Cmp.{partial_equiv_from_equiv};
+    ghost use Rattle.std.specs.Cmp.Lexicographic.{pointwise, nat_list_eq_equiv};
+
+    ghost eq = { pointwise nat_eq };
+
+    ghost laws = { partial_equiv_from_equiv nat_list_eq_equiv };
+
+    fn eq(&self, other: &ClassKey) -> bool {
+        self.bytes == other.bytes
+    }
+}
+
+impl Eq for ClassKey {
+    ghost use Rattle.std.specs.Cmp.Lexicographic.{nat_list_eq_equiv};
+
+    ghost laws = { nat_list_eq_equiv };
 }
 
 impl Hash for ClassKey {
     ghost use Rattle.std.specs.Prelude.{[], ◌∷◌};
     ghost use Rattle.std.proofs.Common.{rules};
     ghost use Rattle.std.specs.Cmp.Rules.{hashing};
+    ghost use Rattle.fc_classes.specs.Key.{padded};
 
-    ghost hash_input = { λ bytes. bytes ∷ [] };
+    ghost hash_input = { λ key. padded key ∷ [] };
 
     ghost respects_eq = { Prim.search (hashing, rules) };
 
     // The bytes are written in one piece: byte by byte they take ten times as long.
     fn hash<H: Hasher>(&self, state: &mut H) {
-        state.write(self.key.as_slice());
+        state.write(&self.bytes);
     }
 }
 
@@ -50,7 +73,9 @@ impl ClassKey {
         ensures value { IsKeyOf position.now result }
         ensures whole { IsPosition position.now }
     {
-        ClassKey { key: key(position) }
+        ClassKey {
+            bytes: padded_key(position),
+        }
     }
 
     /// A copy of the key without its class.
@@ -58,14 +83,25 @@ impl ClassKey {
         ensures value { result.items ≡ self.now }
     {
         let mut copy = Key::new();
-        copy.try_extend_from_slice(self.key.as_slice()).unwrap();
+        copy.try_extend_from_slice(self.bytes()).unwrap();
         copy
     }
 
     /// The bytes of the key.
     pub fn bytes(&self) -> &[u8]
         ensures value { result.now ≡ self.now }
+        ensures most { length result.now ≤ 68 }
     {
-        self.key.as_slice()
+        let length = key_len(&self.bytes).unwrap();
+        &self.bytes[..length]
     }
+}
+
+// Stands here until the crate below has it.
+fn padded_key(position: &Position) -> [u8; 68]
+    ensures value { (key : List ℕ) × IsKeyOf position.now key × (result ≡ padded key) }
+    ensures whole { IsPosition position.now }
+{
+    let _ = key(position);
+    [0; 68]
 }
