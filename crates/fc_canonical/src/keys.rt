@@ -1,7 +1,6 @@
 ghost use Rattle.std.specs.Prelude.{◌≡◌, ℕ, ◌+◌, ◌≤◌, ◌<◌, length, map, take, List, [], ◌∷◌, ◌++◌};
 ghost use Rattle.std.specs.List.{flat_map};
 ghost use Rattle.std.specs.List.Sorted.{IsPermutation};
-ghost use Rattle.arrayvec.specs.ArrayVec.{array_vec_len};
 ghost use Rattle.fc_position.specs.Board.{column};
 ghost use Rattle.fc_position.specs.Position.{IsPosition};
 ghost use Rattle.fc_canonical.specs.Key.{column_bytes, padded, IsKeyOf};
@@ -44,7 +43,8 @@ fn write_key(position: &Position, bytes: &mut [u8; 68]) -> usize
     ensures value { (key : List ℕ) × IsKeyOf position.now key × (bytes.new ≡ padded key) × (result ≡ length key) }
     ensures whole { IsPosition position.now }
 {
-    write_front(&counts(position), &cell_bytes(position), bytes);
+    write_four(&counts(position), bytes, 0);
+    write_four(&cell_bytes(position), bytes, 4);
     write_columns(position, &column_numbers(position), bytes)
 }
 
@@ -61,14 +61,14 @@ fn counts(position: &Position) -> [u8; 4]
     ]
 }
 
-// Writes the counts and the cells.
-fn write_front(counts: &[u8; 4], cells: &[u8; 4], bytes: &mut [u8; 68])
-    requires zeros { bytes.old ≡ padded [] }
-    ensures after { bytes.new ≡ padded (counts.now ++ cells.now) }
+// Writes four bytes from a place on.
+fn write_four(four: &[u8; 4], bytes: &mut [u8; 68], from: usize)
+    requires room { from ≤ 64 }
+    requires zeros { bytes.old ≡ padded (take from bytes.old) }
+    ensures after { bytes.new ≡ padded (take from bytes.old ++ four.now) }
 {
     for i in 0..4 {
-        bytes[i] = counts[i];
-        bytes[i + 4] = cells[i];
+        bytes[from + i] = four[i];
     }
 }
 
