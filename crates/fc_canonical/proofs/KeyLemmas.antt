@@ -1,11 +1,13 @@
 -- Keys: that they have room, what they spell, and that they tell classes apart.
-use Rattle.std.proofs.Common.{◌≡◌, ◌≢◌, ℕ, zero, suc, ◌+◌, ◌<◌, ◌≤◌, Option, Some, None, List, [], ◌∷◌, ◌++◌, length, map, take, drop, set, get_or, cond, eqb, refl, sym, ◌∙◌, ap, subst, ⊎_elim, append_assoc, arith}
-use Rattle.std.specs.Prelude.{All, swap, sum_by}
+use Rattle.std.proofs.Common.{◌≡◌, ◌≢◌, ℕ, zero, suc, ◌+◌, ◌-◌, ◌<◌, ◌≤◌, Option, Some, None, List, [], ◌∷◌, ◌++◌, length, map, take, drop, set, replicate, get_or, cond, eqb, refl, sym, ◌∙◌, ap, subst, ⊎_elim, append_assoc, arith}
+use Rattle.std.specs.Prelude.{All, swap, sum_by, slice_index}
 use Rattle.std.specs.List.{flat_map}
 use Rattle.std.specs.List.Sorted.{IsPermutation, IsNonDecreasing, IsNonDecreasingBy}
-use Rattle.std.proofs.lemmas.List.{append-nil, map-id, take_at, drop_at, length-map, length-append, get_or-map, get_or-set_other, get_or_default, length-set}
+use Rattle.std.proofs.Math.Seq.{set-append_seam}
+use Rattle.std.proofs.lemmas.List.{append-nil, map-id, take_at, take_more, drop_at, length-take-le, length-map, length-append, get_or-map, get_or-set_other, get_or_default, length-set}
 use Rattle.std.proofs.lemmas.List.Concat.{length-flat_map}
 use Rattle.std.proofs.lemmas.List.Elements.{All-cons, All-nil, All-head, All-tail}
+use Rattle.std.proofs.lemmas.List.FromFn.{get_or-range_with_len}
 use Rattle.std.proofs.lemmas.List.Sorted.{All-permutation, IsPermutation-keeps, IsPermutation-refl, IsPermutation-trans, IsPermutation-swap, IsPermutation-map, sum_by-IsPermutation}
 use Rattle.std.proofs.lemmas.List.Sums.{sum_by-cons, sum_by-append, sum_by-set, get_or-le-sum_by, sum_by_more_le}
 use Rattle.std.proofs.lemmas.Bool.{cases_lt, cases_eq}
@@ -15,7 +17,7 @@ use Rattle.fc_position.specs.Position.{IsPosition}
 use Rattle.fc_position.proofs.LayoutLemmas.{eight, map-swap}
 use Rattle.fc_position.proofs.Pigeonhole.{room_for_one}
 use Rattle.fc_canonical.specs.Class.{SameClass}
-use Rattle.fc_canonical.specs.Key.{column_bytes, board_bytes, IsKeyOf}
+use Rattle.fc_canonical.specs.Key.{column_bytes, board_bytes, padded, IsKeyOf}
 use Rattle.fc_canonical.specs.Laws.{ClassesHaveOneCanonicalBoard, KeysTellClasses, BytesBeginWithOneKey, KeysHaveExtents}
 use Rattle.fc_canonical.specs.Order.{column_order, cell_byte, IsCanonical}
 use Rattle.fc_canonical.specs.Parts.{IsSmall, IsHolding}
@@ -47,6 +49,28 @@ numbered_columns b ns long p =
     let all : map (column b) eight_numbers ≡ b.columns =
     eight (λ x. x) b.columns [] [] [] [] [] [] [] [] long ∙ map-id b.columns in
     subst (λ l. IsPermutation l (map (column b) ns)) all (IsPermutation-map (column b) eight_numbers ns p)
+
+-- numbers by which the columns' orders rise
+pub orders_rise : (b : Board) (orders ns : List ℕ) → length b.columns ≡ 8 → orders ≡ map column_order b.columns
+    → IsPermutation eight_numbers ns → IsNonDecreasingBy (slice_index orders) ns
+    → IsNonDecreasingBy (λ i. column_order (column b i)) ns
+orders_rise b orders ns long e p up i j d le inside =
+    let below = numbers_below ns p in
+    let at : (n : ℕ) → n < 8 → slice_index orders n ≡ column_order (column b n) = λ n l.
+    ap (λ o. slice_index o n) e ∙ get_or-map column_order b.columns n [] 0 (omega (arith, long)) in
+    omega (arith, up i j d le inside, at (get_or ns i d) (below i d (omega arith)), at (get_or ns j d) (below j d inside))
+
+-- numbers that rise already
+pub orders_stand : (orders : List ℕ) → length orders ≡ 8 → IsNonDecreasing orders
+    → IsNonDecreasingBy (slice_index orders) eight_numbers
+orders_stand orders long up i j d le inside =
+    let at : (n : ℕ) → n < 8 → get_or eight_numbers n d ≡ n = λ n l. get_or-range_with_len 0 8 n d l ∙ omega arith in
+    omega (
+      arith,
+      up i j 0 le (omega (arith, long)),
+      ap (slice_index orders) (at i (omega arith)),
+      ap (slice_index orders) (at j inside),
+    )
 
 -- the columns joined end to end
 joined : List (List ℕ) → List ℕ
@@ -412,3 +436,49 @@ columns_hold b p i d inside = record {
       (cases_lt (get_or (get_or b.columns i d) k e) 52);
   few = few_cards b p i d inside;
 }
+
+-- a key has at most 68 bytes
+pub key_most : (b : Board) (key : List ℕ) → IsPosition b → IsKeyOf b key → length key ≤ 68
+key_most b key p k =
+    let whole = class_positions b k.canonical p k.class in
+    omega (
+      arith,
+      ap length k.bytes,
+      key_size k.canonical whole,
+      length-flat_map column_bytes k.canonical.columns,
+      bytes_most k.canonical whole,
+    )
+
+-- the next byte is written over the first of the zeros
+pub padded-set : (key : List ℕ) (i v : ℕ) → length key ≡ i → i < 68 → set (padded key) i v ≡ padded (key ++ v ∷ [])
+padded-set key i v long below =
+    let size : length (key ++ v ∷ []) ≡ suc i = omega (arith, long, length-append key (v ∷ [])) in
+    let before : 68 - length key ≡ suc (67 - i) = omega (arith, long) in
+    let after : 67 - i ≡ 68 - length (key ++ v ∷ []) = omega (arith, size) in
+    ap (λ n. set (key ++ replicate n 0) i v) before
+    ∙ ap (λ n. set (key ++ 0 ∷ replicate (67 - i) 0) n v) (sym long)
+    ∙ set-append_seam key 0 (replicate (67 - i) 0) v
+    ∙ sym (append_assoc key (v ∷ []) (replicate (67 - i) 0))
+    ∙ ap (λ n. (key ++ v ∷ []) ++ replicate n 0) after
+
+-- what stands before the zeros
+pub take-padded : (key : List ℕ) (n : ℕ) → length key ≡ n → take n (padded key) ≡ key
+take-padded key n long = take_at key (replicate (68 - length key) 0) n long
+
+-- one more byte of a part is written behind what stands before the part
+pub padded_more : (front part : List ℕ) (from i d : ℕ) → length front ≡ from → i < length part → from + i < 68
+    → set (padded (front ++ take i part)) (from + i) (get_or part i d) ≡ padded (front ++ take (i + 1) part)
+padded_more front part from i d long inside below =
+    padded-set (front ++ take i part) (from + i) (get_or part i d)
+    (omega (arith, long, length-append front (take i part), length-take-le i part (omega arith))) below
+    ∙ ap padded (append_assoc front (take i part) (get_or part i d ∷ []) ∙ ap (λ l. front ++ l) (sym (take_more part i d inside)))
+
+-- the counts are written, and then the cells behind them
+pub front_written : (counts cells one two : List ℕ) → length counts ≡ 4 → length cells ≡ 4 → one ≡ padded counts
+    → two ≡ padded (take 4 one ++ cells)
+    → (length (counts ++ cells) ≡ 8) × (two ≡ padded (counts ++ cells)) × (take 8 two ≡ counts ++ cells)
+front_written counts cells one two four also first second =
+    let size : length (counts ++ cells) ≡ 8 = omega (arith, length-append counts cells, four, also) in
+    let all : two ≡ padded (counts ++ cells) =
+    second ∙ ap (λ l. padded (l ++ cells)) (ap (take 4) first ∙ take-padded counts 4 four) in
+    (size, all, ap (take 8) all ∙ take-padded (counts ++ cells) 8 size)

@@ -1,5 +1,5 @@
 -- Keys: the bytes that spell the canonical board of a class.
-use Rattle.std.specs.Prelude.{◌≡◌, ℕ, ◌+◌, length, map, List, ◌∷◌, ◌++◌}
+use Rattle.std.specs.Prelude.{◌≡◌, ℕ, ◌+◌, ◌-◌, length, map, replicate, List, ◌∷◌, ◌++◌}
 use Rattle.std.specs.List.{flat_map}
 use Rattle.fc_position.specs.Board.{Board}
 use Rattle.fc_position.specs.Position.{IsPosition}
@@ -20,6 +20,10 @@ pub record IsKeyOf (b : Board) (key : List ℕ) : Type 0 where
   pub class : SameClass b canonical
   pub ordered : IsCanonical canonical
   pub bytes : key ≡ board_bytes canonical
+
+-- zeros follow the key up to 68 bytes
+abbrev pub padded : List ℕ → List ℕ
+padded key = key ++ replicate (68 - length key) 0
 
 -- the first n bytes are eight bytes and then eight columns by their length bytes, whatever the other bytes are
 pub record HasExtent (bytes : List ℕ) (n : ℕ) : Type 0 where

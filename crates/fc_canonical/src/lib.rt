@@ -3,7 +3,7 @@
 //! A class is known by its canonical position, or by that position's bytes, its key. No call allocates.
 #![tactic(auto)]
 
-pub use keys::{Key, key};
+pub use keys::{Key, key, padded_key};
 pub use orders::canonical;
 pub use readers::{key_len, read_key};
 pub use searches::{distinct_moves, find_move};

@@ -1,4 +1,4 @@
-use crate::{Key, canonical, distinct_moves, find_move, key, key_len, read_key};
+use crate::{Key, canonical, distinct_moves, find_move, key, key_len, padded_key, read_key};
 use arrayvec::ArrayVec;
 use fc_cards::{Card, Place};
 use fc_moves::{FreeCell, Move, allows, apply, moves};
@@ -9,6 +9,15 @@ use std::test::Fail;
 // The key of the board of four cards: no cells, `QH KS`, `QS KH`, and six empty columns.
 const FOUR_CARDS: &[u8] = &[
     0x0D, 0x0D, 0x0B, 0x0B, 0xFF, 0xFF, 0xFF, 0xFF, 0x02, 0x2E, 0x33, 0x02, 0x2F, 0x32, 0x00, 0x00,
+    0x00, 0x00, 0x00, 0x00,
+];
+
+// The same key with zeros after it.
+const FOUR_CARDS_PADDED: [u8; 68] = [
+    0x0D, 0x0D, 0x0B, 0x0B, 0xFF, 0xFF, 0xFF, 0xFF, 0x02, 0x2E, 0x33, 0x02, 0x2F, 0x32, 0x00, 0x00,
+    0x00, 0x00, 0x00, 0x00, 0x00, 0x00, 0x00, 0x00, 0x00, 0x00, 0x00, 0x00, 0x00, 0x00, 0x00, 0x00,
+    0x00, 0x00, 0x00, 0x00, 0x00, 0x00, 0x00, 0x00, 0x00, 0x00, 0x00, 0x00, 0x00, 0x00, 0x00, 0x00,
+    0x00, 0x00, 0x00, 0x00, 0x00, 0x00, 0x00, 0x00, 0x00, 0x00, 0x00, 0x00, 0x00, 0x00, 0x00, 0x00,
     0x00, 0x00, 0x00, 0x00,
 ];
 
@@ -79,6 +88,33 @@ fn writes_keys(rt: HostRuntime) -> Result<(), Fail> {
     let turned = position(&[b"", b"QH KS", b"", b"QS KH"], b"", [13, 13, 11, 11])?;
     assert!(rt; key(&turned).as_slice() == FOUR_CARDS);
     assert!(rt; key(&locked()?).as_slice() == LOCKED);
+    Ok(())
+}
+
+#[test]
+fn writes_padded_keys(rt: HostRuntime) -> Result<(), Fail> {
+    let four: [&[&[u8]]; 3] = [
+        &[b"QS KH", b"QH KS"],
+        &[b"QH KS", b"QS KH"],
+        &[b"", b"QS KH", b"", b"", b"", b"QH KS"],
+    ];
+    for texts in four {
+        let board = position(texts, b"", [13, 13, 11, 11])?;
+        assert!(rt; padded_key(&board) == FOUR_CARDS_PADDED);
+    }
+    let texts: [&[u8]; 8] = [
+        b"TS QS JS",
+        b"8D 9D",
+        b"TC QC JC",
+        b"8C 9C",
+        b"8S 9S",
+        b"TH QH JH",
+        b"8H 9H",
+        b"TD QD JD",
+    ];
+    let bytes = padded_key(&position(&texts, b"KH KS KC KD", [7, 7, 7, 7])?);
+    assert!(rt; bytes.starts_with(LOCKED));
+    assert!(rt; bytes.iter().skip(LOCKED.len()).all(|byte| *byte == 0));
     Ok(())
 }
 
