@@ -4,10 +4,10 @@ use Rattle.std.specs.Prelude.{IfNone, IsSome}
 use Rattle.std.proofs.lemmas.List.{take_at}
 use Rattle.fc_position.specs.Board.{Board}
 use Rattle.fc_position.specs.Position.{IsPosition}
-use Rattle.fc_canonical.specs.Key.{board_bytes, IsKeyOf, HasExtent, BeginsWithKey}
+use Rattle.fc_canonical.specs.Key.{board_bytes, padded, IsKeyOf, HasExtent, BeginsWithKey}
 use Rattle.fc_canonical.specs.Order.{IsCanonical}
 use Rattle.fc_canonical.proofs.KeyLemmas.{key_extents}
-use Rattle.fc_classes.specs.Key.{spelled, front_key, padded, IsPadded}
+use Rattle.fc_classes.specs.Key.{spelled, front_key, IsPadded}
 use Rattle.fc_classes.proofs.KeyLemmas.{spelled_front}
 
 -- the key stands at the front

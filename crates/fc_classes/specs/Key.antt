@@ -1,11 +1,11 @@
 -- Keys as numbers of bytes, and the boards that they spell.
-use Rattle.std.specs.Prelude.{◌≡◌, ℕ, suc, zero, ◌==◌, if◌then◌else◌, Option, Some, None, List, [], ◌∷◌, map, take, drop, true, nat_eq, ◌-◌, ◌++◌, length, replicate}
+use Rattle.std.specs.Prelude.{◌≡◌, ℕ, suc, zero, ◌==◌, if◌then◌else◌, Option, Some, None, List, [], ◌∷◌, map, take, drop, true, nat_eq}
 use Rattle.std.specs.Cmp.{unsigned_Decides}
 use Rattle.std.specs.Cmp.Lexicographic.{pointwise, pointwise_decides}
 use Rattle.fc_position.specs.Board.{Board}
 use Rattle.fc_position.specs.Position.{IsPosition}
 use Rattle.fc_moves.specs.GameRules.{GameRules, IsPositionOf}
-use Rattle.fc_canonical.specs.Key.{board_bytes}
+use Rattle.fc_canonical.specs.Key.{board_bytes, padded}
 use Rattle.fc_canonical.specs.Order.{IsCanonical}
 
 -- the byte 255 spells an empty cell, and any other the card with that number
@@ -35,10 +35,6 @@ pub record IsKeyIn (g : GameRules) (key : List ℕ) : Type 0 where
 -- keys that compare equal are the same
 pub bytes_exact : (x y : List ℕ) → pointwise nat_eq x y ≡ true → x ≡ y
 bytes_exact x y e = (pointwise_decides unsigned_Decides x y).0 e
-
--- zeros follow the key up to 68 bytes
-abbrev pub padded : List ℕ → List ℕ
-padded key = key ++ replicate (68 - length key) 0
 
 -- the key at the front of bytes is that of the board that they spell
 abbrev pub front_key : List ℕ → List ℕ

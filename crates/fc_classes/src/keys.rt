@@ -1,10 +1,10 @@
-ghost use Rattle.std.specs.Prelude.{◌≡◌, ◌≤◌, ℕ, List, length, true};
+ghost use Rattle.std.specs.Prelude.{◌≡◌, ◌≤◌, length};
 ghost use Rattle.fc_position.specs.Position.{IsPosition};
-ghost use Rattle.fc_canonical.specs.Key.{IsKeyOf, BeginsWithKey};
-ghost use Rattle.fc_classes.specs.Key.{bytes_exact, padded};
+ghost use Rattle.fc_canonical.specs.Key.{IsKeyOf};
+ghost use Rattle.fc_classes.specs.Key.{bytes_exact};
 
 use fc_best_first::ExactKey;
-use fc_canonical::{Key, key, key_len};
+use fc_canonical::{Key, key_len, padded_key};
 use fc_position::Position;
 use std::hash::{Hash, Hasher};
 use std::marker::Model;
@@ -51,7 +51,7 @@ impl Hash for ClassKey {
     ghost use Rattle.std.specs.Prelude.{[], ◌∷◌};
     ghost use Rattle.std.proofs.Common.{rules};
     ghost use Rattle.std.specs.Cmp.Rules.{hashing};
-    ghost use Rattle.fc_classes.specs.Key.{padded};
+    ghost use Rattle.fc_canonical.specs.Key.{padded};
 
     ghost hash_input = { λ key. padded key ∷ [] };
 
@@ -95,13 +95,4 @@ impl ClassKey {
         let length = key_len(&self.bytes).unwrap();
         &self.bytes[..length]
     }
-}
-
-// Stands here until the crate below has it.
-fn padded_key(position: &Position) -> [u8; 68]
-    ensures value { (key : List ℕ) × IsKeyOf position.now key × (result ≡ padded key) }
-    ensures whole { IsPosition position.now }
-{
-    let _ = key(position);
-    [0; 68]
 }
