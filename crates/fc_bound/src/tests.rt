@@ -1,6 +1,6 @@
-use crate::bound;
+use crate::{bound, is_held_back};
 use arrayvec::ArrayVec;
-use fc_cards::Card;
+use fc_cards::{Card, Place};
 use fc_position::Position;
 use std::test::Fail;
 
@@ -51,6 +51,20 @@ fn boards_worked_out_by_hand(rt: HostRuntime) -> Result<(), Fail> {
     );
     assert_eq!(rt; bound(&position(&[], b"", [13; 4])?), 0);
     assert_eq!(rt; bound(&position(&[], b"KS", [13, 13, 13, 12])?), 1);
+    Ok(())
+}
+
+#[test]
+fn cards_above_lower_ones_of_their_suit(rt: HostRuntime) -> Result<(), Fail> {
+    let texts: [&[u8]; 3] = [b"QS KH KS", b"QH KC", b"KD QD"];
+    let board = position(&texts, b"QC", [11, 11, 11, 11])?;
+    // The king of spades stands above its queen; the king of clubs, the queen of diamonds and the one in the cell don't.
+    for i in 0..4 {
+        assert_eq!(rt; is_held_back(&board, Place::Column(i)), i == 0);
+    }
+    assert!(rt; !is_held_back(&board, Place::Cell(0)));
+    assert!(rt; !is_held_back(&board, Place::Column(8)));
+    assert!(rt; !is_held_back(&board, Place::Home));
     Ok(())
 }
 

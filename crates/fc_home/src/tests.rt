@@ -1,6 +1,6 @@
 ghost use Rattle.std.specs.Prelude.{◌≤◌};
 
-use crate::{forced, free, settle};
+use crate::{forced, free, is_settled, settle};
 use arrayvec::ArrayVec;
 use fc_cards::Card;
 use fc_moves::{BakersGame, FreeCell, Game, Kings, read_move};
@@ -149,5 +149,19 @@ fn settles_the_least_card_first(rt: HostRuntime) -> Result<(), Fail> {
         check_settles(&rt, &game, &mut board, rule, b"2h 1h bh ah");
         assert!(rt; board.is_won());
     }
+    Ok(())
+}
+
+#[test]
+fn tells_what_is_settled(rt: HostRuntime) -> Result<(), Fail> {
+    let game = FreeCell::new(4).ok_or("four cells")?;
+    let suits = BakersGame::new(4).ok_or("four cells")?;
+    assert!(rt; is_settled(&game, &one_column()?, 0));
+    assert!(rt; !is_settled(&game, &one_column()?, 1));
+    assert!(rt; is_settled(&game, &nine_of_spades()?, 1));
+    assert!(rt; !is_settled(&suits, &nine_of_spades()?, 1));
+    assert!(rt; is_settled(&game, &queen_below_king()?, 1));
+    assert!(rt; !is_settled(&game, &queen_below_king()?, 2));
+    assert!(rt; is_settled(&game, &jack_left()?, 2));
     Ok(())
 }
