@@ -1,11 +1,11 @@
 -- Reading a key: columns one by one from the front.
-use Rattle.std.proofs.Common.{◌≡◌, ℕ, ◌+◌, ◌-◌, ◌<◌, ◌≤◌, List, [], ◌∷◌, ◌++◌, length, map, take, drop, get_or, refl, sym, ◌∙◌, ap, subst, append_assoc, arith}
-use Rattle.std.specs.Prelude.{All}
+use Rattle.std.proofs.Common.{◌≡◌, ℕ, ◌+◌, ◌-◌, ◌<◌, ◌≤◌, Option, Some, None, List, [], ◌∷◌, ◌++◌, length, map, take, drop, set, get_or, refl, sym, ◌∙◌, ap, subst, append_assoc, arith}
+use Rattle.std.specs.Prelude.{All, IfNone, IsSome}
 use Rattle.std.specs.List.{flat_map}
-use Rattle.std.proofs.lemmas.List.Elements.{All-head}
-use Rattle.std.proofs.lemmas.List.{append-nil, drop_at, take_at, take-append-drop, length-append, length-take-le, length-drop, length-map, drop-drop, get_or_default, get_or-append-add}
+use Rattle.std.proofs.lemmas.List.Elements.{All-head, All-nil, All-push, All-drop}
+use Rattle.std.proofs.lemmas.List.{append-nil, drop_at, take_at, take-append-drop, length-append, length-take-le, length-drop, length-map, length-set, drop-drop, drop-set-lt, take_more_set, map-append, get_or-drop, get_or_default, get_or-append-add}
 use Rattle.std.proofs.lemmas.List.Concat.{flat_map-append}
-use Rattle.arrayvec.specs.ArrayVec.{ArrayVec}
+use Rattle.arrayvec.specs.ArrayVec.{ArrayVec, array_vec_len}
 use Rattle.fc_position.specs.Board.{Board, places}
 use Rattle.fc_position.specs.Position.{IsPosition}
 use Rattle.fc_position.specs.Tally.{IsFaultOf}
@@ -15,7 +15,7 @@ use Rattle.fc_position.proofs.BoardLemmas.{home_most}
 use Rattle.fc_canonical.specs.Key.{column_bytes, board_bytes, IsKeyOf, HasExtent, BeginsWithKey}
 use Rattle.fc_canonical.specs.Order.{cell_byte, IsCanonical}
 use Rattle.fc_canonical.specs.Parts.{IsHolding}
-use Rattle.fc_canonical.proofs.KeyLemmas.{columns_align, column_once, key_parts, key_front, IsSpelled, position_spelled, spelled_once, board_once, own_key, canonical_key}
+use Rattle.fc_canonical.proofs.KeyLemmas.{columns_align, column_once, no_more, key_parts, key_front, IsSpelled, position_spelled, spelled_once, board_once, own_key, canonical_key}
 
 -- the bytes are so many columns and the rest
 pub record FrontColumns (bytes rest : List ℕ) (count : ℕ) : Type 0 where
@@ -85,14 +85,51 @@ extent_of bytes rest n long f eight = record {
   size = omega (arith, length-drop 8 bytes, ap length f.parts, length-append (flat_map column_bytes f.columns) rest);
 }
 
--- the columns that are read so far stand before the rest
-pub columns_read : (bytes rest : List ℕ) (vs : List (ArrayVec ℕ)) (i : ℕ) → length vs ≡ 8 → i < 8
-    → bytes ≡ flat_map column_bytes (map (λ v. v.items) (take i vs)) ++ rest → FrontColumns bytes rest i
-columns_read bytes rest vs i long below e = record {
+-- the columns that are filled so far stand before the rest, and the others are empty
+pub record FilledTo (bytes rest : List ℕ) (vs : List (ArrayVec ℕ)) (i : ℕ) : Type 0 where
+  pub long : length vs ≡ 8
+  pub parts : bytes ≡ flat_map column_bytes (map (λ v. v.items) (take i vs)) ++ rest
+  pub empty : All (λ v. array_vec_len v ≡ 0) (drop i vs)
+
+pub front_filled : (bytes rest : List ℕ) (vs : List (ArrayVec ℕ)) (i : ℕ) → FilledTo bytes rest vs i → i < 8
+    → FrontColumns bytes rest i
+front_filled bytes rest vs i f below = record {
   columns = map (λ v. v.items) (take i vs);
-  many = length-map (take i vs) (λ (v : ArrayVec ℕ). v.items) ∙ length-take-le i vs (omega (arith, long));
-  parts = e;
+  many = length-map (take i vs) (λ (v : ArrayVec ℕ). v.items) ∙ length-take-le i vs (omega (arith, f.long));
+  parts = f.parts;
 }
+
+-- the next column is empty, and filled with the cards that stand next
+pub filled_next : (bytes rest : List ℕ) (vs : List (ArrayVec ℕ)) (i : ℕ) (d : ArrayVec ℕ) → FilledTo bytes rest vs i → i < 8
+    → array_vec_len (get_or vs i d) ≡ 0
+filled_next bytes rest vs i d f below =
+    let here : get_or (drop i vs) 0 d ≡ get_or vs i d = get_or-drop i vs 0 d ∙ ap (λ n. get_or vs n d) (omega arith) in
+    sym (ap array_vec_len here) ∙ f.empty 0 d (omega (arith, length-drop i vs, f.long))
+
+pub filled_more : (bytes rest after cards : List ℕ) (vs : List (ArrayVec ℕ)) (i : ℕ) (d new : ArrayVec ℕ)
+    → FilledTo bytes rest vs i → i < 8 → rest ≡ column_bytes cards ++ after → new.items ≡ (get_or vs i d).items ++ cards
+    → FilledTo bytes after (set vs i new) (i + 1)
+unfolding front_filled front_more
+filled_more bytes rest after cards vs i d new f below at e =
+    let none : (get_or vs i d).items ≡ [] = no_more (get_or vs i d).items (filled_next bytes rest vs i d f below) in
+    let same : new.items ≡ cards = e ∙ ap (λ x. x ++ cards) none in
+    let columns : map (λ v. v.items) (take (i + 1) (set vs i new)) ≡ map (λ v. v.items) (take i vs) ++ cards ∷ [] =
+    ap (map (λ (v : ArrayVec ℕ). v.items)) (take_more_set vs i new (omega (arith, f.long)))
+    ∙ map-append (λ (v : ArrayVec ℕ). v.items) (take i vs) (new ∷ [])
+    ∙ ap (λ x. map (λ v. v.items) (take i vs) ++ x ∷ []) same in
+    let left : drop (i + 1) (set vs i new) ≡ drop 1 (drop i vs) =
+    drop-set-lt (i + 1) vs i new (omega arith) ∙ sym (drop-drop 1 i vs) in
+    record {
+      long = length-set vs i new ∙ f.long;
+      parts = (front_more bytes rest after cards i (front_filled bytes rest vs i f below) at).parts
+          ∙ ap (λ l. flat_map column_bytes l ++ after) (sym columns);
+      empty = subst (All (λ v. array_vec_len v ≡ 0)) (sym left) (All-drop (λ v. array_vec_len v ≡ 0) 1 (drop i vs) f.empty);
+    }
+
+-- where it would be absurd that there is no value, there is one
+pub surely : {X : Type 0} (r : Option X) (P : Type 0) → IfNone r P → (P → ⊥) → IsSome r
+surely None P p none = absurd (none p)
+surely (Some x) P p none = refl
 
 -- where the rest is no column, the bytes are no eight columns
 pub no_column : (bytes rest : List ℕ) (i : ℕ) → FrontColumns bytes rest i → i < 8
@@ -102,13 +139,27 @@ no_column bytes rest i f below none columns end eight all e =
     let next = front_next bytes rest i columns end IsHolding f (omega (arith, eight)) e all in
     none next.0 next.1 next.2
 
--- where the next column is not of cards, the bytes are no eight columns of cards
-pub no_cards : (bytes rest cards after : List ℕ) (i : ℕ) → FrontColumns bytes rest i → i < 8
-    → rest ≡ column_bytes cards ++ after → (IsHolding cards → ⊥) → (columns : List (List ℕ)) (end : List ℕ)
-    → length columns ≡ 8 → All IsHolding columns → bytes ≡ flat_map column_bytes columns ++ end → ⊥
-no_cards bytes rest cards after i f below at none columns end eight all e =
+-- where the bytes are eight columns of cards, the next column is of cards
+pub next_holds : (bytes rest cards after : List ℕ) (i : ℕ) → FrontColumns bytes rest i → i < 8
+    → rest ≡ column_bytes cards ++ after → (columns : List (List ℕ)) (end : List ℕ) → length columns ≡ 8
+    → All IsHolding columns → bytes ≡ flat_map column_bytes columns ++ end → IsHolding cards
+next_holds bytes rest cards after i f below at columns end eight all e =
     let next = front_next bytes rest i columns end IsHolding f (omega (arith, eight)) e all in
-    none (subst IsHolding (column_once next.0 cards next.1 after (sym next.2 ∙ at)).0 next.3)
+    subst IsHolding (column_once next.0 cards next.1 after (sym next.2 ∙ at)).0 next.3
+
+-- the columns before the rest are of cards
+abbrev pub HoldsTo : List ℕ → List ℕ → ℕ → Type 0
+HoldsTo bytes rest count = (front : FrontColumns bytes rest count) × All IsHolding front.columns
+
+pub holds_none : (bytes : List ℕ) → HoldsTo bytes bytes 0
+unfolding front_none
+holds_none bytes = (front_none bytes bytes refl, All-nil IsHolding)
+
+pub holds_more : (bytes rest after cards : List ℕ) (n : ℕ) → HoldsTo bytes rest n → rest ≡ column_bytes cards ++ after
+    → IsHolding cards → HoldsTo bytes after (n + 1)
+unfolding front_more
+holds_more bytes rest after cards n f e held =
+    (front_more bytes rest after cards n f.0 e, All-push IsHolding f.0.columns cards f.1 held)
 
 -- counts, cells and columns that are read one after the other are a board's bytes
 pub parts_join : (bytes counts cells columns r s t : List ℕ) → length counts ≡ 4 → length cells ≡ 4 → bytes ≡ counts ++ r
@@ -161,6 +212,14 @@ spelled_parts bytes b r s t one two x y z =
     let at = parts_join bytes b.homes (map cell_byte b.cells) (flat_map column_bytes b.columns) r s t one
     (length-map b.cells cell_byte ∙ two) x y z in
     (at, omega (arith, ap length at, length-append (board_bytes b) t))
+
+-- and where the bytes begin with a position, it is that one
+pub spelled_position : (bytes : List ℕ) (x : Board) (r s t : List ℕ) → IsSpelled x → bytes ≡ x.homes ++ r
+    → drop 4 bytes ≡ map cell_byte x.cells ++ s → drop 8 bytes ≡ flat_map column_bytes x.columns ++ t
+    → (b : Board) (rest : List ℕ) → IsPosition b → bytes ≡ board_bytes b ++ rest → x ≡ b
+spelled_position bytes x r s t spelled e f g b rest p at =
+    let both = spelled_parts bytes x r s t spelled.homes spelled.cells e f g in
+    (spelled_once x b t rest spelled (position_spelled b p) (sym both.0 ∙ at)).0
 
 -- what read_key's test says: the position is canonical where its key is what was read, and else nothing canonical is
 pub read_begins : (bytes : List ℕ) (b : Board) (n : ℕ) (front k : List ℕ) → IsPosition b

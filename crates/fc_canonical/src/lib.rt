@@ -5,7 +5,7 @@
 
 pub use keys::{Key, key, padded_key};
 pub use orders::canonical;
-pub use readers::{key_len, read_key};
+pub use readers::{key_len, position_of, read_key};
 pub use searches::{distinct_moves, find_move};
 
 mod keys;

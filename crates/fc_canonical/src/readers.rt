@@ -1,7 +1,9 @@
-ghost use Rattle.std.specs.Prelude.{◌≡◌, ℕ, ◌+◌, ◌≤◌, ◌<◌, All, IfSome, IfNone, length, map, take, drop, List, ◌++◌, Option};
+ghost use Rattle.std.specs.Prelude.{◌≡◌, ℕ, ◌+◌, ◌≤◌, ◌<◌, ◌↔◌, IsTrue, All, IfSome, IfNone, length, map, take, drop, List, ◌++◌, Option};
 ghost use Rattle.std.specs.List.{flat_map};
+ghost use Rattle.arrayvec.specs.ArrayVec.{array_vec_len};
 ghost use Rattle.fc_position.specs.Board.{Board};
 ghost use Rattle.fc_position.specs.Position.{IsPosition};
+ghost use Rattle.fc_position.specs.Tally.{AllCards};
 ghost use Rattle.fc_canonical.specs.Key.{column_bytes, board_bytes, HasExtent, BeginsWithKey};
 ghost use Rattle.fc_canonical.specs.Order.{cell_byte};
 ghost use Rattle.fc_canonical.specs.Parts.{IsSmall, IsHolding};
@@ -38,6 +40,22 @@ pub fn read_key(bytes: &[u8]) -> Option<(Position, usize)>
     } else {
         None
     }
+}
+
+/// The position whose bytes stand at the front, in the form of a key, whatever follows. That they stand there is known:
+/// nothing is tested.
+pub fn position_of(bytes: &[u8]) -> Position
+    requires spelled { (b : Board) × (rest : List ℕ) × IsPosition b × (bytes.now ≡ board_bytes b ++ rest) }
+    ensures value { (b : Board) (rest : List ℕ) → IsPosition b → bytes.now ≡ board_bytes b ++ rest → result ≡ b }
+    ensures whole { IsPosition result }
+{
+    let counts = read_counts(bytes).unwrap();
+    let (_, from_cells) = bytes.split_at(4);
+    let cells = read_cells(from_cells).unwrap();
+    let (_, from_columns) = bytes.split_at(8);
+    let mut columns: [ArrayVec<Card, 52>; 8] = Default::default();
+    fill_columns(from_columns, &mut columns);
+    Position::of_parts(columns, cells, counts)
 }
 
 // The position that is spelled at the front, whether or not it is canonical, and how many bytes spell it.
@@ -104,29 +122,62 @@ fn read_columns(bytes: &[u8]) -> Option<([ArrayVec<Card, 52>; 8], &[u8])>
     ensures refused { IfNone result ((columns : List (List ℕ)) (rest : List ℕ) → length columns ≡ 8
         → All IsHolding columns → bytes.now ≡ flat_map column_bytes columns ++ rest → ⊥) }
 {
+    let rest = after_columns(bytes)?;
     let mut columns: [ArrayVec<Card, 52>; 8] = Default::default();
-    let mut rest = bytes;
-    for i in 0..8 {
-        let (cards, after) = split_column(rest)?;
-        columns[i] = read_cards(cards)?;
-        rest = after;
-    }
+    fill_columns(bytes, &mut columns);
     Some((columns, rest))
 }
 
-// The cards with these numbers.
-fn read_cards(bytes: &[u8]) -> Option<ArrayVec<Card, 52>>
-    ensures read { IfSome result (λ r. r.items ≡ bytes.now) }
-    ensures refused { IfNone result (IsHolding bytes.now → ⊥) }
+// What follows the eight columns at the front.
+fn after_columns(bytes: &[u8]) -> Option<&[u8]>
+    ensures read { IfSome result (λ r. (columns : List (List ℕ)) × (length columns ≡ 8) × All IsHolding columns
+        × (bytes.now ≡ flat_map column_bytes columns ++ r.now)) }
+    ensures refused { IfNone result ((columns : List (List ℕ)) (rest : List ℕ) → length columns ≡ 8
+        → All IsHolding columns → bytes.now ≡ flat_map column_bytes columns ++ rest → ⊥) }
 {
-    let mut cards = ArrayVec::new();
-    for byte in bytes {
-        if cards.is_full() {
+    let mut rest = bytes;
+    for _ in 0..8_u8 {
+        let (cards, after) = split_column(rest)?;
+        if !are_cards(cards) {
             return None;
         }
-        cards.push(Card::from_index(*byte)?);
+        rest = after;
     }
-    Some(cards)
+    Some(rest)
+}
+
+// Whether these are the numbers of cards, as many as a column can hold.
+fn are_cards(bytes: &[u8]) -> bool
+    ensures value { IsTrue result ↔ IsHolding bytes.now }
+{
+    bytes.len() <= 52 && bytes.iter().all(|byte| *byte < 52)
+}
+
+// Puts the eight columns at the front, which are known to be columns of cards, into these empty ones.
+fn fill_columns(bytes: &[u8], columns: &mut [ArrayVec<Card, 52>; 8])
+    requires spelled { (spelled : List (List ℕ)) × (rest : List ℕ) × (length spelled ≡ 8) × All IsHolding spelled
+        × (bytes.now ≡ flat_map column_bytes spelled ++ rest) }
+    requires empty { All (λ v. array_vec_len v ≡ 0) columns.old }
+    ensures count { length columns.new ≡ 8 }
+    ensures parts { (rest : List ℕ) × (bytes.now ≡ flat_map column_bytes (map (λ v. v.items) columns.new) ++ rest) }
+{
+    let mut rest = bytes;
+    for i in 0..8 {
+        let (cards, after) = split_column(rest).unwrap();
+        push_cards(cards, &mut columns[i]);
+        rest = after;
+    }
+}
+
+// Appends the cards with these numbers.
+fn push_cards(bytes: &[u8], cards: &mut ArrayVec<Card, 52>)
+    requires cards { AllCards bytes.now }
+    requires room { array_vec_len cards.old + length bytes.now ≤ 52 }
+    ensures after { cards.new.items ≡ cards.old.items ++ bytes.now }
+{
+    for byte in bytes {
+        cards.push(Card::from_index(*byte).unwrap());
+    }
 }
 
 // The bytes of the cards of the column at the front, and what follows the column.

@@ -1,4 +1,6 @@
-use crate::{Key, canonical, distinct_moves, find_move, key, key_len, padded_key, read_key};
+use crate::{
+    Key, canonical, distinct_moves, find_move, key, key_len, padded_key, position_of, read_key,
+};
 use arrayvec::ArrayVec;
 use fc_cards::{Card, Place};
 use fc_moves::{FreeCell, Move, allows, apply, moves};
@@ -149,6 +151,18 @@ fn makes_canonical_positions(rt: HostRuntime) -> Result<(), Fail> {
     Ok(())
 }
 
+// The key of the board of four cards with other bytes behind it.
+fn followed() -> Result<Key, Fail> {
+    let mut followed = ArrayVec::new();
+    followed
+        .try_extend_from_slice(FOUR_CARDS)
+        .map_err(|_| "room")?;
+    followed
+        .try_extend_from_slice(&[0xFF, 0x00, 0x07])
+        .map_err(|_| "room")?;
+    Ok(followed)
+}
+
 #[test]
 fn reads_keys(rt: HostRuntime) -> Result<(), Fail> {
     for end in 0..FOUR_CARDS.len() {
@@ -156,13 +170,7 @@ fn reads_keys(rt: HostRuntime) -> Result<(), Fail> {
         assert!(rt; key_len(front).is_none());
         assert!(rt; read_key(front).is_none());
     }
-    let mut followed: ArrayVec<u8, 68> = ArrayVec::new();
-    followed
-        .try_extend_from_slice(FOUR_CARDS)
-        .map_err(|_| "room")?;
-    followed
-        .try_extend_from_slice(&[0xFF, 0x00, 0x07])
-        .map_err(|_| "room")?;
+    let followed = followed()?;
     assert_eq!(rt; key_len(followed.as_slice()), Some(20));
     let (board, extent) = read_key(followed.as_slice()).ok_or("a key")?;
     assert_eq!(rt; extent, 20);
@@ -171,6 +179,22 @@ fn reads_keys(rt: HostRuntime) -> Result<(), Fail> {
     let (board, extent) = read_key(LOCKED).ok_or("a key")?;
     assert_eq!(rt; extent, 36);
     assert!(rt; key(&board).as_slice() == LOCKED);
+    Ok(())
+}
+
+// The position of a key, read with no test.
+fn known(bytes: &[u8]) -> Result<Position, Fail> {
+    read_key(bytes).ok_or("a key")?;
+    Ok(position_of(bytes))
+}
+
+#[test]
+fn reads_known_keys(rt: HostRuntime) -> Result<(), Fail> {
+    let board = position(&[b"QH KS", b"QS KH"], b"", [13, 13, 11, 11])?;
+    assert!(rt; known(FOUR_CARDS)?.equals(&board));
+    assert!(rt; known(followed()?.as_slice())?.equals(&board));
+    assert!(rt; known(LOCKED)?.equals(&locked()?));
+    assert!(rt; known(ALL_HOME)?.is_won());
     Ok(())
 }
 

@@ -55,6 +55,25 @@ impl Position {
         }
     }
 
+    /// The position with these columns, the deepest card first, these cells, and so many cards home of each suit, where
+    /// it is known that each card has one place: nothing is tested.
+    #[inline]
+    pub fn of_parts(
+        columns: [ArrayVec<Card, 52>; 8],
+        cells: [Option<Card>; 4],
+        homes: [u8; 4],
+    ) -> Position
+        requires whole { IsPosition (board_of columns cells homes) }
+        ensures value { result ≡ board_of columns cells homes }
+    {
+        let layout = Layout {
+            columns,
+            cells,
+            homes,
+        };
+        Position { layout }
+    }
+
     /// The cards of a column, the deepest first.
     #[inline]
     pub fn column(&self, i: u8) -> &[Card]

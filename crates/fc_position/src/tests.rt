@@ -1,3 +1,4 @@
+use crate::layouts::columns_of;
 use crate::{PartsFault, Position, Tally};
 use arrayvec::ArrayVec;
 use fc_cards::{Card, Place, Suit};
@@ -55,6 +56,20 @@ fn tells_parts(rt: HostRuntime) -> Result<(), Fail> {
     assert_eq!(rt; position.playable(Place::Column(8)), None);
     assert_eq!(rt; position.playable(Place::Cell(4)), None);
     assert_eq!(rt; position.playable(Place::Home), None);
+    Ok(())
+}
+
+#[test]
+fn takes_known_parts(rt: HostRuntime) -> Result<(), Fail> {
+    let columns = columns(&[b"QS KH", b"QH KS"])?;
+    let tested = Position::from_parts(columns_of(&columns), [None; 4], [13, 13, 11, 11])?;
+    let position = Position::of_parts(columns, [None; 4], [13, 13, 11, 11]);
+    assert!(rt; position.equals(&tested));
+    assert_eq!(rt; position.playable(Place::Column(0)), Card::read(b"KH"));
+    assert_eq!(rt; position.playable(Place::Column(1)), Card::read(b"KS"));
+    assert_eq!(rt; position.cell(0), None);
+    assert_eq!(rt; position.home(Suit::C), 13);
+    assert_eq!(rt; position.home(Suit::S), 11);
     Ok(())
 }
 

@@ -154,10 +154,3 @@ pub start_alone : (g : GameRules) (rule : ℕ) (p : Board) (child : Child (List 
 start_alone g rule p child pp settled x d starts =
     let once = child_once g rule p p 0 d child x pp pp (class-refl p) settled starts in
     (sym once.0, omega (arith, once.1))
-
--- a key of the game is read
-pub some_read : (g : GameRules) (key : List ℕ) (o : Option (Board × ℕ)) → IsKeyIn g key
-    → IfNone o ((b : Board) (n : ℕ) → BeginsWithKey key b n → ⊥) → IsSome o
-some_read g key None valid refused =
-    absurd (refused (spelled key) (length (board_bytes (spelled key))) (key_begins g key valid))
-some_read g key (Some r) valid refused = search rules

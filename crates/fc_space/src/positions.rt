@@ -11,7 +11,7 @@ ghost use Rattle.fc_space.specs.Children.{IsSettled, IsChildOf, children_by};
 use arrayvec::ArrayVec;
 use fc_best_first::{Child, Space};
 use fc_bound::{bound, is_held_back};
-use fc_canonical::{distinct_moves, read_key};
+use fc_canonical::{distinct_moves, position_of};
 use fc_classes::ClassKey;
 use fc_cards::Place;
 use fc_home::{is_settled, settle};
@@ -73,7 +73,7 @@ impl<G: Game + Drop> Positions<G> {
         ensures value { result ≡ spelled key.now }
         ensures whole { IsPosition result }
     {
-        read_key(key.bytes()).unwrap().0
+        position_of(key.bytes())
     }
 }
 
