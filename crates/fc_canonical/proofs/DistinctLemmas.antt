@@ -1,10 +1,10 @@
 -- When two moves lead to boards of one class.
-use Rattle.std.proofs.Common.{◌≡◌, ◌≢◌, ℕ, ◌+◌, ◌-◌, ◌<◌, ◌≤◌, ◌⊎◌, ◌↔◌, Bool, true, false, Some, None, List, [], ◌∷◌, ◌++◌, length, set, get_or, cond, eqb, refl, sym, ◌∙◌, ap, subst, inl, inr, ⊎_elim, arith}
-use Rattle.std.specs.Prelude.{Contains, IsTrue, sum_by, slice_index}
+use Rattle.std.proofs.Common.{◌≡◌, ◌≢◌, ℕ, ◌+◌, ◌-◌, ◌<◌, ◌≤◌, ◌⊎◌, ◌↔◌, Some, None, List, [], ◌∷◌, ◌++◌, length, set, get_or, cond, eqb, refl, sym, ◌∙◌, ap, subst, inl, inr, ⊎_elim, arith}
+use Rattle.std.specs.Prelude.{Contains, sum_by, slice_index}
 use Rattle.std.specs.List.Sorted.{IsPermutation}
-use Rattle.std.proofs.lemmas.List.{get_or-set_same, get_or-set_other, get_or_default, length-set, length-append, same_from_push, set_past, length_push, get_or_append_left, get_or_push}
+use Rattle.std.proofs.lemmas.List.{get_or-set_same, get_or-set_other, get_or_default, length-set, length-append, same_from_push, set_past}
 use Rattle.std.proofs.lemmas.List.Edits.{swap_is}
-use Rattle.std.proofs.lemmas.List.Elements.{Contains-get_or, Contains-push_cases, Contains-append_left, Contains-push}
+use Rattle.std.proofs.lemmas.List.Elements.{Contains-get_or}
 use Rattle.std.proofs.lemmas.List.Sorted.{Contains-permutation, IsPermutation-swap, IsPermutation-refl, IsPermutation-sym, sum_by-IsPermutation}
 use Rattle.std.proofs.lemmas.List.Sums.{sum_by-cons, sum_by-set, sum_by_push, get_or-le-sum_by, sum_by-take-le}
 use Rattle.std.proofs.lemmas.Bool.{cases_lt, cases_eq}
@@ -17,12 +17,27 @@ use Rattle.fc_position.specs.Position.{IsPosition}
 use Rattle.fc_position.proofs.BoardLemmas.{column_there, cell_there, columns-lifted, homes-lifted, front_last}
 use Rattle.fc_moves.specs.declared.steps.Move.{Move}
 use Rattle.fc_moves.specs.GameRules.{GameRules}
-use Rattle.fc_moves.specs.Step.{Step, Joins, Takes, ListsMoves}
+use Rattle.fc_moves.specs.Step.{Step, Joins, Takes}
 use Rattle.fc_canonical.specs.Class.{SameClass}
-use Rattle.fc_canonical.specs.Distinct.{IsSameKind, Stays, IsAlike, ListsClasses}
+use Rattle.fc_canonical.specs.Distinct.{Stays}
 use Rattle.fc_canonical.proofs.ClassLemmas.{class-refl, class-sym, class-trans, class-placed, Alike}
-use Rattle.fc_canonical.proofs.MoveLemmas.{one_more}
 use Rattle.fc_canonical.proofs.KeyLemmas.{two_of_sum, places_most, no_more}
+
+-- the two are the same column or two empty ones, two cells, or both home
+abbrev pub IsSameKind : Board → Place → Place → Type 0
+IsSameKind b (Column i) (Column j) = (i ≡ j) ⊎ ((column b i ≡ []) × (column b j ≡ []))
+IsSameKind b (Cell i) (Cell j) = Unit {0}
+IsSameKind b Home Home = Unit {0}
+IsSameKind b (Column i) (Cell j) = ⊥
+IsSameKind b (Column i) Home = ⊥
+IsSameKind b (Cell i) (Column j) = ⊥
+IsSameKind b (Cell i) Home = ⊥
+IsSameKind b Home (Column j) = ⊥
+IsSameKind b Home (Cell j) = ⊥
+
+-- the moves take one card to places of one kind, or each takes a column's only card to an empty column
+abbrev pub IsAlike : Board → Move → Move → Type 0
+IsAlike b m n = ((m.from ≡ n.from) × IsSameKind b m.to n.to) ⊎ (Stays b m.from m.to × Stays b n.from n.to)
 
 one_itself : (u : ℕ) → ◌≡◌ {A = ℕ} (cond (eqb u u) 1 0) 1
 one_itself u = grind (arith, nat_tests)
@@ -287,15 +302,21 @@ alike_from_class g b Home (Cell j) u source target v p there also joins joined t
 alike_from_class g b from to u (Cell i) (Cell k) v p there also joins joined takes taken s = absurd joined
 alike_from_class g b from to u Home (Cell k) v p there also joins joined takes taken s = absurd (cc also)
 
+-- a column of one card is its last card alone
+pub only_card : (cards : List ℕ) (u : ℕ) → last_of cards ≡ Some u → length cards ≡ 1 → cards ≡ u ∷ []
+only_card cards u last long =
+    let both = front_last cards u last in
+    let front : front_of cards ≡ [] =
+    no_more (front_of cards) (omega (arith, ap length both, length-append (front_of cards) (u ∷ []), long)) in
+    both ∙ ap (λ l. l ++ u ∷ []) front
+
 -- a move of a column's only card to an empty column leads to the class itself
 stay_class : (g : GameRules) (b : Board) (from to : Place) (u : ℕ) → playable b from ≡ Some u → Joins from to → Takes g b u to
     → Stays b from to → SameClass b (placed (lifted b from) u to)
 stay_class g b (Column i) (Column j) u there joins takes (long, empty) =
     let inside = column_there b i u there in
-    let cards = front_last (column b i) u there in
-    let front : front_of (column b i) ≡ [] =
-    no_more (front_of (column b i)) (omega (arith, ap length cards, length-append (front_of (column b i)) (u ∷ []), long)) in
-    let only : column b i ≡ u ∷ [] = cards ∙ ap (λ l. l ++ u ∷ []) front in
+    let only = only_card (column b i) u there long in
+    let front : front_of (column b i) ≡ [] = ap front_of only in
     let other : column (lifted b (Column i)) j ≡ [] = column-lifted b (Column i) j joins ∙ empty in
     record {
       columns = IsPermutation-swap b.columns (set (set b.columns i (front_of (column b i))) j (column (lifted b (Column i)) j ++ u ∷ [])) i j inside takes.0
@@ -359,101 +380,3 @@ alike_class g b m n x y p s t = (
   λ same. alike_from_class g b m.from m.to s.card n.from n.to t.card p s.playable t.playable s.joins t.joins s.takes t.takes
       (subst (λ z. SameClass z (placed (lifted b n.from) t.card n.to)) s.after (subst (λ z. SameClass x z) t.after same)),
 )
-
-kind-refl : (b : Board) (to : Place) → IsSameKind b to to
-kind-refl b (Column i) = inl refl
-kind-refl b (Cell i) = tt
-kind-refl b Home = tt
-
--- of the first n moves of a list, each is alike to one that is kept, and no two that are kept are alike
-pub record Kept (b : Board) (list kept : List Move) (n : ℕ) : Type 0 where
-  pub few : length kept ≤ n
-  pub allowed : (m : Move) → Contains kept m → Contains list m
-  pub complete : (k : ℕ) (d : Move) → k < n → (a : Move) × Contains kept a × IsAlike b a (get_or list k d)
-  pub apart : (i j : ℕ) (d : Move) → i < j → j < length kept → IsAlike b (get_or kept i d) (get_or kept j d) → ⊥
-
-pub kept_none : (b : Board) (list kept : List Move) → kept ≡ [] → Kept b list kept 0
-kept_none b list kept e =
-    let none : length kept ≡ 0 = ap length e in
-    record {
-      few = omega arith;
-      allowed = λ m (k, inside, _). absurd (omega (arith, none, inside));
-      complete = λ k d below. absurd (omega arith);
-      apart = λ i j d lt inside alike. absurd (omega (arith, none, inside));
-    }
-
--- a move that is alike to one that is kept is passed over
-kept_passes : (b : Board) (list kept : List Move) (i : ℕ) (d : Move) → Kept b list kept i → i < length list
-    → ((a : Move) × Contains kept a × IsAlike b a (get_or list i d)) → Kept b list kept (i + 1)
-kept_passes b list kept i d old inside mate =
-    let few = old.few in
-    record {
-      few = omega arith;
-      allowed = old.allowed;
-      complete = one_more list i d (λ x. (a : Move) × Contains kept a × IsAlike b a x) inside old.complete mate;
-      apart = old.apart;
-    }
-
--- a move that is alike to none that is kept is kept
-kept_adds : (b : Board) (list kept : List Move) (i : ℕ) (d : Move) → Kept b list kept i → i < length list
-    → ((a : Move) × Contains kept a × IsAlike b a (get_or list i d) → ⊥) → Kept b list (kept ++ get_or list i d ∷ []) (i + 1)
-kept_adds b list kept i d old inside none =
-    let few = old.few in
-    let m = get_or list i d in
-    let long : length (kept ++ m ∷ []) ≡ length kept + 1 = length_push kept m in
-    record {
-      few = omega arith;
-      allowed = λ n found. ⊎_elim (old.allowed n) (λ e. subst (Contains list) e (Contains-get_or list i d inside))
-          (Contains-push_cases kept m n found);
-      complete = one_more list i d (λ x. (a : Move) × Contains (kept ++ m ∷ []) a × IsAlike b a x) inside
-          (λ k e below. let mate = old.complete k e below in
-          (mate.0, Contains-append_left kept (m ∷ []) mate.0 mate.1, mate.2))
-          (m, Contains-push kept m, inl (refl, kind-refl b m.to));
-      apart = λ k j e lt last alike.
-          let left : get_or (kept ++ m ∷ []) k e ≡ get_or kept k e = get_or_append_left kept (m ∷ []) e k (omega (arith, lt, last, long)) in
-          ⊎_elim
-          (λ within. let right : get_or (kept ++ m ∷ []) j e ≡ get_or kept j e = get_or_append_left kept (m ∷ []) e j within in
-          old.apart k j e lt within
-          (subst (λ x. IsAlike b x (get_or kept j e)) left
-          (subst (λ x. IsAlike b (get_or (kept ++ m ∷ []) k e) x) right alike)))
-          (λ past. let right : get_or (kept ++ m ∷ []) j e ≡ m = get_or_push kept m e j (omega (arith, last, long, past)) in
-          none (
-            get_or kept k e,
-            Contains-get_or kept k e (omega (arith, lt, last, long)),
-            subst (λ x. IsAlike b x m) left (subst (λ x. IsAlike b (get_or (kept ++ m ∷ []) k e) x) right alike),
-          ))
-          (cases_lt j (length kept));
-    }
-
--- the two branches of the loop
-pub turn_keeps : (b : Board) (list kept next : List Move) (i : ℕ) (d : Move) (t : Bool) → Kept b list kept i → i < length list
-    → (IsTrue t ↔ ((a : Move) × Contains kept a × IsAlike b a (get_or list i d))) → t ≡ false
-    → next ≡ kept ++ get_or list i d ∷ [] → Kept b list next (i + 1)
-turn_keeps b list kept next i d t old inside told fails e =
-    rw e (kept_adds b list kept i d old inside (λ mate. let holds = told.1 mate in absurd (cc (sym fails ∙ holds))))
-
-pub turn_passes : (b : Board) (list kept next : List Move) (i : ℕ) (d : Move) (t : Bool) → Kept b list kept i → i < length list
-    → (IsTrue t ↔ ((a : Move) × Contains kept a × IsAlike b a (get_or list i d))) → t ≡ true → next ≡ kept
-    → Kept b list next (i + 1)
-turn_passes b list kept next i d t old inside told holds e =
-    rw e (kept_passes b list kept i d old inside (told.0 holds))
-
--- what is kept of all allowed moves leads to each class once
-pub kept_all : (g : GameRules) (b : Board) (list kept : List Move) (n : ℕ) → IsPosition b → ListsMoves g b list
-    → length list ≤ n → Kept b list kept n → ListsClasses g b kept
-kept_all g b list kept n p all whole k = record {
-  allowed = λ m found. all.allowed m (k.allowed m found);
-  complete = λ m x step.
-      let found = all.complete m (x, step) in
-      let mate = k.complete found.0 m (omega (arith, found.1)) in
-      let other = all.allowed mate.0 (k.allowed mate.0 mate.1) in
-      let alike = subst (IsAlike b mate.0) found.2 mate.2 in (
-        mate.0,
-        other.0,
-        mate.1,
-        other.1,
-        class-sym other.0 x ((alike_class g b mate.0 m other.0 x p other.1 step).0 alike),
-      );
-  apart = λ i j d x y lt inside s t same.
-      k.apart i j d lt inside ((alike_class g b (get_or kept i d) (get_or kept j d) x y p s t).1 same);
-}

@@ -1,6 +1,8 @@
 pub mod ClassLemmas
 pub mod DistinctLemmas
 pub mod KeyLemmas
+pub mod ListedLemmas
+pub mod ListingLemmas
 pub mod MoveLemmas
 pub mod OrderLemmas
 pub mod ReadLemmas

@@ -3,11 +3,13 @@
 //! A class is known by its canonical position, or by that position's bytes, its key. No call allocates.
 #![tactic(auto)]
 
+pub use distinct::distinct_moves;
 pub use keys::{Key, key, padded_key};
 pub use orders::canonical;
 pub use readers::{key_len, position_of, read_key};
-pub use searches::{distinct_moves, find_move};
+pub use searches::find_move;
 
+mod distinct;
 mod keys;
 pub mod laws;
 mod orders;

@@ -3,7 +3,7 @@ use crate::{
 };
 use arrayvec::ArrayVec;
 use fc_cards::{Card, Place};
-use fc_moves::{FreeCell, Move, allows, apply, moves};
+use fc_moves::{BakersGame, FreeCell, Game, Kings, Move, allows, apply, moves};
 use fc_position::Position;
 use std::process::Abort;
 use std::test::Fail;
@@ -261,6 +261,68 @@ fn lists_distinct_moves(rt: HostRuntime) -> Result<(), Fail> {
     for m in listed.as_slice() {
         let stays = find_move(&none, &lone, &key(&lone)) == Some(*m);
         assert!(rt; stays || m.to == Place::Home);
+    }
+    Ok(())
+}
+
+// The key of what a move leads to, `None` where it isn't allowed.
+fn key_after<G: Game>(game: &G, position: &Position, m: Move) -> Option<Key> {
+    if !allows(game, position, m) {
+        return None;
+    }
+    let mut next = position.copy();
+    apply(game, &mut next, m);
+    Some(key(&next))
+}
+
+// The list of distinct moves has, of all allowed moves in their order, each that leads to a class to which none before
+// it leads.
+fn check_distinct<G: Game>(rt: &impl Abort, game: &G, position: &Position) -> Result<(), Fail> {
+    let distinct = distinct_moves(game, position);
+    let mut kept = 0;
+    for m in moves(game, position).as_slice() {
+        let end = key_after(game, position, *m).ok_or("an allowed move")?;
+        let mut is_new = true;
+        for old in distinct.as_slice().iter().take(kept) {
+            let other = key_after(game, position, *old).ok_or("an allowed move")?;
+            is_new &= other.as_slice() != end.as_slice();
+        }
+        if is_new {
+            assert_eq!(rt; distinct.get(kept).copied(), Some(*m));
+            kept += 1;
+        }
+    }
+    assert_eq!(rt; distinct.len(), kept);
+    Ok(())
+}
+
+#[test]
+fn lists_the_first_move_to_each_class(rt: HostRuntime) -> Result<(), Fail> {
+    let full: [&[u8]; 8] = [
+        b"KC TD", b"JS KD", b"QS TH", b"JH QC", b"JC KH", b"JD TS", b"QD KS", b"TC QH",
+    ];
+    let boards = [
+        four_cards()?,
+        locked()?,
+        position(&full, b"", [9, 9, 9, 9])?,
+        position(&[b"QS", b"JS", b"KS"], b"", [13, 13, 13, 10])?,
+        position(&[b"QS", b"KH", b"", b"KS", b"QH"], b"", [13, 13, 11, 11])?,
+        position(&[b"", b"QH", b"KH QS"], b"JS -- KS", [13, 13, 11, 10])?,
+        position(
+            &[b"KS", b"", b"QD KD", b"QS"],
+            b"-- -- -- JS",
+            [13, 11, 13, 10],
+        )?,
+    ];
+    let game = FreeCell::new(4).ok_or("four cells")?;
+    let one = FreeCell::new(1).ok_or("one cell")?;
+    let suits = BakersGame::new(3).ok_or("three cells")?;
+    for board in &boards {
+        check_distinct(&rt, &game, board)?;
+        check_distinct(&rt, &one, board)?;
+        check_distinct(&rt, &suits, board)?;
+        check_distinct(&rt, &Kings::new(game), board)?;
+        check_distinct(&rt, &Kings::new(suits), board)?;
     }
     Ok(())
 }

@@ -1,0 +1,237 @@
+ghost use Rattle.std.specs.Prelude.{◌≡◌, ℕ, ◌+◌, ◌*◌, ◌<◌, ◌≤◌, ◌↔◌, IsTrue, Some, None, length};
+ghost use Rattle.arrayvec.specs.ArrayVec.{array_vec_len};
+ghost use Rattle.fc_cards.specs.declared.places.Place.TheVariants.{Column, Cell};
+ghost use Rattle.fc_position.specs.Board.{playable, column};
+ghost use Rattle.fc_position.specs.Position.{IsPosition};
+ghost use Rattle.fc_moves.specs.Step.{place_number};
+ghost use Rattle.fc_canonical.specs.Distinct.{ListsClasses, ListsBelow, IsListed, IsLone, IsLoneBelow, IsLaterLone, GoesTo, IsFirstColumn, IsFirstCell, IsOpening, IsCellOf};
+
+use arrayvec::ArrayVec;
+use fc_cards::{Card, Place};
+use fc_moves::{Game, Move};
+use fc_position::Position;
+
+/// Allowed moves, of which no two lead to positions of one class, and to each class to which an allowed move leads one:
+/// the first by source and then by destination, in which order they are listed. It makes no position.
+pub fn distinct_moves<G: Game>(game: &G, position: &Position) -> ArrayVec<Move, 132>
+    ensures classes { ListsClasses (G.game game.now) position.now result.items }
+{
+    // What a call tells of the position, each of the 52 cards in one place, is needed below.
+    let _home = position.playable(Place::Home);
+    let column = first_empty_column(position);
+    let cell = first_empty_cell(game, position);
+    let mut list = ArrayVec::new();
+    list_from_columns(game, position, column, cell, &mut list);
+    list_from_cells(game, position, column, &mut list);
+    list
+}
+
+// The first column that holds no card.
+fn first_empty_column(position: &Position) -> Option<u8>
+    ensures first { IsFirstColumn position.now result }
+{
+    for j in 0..8 {
+        if position.column(j).is_empty() {
+            return Some(j);
+        }
+    }
+    None
+}
+
+// The first cell of the game that holds no card.
+fn first_empty_cell<G: Game>(game: &G, position: &Position) -> Option<u8>
+    ensures first { IsFirstCell position.now (G.game game.now).cells result }
+{
+    let cells = game.cells();
+    for j in 0..cells {
+        if position.cell(j).is_none() {
+            return Some(j);
+        }
+    }
+    None
+}
+
+// Lists the moves of the last card of each column.
+fn list_from_columns<G: Game>(
+    game: &G,
+    position: &Position,
+    column: Option<u8>,
+    cell: Option<u8>,
+    list: &mut ArrayVec<Move, 132>,
+)
+    requires whole { IsPosition position.now }
+    requires column { IsFirstColumn position.now column }
+    requires cell { IsFirstCell position.now (G.game game.now).cells cell }
+    requires empty { array_vec_len list.old ≡ 0 }
+    ensures after { ListsBelow (G.game game.now) position.now (8 * 13) list.new.items }
+    ensures count { array_vec_len list.new ≤ 80 }
+{
+    for i in 0..8 {
+        if let Some(card) = position.column(i).last() {
+            let from = Place::Column(i);
+            let opening = opening_of(game, position, from, *card, column);
+            list_from(game, position, from, *card, opening, cell, list);
+        }
+    }
+}
+
+// Lists the moves of the card in each cell. None goes to a cell.
+fn list_from_cells<G: Game>(
+    game: &G,
+    position: &Position,
+    column: Option<u8>,
+    list: &mut ArrayVec<Move, 132>,
+)
+    requires whole { IsPosition position.now }
+    requires column { IsFirstColumn position.now column }
+    requires before { ListsBelow (G.game game.now) position.now (8 * 13) list.old.items }
+    requires room { array_vec_len list.old ≤ 80 }
+    ensures after { ListsBelow (G.game game.now) position.now (12 * 13) list.new.items }
+{
+    for i in 0..4 {
+        if let Some(card) = position.cell(i) {
+            let from = Place::Cell(i);
+            let opening = opening_of(game, position, from, card, column);
+            list_from(game, position, from, card, opening, None, list);
+        }
+    }
+}
+
+// The empty column to which the card is listed: the first one, where the card may go there. A column's only card that
+// goes there leads to the class itself, as does another's, so it is listed of the first such column alone.
+fn opening_of<G: Game>(
+    game: &G,
+    position: &Position,
+    from: Place,
+    card: Card,
+    column: Option<u8>,
+) -> Option<u8>
+    requires whole { IsPosition position.now }
+    requires card { playable position.now from ≡ Some card }
+    requires column { IsFirstColumn position.now column }
+    ensures value { IsOpening (G.game game.now) position.now from result }
+{
+    let j = column?;
+    if game.opens(card) && !is_later_lone(game, position, from) {
+        Some(j)
+    } else {
+        None
+    }
+}
+
+// Whether the place is a column of one card, and an earlier column is one too whose card may go to an empty column.
+fn is_later_lone<G: Game>(game: &G, position: &Position, from: Place) -> bool
+    ensures value { IsTrue result ↔ IsLaterLone (G.game game.now) position.now from }
+{
+    match from {
+        Place::Column(i) => i < 8 && position.column(i).len() == 1 && has_lone(game, position, i),
+        _ => false,
+    }
+}
+
+// Whether one of the first columns has one card alone, which may go to an empty column.
+fn has_lone<G: Game>(game: &G, position: &Position, count: u8) -> bool
+    requires few { count ≤ 8 }
+    ensures value { IsTrue result ↔ IsLoneBelow (G.game game.now) position.now count }
+{
+    for k in 0..count {
+        if is_lone(game, position.column(k)) {
+            return true;
+        }
+    }
+    false
+}
+
+// Whether the cards are one card alone, which may go to an empty column.
+fn is_lone<G: Game>(game: &G, cards: &[Card]) -> bool
+    ensures value { IsTrue result ↔ IsLone (G.game game.now) cards.now }
+{
+    match cards {
+        [card] => game.opens(*card),
+        _ => false,
+    }
+}
+
+// Lists the moves of the playable card of a place, after those of the places before it.
+fn list_from<G: Game>(
+    game: &G,
+    position: &Position,
+    from: Place,
+    card: Card,
+    opening: Option<u8>,
+    cell: Option<u8>,
+    list: &mut ArrayVec<Move, 132>,
+)
+    requires whole { IsPosition position.now }
+    requires card { playable position.now from ≡ Some card }
+    requires opening { IsOpening (G.game game.now) position.now from opening }
+    requires cell { IsCellOf (G.game game.now) position.now from cell }
+    requires before { ListsBelow (G.game game.now) position.now (place_number from * 13) list.old.items }
+    requires room { array_vec_len list.old + 10 ≤ 132 }
+    ensures after { ListsBelow (G.game game.now) position.now (place_number from * 13 + 13) list.new.items }
+    ensures count { array_vec_len list.new ≤ array_vec_len list.old + 10 }
+{
+    list_to_columns(game, position, from, card, opening, list);
+    if let Some(j) = cell {
+        let to = Place::Cell(j);
+        list.push(Move { from, to });
+    }
+    list_to_home(game, position, from, card, list);
+}
+
+// Lists the moves of the card to columns.
+fn list_to_columns<G: Game>(
+    game: &G,
+    position: &Position,
+    from: Place,
+    card: Card,
+    opening: Option<u8>,
+    list: &mut ArrayVec<Move, 132>,
+)
+    requires whole { IsPosition position.now }
+    requires card { playable position.now from ≡ Some card }
+    requires opening { IsOpening (G.game game.now) position.now from opening }
+    requires before { ListsBelow (G.game game.now) position.now (place_number from * 13) list.old.items }
+    requires room { array_vec_len list.old + 8 ≤ 132 }
+    ensures after { ListsBelow (G.game game.now) position.now (place_number from * 13 + 8) list.new.items }
+    ensures count { array_vec_len list.new ≤ array_vec_len list.old + 8 }
+{
+    for j in 0..8 {
+        if goes_to(game, position.column(j), card, opening == Some(j)) {
+            let to = Place::Column(j);
+            list.push(Move { from, to });
+        }
+    }
+}
+
+// Whether the card is listed to a column with these cards: to an empty one where this says so, else where it stands on
+// the last. No card stands on itself, so its own column needs no test.
+fn goes_to<G: Game>(game: &G, cards: &[Card], card: Card, opens: bool) -> bool
+    ensures value { IsTrue result ↔ GoesTo (G.game game.now) cards.now card (IsTrue opens) }
+{
+    match cards.last() {
+        Some(last) => game.stands(card, *last),
+        None => opens,
+    }
+}
+
+// Lists the move of the card home, where it is next in its suit.
+fn list_to_home<G: Game>(
+    game: &G,
+    position: &Position,
+    from: Place,
+    card: Card,
+    list: &mut ArrayVec<Move, 132>,
+)
+    requires whole { IsPosition position.now }
+    requires card { playable position.now from ≡ Some card }
+    requires before { ListsBelow (G.game game.now) position.now (place_number from * 13 + 12) list.old.items }
+    requires room { array_vec_len list.old < 132 }
+    ensures after { ListsBelow (G.game game.now) position.now (place_number from * 13 + 13) list.new.items }
+    ensures count { array_vec_len list.new ≤ array_vec_len list.old + 1 }
+{
+    if position.home(card.suit()) + 1 == card.rank() {
+        let to = Place::Home;
+        list.push(Move { from, to });
+    }
+}
