@@ -1,9 +1,11 @@
 -- Cards that stand above a lower card of their own suit.
+use mir.Val.{bool_byte}
 use Rattle.std.proofs.Common.{◌≡◌, ◌≢◌, ℕ, ◌+◌, ◌<◌, ◌≤◌, zero, suc, Bool, true, false, cond, List, [], ◌∷◌, ◌++◌, length, get_or, set, take, refl, sym, ◌∙◌, ap, subst, ⊎_elim, arith}
-use Rattle.std.specs.Prelude.{◌==◌, ◌&&◌, ◌||◌, nat_lt, count_by, slice_index}
+use Rattle.std.specs.Prelude.{◌==◌, ◌&&◌, ◌||◌, min, nat_lt, count_by, slice_index}
 use Rattle.std.specs.List.{list_any}
-use Rattle.std.proofs.lemmas.Bool.{cases_eq}
-use Rattle.std.proofs.lemmas.List.{get_or-set_same, get_or-set_other, length-set, take_more}
+use Rattle.std.proofs.Math.Nat.{min-eq_left, min-eq_right}
+use Rattle.std.proofs.lemmas.Bool.{cases_lt, cases_eq}
+use Rattle.std.proofs.lemmas.List.{get_or-set_same, get_or-set_other, length-set, set-get_or, take_more}
 use Rattle.std.proofs.lemmas.Bool.Decides.{nat_tests}
 use Rattle.std.proofs.lemmas.List.Folds.{list_any-append}
 use Rattle.std.proofs.lemmas.List.Sums.{sum_by-cons, sum_by_push, sum_by-take-le}
@@ -236,3 +238,28 @@ turn_lower cards least now i count more y s r seen inside is once suits ranks mo
     let set_now : now ≡ set least (suit y) (rank y) = changed ∙ ap (λ k. set least k r) suits ∙ ap (set least (suit y)) ranks in
     subst (λ l. Seen l more (take (i + 1) cards)) (sym set_now) (subst (λ n. Seen (set least (suit y) (rank y)) n (take (i + 1) cards)) (sym same)
     (subst (Seen (set least (suit y) (rank y)) count) (sym (next_seen cards i y inside is)) next))
+
+-- a test counts one at most
+pub byte_most : (t : Bool) → bool_byte t ≤ 1
+byte_most true = omega arith
+byte_most false = omega arith
+
+-- so at every card
+pub turn_card : (cards least now : List ℕ) (i count more y s r : ℕ) → Seen least count (take i cards) → i < length cards
+    → y ≡ get_or cards i y → ((c : ℕ) → count_in_column c cards ≤ 1) → s ≡ suit y → r ≡ rank y → r ≤ 13
+    → now ≡ set least s (min (get_or least s 0) r) → more ≡ count + bool_byte (nat_lt (get_or least s 0) r)
+    → Seen now more (take (i + 1) cards)
+turn_card cards least now i count more y s r seen inside is once suits ranks most changed counts =
+    let low = get_or least s 0 in
+    ⊎_elim
+    (λ lt. let tells : nat_lt low r ≡ true = grind (arith, nat_tests) in
+    let one : bool_byte (nat_lt low r) ≡ 1 = ap bool_byte tells in
+    let kept : min low r ≡ low = min-eq_left (omega arith) in
+    turn_above cards least now i count more y s r seen inside is once suits ranks most lt
+    (changed ∙ ap (set least s) kept ∙ set-get_or least s 0) (counts ∙ ap (λ n. count + n) one))
+    (λ le. let tells : nat_lt low r ≡ false = grind (arith, nat_tests) in
+    let none : bool_byte (nat_lt low r) ≡ 0 = ap bool_byte tells in
+    let taken : min low r ≡ r = min-eq_right le in
+    turn_lower cards least now i count more y s r seen inside is once suits ranks most le
+    (changed ∙ ap (set least s) taken) (omega (arith, counts, none)))
+    (cases_lt low r)

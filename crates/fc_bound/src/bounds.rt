@@ -23,17 +23,16 @@ fn above_lower(cards: &[Card]) -> u8
     requires once { (c : ℕ) → count_in_column c cards.now ≤ 1 }
     ensures value { result ≡ count_by (λ c. is_above_lower c cards.now) all_cards }
 {
-    // Of each suit the least rank so far, 14 where there is none.
+    // Of each suit the least rank so far, 14 where there is none. Which cards stand above lower ones can't be foreseen, so
+    // the turn has no jumps.
     let mut least = [14; 4];
     let mut count = 0;
     for card in cards {
         let suit = card.suit().index() as usize;
         let rank = card.rank();
-        if least[suit] < rank {
-            count += 1;
-        } else {
-            least[suit] = rank;
-        }
+        let lowest = least[suit];
+        count += (lowest < rank) as u8;
+        least[suit] = lowest.min(rank);
     }
     count
 }

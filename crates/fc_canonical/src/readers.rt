@@ -44,6 +44,7 @@ pub fn read_key(bytes: &[u8]) -> Option<(Position, usize)>
 
 /// The position whose bytes stand at the front, in the form of a key, whatever follows. That they stand there is known:
 /// nothing is tested.
+#[inline]
 pub fn position_of(bytes: &[u8]) -> Position
     requires spelled { (b : Board) × (rest : List ℕ) × IsPosition b × (bytes.now ≡ board_bytes b ++ rest) }
     ensures value { (b : Board) (rest : List ℕ) → IsPosition b → bytes.now ≡ board_bytes b ++ rest → result ≡ b }

@@ -68,6 +68,7 @@ impl<G: Game + Drop> Positions<G> {
     }
 
     // The position that a key of the game spells.
+    #[inline]
     fn position(&self, key: &ClassKey) -> Position
         requires key { IsKeyIn (G.game self.now.game) key.now }
         ensures value { result ≡ spelled key.now }
