@@ -1,4 +1,4 @@
-use Rattle.std.proofs.Common.{◌≡◌, List, ℕ, take, map, ap, ◌∙◌, ◌++◌, sym, rules, length, arith, length-append}
+use Rattle.std.proofs.Common.{map, ap, ◌∙◌, ◌++◌, sym, rules, arith, length-append}
 use Rattle.std.specs.List.{flat_map}
 use Rattle.fc_position.specs.Board.{column}
 use Rattle.fc_canonical.specs.Key.{column_bytes, padded}
