@@ -449,8 +449,19 @@ key_most b key p k =
       bytes_most k.canonical whole,
     )
 
+-- zeros after keys hide no difference
+pub padded_once : (b c : Board) (k l : List ℕ) → IsPosition b → IsPosition c → IsKeyOf b k → IsKeyOf c l
+    → padded k ≡ padded l → k ≡ l
+padded_once b c k l p q x y e =
+    let one = replicate (68 - length k) 0 in
+    let two = replicate (68 - length l) 0 in
+    let same = (board_once x.canonical y.canonical one two (class_positions b x.canonical p x.class)
+    (class_positions c y.canonical q y.class)
+    (ap (λ m. m ++ one) (sym x.bytes) ∙ e ∙ ap (λ m. m ++ two) y.bytes)).0 in
+    x.bytes ∙ ap board_bytes same ∙ sym y.bytes
+
 -- the next byte is written over the first of the zeros
-pub padded-set : (key : List ℕ) (i v : ℕ) → length key ≡ i → i < 68 → set (padded key) i v ≡ padded (key ++ v ∷ [])
+padded-set : (key : List ℕ) (i v : ℕ) → length key ≡ i → i < 68 → set (padded key) i v ≡ padded (key ++ v ∷ [])
 padded-set key i v long below =
     let size : length (key ++ v ∷ []) ≡ suc i = omega (arith, long, length-append key (v ∷ [])) in
     let before : 68 - length key ≡ suc (67 - i) = omega (arith, long) in

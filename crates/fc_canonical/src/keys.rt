@@ -20,8 +20,7 @@ pub fn key(position: &Position) -> Key
     ensures value { IsKeyOf position.now result.items }
     ensures whole { IsPosition position.now }
 {
-    let mut bytes = [0; 68];
-    let length = write_key(position, &mut bytes);
+    let (bytes, length) = written(position);
     let mut key = ArrayVec::new();
     let _ = key.try_extend_from_slice(&bytes[..length]);
     key
@@ -32,20 +31,20 @@ pub fn padded_key(position: &Position) -> [u8; 68]
     ensures value { (key : List ℕ) × IsKeyOf position.now key × (result ≡ padded key) }
     ensures whole { IsPosition position.now }
 {
-    let mut bytes = [0; 68];
-    let _ = write_key(position, &mut bytes);
+    let (bytes, _) = written(position);
     bytes
 }
 
-// Writes the key of the position's class over the first of the zeros, and gives its length.
-fn write_key(position: &Position, bytes: &mut [u8; 68]) -> usize
-    requires zeros { bytes.old ≡ padded [] }
-    ensures value { (key : List ℕ) × IsKeyOf position.now key × (bytes.new ≡ padded key) × (result ≡ length key) }
+// The key of the position's class and zeros after it, and the key's length.
+fn written(position: &Position) -> ([u8; 68], usize)
+    ensures value { (key : List ℕ) × IsKeyOf position.now key × (result.0 ≡ padded key) × (result.1 ≡ length key) }
     ensures whole { IsPosition position.now }
 {
-    write_four(&counts(position), bytes, 0);
-    write_four(&cell_bytes(position), bytes, 4);
-    write_columns(position, &column_numbers(position), bytes)
+    let mut bytes = [0; 68];
+    write_four(&counts(position), &mut bytes, 0);
+    write_four(&cell_bytes(position), &mut bytes, 4);
+    let length = write_columns(position, &column_numbers(position), &mut bytes);
+    (bytes, length)
 }
 
 // The four counts.
