@@ -75,7 +75,9 @@ fn none_of_cells<G: Game>(game: &G, position: &Position, rule: u8, known: &mut K
     true
 }
 
-// Whether the playable card of a place, if there is one, goes home by the rule.
+// Whether the playable card of a place, if there is one, goes home by the rule. Few cards are next, and the others need no
+// more than that look.
+#[inline]
 fn sends<G: Game>(game: &G, position: &Position, rule: u8, from: Place, known: &mut Known) -> bool
     requires known { IsKnown (G.game game.now) position.now.homes known.old }
     ensures value { IsTrue result ↔ ((c : ℕ) × (playable position.now from ≡ Some c) × GoesHome rule (G.game game.now) position.now.homes c) }
@@ -83,8 +85,8 @@ fn sends<G: Game>(game: &G, position: &Position, rule: u8, from: Place, known: &
     ensures whole { IsPosition position.now }
 {
     match position.playable(from) {
-        Some(card) => goes_home(game, position, rule, card, known),
-        None => false,
+        Some(card) if is_next(position, card) => goes_home(game, position, rule, card, known),
+        _ => false,
     }
 }
 
