@@ -7,6 +7,5 @@ pub mod NextLemmas
 pub mod RuleLemmas
 pub mod SearchLemmas
 pub mod SettleLemmas
-pub mod SettledLemmas
 pub mod SimulationLemmas
 pub mod WayLemmas

@@ -1,11 +1,10 @@
 -- Settling: sending cards home by a rule, one by one, until none goes.
-use Rattle.std.specs.Prelude.{◌≡◌, ℕ, ◌<◌, ◌≤◌, length, List, [], ◌∷◌, Some}
+use Rattle.std.specs.Prelude.{◌≡◌, ℕ, ◌≤◌, length, List, [], ◌∷◌, Some}
 use Rattle.fc_cards.specs.declared.places.Place.{Place}
 use Rattle.fc_cards.specs.declared.places.Place.TheVariants.{Home}
 use Rattle.fc_position.specs.Board.{Board, playable, lifted, placed}
 use Rattle.fc_moves.specs.declared.steps.Move.{Move}
 use Rattle.fc_moves.specs.GameRules.{GameRules}
-use Rattle.fc_moves.specs.Step.{place_number}
 use Rattle.fc_home.specs.HomeRule.{GoesHome}
 
 -- the card is playable at the place and goes home by the rule, and no playable card with a lower number does
@@ -17,10 +16,6 @@ pub record IsFirstHome (rule : ℕ) (g : GameRules) (b : Board) (from : Place) (
 -- no playable card goes home by the rule
 abbrev pub NoneGoesHome : ℕ → GameRules → Board → Type 0
 NoneGoesHome rule g b = (from : Place) (c : ℕ) → playable b from ≡ Some c → GoesHome rule g b.homes c → ⊥
-
--- nor does the card of a place whose number is below n
-abbrev pub NoneBelow : ℕ → GameRules → Board → ℕ → Type 0
-NoneBelow rule g b n = (from : Place) (c : ℕ) → place_number from < n → playable b from ≡ Some c → GoesHome rule g b.homes c → ⊥
 
 -- the board with the card, taken from the place, at home
 abbrev pub sent_home : Board → Place → ℕ → Board

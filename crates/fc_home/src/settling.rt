@@ -8,7 +8,7 @@ ghost use Rattle.fc_moves.specs.Step.{place_number};
 ghost use Rattle.fc_home.specs.HomeRule.{GoesHome};
 ghost use Rattle.fc_home.specs.Known.{IsKnown};
 ghost use Rattle.fc_home.specs.Nexts.{HasNexts, IsLeastBelow, IsEarlier};
-ghost use Rattle.fc_home.specs.Settles.{IsFirstHome, NoneBelow, NoneGoesHome, SettlesBy, Settles};
+ghost use Rattle.fc_home.specs.Settles.{IsFirstHome, NoneGoesHome, SettlesBy, Settles};
 
 use crate::known::Known;
 use crate::rules::{goes_home, is_next};
@@ -35,57 +35,16 @@ pub fn forced<G: Game>(game: &G, position: &Position) -> Option<Card>
     Some(goer.card)
 }
 
-/// Whether no playable card goes home by a home rule, at most 2.
-pub fn is_settled<G: Game>(game: &G, position: &Position, rule: u8) -> bool
-    requires rule { rule ≤ 2 }
-    ensures value { IsTrue result ↔ NoneGoesHome rule (G.game game.now) position.now }
-    ensures whole { IsPosition position.now }
-{
-    let mut known = Known::new();
-    none_of_columns(game, position, rule, &mut known) && none_of_cells(game, position, rule, &mut known)
-}
-
-// Whether the last card of no column goes home by the rule.
-fn none_of_columns<G: Game>(game: &G, position: &Position, rule: u8, known: &mut Known) -> bool
-    requires known { IsKnown (G.game game.now) position.now.homes known.old }
-    ensures value { IsTrue result ↔ NoneBelow rule (G.game game.now) position.now 8 }
-    ensures known { IsKnown (G.game game.now) position.now.homes known.new }
-    ensures whole { IsPosition position.now }
-{
-    for i in 0..8 {
-        if sends(game, position, rule, Place::Column(i), known) {
-            return false;
-        }
-    }
-    true
-}
-
-// Whether the card of no cell does.
-fn none_of_cells<G: Game>(game: &G, position: &Position, rule: u8, known: &mut Known) -> bool
-    requires known { IsKnown (G.game game.now) position.now.homes known.old }
-    requires whole { IsPosition position.now }
-    requires columns { NoneBelow rule (G.game game.now) position.now 8 }
-    ensures value { IsTrue result ↔ NoneBelow rule (G.game game.now) position.now 12 }
-{
-    for i in 0..4 {
-        if sends(game, position, rule, Place::Cell(i), known) {
-            return false;
-        }
-    }
-    true
-}
-
-// Whether the playable card of a place, if there is one, goes home by the rule. Few cards are next, and the others need no
-// more than that look.
+/// Whether the playable card of a place, if there is one, goes home by a home rule, at most 2.
 #[inline]
-fn sends<G: Game>(game: &G, position: &Position, rule: u8, from: Place, known: &mut Known) -> bool
-    requires known { IsKnown (G.game game.now) position.now.homes known.old }
+pub fn goes_home_from<G: Game>(game: &G, position: &Position, rule: u8, from: Place) -> bool
+    requires rule { rule ≤ 2 }
     ensures value { IsTrue result ↔ ((c : ℕ) × (playable position.now from ≡ Some c) × GoesHome rule (G.game game.now) position.now.homes c) }
-    ensures known { IsKnown (G.game game.now) position.now.homes known.new }
     ensures whole { IsPosition position.now }
 {
+    // Few cards are next, and the others need no more than that look.
     match position.playable(from) {
-        Some(card) if is_next(position, card) => goes_home(game, position, rule, card, known),
+        Some(card) if is_next(position, card) => goes_home(game, position, rule, card, &mut Known::new()),
         _ => false,
     }
 }

@@ -1,8 +1,8 @@
 ghost use Rattle.std.specs.Prelude.{◌≤◌};
 
-use crate::{forced, free, is_settled, settle};
+use crate::{forced, free, goes_home_from, settle};
 use arrayvec::ArrayVec;
-use fc_cards::Card;
+use fc_cards::{Card, Place};
 use fc_moves::{BakersGame, FreeCell, Game, Kings, read_move};
 use fc_position::Position;
 use std::process::Abort;
@@ -152,16 +152,25 @@ fn settles_the_least_card_first(rt: HostRuntime) -> Result<(), Fail> {
     Ok(())
 }
 
+// Whether the last card of the first column goes home by the rule.
+fn first_goes<G: Game>(game: &G, position: &Position, rule: u8) -> bool
+    requires { rule ≤ 2 }
+{
+    goes_home_from(game, position, rule, Place::Column(0))
+}
+
 #[test]
-fn tells_what_is_settled(rt: HostRuntime) -> Result<(), Fail> {
+fn tells_what_goes_home_from_a_place(rt: HostRuntime) -> Result<(), Fail> {
     let game = FreeCell::new(4).ok_or("four cells")?;
     let suits = BakersGame::new(4).ok_or("four cells")?;
-    assert!(rt; is_settled(&game, &one_column()?, 0));
-    assert!(rt; !is_settled(&game, &one_column()?, 1));
-    assert!(rt; is_settled(&game, &nine_of_spades()?, 1));
-    assert!(rt; !is_settled(&suits, &nine_of_spades()?, 1));
-    assert!(rt; is_settled(&game, &queen_below_king()?, 1));
-    assert!(rt; !is_settled(&game, &queen_below_king()?, 2));
-    assert!(rt; is_settled(&game, &jack_left()?, 2));
+    assert!(rt; !first_goes(&game, &one_column()?, 0));
+    assert!(rt; first_goes(&game, &one_column()?, 1));
+    assert!(rt; !goes_home_from(&game, &one_column()?, 1, Place::Column(1)));
+    assert!(rt; !goes_home_from(&game, &one_column()?, 1, Place::Home));
+    assert!(rt; !first_goes(&game, &nine_of_spades()?, 1));
+    assert!(rt; first_goes(&suits, &nine_of_spades()?, 1));
+    assert!(rt; !first_goes(&game, &queen_below_king()?, 1));
+    assert!(rt; first_goes(&game, &queen_below_king()?, 2));
+    assert!(rt; !first_goes(&game, &jack_left()?, 2));
     Ok(())
 }

@@ -1,4 +1,5 @@
 pub mod BackLemmas
 pub mod ChildLemmas
 pub mod ShiftLemmas
+pub mod StayLemmas
 pub mod WonLemmas

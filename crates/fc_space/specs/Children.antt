@@ -1,10 +1,12 @@
 -- The children of a class: where the steps of its position lead, once settled.
-use Rattle.std.specs.Prelude.{◌≡◌, ℕ, ◌+◌, ◌<◌, length, map, reverse, Option, Some, None, List, Contains, slice_index_or}
+use Rattle.std.specs.Prelude.{◌≡◌, ◌≢◌, ℕ, ◌+◌, ◌<◌, length, map, reverse, Option, Some, None, List, Contains, slice_index_or}
+use Rattle.fc_cards.specs.declared.places.Place.{Place}
 use Rattle.fc_position.specs.Board.{Board, playable, lifted, placed}
 use Rattle.fc_moves.specs.declared.steps.Move.{Move}
 use Rattle.fc_moves.specs.GameRules.{GameRules}
 use Rattle.fc_moves.specs.Step.{Step, Allows}
 use Rattle.fc_canonical.specs.Key.{IsKeyOf}
+use Rattle.fc_home.specs.HomeRule.{GoesHome}
 use Rattle.fc_home.specs.Settles.{Settles}
 use Rattle.fc_bound.specs.Bound.{bound}
 use Rattle.fc_bound.proofs.EveryLemmas.{every_settles}
@@ -19,6 +21,10 @@ IsSettled g rule z moves child = (q : Board) × (count : ℕ) × Settles g rule 
 -- the child is of where the move leads, once settled
 abbrev pub IsChildOf : GameRules → ℕ → Board → Move → Child (List ℕ) → Type 0
 IsChildOf g rule b m child = (z : Board) × Step g b m z × IsSettled g rule z 1 child
+
+-- no playable card goes home by the rule but perhaps that of one place
+abbrev pub OthersStay : ℕ → GameRules → Board → Place → Type 0
+OthersStay rule g b from = (other : Place) (c : ℕ) → other ≢ from → playable b other ≡ Some c → GoesHome rule g b.homes c → ⊥
 
 -- what is left of the children of a position of a game: the moves that lead to them, the next one last
 pub record Left (G : Type 0) : Type 0 where

@@ -2,11 +2,12 @@ ghost use Rattle.std.specs.Prelude.{◌≡◌, ◌≤◌, IfSome};
 ghost use Rattle.fc_position.specs.Position.{Fits, IsPosition};
 ghost use Rattle.fc_moves.specs.GameRules.{IsPositionOf};
 ghost use Rattle.fc_moves.specs.Step.{Allows};
+ghost use Rattle.fc_home.specs.Settles.{NoneGoesHome};
 ghost use Rattle.fc_bound.specs.Bound.{bound as bound_of};
 ghost use Rattle.fc_classes.specs.Classes.{classes};
 ghost use Rattle.fc_classes.specs.Key.{IsKeyIn, spelled};
 ghost use Rattle.fc_classes.proofs.TableLemmas.{lawful};
-ghost use Rattle.fc_space.specs.Children.{IsSettled, IsChildOf, children_by};
+ghost use Rattle.fc_space.specs.Children.{IsSettled, IsChildOf, OthersStay, children_by};
 
 use arrayvec::ArrayVec;
 use fc_best_first::{Child, Space};
@@ -14,7 +15,7 @@ use fc_bound::{bound, is_held_back};
 use fc_canonical::{distinct_moves, position_of};
 use fc_classes::ClassKey;
 use fc_cards::Place;
-use fc_home::{is_settled, settle};
+use fc_home::{goes_home_from, settle};
 use fc_moves::{Game, Move, apply};
 use fc_position::Position;
 use std::marker::Model;
@@ -44,6 +45,7 @@ pub struct Children<G: Game + Drop> {
 impl<G: Game + Drop> Model for Children<G> {
     ghost use Rattle.std.specs.Prelude.{◌≡◌, ◌≤◌};
     ghost use Rattle.fc_moves.specs.GameRules.{IsPositionOf};
+    ghost use Rattle.fc_home.specs.Settles.{NoneGoesHome};
     ghost use Rattle.fc_bound.specs.Bound.{bound as bound_of};
     ghost use Rattle.fc_space.specs.Children.{AreAllowed, Left};
 
@@ -52,7 +54,7 @@ impl<G: Game + Drop> Model for Children<G> {
     ghost view = { λ s. record { game = s.game; rule = s.rule; position = s.position; moves = s.left.items } };
 
     ghost invariant = { λ s. (s.rule ≤ 2) × IsPositionOf (G.game s.game) s.position × AreAllowed (G.game s.game) s.position s.left.items
-        × (s.bound ≡ bound_of s.position) };
+        × (s.bound ≡ bound_of s.position) × NoneGoesHome s.rule (G.game s.game) s.position };
 }
 
 impl<G: Game + Drop> Positions<G> {
@@ -93,13 +95,21 @@ fn settled<G: Game>(game: &G, rule: u8, position: Position, moves: u8) -> Child<
     }
 }
 
-// The class of the position that a move led to, where no card goes home by the rule after it.
-fn settled_already<G: Game>(game: &G, rule: u8, position: &Position, bound: u8) -> Option<Child<ClassKey>>
+// The class of the position to which a card that was moved from this place led, where no card goes home by the rule
+// after it: only the card that lay below it can.
+fn settled_already<G: Game>(
+    game: &G,
+    rule: u8,
+    position: &Position,
+    from: Place,
+    bound: u8,
+) -> Option<Child<ClassKey>>
     requires known { rule ≤ 2 }
     requires bound { bound ≡ bound_of position.now }
+    requires others { OthersStay rule (G.game game.now) position.now from }
     ensures settled { IfSome result (IsSettled (G.game game.now) rule position.now 1) }
 {
-    if !is_settled(game, position, rule) {
+    if goes_home_from(game, position, rule, from) {
         return None;
     }
     Some(Child {
@@ -120,6 +130,7 @@ fn child_by_shift<G: Game>(
 ) -> Option<Child<ClassKey>>
     requires known { rule ≤ 2 }
     requires bound { bound ≡ bound_of position.old }
+    requires settled { NoneGoesHome rule (G.game game.now) position.old }
     requires allowed { Allows (G.game game.now) position.old m }
     ensures child { IfSome result (IsChildOf (G.game game.now) rule position.old m) }
     ensures same { position.new ≡ position.old }
@@ -130,7 +141,7 @@ fn child_by_shift<G: Game>(
     let before = is_held_back(position, m.from) as u8;
     apply(game, position, m);
     let after = is_held_back(position, m.to) as u8;
-    let child = settled_already(game, rule, position, bound + after - before);
+    let child = settled_already(game, rule, position, m.from, bound + after - before);
     position.shift(m.to, m.from);
     child
 }
@@ -150,6 +161,7 @@ fn child_by_copy<G: Game>(game: &G, rule: u8, position: &Position, m: Move) -> C
 fn child_by<G: Game>(game: &G, rule: u8, position: &mut Position, bound: u8, m: Move) -> Child<ClassKey>
     requires known { rule ≤ 2 }
     requires bound { bound ≡ bound_of position.old }
+    requires settled { NoneGoesHome rule (G.game game.now) position.old }
     requires allowed { Allows (G.game game.now) position.old m }
     ensures child { IsChildOf (G.game game.now) rule position.old m result }
     ensures same { position.new ≡ position.old }

@@ -3,6 +3,7 @@ use Rattle.fc_cards.specs.declared.places.Place.TheVariants.{Home}
 use Rattle.fc_moves.specs.Step.{Step}
 use Rattle.fc_space.proofs.BackLemmas.{taken_back}
 use Rattle.fc_space.proofs.ShiftLemmas.{Shifts, shifts}
+use Rattle.fc_space.proofs.StayLemmas.{others_stay}
 use Rattle.fc_space.proofs.positions.child_by_shift.Goals as goal
 
 pub overflow_add-bound : goal.overflow_add-bound
@@ -25,6 +26,12 @@ settled_already-child-requires-clause-bound g c =
     (shifts (g.G.Game.game c.args.game.now) c.args.position.now c.apply.new.position c.args.m c.args.bound c.is_held_back-before.result
     c.is_held_back-after.result c.apply.ensures.step c.is_held_back-before.ensures.whole other c.requires.bound
     c.is_held_back-before.ensures.value c.is_held_back-after.ensures.value).value
+
+pub settled_already-child-requires-clause-others : goal.settled_already-child-requires-clause-others
+settled_already-child-requires-clause-others g c =
+    let other : c.args.m.to ≢ Home = λ e. let is : c.eq.result ≡ true = search rules in cc in
+    others_stay c.args.rule (g.G.Game.game c.args.game.now) c.args.position.now c.apply.new.position c.args.m c.apply.ensures.step other
+    c.requires.settled
 
 pub shift-requires : goal.shift-requires
 shift-requires g c =

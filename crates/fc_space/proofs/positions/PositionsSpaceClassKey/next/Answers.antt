@@ -3,6 +3,7 @@ use Rattle.std.specs.Prelude.{Contains}
 use Rattle.std.proofs.lemmas.List.Elements.{Contains-push, Contains-append_left}
 use Rattle.fc_moves.specs.GameRules.{IsPositionOf}
 use Rattle.fc_moves.specs.Step.{Step, Allows}
+use Rattle.fc_home.specs.Settles.{NoneGoesHome}
 use Rattle.fc_bound.specs.Bound.{bound as bound_of}
 use Rattle.fc_space.specs.Children.{AreAllowed, children_by}
 use Rattle.fc_space.proofs.ChildLemmas.{next_child}
@@ -25,6 +26,7 @@ invariant_of-walk-2 g c =
           (c.walk.invariant.2 m
           (subst (λ l. Contains l m) (sym c.in_ok-m.ensures.items) (Contains-append_left rest (c.in_ok-m.m ∷ []) m there))),
       subst (λ b. inner.bound ≡ bound_of b) same c.walk.invariant.3,
+      subst (NoneGoesHome inner.rule rules) same c.walk.invariant.4,
     )
 
 pub returns : goal.returns

@@ -1,12 +1,14 @@
 use Rattle.std.proofs.Common.{◌≡◌, map, sym, subst}
 use Rattle.fc_moves.specs.GameRules.{IsPositionOf}
 use Rattle.fc_canonical.specs.Distinct.{ListsClasses}
+use Rattle.fc_home.specs.Settles.{NoneGoesHome}
 use Rattle.fc_best_first.specs.Turn.{AreChildren}
 use Rattle.fc_classes.specs.Classes.{classes}
 use Rattle.fc_classes.specs.Key.{spelled}
 use Rattle.fc_classes.proofs.PathLemmas.{reached_of_positions}
 use Rattle.fc_space.specs.Children.{AreAllowed, child_by, children_by}
 use Rattle.fc_space.proofs.ChildLemmas.{have_children, children_all}
+use Rattle.fc_space.proofs.StayLemmas.{none_goes}
 use Rattle.fc_space.proofs.positions.PositionsSpaceClassKey.visit.Goals as goal
 
 pub position-position-requires : goal.position-position-requires
@@ -18,14 +20,18 @@ position-position-requires g c = record {
 pub invariant_of-children : goal.invariant_of-children
 invariant_of-children g c =
     let own = c.args.self.now in
-    let valid = (reached_of_positions (g.G.Game.game own.game) own.rule own.start c.args.key.now
-    c.requires.reached.0 own.fits c.requires.reached.1).0 in
+    let reached = reached_of_positions (g.G.Game.game own.game) own.rule own.start c.args.key.now
+    c.requires.reached.0 own.fits c.requires.reached.1 in
+    let valid = reached.0 in
+    let settled = subst (NoneGoesHome own.rule (g.G.Game.game own.game)) (sym c.position-position.ensures.value)
+    (none_goes own.rule (g.G.Game.game own.game) (spelled c.args.key.now) reached.1) in
     let position = subst (IsPositionOf (g.G.Game.game own.game)) (sym c.position-position.ensures.value) valid.position in (
       own.known,
       subst (λ r. IsPositionOf r c.position-position.result) (sym c.copy.ensures.value) position,
       subst (λ r. AreAllowed r c.position-position.result c.distinct_moves-left.result.items) (sym c.copy.ensures.value)
           c.distinct_moves-left.ensures.classes.allowed,
       c.bound-low.ensures.value,
+      subst (λ r. NoneGoesHome own.rule r c.position-position.result) (sym c.copy.ensures.value) settled,
     )
 
 pub returns-clause-children : goal.returns-clause-children
