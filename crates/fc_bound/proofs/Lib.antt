@@ -6,6 +6,7 @@ pub mod HeldLemmas
 pub mod LookLemmas
 pub mod MovedLemmas
 pub mod RowLemmas
+pub mod SeenLemmas
 pub mod TableLemmas
 pub mod TellLemmas
 pub mod WitnessLemmas

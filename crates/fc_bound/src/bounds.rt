@@ -18,21 +18,23 @@ fn away(position: &Position) -> u8
     52 - black - red
 }
 
+// Every fourth of 64 bits below the highest: where the highest stands for a card, the lower cards of its suit.
+const LOWER: u64 = 0x0888_8888_8888_8888;
+
 // How many cards of a column stand above a lower card of their own suit.
 fn above_lower(cards: &[Card]) -> u8
     requires once { (c : ℕ) → count_in_column c cards.now ≤ 1 }
     ensures value { result ≡ count_by (λ c. is_above_lower c cards.now) all_cards }
 {
-    // Of each suit the least rank so far, 14 where there is none. Which cards stand above lower ones can't be foreseen, so
-    // the turn has no jumps.
-    let mut least = [14; 4];
+    // The cards so far, a bit for each, in one register. Which cards stand above lower ones can't be foreseen, so the turn
+    // has no jumps.
+    let mut seen: u64 = 0;
     let mut count = 0;
     for card in cards {
-        let suit = card.suit().index() as usize;
-        let rank = card.rank();
-        let lowest = least[suit];
-        count += (lowest < rank) as u8;
-        least[suit] = lowest.min(rank);
+        let index = card.index();
+        let lower = (seen << (63 - index)) & LOWER;
+        count += (lower != 0) as u8;
+        seen |= 1 << index;
     }
     count
 }
@@ -41,9 +43,7 @@ fn above_lower(cards: &[Card]) -> u8
 fn has_lower(cards: &[Card], card: Card) -> bool
     ensures value { result ≡ list_any (is_lower card) cards.now }
 {
-    cards
-        .iter()
-        .any(|lower| lower.suit() == card.suit() && lower.rank() < card.rank())
+    cards.iter().any(|lower| lower.suit() == card.suit() && lower.rank() < card.rank())
 }
 
 /// Whether the playable card of a place stands above a lower card of its own suit in its column; not where there is no

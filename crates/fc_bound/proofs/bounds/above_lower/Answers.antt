@@ -1,9 +1,9 @@
-use mir.Val.{bool_byte}
-use Rattle.std.proofs.Common.{◌+◌, set, take, refl, ◌∙◌, ap, get_or, arith}
-use Rattle.std.specs.Prelude.{nat_lt}
+use Rattle.std.proofs.Common.{◌≡◌, ◌*◌, ◌-◌, ◌%◌, ◌^◌, get_or, take, sym, subst, arith, bit_and, nat_eq}
+use Rattle.std.specs.Prelude.{not}
 use Rattle.fc_bound.specs.Bound.{is_above_lower}
-use Rattle.fc_bound.proofs.AboveLemmas.{seen-none, turn_card, byte_most}
+use Rattle.fc_bound.proofs.AboveLemmas.{byte_most}
 use Rattle.fc_bound.proofs.CountLemmas.{count-most}
+use Rattle.fc_bound.proofs.SeenLemmas.{every_fourth, seen-none, seen-more}
 use Rattle.fc_bound.proofs.bounds.above_lower.Goals as goal
 
 pub loop-card-init : goal.loop-card-init
@@ -14,14 +14,11 @@ overflow_add-count c = omega (
   arith,
   c.loop-card.invariant.counts,
   count-most (λ x. is_above_lower x (take c.loop-card.card-index c.args.cards.now)),
-  byte_most (nat_lt (get_or c.loop-card.least c.index-suit.result 0) c.rank-rank.result),
+  byte_most (not (nat_eq (bit_and (c.loop-card.seen * 2 ^ (63 - c.index-index.result) % 2 ^ 64) 0x0888_8888_8888_8888) 0)),
 )
 
 pub loop-card-preserved : goal.loop-card-preserved
 loop-card-preserved c =
-    turn_card c.args.cards.now c.loop-card.least (set c.loop-card.least c.index-suit.result c.min.result) c.loop-card.card-index
-    c.loop-card.count
-    (c.loop-card.count + bool_byte (nat_lt (get_or c.loop-card.least c.index-suit.result 0) c.rank-rank.result))
-    c.card-item.result c.index-suit.result c.rank-rank.result c.loop-card.invariant c.loop-card-test.true c.card-item.is
-    c.requires.once (c.index-suit.ensures.value ∙ c.suit.ensures) c.rank-rank.ensures.value c.rank-rank.ensures.within.greatest
-    (ap (set c.loop-card.least c.index-suit.result) c.min.ensures) refl
+    let is = subst (λ x. x ≡ get_or c.args.cards.now c.loop-card.card-index x) (sym c.index-index.ensures.value) c.card-item.is in
+    seen-more c.loop-card.seen 0x0888_8888_8888_8888 c.args.cards.now c.loop-card.card-index c.loop-card.count c.index-index.result every_fourth
+    c.loop-card.invariant c.loop-card-test.true is c.index-index.ensures.below c.requires.once
