@@ -1,4 +1,4 @@
-ghost use Rattle.std.specs.Prelude.{◌≡◌, ◌+◌, ◌-◌, ◌++◌, option_to_list};
+ghost use Rattle.std.specs.Prelude.{◌≡◌, ◌+◌, ◌-◌, ◌≤◌, ◌++◌, option_to_list};
 ghost use Rattle.fc_best_first.specs.Turn.{AreChildren};
 ghost use Rattle.fc_best_first.specs.Sums.{IsChildOf, number_exact, sums, sums_lawful};
 
@@ -228,14 +228,17 @@ fn a_search_runs_to_its_end(rt: HostRuntime) -> Result<(), Fail> {
     runs_to_its_end::<BucketFrontier>(&rt, rt.alloc())
 }
 
-// A key is added, met at no less, met at less, and one more finds no place; the two pairs are open, the lesser first.
-fn one_place<F: Frontier + Drop>(rt: &impl Abort, alloc: Global) -> Result<(), Fail> {
+// A key is added, met at no less and at less with this budget, and one more finds no place; the two pairs are open, the
+// lesser first.
+fn one_place<F: Frontier + Drop>(rt: &impl Abort, alloc: Global, budget: u32) -> Result<(), Fail>
+    requires { 1 ≤ budget }
+{
     let dear = Mark { cost: 9, parent: 3 };
     let cheap = Mark { cost: 7, parent: 5 };
     let mut book: Book<u32, F> = Book::new(alloc);
     assert!(rt; matches!(book.offer(1, 40, dear, 11)?, Offered::Added));
-    assert!(rt; matches!(book.offer(1, 40, dear, 11)?, Offered::Known));
-    assert!(rt; matches!(book.offer(1, 40, cheap, 9)?, Offered::Lowered));
+    assert!(rt; matches!(book.offer(budget, 40, dear, 11)?, Offered::Known));
+    assert!(rt; matches!(book.offer(budget, 40, cheap, 9)?, Offered::Lowered));
     assert!(rt; matches!(book.offer(1, 41, cheap, 9)?, Offered::Full(41)));
     assert_eq!(rt; book.len(), 1);
     let stored = book.entry(0).ok_or("the key 40")?;
@@ -249,6 +252,9 @@ fn one_place<F: Frontier + Drop>(rt: &impl Abort, alloc: Global) -> Result<(), F
 
 #[test]
 fn a_book_with_one_place(rt: HostRuntime) -> Result<(), Fail> {
-    one_place::<ListFrontier>(&rt, rt.alloc())?;
-    one_place::<BucketFrontier>(&rt, rt.alloc())
+    for budget in 1..3 {
+        one_place::<ListFrontier>(&rt, rt.alloc(), budget)?;
+        one_place::<BucketFrontier>(&rt, rt.alloc(), budget)?;
+    }
+    Ok(())
 }

@@ -1,11 +1,9 @@
 -- What a move to a column or a cell changes in the bound: whether the card that moves is held back.
-use Rattle.std.proofs.Common.{◌≡◌, ◌≢◌, ℕ, ◌+◌, ◌<◌, ◌≤◌, zero, suc, Bool, true, false, cond, List, [], ◌∷◌, ◌++◌, Option, Some, None, length, get_or, refl, sym, ◌∙◌, ap, subst, ⊎_elim, arith}
-use Rattle.std.specs.Prelude.{◌==◌, ◌&&◌, ◌||◌, nat_lt, sum_by, MatchOption}
+use Rattle.std.proofs.Common.{◌≡◌, ◌≢◌, ℕ, ◌<◌, ◌≤◌, zero, suc, Bool, false, cond, List, [], ◌∷◌, ◌++◌, Option, Some, None, length, get_or, refl, sym, ◌∙◌, ap, subst, arith}
+use Rattle.std.specs.Prelude.{◌==◌, ◌||◌, MatchOption}
 use Rattle.std.specs.List.{list_any}
-use Rattle.std.proofs.lemmas.Bool.{cases_eq}
 use Rattle.std.proofs.lemmas.Bool.Decides.{nat_tests}
 use Rattle.std.proofs.lemmas.List.Sums.{sum_by_push, get_or-le-sum_by}
-use Rattle.fc_cards.specs.Card.{rank, suit}
 use Rattle.fc_cards.specs.declared.places.Place.{Place}
 use Rattle.fc_cards.specs.declared.places.Place.TheVariants.{Column, Cell, Home}
 use Rattle.fc_position.specs.Board.{Board, column, cell, playable, last_of, front_of, count_in_column, count_in_cell}

@@ -1,5 +1,5 @@
 -- Keys that are kept with zeros after them.
-use Rattle.std.proofs.Common.{rules, ◌≡◌, ℕ, ◌-◌, ◌≤◌, Option, Some, None, List, ◌++◌, length, replicate, take, refl, sym, ◌∙◌, ap, subst}
+use Rattle.std.proofs.Common.{rules, ◌≡◌, ℕ, ◌-◌, Option, Some, None, List, ◌++◌, length, replicate, take, refl, sym, ◌∙◌, ap, subst}
 use Rattle.std.specs.Prelude.{IfNone, IsSome}
 use Rattle.std.proofs.lemmas.List.{take_at}
 use Rattle.fc_position.specs.Board.{Board}

@@ -42,9 +42,12 @@ pub fn goes_home_from<G: Game>(game: &G, position: &Position, rule: u8, from: Pl
     ensures value { IsTrue result ↔ ((c : ℕ) × (playable position.now from ≡ Some c) × GoesHome rule (G.game game.now) position.now.homes c) }
     ensures whole { IsPosition position.now }
 {
-    // Few cards are next, and the others need no more than that look.
     match position.playable(from) {
-        Some(card) if is_next(position, card) => goes_home(game, position, rule, card, &mut Known::new()),
+        // Few cards are next, and the others need no more than that look.
+        Some(card) if is_next(position, card) => {
+            let mut known = Known::new();
+            goes_home(game, position, rule, card, &mut known)
+        }
         _ => false,
     }
 }

@@ -1,5 +1,5 @@
 -- Columns and cells that are compared one by one.
-use Rattle.std.proofs.Common.{rules, ◌≡◌, ℕ, Bool, true, List, Option, Some, None, map, IsTrue, nat_eq, refl, sym}
+use Rattle.std.proofs.Common.{rules, ◌≡◌, ℕ, Bool, List, Option, Some, None, map, nat_eq, refl}
 use Rattle.std.specs.Bool.{Decides}
 use Rattle.std.specs.Option.{option_eq}
 use Rattle.std.specs.Cmp.{unsigned_Decides}

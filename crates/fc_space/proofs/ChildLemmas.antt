@@ -1,6 +1,6 @@
 -- The children of a class are the ends of its edges.
-use Rattle.std.proofs.Common.{rules, Option, Some, None, ◌≡◌, ℕ, zero, suc, ◌+◌, ◌<◌, ◌≤◌, List, [], ◌∷◌, ◌++◌, length, map, reverse, get_or, refl, sym, ◌∙◌, ap, subst, arith}
-use Rattle.std.specs.Prelude.{Contains, IfNone, IsSome}
+use Rattle.std.proofs.Common.{◌≡◌, ℕ, zero, suc, ◌+◌, ◌<◌, ◌≤◌, List, [], ◌∷◌, ◌++◌, length, map, reverse, get_or, refl, sym, ◌∙◌, ap, subst, arith}
+use Rattle.std.specs.Prelude.{Contains}
 use Rattle.std.proofs.lemmas.List.{length-map, get_or-map, map-append, reverse-append}
 use Rattle.std.proofs.lemmas.List.Elements.{Contains-append_right, Contains-get_or}
 use Rattle.std.proofs.lemmas.List.Sorted.{Contains-permutation, IsPermutation-reverse, IsPermutation-sym}
@@ -11,7 +11,6 @@ use Rattle.fc_moves.proofs.StepLemmas.{step_keeps}
 use Rattle.fc_moves.specs.Step.{Allows}
 use Rattle.fc_canonical.specs.Class.{SameClass}
 use Rattle.fc_canonical.specs.Distinct.{ListsClasses}
-use Rattle.fc_canonical.specs.Key.{BeginsWithKey, board_bytes}
 use Rattle.fc_canonical.proofs.ClassLemmas.{class-refl, class-sym}
 use Rattle.fc_canonical.proofs.KeyLemmas.{keys_tell}
 use Rattle.fc_canonical.proofs.MoveLemmas.{step_once}
@@ -26,7 +25,7 @@ use Rattle.fc_best_first.specs.declared.spaces.Child.{Child}
 use Rattle.fc_best_first.specs.Turn.{AreChildren}
 use Rattle.fc_classes.specs.Classes.{SettlesTo, classes}
 use Rattle.fc_classes.specs.Key.{IsKeyIn, spelled}
-use Rattle.fc_classes.proofs.KeyLemmas.{key_spells, key_begins}
+use Rattle.fc_classes.proofs.KeyLemmas.{key_spells}
 use Rattle.fc_classes.proofs.OrderLemmas.{has_key}
 use Rattle.fc_space.specs.Children.{HaveChildren, IsChildOf, IsSettled, AreAllowed, moved, child_by, children_by}
 

@@ -1,12 +1,12 @@
 -- The bound of where a move leads that takes no card home.
 use mir.Val.{bool_byte}
-use Rattle.std.proofs.Common.{◌≡◌, ◌≢◌, ℕ, ◌+◌, ◌-◌, ◌≤◌, Bool, true, false, cond, Some, refl, sym, ◌∙◌, ap, subst, arith}
+use Rattle.std.proofs.Common.{◌≡◌, ◌≢◌, ℕ, ◌+◌, ◌-◌, ◌≤◌, Bool, true, false, cond, refl, ◌∙◌, ap, subst, arith}
 use Rattle.std.specs.Prelude.{MatchOption}
 use Rattle.fc_cards.specs.declared.places.Place.TheVariants.{Home}
 use Rattle.fc_position.specs.Board.{Board, playable}
 use Rattle.fc_position.specs.Position.{IsPosition}
 use Rattle.fc_moves.specs.declared.steps.Move.{Move}
-use Rattle.fc_moves.specs.GameRules.{GameRules, all_cards}
+use Rattle.fc_moves.specs.GameRules.{GameRules}
 use Rattle.fc_moves.specs.Step.{Step}
 use Rattle.fc_bound.specs.Bound.{bound, is_away, is_held_back}
 use Rattle.fc_bound.proofs.AboveLemmas.{byte_most}
@@ -17,7 +17,6 @@ use Rattle.fc_space.proofs.BackLemmas.{taken_back}
 byte_is : (t : Bool) → bool_byte t ≡ cond t 1 0
 byte_is true = refl
 byte_is false = refl
-
 
 bound_most : (b : Board) → bound b ≤ 104
 unfolding bound

@@ -1,5 +1,5 @@
 -- After a move to a column or a cell from a settled position, only the card that lay below the one that moved can go home.
-use Rattle.std.proofs.Common.{◌≡◌, ◌≢◌, ℕ, ◌⊎◌, Option, Some, None, List, [], ◌∷◌, ◌++◌, refl, sym, ◌∙◌, ap, subst, inl, inr, ⊎_elim, arith}
+use Rattle.std.proofs.Common.{◌≡◌, ◌≢◌, ℕ, ◌⊎◌, Some, None, [], ◌∷◌, ◌++◌, refl, sym, ◌∙◌, ap, subst, inl, inr, ⊎_elim, arith}
 use Rattle.std.proofs.lemmas.Bool.{cases_eq}
 use Rattle.std.proofs.lemmas.List.{get_or-set_other}
 use Rattle.fc_cards.specs.declared.places.Place.{Place}
@@ -10,7 +10,7 @@ use Rattle.fc_moves.specs.declared.steps.Move.{Move}
 use Rattle.fc_moves.specs.GameRules.{GameRules}
 use Rattle.fc_moves.specs.Step.{Step}
 use Rattle.fc_home.specs.HomeRule.{GoesHome}
-use Rattle.fc_home.specs.Settles.{NoneGoesHome, SettlesBy, Settles}
+use Rattle.fc_home.specs.Settles.{NoneGoesHome, Settles}
 use Rattle.fc_space.specs.Children.{OthersStay}
 use Rattle.fc_space.proofs.BackLemmas.{taken_back}
 
@@ -70,8 +70,15 @@ others_stay rule g b c m step not_home none other d apart there goes =
 -- where the card of that place stays too, the position is settled
 pub settled_here : (rule : ℕ) (g : GameRules) (b : Board) (from : Place) → OthersStay rule g b from
     → ((c : ℕ) × (playable b from ≡ Some c) × GoesHome rule g b.homes c → ⊥) → Settles g rule b 0 b
-settled_here rule g b from others here = ([], refl, (refl, λ other c there goes.
-    ⊎_elim (λ e. here (c, sym (ap (playable b) e) ∙ there, goes)) (λ ne. others other c ne there goes) (places other from)))
+settled_here rule g b from others here = (
+  [],
+  refl,
+  (
+    refl,
+    λ other c there goes.
+        ⊎_elim (λ e. here (c, sym (ap (playable b) e) ∙ there, goes)) (λ ne. others other c ne there goes) (places other from),
+  ),
+)
 
 -- in a position that settles by no move no card goes home
 pub none_goes : (rule : ℕ) (g : GameRules) (b : Board) → Settles g rule b 0 b → NoneGoesHome rule g b

@@ -13,8 +13,8 @@ use arrayvec::ArrayVec;
 use fc_best_first::{Child, Space};
 use fc_bound::{bound, is_held_back};
 use fc_canonical::{distinct_moves, position_of};
-use fc_classes::ClassKey;
 use fc_cards::Place;
+use fc_classes::ClassKey;
 use fc_home::{goes_home_from, settle};
 use fc_moves::{Game, Move, apply};
 use fc_position::Position;
@@ -158,7 +158,13 @@ fn child_by_copy<G: Game>(game: &G, rule: u8, position: &Position, m: Move) -> C
 }
 
 // The child to which a move leads. The position is as it was.
-fn child_by<G: Game>(game: &G, rule: u8, position: &mut Position, bound: u8, m: Move) -> Child<ClassKey>
+fn child_by<G: Game>(
+    game: &G,
+    rule: u8,
+    position: &mut Position,
+    bound: u8,
+    m: Move,
+) -> Child<ClassKey>
     requires known { rule ≤ 2 }
     requires bound { bound ≡ bound_of position.old }
     requires settled { NoneGoesHome rule (G.game game.now) position.old }

@@ -1,4 +1,4 @@
-use Rattle.std.proofs.Common.{◌≡◌, sym, ap, ◌∙◌}
+use Rattle.std.proofs.Common.{sym, ap, ◌∙◌}
 use Rattle.std.specs.List.{list_any}
 use Rattle.fc_bound.specs.Bound.{is_lower}
 use Rattle.fc_bound.proofs.MovedLemmas.{told_column, told_other}

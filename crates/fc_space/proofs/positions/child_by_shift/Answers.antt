@@ -1,17 +1,19 @@
-use Rattle.std.proofs.Common.{rules, ◌≡◌, ◌≢◌, Bool, true, ◌∙◌, arith}
+use Rattle.std.proofs.Common.{rules, ◌≡◌, ◌≢◌, true, ◌∙◌, arith}
 use Rattle.fc_cards.specs.declared.places.Place.TheVariants.{Home}
-use Rattle.fc_moves.specs.Step.{Step}
 use Rattle.fc_space.proofs.BackLemmas.{taken_back}
-use Rattle.fc_space.proofs.ShiftLemmas.{Shifts, shifts}
+use Rattle.fc_space.proofs.ShiftLemmas.{shifts}
 use Rattle.fc_space.proofs.StayLemmas.{others_stay}
 use Rattle.fc_space.proofs.positions.child_by_shift.Goals as goal
 
 pub overflow_add-bound : goal.overflow_add-bound
 overflow_add-bound g c =
     let other : c.args.m.to ≢ Home = λ e. let is : c.eq.result ≡ true = search rules in cc in
-    omega (arith, (shifts (g.G.Game.game c.args.game.now) c.args.position.now c.apply.new.position c.args.m c.args.bound c.is_held_back-before.result
-    c.is_held_back-after.result c.apply.ensures.step c.is_held_back-before.ensures.whole other c.requires.bound
-    c.is_held_back-before.ensures.value c.is_held_back-after.ensures.value).fits)
+    omega (
+      arith,
+      (shifts (g.G.Game.game c.args.game.now) c.args.position.now c.apply.new.position c.args.m c.args.bound c.is_held_back-before.result
+          c.is_held_back-after.result c.apply.ensures.step c.is_held_back-before.ensures.whole other c.requires.bound
+          c.is_held_back-before.ensures.value c.is_held_back-after.ensures.value).fits,
+    )
 
 pub overflow_sub-bound : goal.overflow_sub-bound
 overflow_sub-bound g c =

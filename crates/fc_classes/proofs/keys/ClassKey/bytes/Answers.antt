@@ -1,4 +1,4 @@
-use Rattle.std.proofs.Common.{◌≡◌, take, sym, ◌∙◌, subst}
+use Rattle.std.proofs.Common.{◌∙◌, subst}
 use Rattle.std.specs.Prelude.{IfSome}
 use Rattle.fc_canonical.specs.Key.{HasExtent}
 use Rattle.fc_classes.proofs.PaddedLemmas.{length_found, front_found}

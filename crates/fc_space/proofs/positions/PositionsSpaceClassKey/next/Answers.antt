@@ -2,10 +2,10 @@ use Rattle.std.proofs.Common.{◌≡◌, [], ◌∷◌, sym, subst}
 use Rattle.std.specs.Prelude.{Contains}
 use Rattle.std.proofs.lemmas.List.Elements.{Contains-push, Contains-append_left}
 use Rattle.fc_moves.specs.GameRules.{IsPositionOf}
-use Rattle.fc_moves.specs.Step.{Step, Allows}
+use Rattle.fc_moves.specs.Step.{Allows}
 use Rattle.fc_home.specs.Settles.{NoneGoesHome}
 use Rattle.fc_bound.specs.Bound.{bound as bound_of}
-use Rattle.fc_space.specs.Children.{AreAllowed, children_by}
+use Rattle.fc_space.specs.Children.{children_by}
 use Rattle.fc_space.proofs.ChildLemmas.{next_child}
 use Rattle.fc_space.proofs.positions.PositionsSpaceClassKey.next.Goals as goal
 
@@ -36,7 +36,7 @@ returns g c =
     let next = next_child (g.G.Game.game inner.game) inner.rule inner.position inner.left.items c.pop.new.self.items m c.child_by.result
     c.walk.invariant.1 c.in_ok-m.ensures.items c.child_by.ensures.child in
     let after = subst (λ b. children_by (g.G.Game.game inner.game) inner.rule inner.position inner.left.items
-        ≡ c.child_by.result ∷ children_by (g.G.Game.game inner.game) inner.rule b c.pop.new.self.items) (sym c.child_by.ensures.same) next in
+    ≡ c.child_by.result ∷ children_by (g.G.Game.game inner.game) inner.rule b c.pop.new.self.items) (sym c.child_by.ensures.same) next in
     record {
       next = subst (λ w. children_by (g.G.Game.game w.game) w.rule w.position w.moves
           ≡ c.child_by.result ∷ children_by (g.G.Game.game inner.game) inner.rule c.child_by.new.position c.pop.new.self.items)

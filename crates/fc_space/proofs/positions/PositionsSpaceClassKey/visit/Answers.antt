@@ -1,4 +1,4 @@
-use Rattle.std.proofs.Common.{◌≡◌, map, sym, subst}
+use Rattle.std.proofs.Common.{map, sym, subst}
 use Rattle.fc_moves.specs.GameRules.{IsPositionOf}
 use Rattle.fc_canonical.specs.Distinct.{ListsClasses}
 use Rattle.fc_home.specs.Settles.{NoneGoesHome}
