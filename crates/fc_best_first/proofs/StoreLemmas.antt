@@ -5,7 +5,7 @@ use Rattle.std.specs.List.{position_or_len}
 use Rattle.std.specs.Map.{keys_of, lookup}
 use Rattle.std.proofs.lemmas.Option.{none-some, cond_some}
 use Rattle.std.specs.Prelude.{Result, Ok, Err, IfOk}
-use Rattle.indexmap.specs.IndexMap.{insert_entry, set_value_at}
+use Rattle.indexmap.specs.IndexMap.{set_value_at}
 use Rattle.fc_frontier.specs.Queue.{Adds}
 use Rattle.fc_best_first.specs.declared.books.Mark.{Mark}
 use Rattle.fc_best_first.specs.declared.books.Offered.{Offered}
@@ -50,48 +50,6 @@ module _ {K X : Type 0} where
       let parts = cond_some (nat_lt (position_or_len t (keys_of es)) (length (keys_of es))) (position_or_len t (keys_of es)) i (sym at) in
       subst (Sees t es) parts.1 (first_passes t es (subst (λ n. n < length es) (sym parts.1) lt))
 
-  -- the key that passes the test stands under the number with v
-  abbrev pub Holds : (K → Bool) → List (K × X) → X → ℕ → Type 0
-  Holds t es v i = (x : K) × (slice_get es i ≡ Some (x, v)) × (t x ≡ true)
-
-  -- what a look-up finds stands where the first key that passes does
-  pub first_holds : (t : K → Bool) (es : List (K × X)) (v : X) → lookup t es ≡ Some v
-      → Holds t es v (position_or_len t (keys_of es))
-  first_holds t [] v h = absurd (none-some v h)
-  first_holds t (e ∷ es) v h = by (t e.0) refl (λ rest. first_holds t es v rest)
-    where
-      by : (b : Bool) → t e.0 ≡ b → (lookup t es ≡ Some v → Holds t es v (position_or_len t (keys_of es)))
-          → Holds t (e ∷ es) v (cond (not (t e.0)) (1 + position_or_len t (keys_of es)) 0)
-      by true q rest =
-          let has : Some e.1 ≡ Some v = ap (λ b. cond b (Some e.1) (lookup t es)) (sym q) ∙ h in
-          let same : e.1 ≡ v = cc in
-          subst (λ b. Holds t (e ∷ es) v (cond (not b) (1 + position_or_len t (keys_of es)) 0)) (sym q)
-          (e.0, ap (λ w. Some (e.0, w)) same, q)
-      by false q rest =
-          let next : suc (position_or_len t (keys_of es)) ≡ 1 + position_or_len t (keys_of es) = omega arith in
-          let there = rest (ap (λ b. cond b (Some e.1) (lookup t es)) (sym q) ∙ h) in
-          subst (λ b. Holds t (e ∷ es) v (cond (not b) (1 + position_or_len t (keys_of es)) 0)) (sym q)
-          (subst (Holds t (e ∷ es) v) next there)
-
-  -- and putting that key in sets what stands there
-  pub insert_sets : (eq : K → K → Bool) (k : K) (es : List (K × X)) (v w : X) → lookup (eq k) es ≡ Some v
-      → insert_entry eq es k w ≡ set_value_at es (position_or_len (eq k) (keys_of es)) w
-  insert_sets eq k [] v w h = absurd (none-some v h)
-  insert_sets eq k (e ∷ es) v w h = by (eq k e.0) refl (λ rest. insert_sets eq k es v w rest)
-    where
-      by : (b : Bool) → eq k e.0 ≡ b
-          → (lookup (eq k) es ≡ Some v → insert_entry eq es k w ≡ set_value_at es (position_or_len (eq k) (keys_of es)) w)
-          → cond (eq k e.0) ((e.0, w) ∷ es) (e ∷ insert_entry eq es k w)
-          ≡ set_value_at (e ∷ es) (cond (not (eq k e.0)) (1 + position_or_len (eq k) (keys_of es)) 0) w
-      by true q rest = (λ j. cond (q j) ((e.0, w) ∷ es) (e ∷ insert_entry eq es k w))
-          ∙ sym (ap (λ b. set_value_at (e ∷ es) (cond (not b) (1 + position_or_len (eq k) (keys_of es)) 0) w) q)
-      by false q rest =
-          let next : suc (position_or_len (eq k) (keys_of es)) ≡ 1 + position_or_len (eq k) (keys_of es) = omega arith in
-          ap (λ b. cond b ((e.0, w) ∷ es) (e ∷ insert_entry eq es k w)) q
-          ∙ ap (λ fs. e ∷ fs) (rest (ap (λ b. cond b (Some e.1) (lookup (eq k) es)) (sym q) ∙ h))
-          ∙ ap (λ n. set_value_at (e ∷ es) n w) next
-          ∙ sym (ap (λ b. set_value_at (e ∷ es) (cond (not b) (1 + position_or_len (eq k) (keys_of es)) 0) w) q)
-
   -- where none is found, none passes
   pub none_passes : (t : K → Bool) (es : List (K × X)) (i : ℕ) (x : K) (v : X) → lookup t es ≡ None
       → slice_get es i ≡ Some (x, v) → t x ≡ true → ⊥
@@ -105,6 +63,16 @@ module _ {K X : Type 0} where
       by : (b : Bool) → t e.0 ≡ b → (lookup t es ≡ None → ⊥) → ⊥
       by true h rest = none-some e.1 (sym none ∙ ap (λ b. cond b (Some e.1) (lookup t es)) h)
       by false h rest = rest (ap (λ b. cond b (Some e.1) (lookup t es)) (sym h) ∙ none)
+
+  -- and where none passes, none is found
+  pub none_found : (t : K → Bool) (es : List (K × X))
+      → ((i : ℕ) (x : K) (v : X) → slice_get es i ≡ Some (x, v) → t x ≡ true → ⊥) → lookup t es ≡ None
+  none_found t [] h = refl
+  none_found t (e ∷ es) h = by (t e.0) refl (none_found t es (λ i x v at. h (suc i) x v at))
+    where
+      by : (b : Bool) → t e.0 ≡ b → lookup t es ≡ None → cond (t e.0) (Some e.1) (lookup t es) ≡ None
+      by true q rest = absurd (h 0 e.0 e.1 refl q)
+      by false q rest = ap (λ b. cond b (Some e.1) (lookup t es)) q ∙ rest
 
   -- after a mark was set
   pub set_here : (es : List (K × X)) (i : ℕ) (x : K) (v w : X) → slice_get es i ≡ Some (x, v)
@@ -122,16 +90,6 @@ module _ {K X : Type 0} where
   set_elsewhere (e ∷ es) zero (suc j) w ne = refl
   set_elsewhere (e ∷ es) (suc i) zero w ne = refl
   set_elsewhere (e ∷ es) (suc i) (suc j) w ne = set_elsewhere es i j w (λ q. ne (ap suc q))
-
-  -- setting back what stood there undoes a write
-  pub set_back : (es : List (K × X)) (i : ℕ) (x : K) (v w : X) → slice_get es i ≡ Some (x, v)
-      → set_value_at (set_value_at es i w) i v ≡ es
-  set_back [] i x v w at = refl
-  set_back (e ∷ es) zero x v w at =
-      let same : (x, v) ≡ e = cc in
-      let value : v ≡ e.1 = ap (λ p. p.1) same in
-      ap (λ u. (e.0, u) ∷ es) value
-  set_back (e ∷ es) (suc i) x v w at = ap (λ fs. e ∷ fs) (set_back es i x v w at)
 
   -- after one was added
   pub push_here : (es : List (K × X)) (e : K × X) → slice_get (es ++ e ∷ []) (length es) ≡ Some e
@@ -157,24 +115,6 @@ module _ {K : Type 0} where
   meets-offers budget old new i x m f (Ok Added) at h = absurd (h x at.0 at.1)
   meets-offers budget old new i x m f (Ok (Full y)) at h = absurd (h x at.0 at.1)
 
-  -- a store is its parts
-  pub same_store : (before : Store K) (es : List (K × Mark)) (ws : List (ℕ × ℕ)) → es ≡ before.stored → ws ≡ before.waiting
-      → record { stored = es; waiting = ws } ≡ before
-  same_store before es ws p q = λ j. record { stored = p j; waiting = q j }
-
-  -- a key that took a mark and is settled is offered
-  pub settles-offers : {E : Type 0} (old new : Store K) (es : List (K × Mark)) (ws : List (ℕ × ℕ)) (i : ℕ) (x : K)
-      (was m : Mark) (f : ℕ) (r : Result (Offered K) E)
-      → Stands old i x was → es ≡ set_value_at old.stored i m → ws ≡ old.waiting
-      → IfOk r (λ o. (before : Store K) (y : K) → Stands before i y was → es ≡ set_value_at before.stored i m
-      → ws ≡ before.waiting → Meets before new i was m f o)
-      → IfOk r (λ o. (budget : ℕ) → length old.stored < budget → Offers budget old new x m f o)
-  settles-offers old new es ws i x was m f (Err e) at took same h = h
-  settles-offers old new es ws i x was m f (Ok Known) at took same h = λ budget place. (i, was, at, h old x at took same)
-  settles-offers old new es ws i x was m f (Ok Lowered) at took same h = λ budget place. (i, was, at, h old x at took same)
-  settles-offers old new es ws i x was m f (Ok Added) at took same h = absurd (h old x at took same)
-  settles-offers old new es ws i x was m f (Ok (Full y)) at took same h = absurd (h old x at took same)
-
   -- the key that a look-up sees is the one that was sought
   pub seen_stands : (eq : K → K → Bool) → ((x y : K) → eq x y ≡ true → x ≡ y) → (es : List (K × Mark)) (s : Store K)
       → es ≡ s.stored → (x : K) (i : ℕ) → Sees (eq x) es i → (m : Mark) × Stands s i x m
@@ -183,14 +123,6 @@ module _ {K : Type 0} where
     subst (λ fs. slice_get fs i ≡ Some (x, h.1)) same
         (subst (λ y. slice_get es i ≡ Some (y, h.1)) (sym (exact x h.0 h.3)) h.2),
   )
-
-  -- and so is the key that a look-up finds
-  pub held_stands : (eq : K → K → Bool) → ((x y : K) → eq x y ≡ true → x ≡ y) → (es : List (K × Mark)) (s : Store K)
-      → es ≡ s.stored → (x : K) (m : Mark) (i j : ℕ) → i ≡ j → Holds (eq x) es m i → Stands s j x m
-  held_stands eq exact es s same x m i j number h =
-      subst (λ n. Stands s n x m) number
-      (subst (λ fs. slice_get fs i ≡ Some (x, m)) same
-      (subst (λ y. slice_get es i ≡ Some (y, m)) (sym (exact x h.0 h.2)) h.1))
 
 pub adds_along : (old was new : List (ℕ × ℕ)) (f i j : ℕ) → old ≡ was → i ≡ j → Adds old new (f, i) → Adds was new (f, j)
 adds_along old was new f i j same e h = subst (λ k. Adds was new (f, k)) e (subst (λ ps. Adds ps new (f, i)) same h)

@@ -1,7 +1,6 @@
 ghost use Rattle.std.specs.Prelude.{◌≡◌, ◌^◌, ◌<◌, ◌≤◌, ℕ, [], length, slice_get, IfOk, IfSome, IfNone, MatchOption};
 ghost use Rattle.fc_frontier.specs.Queue.{Adds, IsLeast};
-ghost use Rattle.indexmap.specs.IndexMap.{set_value_at};
-ghost use Rattle.fc_best_first.specs.Store.{Store, Stands, Meets, Offers};
+ghost use Rattle.fc_best_first.specs.Store.{Store, Stands, IsNew, Meets, Offers};
 
 use crate::keys::ExactKey;
 use fc_frontier::{Frontier, Full};
@@ -91,13 +90,9 @@ impl<K: ExactKey, F: Frontier + Drop> Book<K, F> {
         requires room { length self.old.stored ≤ budget }
         ensures offers { IfOk result (λ offered. Offers budget self.old self.new key mark f offered) }
     {
-        // Where a place is left, one look-up finds the key or puts it in; a full table is only looked into.
-        if self.table.len() < budget as usize {
-            return self.put(key, mark, f);
-        }
         match self.table.get_index_of(&key) {
             Some(number) => self.meet(number, mark, f),
-            None => Ok(Offered::Full(key)),
+            None => self.add(budget, key, mark, f),
         }
     }
 
@@ -115,32 +110,17 @@ impl<K: ExactKey, F: Frontier + Drop> Book<K, F> {
         Ok(Offered::Lowered)
     }
 
-    // Offers a key where a place is left.
-    fn put(&mut self, key: K, mark: Mark, f: u32) -> Result<Offered<K>, Full>
-        requires room { length self.old.stored < 2 ^ 32 }
-        ensures offers { IfOk result (λ offered. (budget : ℕ) → length self.old.stored < budget → Offers budget self.old self.new key mark f offered) }
+    // Offers a key that isn't stored.
+    fn add(&mut self, budget: u32, key: K, mark: Mark, f: u32) -> Result<Offered<K>, Full>
+        requires new { IsNew self.old key }
+        ensures offers { IfOk result (λ offered. Offers budget self.old self.new key mark f offered) }
     {
-        let (number, old) = self.table.insert_full(key, mark)?;
-        match old {
-            Some(was) => self.settle(number, was, mark, f),
-            None => {
-                self.queue.push(f, number as u32)?;
-                Ok(Offered::Added)
-            }
+        let number = self.table.len();
+        if number >= budget as usize {
+            return Ok(Offered::Full(key));
         }
-    }
-
-    // Puts back what the key of this number had, if that was at no more than the mark that it took.
-    fn settle(&mut self, number: usize, was: Mark, mark: Mark, f: u32) -> Result<Offered<K>, Full>
-        requires within { number < length self.old.stored }
-        requires room { number < 2 ^ 32 }
-        ensures offers { IfOk result (λ offered. (before : Store K) (x : K) → Stands before number x was → self.old.stored ≡ set_value_at before.stored number mark → self.old.waiting ≡ before.waiting → Meets before self.new number was mark f offered) }
-    {
-        if was.cost <= mark.cost {
-            self.table[number] = was;
-            return Ok(Offered::Known);
-        }
+        self.table.insert(key, mark)?;
         self.queue.push(f, number as u32)?;
-        Ok(Offered::Lowered)
+        Ok(Offered::Added)
     }
 }

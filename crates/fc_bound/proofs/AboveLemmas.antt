@@ -1,16 +1,17 @@
 -- Cards that stand above a lower card of their own suit.
-use mir.Val.{bool_byte}
-use Rattle.std.proofs.Common.{◌≡◌, ◌≢◌, ℕ, ◌+◌, ◌<◌, ◌≤◌, Bool, true, false, cond, List, [], ◌∷◌, ◌++◌, length, get_or, take, refl, sym, ◌∙◌, ap, subst, arith}
-use Rattle.std.specs.Prelude.{◌==◌, ◌&&◌, ◌||◌, count_by}
+use Rattle.std.proofs.Common.{◌≡◌, ◌≢◌, ℕ, ◌+◌, ◌<◌, ◌≤◌, zero, suc, Bool, true, false, cond, List, [], ◌∷◌, ◌++◌, length, get_or, set, take, refl, sym, ◌∙◌, ap, subst, ⊎_elim, arith}
+use Rattle.std.specs.Prelude.{◌==◌, ◌&&◌, ◌||◌, nat_lt, count_by, slice_index}
 use Rattle.std.specs.List.{list_any}
-use Rattle.std.proofs.lemmas.List.{take_more}
+use Rattle.std.proofs.lemmas.Bool.{cases_eq}
+use Rattle.std.proofs.lemmas.List.{get_or-set_same, get_or-set_other, length-set, take_more}
 use Rattle.std.proofs.lemmas.Bool.Decides.{nat_tests}
 use Rattle.std.proofs.lemmas.List.Folds.{list_any-append}
 use Rattle.std.proofs.lemmas.List.Sums.{sum_by-cons, sum_by_push, sum_by-take-le}
+use Rattle.fc_cards.specs.Card.{rank, suit}
 use Rattle.fc_position.specs.Board.{count_in_column}
 use Rattle.fc_moves.specs.GameRules.{all_cards}
 use Rattle.fc_bound.specs.Bound.{is_lower, stands_in, is_above_lower}
-use Rattle.fc_bound.proofs.CountLemmas.{count-but_one}
+use Rattle.fc_bound.proofs.CountLemmas.{count-but_one, count-none}
 
 -- tests of tests
 pub and-false : (p : Bool) → (p && false) ≡ false
@@ -29,16 +30,16 @@ pub not_true : (p : Bool) → (p ≡ true → ⊥) → p ≡ false
 not_true p h = elim p as (λ t. (t ≡ true → ⊥) → t ≡ false) [ true ↦ λ k. absurd (k refl) | false ↦ λ _. refl ] h
 
 -- a card that is put on others
-pub stands-more : (cards : List ℕ) (u c : ℕ) → stands_in (cards ++ u ∷ []) c ≡ (stands_in cards c || (u == c))
+stands-more : (cards : List ℕ) (u c : ℕ) → stands_in (cards ++ u ∷ []) c ≡ (stands_in cards c || (u == c))
 stands-more cards u c =
     list_any-append (λ d. d == c) cards (u ∷ []) ∙ ap (λ t. stands_in cards c || t) (or-false (u == c))
 
-pub stands-other : (cards : List ℕ) (u c : ℕ) → u ≢ c → stands_in (cards ++ u ∷ []) c ≡ stands_in cards c
+stands-other : (cards : List ℕ) (u c : ℕ) → u ≢ c → stands_in (cards ++ u ∷ []) c ≡ stands_in cards c
 stands-other cards u c other =
     let test : (u == c) ≡ false = grind (arith, nat_tests) in
     stands-more cards u c ∙ ap (λ t. stands_in cards c || t) test ∙ or-false (stands_in cards c)
 
-pub stands-top : (cards : List ℕ) (c : ℕ) → stands_in (cards ++ c ∷ []) c ≡ true
+stands-top : (cards : List ℕ) (c : ℕ) → stands_in (cards ++ c ∷ []) c ≡ true
 stands-top cards c =
     let test : (c == c) ≡ true = grind (arith, nat_tests) in
     stands-more cards c c ∙ ap (λ t. stands_in cards c || t) test ∙ or-true (stands_in cards c)
@@ -100,6 +101,60 @@ above-one c (d ∷ cards) above =
       | false ↦ λ _ h. later h
     ] refl above
 
+-- what is told of the cards so far: for each card whether a lower one of its suit is among them, by the least rank of
+-- each suit
+abbrev pub Tells : List ℕ → List ℕ → Type 0
+Tells least seen = (x : ℕ) → x < 52 → list_any (is_lower x) seen ≡ nat_lt (slice_index least (suit x)) (rank x)
+
+lower-more : (x y : ℕ) (seen : List ℕ) → list_any (is_lower x) (seen ++ y ∷ []) ≡ (list_any (is_lower x) seen || is_lower x y)
+lower-more x y seen =
+    list_any-append (is_lower x) seen (y ∷ []) ∙ ap (λ t. list_any (is_lower x) seen || t) (or-false (is_lower x y))
+
+-- nothing is told at first
+pub tells-none : Tells (14 ∷ 14 ∷ 14 ∷ 14 ∷ []) []
+tells-none x below =
+    let four : slice_index (14 ∷ 14 ∷ 14 ∷ 14 ∷ []) (suit x) ≡ 14 = fours (suit x) (omega arith) in
+    let test : nat_lt 14 (rank x) ≡ false = grind (arith, nat_tests) in
+    sym (ap (λ n. nat_lt n (rank x)) four ∙ test)
+  where
+    fours : (s : ℕ) → s < 4 → slice_index (14 ∷ 14 ∷ 14 ∷ 14 ∷ []) s ≡ 14
+    fours zero h = refl
+    fours (suc zero) h = refl
+    fours (suc (suc zero)) h = refl
+    fours (suc (suc (suc zero))) h = refl
+    fours (suc (suc (suc (suc s)))) h = absurd (omega arith)
+
+-- the tests of one more card, as numbers
+kept_test : (l lx ry rx sy sx : ℕ) → l < ry → (sy ≡ sx → lx ≡ l)
+    → (nat_lt lx rx || ((sy == sx) && nat_lt ry rx)) ≡ nat_lt lx rx
+kept_test l lx ry rx sy sx above same =
+    ⊎_elim (λ e. let one = same e in grind (arith, nat_tests)) (λ ne. grind (arith, nat_tests)) (cases_eq sy sx)
+
+lower_test : (l lx now ry rx sy sx : ℕ) → ry ≤ l → (sy ≡ sx → lx ≡ l) → (sy ≡ sx → now ≡ ry) → (sy ≢ sx → now ≡ lx)
+    → (nat_lt lx rx || ((sy == sx) && nat_lt ry rx)) ≡ nat_lt now rx
+lower_test l lx now ry rx sy sx lower same here there =
+    ⊎_elim (λ e. let one = same e in let two = here e in grind (arith, nat_tests))
+    (λ ne. let two = there ne in grind (arith, nat_tests)) (cases_eq sy sx)
+
+-- a card above a lower one tells nothing new
+pub tells-kept : (least seen : List ℕ) (y : ℕ) → Tells least seen → slice_index least (suit y) < rank y
+    → Tells least (seen ++ y ∷ [])
+tells-kept least seen y tells above x below =
+    lower-more x y seen ∙ ap (λ t. t || is_lower x y) (tells x below)
+    ∙ kept_test (slice_index least (suit y)) (slice_index least (suit x)) (rank y) (rank x) (suit y) (suit x) above
+    (λ e. ap (slice_index least) (sym e))
+
+-- any other card is the least of its suit so far
+pub tells-lower : (least seen : List ℕ) (y : ℕ) → length least ≡ 4 → Tells least seen → rank y ≤ slice_index least (suit y)
+    → Tells (set least (suit y) (rank y)) (seen ++ y ∷ [])
+tells-lower least seen y four tells lower x below =
+    let inside : suit y < length least = omega arith in
+    lower-more x y seen ∙ ap (λ t. t || is_lower x y) (tells x below)
+    ∙ lower_test (slice_index least (suit y)) (slice_index least (suit x)) (slice_index (set least (suit y) (rank y)) (suit x))
+    (rank y) (rank x) (suit y) (suit x) lower (λ e. ap (slice_index least) (sym e))
+    (λ e. ap (slice_index (set least (suit y) (rank y))) (sym e) ∙ get_or-set_same least (suit y) (rank y) 0 inside)
+    (λ ne. get_or-set_other least (suit y) (suit x) (rank y) 0 (λ e. ne (sym e)))
+
 -- one more card, which isn't among those so far: it counts where a lower card of its suit is
 pub above-more : (seen : List ℕ) (y : ℕ) → y < 52 → count_in_column y (seen ++ y ∷ []) ≤ 1
     → count_by (λ c. is_above_lower c (seen ++ y ∷ [])) all_cards
@@ -115,6 +170,43 @@ above-more seen y below once =
     ap (λ t. cond t 1 0) (above-top y seen) in
     omega arith
 
+-- what the loop over a column keeps: the least ranks so far, and how many cards stand above a lower one so far
+pub record Seen (least : List ℕ) (count : ℕ) (seen : List ℕ) : Type 0 where
+  pub suits : length least ≡ 4
+  pub tells : Tells least seen
+  pub counts : count ≡ count_by (λ c. is_above_lower c seen) all_cards
+
+pub seen-none : Seen (14 ∷ 14 ∷ 14 ∷ 14 ∷ []) 0 []
+seen-none = record {
+  suits = refl;
+  tells = tells-none;
+  counts = sym (count-none (λ c. is_above_lower c []) (λ c below. refl));
+}
+
+pub seen-above : (least seen : List ℕ) (count y : ℕ) → Seen least count seen → y < 52 → count_in_column y (seen ++ y ∷ []) ≤ 1
+    → slice_index least (suit y) < rank y → Seen least (count + 1) (seen ++ y ∷ [])
+seen-above least seen count y s below once above = record {
+  suits = s.suits;
+  tells = tells-kept least seen y s.tells above;
+  counts =
+      let lower : list_any (is_lower y) seen ≡ true =
+      let test : nat_lt (slice_index least (suit y)) (rank y) ≡ true = grind (arith, nat_tests) in s.tells y below ∙ test in
+      let one : ◌≡◌ {A = ℕ} (cond (list_any (is_lower y) seen) 1 0) 1 = ap (λ t. cond t 1 0) lower in
+      omega (arith, s.counts, above-more seen y below once);
+}
+
+pub seen-lower : (least seen : List ℕ) (count y : ℕ) → Seen least count seen → y < 52 → count_in_column y (seen ++ y ∷ []) ≤ 1
+    → rank y ≤ slice_index least (suit y) → Seen (set least (suit y) (rank y)) count (seen ++ y ∷ [])
+seen-lower least seen count y s below once lower = record {
+  suits = length-set least (suit y) (rank y) ∙ s.suits;
+  tells = tells-lower least seen y s.suits s.tells lower;
+  counts =
+      let none : list_any (is_lower y) seen ≡ false =
+      let test : nat_lt (slice_index least (suit y)) (rank y) ≡ false = grind (arith, nat_tests) in s.tells y below ∙ test in
+      let zero_more : ◌≡◌ {A = ℕ} (cond (list_any (is_lower y) seen) 1 0) 0 = ap (λ t. cond t 1 0) none in
+      omega (arith, s.counts, above-more seen y below once);
+}
+
 -- the cards up to the next one
 pub next_seen : (cards : List ℕ) (i y : ℕ) → i < length cards → y ≡ get_or cards i y → take (i + 1) cards ≡ take i cards ++ y ∷ []
 next_seen cards i y inside is = take_more cards i y inside ∙ ap (λ x. take i cards ++ x ∷ []) (sym is)
@@ -125,7 +217,22 @@ next_once cards i y inside is once =
     subst (λ seen. count_in_column y seen ≤ 1) (next_seen cards i y inside is)
     (omega (arith, sum_by-take-le (λ x. cond (x == y) 1 0) cards (i + 1), once y))
 
--- a test counts one at most
-pub byte_most : (t : Bool) → bool_byte t ≤ 1
-byte_most true = omega arith
-byte_most false = omega arith
+-- one turn of the loop, at a card above a lower one of its suit and at any other
+pub turn_above : (cards least now : List ℕ) (i count more y s r : ℕ) → Seen least count (take i cards) → i < length cards
+    → y ≡ get_or cards i y → ((c : ℕ) → count_in_column c cards ≤ 1) → s ≡ suit y → r ≡ rank y → r ≤ 13
+    → get_or least s 0 < r → now ≡ least → more ≡ count + 1 → Seen now more (take (i + 1) cards)
+turn_above cards least now i count more y s r seen inside is once suits ranks most above same counts =
+    let higher : slice_index least (suit y) < rank y = subst (λ k. get_or least k 0 < rank y) suits (subst (λ k. get_or least s 0 < k) ranks above) in
+    let next = seen-above least (take i cards) count y seen (omega arith) (next_once cards i y inside is once) higher in
+    subst (λ l. Seen l more (take (i + 1) cards)) (sym same) (subst (λ n. Seen least n (take (i + 1) cards)) (sym counts)
+    (subst (Seen least (count + 1)) (sym (next_seen cards i y inside is)) next))
+
+pub turn_lower : (cards least now : List ℕ) (i count more y s r : ℕ) → Seen least count (take i cards) → i < length cards
+    → y ≡ get_or cards i y → ((c : ℕ) → count_in_column c cards ≤ 1) → s ≡ suit y → r ≡ rank y → r ≤ 13
+    → r ≤ get_or least s 0 → now ≡ set least s r → more ≡ count → Seen now more (take (i + 1) cards)
+turn_lower cards least now i count more y s r seen inside is once suits ranks most lower changed same =
+    let least_now : rank y ≤ slice_index least (suit y) = subst (λ k. rank y ≤ get_or least k 0) suits (subst (λ k. k ≤ get_or least s 0) ranks lower) in
+    let next = seen-lower least (take i cards) count y seen (omega arith) (next_once cards i y inside is once) least_now in
+    let set_now : now ≡ set least (suit y) (rank y) = changed ∙ ap (λ k. set least k r) suits ∙ ap (set least (suit y)) ranks in
+    subst (λ l. Seen l more (take (i + 1) cards)) (sym set_now) (subst (λ n. Seen (set least (suit y) (rank y)) n (take (i + 1) cards)) (sym same)
+    (subst (Seen (set least (suit y) (rank y)) count) (sym (next_seen cards i y inside is)) next))

@@ -6,7 +6,6 @@ pub mod HeldLemmas
 pub mod LookLemmas
 pub mod MovedLemmas
 pub mod RowLemmas
-pub mod SeenLemmas
 pub mod TableLemmas
 pub mod TellLemmas
 pub mod WitnessLemmas

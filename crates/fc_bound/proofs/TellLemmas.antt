@@ -41,13 +41,13 @@ stands_at (d ∷ cards) c zero at =
     ap (λ t. t || stands_in cards c) test
 stands_at (d ∷ cards) c (suc k) at = ap (λ t. (d == c) || t) (stands_at cards c k at) ∙ or-true (d == c)
 
-pub lower_tells : (c d : ℕ) → is_lower c d ≡ true → (suit d ≡ suit c) × (rank d < rank c)
+lower_tells : (c d : ℕ) → is_lower c d ≡ true → (suit d ≡ suit c) × (rank d < rank c)
 lower_tells c d low = go (suit d) (suit c) (rank d) (rank c) low
   where
     go : (s t q r : ℕ) → ((s == t) && nat_lt q r) ≡ true → (s ≡ t) × (q < r)
     go s t q r low = (grind (arith, nat_tests), grind (arith, nat_tests))
 
-pub lower_told : (c d : ℕ) → suit d ≡ suit c → rank d < rank c → is_lower c d ≡ true
+lower_told : (c d : ℕ) → suit d ≡ suit c → rank d < rank c → is_lower c d ≡ true
 lower_told c d suits ranks = go (suit d) (suit c) (rank d) (rank c) suits ranks
   where
     go : (s t q r : ℕ) → s ≡ t → q < r → ((s == t) && nat_lt q r) ≡ true

@@ -18,23 +18,22 @@ fn away(position: &Position) -> u8
     52 - black - red
 }
 
-// Every fourth of 64 bits below the highest: where the highest stands for a card, the lower cards of its suit.
-const LOWER: u64 = 0x0888_8888_8888_8888;
-
 // How many cards of a column stand above a lower card of their own suit.
 fn above_lower(cards: &[Card]) -> u8
     requires once { (c : ℕ) → count_in_column c cards.now ≤ 1 }
     ensures value { result ≡ count_by (λ c. is_above_lower c cards.now) all_cards }
 {
-    // The cards so far, a bit for each, in one register. Which cards stand above lower ones can't be foreseen, so the turn
-    // has no jumps.
-    let mut seen: u64 = 0;
+    // Of each suit the least rank so far, 14 where there is none.
+    let mut least = [14; 4];
     let mut count = 0;
     for card in cards {
-        let index = card.index();
-        let lower = (seen << (63 - index)) & LOWER;
-        count += (lower != 0) as u8;
-        seen |= 1 << index;
+        let suit = card.suit().index() as usize;
+        let rank = card.rank();
+        if least[suit] < rank {
+            count += 1;
+        } else {
+            least[suit] = rank;
+        }
     }
     count
 }

@@ -9,7 +9,6 @@ use Rattle.fc_moves.specs.declared.steps.Move.{Move}
 use Rattle.fc_moves.specs.GameRules.{GameRules}
 use Rattle.fc_moves.specs.Step.{Step}
 use Rattle.fc_bound.specs.Bound.{bound, is_away, is_held_back}
-use Rattle.fc_bound.proofs.AboveLemmas.{byte_most}
 use Rattle.fc_bound.proofs.CountLemmas.{count-most}
 use Rattle.fc_bound.proofs.HeldLemmas.{step_moves}
 use Rattle.fc_space.proofs.BackLemmas.{taken_back}
@@ -17,6 +16,10 @@ use Rattle.fc_space.proofs.BackLemmas.{taken_back}
 byte_is : (t : Bool) → bool_byte t ≡ cond t 1 0
 byte_is true = refl
 byte_is false = refl
+
+byte_most : (t : Bool) → bool_byte t ≤ 1
+byte_most true = omega arith
+byte_most false = omega arith
 
 bound_most : (b : Board) → bound b ≤ 104
 unfolding bound

@@ -1,24 +1,24 @@
-use Rattle.std.proofs.Common.{◌≡◌, ◌*◌, ◌-◌, ◌%◌, ◌^◌, get_or, take, sym, subst, arith, bit_and, nat_eq}
-use Rattle.std.specs.Prelude.{not}
+use Rattle.std.proofs.Common.{take, ◌∙◌, arith}
 use Rattle.fc_bound.specs.Bound.{is_above_lower}
-use Rattle.fc_bound.proofs.AboveLemmas.{byte_most}
+use Rattle.fc_bound.proofs.AboveLemmas.{seen-none, turn_above, turn_lower}
 use Rattle.fc_bound.proofs.CountLemmas.{count-most}
-use Rattle.fc_bound.proofs.SeenLemmas.{every_fourth, seen-none, seen-more}
 use Rattle.fc_bound.proofs.bounds.above_lower.Goals as goal
+use Rattle.fc_bound.proofs.bounds.above_lower.Goals.{then-least-suit, else-least-suit}
 
 pub loop-card-init : goal.loop-card-init
 loop-card-init c = seen-none
 
 pub overflow_add-count : goal.overflow_add-count
-overflow_add-count c = omega (
-  arith,
-  c.loop-card.invariant.counts,
-  count-most (λ x. is_above_lower x (take c.loop-card.card-index c.args.cards.now)),
-  byte_most (not (nat_eq (bit_and (c.loop-card.seen * 2 ^ (63 - c.index-index.result) % 2 ^ 64) 0x0888_8888_8888_8888) 0)),
-)
+overflow_add-count c = omega (arith, c.loop-card.invariant.counts, count-most (λ x. is_above_lower x (take c.loop-card.card-index c.args.cards.now)))
 
 pub loop-card-preserved : goal.loop-card-preserved
-loop-card-preserved c =
-    let is = subst (λ x. x ≡ get_or c.args.cards.now c.loop-card.card-index x) (sym c.index-index.ensures.value) c.card-item.is in
-    seen-more c.loop-card.seen 0x0888_8888_8888_8888 c.args.cards.now c.loop-card.card-index c.loop-card.count c.index-index.result every_fourth
-    c.loop-card.invariant c.loop-card-test.true is c.index-index.ensures.below c.requires.once
+loop-card-preserved c = elim c.if-least-suit.branch [
+  | then-least-suit w ↦ turn_above c.args.cards.now c.loop-card.least c.if-least-suit.least c.loop-card.card-index c.loop-card.count
+      c.if-least-suit.count c.card-item.result c.index-suit.result c.rank-rank.result c.loop-card.invariant c.loop-card-test.true
+      c.card-item.is c.requires.once (c.index-suit.ensures.value ∙ c.suit.ensures) c.rank-rank.ensures.value
+      c.rank-rank.ensures.within.greatest w.if-least-suit.true w.least-is w.count-is
+  | else-least-suit w ↦ turn_lower c.args.cards.now c.loop-card.least c.if-least-suit.least c.loop-card.card-index c.loop-card.count
+      c.if-least-suit.count c.card-item.result c.index-suit.result c.rank-rank.result c.loop-card.invariant c.loop-card-test.true
+      c.card-item.is c.requires.once (c.index-suit.ensures.value ∙ c.suit.ensures) c.rank-rank.ensures.value
+      c.rank-rank.ensures.within.greatest w.if-least-suit.false w.least-is w.count-is
+]

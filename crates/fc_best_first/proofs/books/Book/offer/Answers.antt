@@ -1,20 +1,14 @@
-use Rattle.std.proofs.Common.{◌≡◌, length, refl, ap, arith}
+use Rattle.std.proofs.Common.{◌≡◌, ap}
 use Rattle.fc_best_first.proofs.StoreLemmas.{none_passes, none_from_found, found_passes, seen_stands, meets-offers}
 use Rattle.fc_best_first.proofs.books.Book.offer.Goals as goal
 
-pub returns-in-None : goal.returns-in-None
-returns-in-None g c =
+pub add-requires : goal.add-requires
+add-requires g c =
     let test = g.K.PartialEq.eq in
     let stored : c.self.inside.table.entries ≡ c.args.self.now.stored = ap (λ s. s.stored) c.self.view_is in
-    let size : length c.self.inside.table.entries ≡ length c.args.self.now.stored = ap length stored in
     record {
-      offers = (
-        refl,
-        λ i m at. none_passes (test c.args.key) c.self.inside.table.entries i c.args.key m
-            (none_from_found _ c.in-None.ensures.found) (rw stored at) (g.met.K.Eq.laws.refl c.args.key),
-        omega (arith, size),
-        refl,
-      );
+      new = λ i m at. none_passes (test c.args.key) c.self.inside.table.entries i c.args.key m
+          (none_from_found _ c.in-None.ensures.found) (rw stored at) (g.met.K.Eq.laws.refl c.args.key);
     }
 
 pub returns-in-Some : goal.returns-in-Some
