@@ -31,14 +31,13 @@ fn expand<K: ExactKey, F: Frontier + Drop, S: Space<K>>(
     budget: u32,
     number: u32,
     cost: u32,
-    walk: S::Walk,
+    walk: &mut S::Walk,
 ) -> Result<Option<K>, Full>
     requires room { length book.old.stored ≤ budget }
     requires low { cost ≤ 53 * 4000000 }
-    ensures expands { IfOk result (λ left_out. Expands budget number cost (S.rest walk) book.old book.new left_out) }
+    ensures expands { IfOk result (λ left_out. Expands budget number cost (S.rest walk.old) book.old book.new left_out) }
 {
-    let mut walk = walk;
-    while let Some(child) = space.next(&mut walk) {
+    while let Some(child) = space.next(walk) {
         let reached = cost + u32::from(child.cost);
         let mark = Mark {
             cost: reached,
@@ -70,11 +69,11 @@ pub(crate) fn advance<K: ExactKey, F: Frontier + Drop, S: Space<K>>(
     if space.is_won(key) {
         return Ok(Status::Shortest(number));
     }
-    let (bound, walk) = space.visit(key);
+    let (bound, mut walk) = space.visit(key);
     if mark.cost + u32::from(bound) < f {
         return Ok(Status::Running);
     }
-    match expand(space, book, budget, number, mark.cost, walk)? {
+    match expand(space, book, budget, number, mark.cost, &mut walk)? {
         Some(key) => Ok(Status::GaveUp(key, number)),
         None => Ok(Status::Running),
     }
