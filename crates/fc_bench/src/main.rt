@@ -4,7 +4,7 @@
 
 use arrayvec::ArrayVec;
 use fc_bound::bound;
-use fc_canonical::{Key, canonical, distinct_moves, key, padded_key};
+use fc_canonical::{Key, canonical, distinct_moves, key};
 use fc_cards::{Card, Place, Suit};
 use fc_frontier::{BucketFrontier, Frontier};
 use fc_home::settle;
@@ -377,10 +377,6 @@ fn bench_classes(
         ask(position, rounds, |board| plain_key(board).len())
     })?;
     report(rt, "key, plainly", calls, keys, bytes, calls)?;
-    let keys = measured(rt, || {
-        ask(position, rounds, |board| padded_key(board)[8] as usize)
-    })?;
-    report(rt, "padded_key", calls, keys, bytes, calls)?;
     let distinct = measured(rt, || {
         ask(position, rounds, |board| distinct_moves(game, board).len())
     })?;
