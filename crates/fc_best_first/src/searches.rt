@@ -6,10 +6,11 @@ ghost use Rattle.fc_best_first.specs.Turn.{work_left};
 
 use crate::books::{Book, Mark};
 use crate::keys::ExactKey;
-use crate::spaces::Space;
+use crate::spaces::{Child, Space};
 use crate::turns::{MOST_BUDGET, Status, advance};
 use fc_frontier::Frontier;
 use std::alloc::Global;
+use std::collections::VecDeque;
 use std::marker::Model;
 use thiserror::Error;
 
@@ -43,6 +44,8 @@ pub struct Search<K: ExactKey, F: Frontier + Drop, S: Space<K> + Drop> {
     space: S,
     budget: u32,
     book: Book<K, F>,
+    // The children of the key that is expanded, held here so that their room is asked for once.
+    children: VecDeque<Child<K>>,
     status: Status<K>,
 }
 
@@ -83,6 +86,7 @@ impl<K: ExactKey, F: Frontier + Drop, S: Space<K> + Drop> Search<K, F, S> {
             space,
             budget,
             book,
+            children: VecDeque::new(alloc),
             status: Status::Running,
         })
     }
@@ -139,7 +143,7 @@ impl<K: ExactKey, F: Frontier + Drop, S: Space<K> + Drop> Search<K, F, S> {
             Status::Stopped => return Err(SearchFault::Stopped),
             _ => return Ok(Step::Done),
         }
-        match advance(&self.space, &mut self.book, self.budget) {
+        match advance(&self.space, &mut self.book, &mut self.children, self.budget) {
             Ok(status) => {
                 let step = match status {
                     Status::Running => Step::Running,
@@ -156,14 +160,18 @@ impl<K: ExactKey, F: Frontier + Drop, S: Space<K> + Drop> Search<K, F, S> {
     }
 
     /// Turns until the search is done.
+    ///
+    /// # Errors
+    /// `Memory` where a growth was refused, and the search is stopped; `Stopped` where it was before.
     pub fn run(&mut self) -> Result<(), SearchFault>
         ensures space { self.new.space ≡ self.old.space }
         ensures budget { self.new.budget ≡ self.old.budget }
         ensures runs { Runs (S.graph self.old.space) self.old.budget self.old.status self.old.store self.new.store self.new.status }
         ensures done { OnOk result (reply_of self.new.status ≡ Ok Step.Done) }
-        ensures fault { OnErr result (self.new.status ≡ Status.Stopped) }
+        ensures stopped { OnErr result (self.new.status ≡ Status.Stopped) }
+        ensures fault { IfErr result (λ f. ((f ≡ SearchFault.Memory) × (self.old.status ≡ Status.Running)) ⊎ ((f ≡ SearchFault.Stopped) × (self.old.status ≡ Status.Stopped))) }
     {
-        while self.turn()? == Step::Running {}
+        while let Step::Running = self.turn()? {}
         Ok(())
     }
 }

@@ -92,7 +92,8 @@ impl<F: Frontier + Drop, G: Game + Drop> Search<F, G> {
         ensures budget { self.new.budget ≡ self.old.budget }
         ensures runs { Runs (classes (G.game self.old.question.game) self.old.question.rule self.old.question.start) self.old.budget self.old.status self.old.store self.new.store self.new.status }
         ensures done { OnOk result (reply_of self.new.status ≡ Ok Step.Done) }
-        ensures fault { OnErr result (self.new.status ≡ Status.Stopped) }
+        ensures stopped { OnErr result (self.new.status ≡ Status.Stopped) }
+        ensures fault { IfErr result (λ f. ((f ≡ SearchFault.Memory) × (self.old.status ≡ Status.Running)) ⊎ ((f ≡ SearchFault.Stopped) × (self.old.status ≡ Status.Stopped))) }
     {
         self.search.run()
     }
@@ -177,8 +178,6 @@ pub fn solve<G: Game + Drop>(
     ensures fault { IfErr result (λ f. ((f ≡ SearchFault.Budget) × ((budget < 1) ⊎ (4000000 < budget))) ⊎ ((f ≡ SearchFault.Memory) × (1 ≤ budget) × (budget ≤ 4000000))) }
 {
     let mut search: Search<BucketFrontier, G> = Search::new(alloc, game, rule, position, budget)?;
-    match search.run() {
-        Ok(()) => search.answer(),
-        Err(_) => Err(SearchFault::Memory),
-    }
+    search.run()?;
+    search.answer()
 }

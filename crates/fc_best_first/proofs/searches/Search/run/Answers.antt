@@ -1,5 +1,6 @@
-use Rattle.std.proofs.Common.{◌∙◌}
-use Rattle.fc_best_first.proofs.RunLemmas.{runs_on, runs_none, turns_along}
+use Rattle.std.proofs.Common.{Ok, ◌∙◌, subst}
+use Rattle.fc_best_first.specs.Search.{Turns}
+use Rattle.fc_best_first.proofs.RunLemmas.{runs_on, runs_none, running_stays, turns_along}
 use Rattle.fc_best_first.proofs.searches.Search.run.Goals as goal
 
 pub loop-preserved : goal.loop-preserved
@@ -10,6 +11,9 @@ loop-preserved g c =
     record {
       space = c.in_ok-turn.ensures.space ∙ c.loop.invariant.space;
       budget = c.in_ok-turn.ensures.budget ∙ c.loop.invariant.budget;
+      status = running_stays (g.S.Space.graph now.space) now.budget now.status next.status now.store next.store
+          (subst (λ s. Turns (g.S.Space.graph now.space) now.budget now.status now.store next.store next.status (Ok s)) c.in-Running.is
+          c.in_ok-turn.ensures.turns) ∙ c.loop.invariant.status;
       onward = λ new after runs. c.loop.invariant.onward new after
           (runs_on (g.S.Space.graph first.space) first.budget now.status next.status after now.store next.store new _
           (turns_along g.S.Space.graph now.space first.space now.budget first.budget now.status next.status now.store next.store
