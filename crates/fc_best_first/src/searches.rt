@@ -6,11 +6,10 @@ ghost use Rattle.fc_best_first.specs.Turn.{work_left};
 
 use crate::books::{Book, Mark};
 use crate::keys::ExactKey;
-use crate::spaces::{Child, Space};
+use crate::spaces::Space;
 use crate::turns::{MOST_BUDGET, Status, advance};
 use fc_frontier::Frontier;
 use std::alloc::Global;
-use std::collections::VecDeque;
 use std::marker::Model;
 use thiserror::Error;
 
@@ -44,8 +43,7 @@ pub struct Search<K: ExactKey, F: Frontier + Drop, S: Space<K> + Drop> {
     space: S,
     budget: u32,
     book: Book<K, F>,
-    // The children of the key that is expanded, held here so that their room is asked for once.
-    children: VecDeque<Child<K>>,
+    walk: S::Walk,
     status: Status<K>,
 }
 
@@ -82,11 +80,12 @@ impl<K: ExactKey, F: Frontier + Drop, S: Space<K> + Drop> Search<K, F, S> {
         let Ok(_offered) = book.offer(budget, start.key, mark, f) else {
             return Err(SearchFault::Memory);
         };
+        let walk = space.walk();
         Ok(Search {
             space,
             budget,
             book,
-            children: VecDeque::new(alloc),
+            walk,
             status: Status::Running,
         })
     }
@@ -143,7 +142,7 @@ impl<K: ExactKey, F: Frontier + Drop, S: Space<K> + Drop> Search<K, F, S> {
             Status::Stopped => return Err(SearchFault::Stopped),
             _ => return Ok(Step::Done),
         }
-        match advance(&self.space, &mut self.book, &mut self.children, self.budget) {
+        match advance(&self.space, &mut self.book, &mut self.walk, self.budget) {
             Ok(status) => {
                 let step = match status {
                     Status::Running => Step::Running,

@@ -17,7 +17,7 @@ pub trait Space<K> {
     // The question as a graph.
     ghost graph: { Self → Graph K };
 
-    /// What is left of the children of a key.
+    /// What is left of the children of a key. One is made for a whole search, and each visit fills it anew.
     type Walk: Drop;
 
     // The children that are left.
@@ -39,11 +39,15 @@ pub trait Space<K> {
         requires reached { (d : ℕ) × Reached (graph self.now) key.now d }
         ensures value { result ≡ (graph self.now).bound key.now };
 
-    /// The lower bound of a key that was reached, and its children.
-    fn visit(&self, key: &K) -> (u8, Self::Walk)
+    /// A walk with no child left.
+    fn walk(&self) -> Self::Walk
+        ensures none { rest result ≡ [] };
+
+    /// The lower bound of a key that was reached. Its children take the place of those that were left.
+    fn visit(&self, key: &K, walk: &mut Self::Walk) -> u8
         requires reached { (d : ℕ) × Reached (graph self.now) key.now d }
-        ensures bound { result.0 ≡ (graph self.now).bound key.now }
-        ensures children { AreChildren (graph self.now) key.now (rest result.1) };
+        ensures bound { result ≡ (graph self.now).bound key.now }
+        ensures children { AreChildren (graph self.now) key.now (rest walk.new) };
 
     /// The next of the children that are left.
     fn next(&self, walk: &mut Self::Walk) -> Option<Child<K>>

@@ -79,8 +79,17 @@ impl Space<u32> for Sums {
         u32::from(self.goal).saturating_sub(*key) as u8
     }
 
-    fn visit(&self, key: &u32) -> (u8, Addends) {
-        (self.bound(key), self.addends(*key))
+    fn walk(&self) -> Addends {
+        Addends {
+            two: None,
+            four: None,
+            six: None,
+        }
+    }
+
+    fn visit(&self, key: &u32, walk: &mut Addends) -> u8 {
+        *walk = self.addends(*key);
+        self.bound(key)
     }
 
     fn next(&self, walk: &mut Addends) -> Option<Child<u32>> {

@@ -51,11 +51,12 @@ fn expand<K: ExactKey, F: Frontier + Drop, S: Space<K>>(
     Ok(None)
 }
 
-// One turn of a running search, and the status that it leaves. At `Err` a growth was refused, and nothing is known of
+// One turn of a running search, and the status that it leaves; the walk is its room to work in. At `Err` a growth was refused, and nothing is known of
 // the book.
 pub(crate) fn advance<K: ExactKey, F: Frontier + Drop, S: Space<K>>(
     space: &S,
     book: &mut Book<K, F>,
+    walk: &mut S::Walk,
     budget: u32,
 ) -> Result<Status<K>, Full>
     requires kept { IsKept (S.graph space.now) budget book.old }
@@ -69,11 +70,11 @@ pub(crate) fn advance<K: ExactKey, F: Frontier + Drop, S: Space<K>>(
     if space.is_won(key) {
         return Ok(Status::Shortest(number));
     }
-    let (bound, mut walk) = space.visit(key);
+    let bound = space.visit(key, walk);
     if mark.cost + u32::from(bound) < f {
         return Ok(Status::Running);
     }
-    match expand(space, book, budget, number, mark.cost, &mut walk)? {
+    match expand(space, book, budget, number, mark.cost, walk)? {
         Some(key) => Ok(Status::GaveUp(key, number)),
         None => Ok(Status::Running),
     }

@@ -24,3 +24,9 @@ pub expand-requires-clause-low : goal.expand-requires-clause-low
 expand-requires-clause-low g c =
     entry_low (g.S.Space.graph c.args.space.now) c.args.budget c.args.book.now c.take.new.self c.in-Some.number _ _
     c.requires.kept.sound c.requires.budget c.in-Some.ensures.kept c.at.ensures.stands
+
+pub visit-bound-requires : goal.visit-bound-requires
+visit-bound-requires g c = record {
+  reached = entry_reached (g.S.Space.graph c.args.space.now) c.args.budget c.args.book.now c.take.new.self c.in-Some.number _ _
+      c.requires.kept.sound c.in-Some.ensures.kept c.at.ensures.stands;
+}
