@@ -119,8 +119,20 @@ impl<K: ExactKey, F: Frontier + Drop> Book<K, F> {
         if number >= budget as usize {
             return Ok(Offered::Full(key));
         }
+        self.make_room(budget as usize - number);
         self.table.insert(key, mark)?;
         self.queue.push(f, number as u32)?;
         Ok(Offered::Added)
+    }
+
+    // Where the table is full, asks for three times the room that it has, up to so many keys more: each growth makes its
+    // index anew, so few large ones are cheaper. What is refused here is asked for again where a key is put in.
+    fn make_room(&mut self, most: usize)
+        ensures same { self.new ≡ self.old }
+    {
+        let number = self.table.len();
+        if number == self.table.capacity() {
+            let _ = self.table.reserve(most.min(number.saturating_mul(3)));
+        }
     }
 }

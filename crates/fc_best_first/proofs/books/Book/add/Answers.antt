@@ -7,19 +7,21 @@ use Rattle.fc_best_first.proofs.books.Book.add.Goals as goal
 pub returns : goal.returns
 returns g c =
     let test = g.K.PartialEq.eq in
-    let stored : c.self.inside.table.entries ≡ c.args.self.now.stored = ap (λ s. s.stored) c.self.view_is in
+    let same = c.self-2.view_is ∙ c.make_room.ensures.same in
+    let stored : c.self-2.inside.table.entries ≡ c.args.self.now.stored = ap (λ s. s.stored) same in
+    let before : c.self.inside.table.entries ≡ c.args.self.now.stored = ap (λ s. s.stored) c.self.view_is in
     let fresh = none_found (test c.args.key) c.args.self.now.stored
     (λ i x v at q. c.requires.new i v (subst (λ y. Stands c.args.self.now i y v) (sym (g.met.K.ExactKey.exact c.args.key x q)) at)) in
-    let size : length c.self.inside.table.entries ≡ length c.args.self.now.stored = ap length stored in
-    let waiting : g.F.Frontier.pairs c.self.inside.queue ≡ c.args.self.now.waiting = ap (λ s. s.waiting) c.self.view_is in
+    let size : length c.self.inside.table.entries ≡ length c.args.self.now.stored = ap length before in
+    let waiting : g.F.Frontier.pairs c.self-2.inside.queue ≡ c.args.self.now.waiting = ap (λ s. s.waiting) same in
     let number : c.len-number.result ≡ length c.args.self.now.stored = omega arith in
     record {
       offers = (
         c.requires.new,
         omega arith,
         c.in_ok-insert.ensures.entries
-            ∙ insert_entry-new test c.self.inside.table c.args.key c.args.mark (rw stored fresh)
+            ∙ insert_entry-new test c.self-2.inside.table c.args.key c.args.mark (rw stored fresh)
             ∙ ap (λ es. es ++ (c.args.key, c.args.mark) ∷ []) stored,
-        adds_along (g.F.Frontier.pairs c.self.inside.queue) c.args.self.now.waiting _ c.args.f _ _ waiting number c.in_ok-push.ensures.added,
+        adds_along (g.F.Frontier.pairs c.self-2.inside.queue) c.args.self.now.waiting _ c.args.f _ _ waiting number c.in_ok-push.ensures.added,
       );
     }
