@@ -197,18 +197,26 @@ impl<G: Game + Drop> Space<ClassKey> for Positions<G> {
         bound(&self.position(key))
     }
 
-    fn visit(&self, key: &ClassKey) -> (u8, Children<G>) {
-        let position = self.position(key);
+    fn walk(&self) -> Children<G> {
+        let mut position = self.start.copy();
+        let _ = settle(&self.game, &mut position, self.rule);
         let low = bound(&position);
-        let left = distinct_moves(&self.game, &position);
-        let children = Children {
+        Children {
             game: self.game.copy(),
             rule: self.rule,
             position,
             bound: low,
-            left,
-        };
-        (low, children)
+            left: ArrayVec::new(),
+        }
+    }
+
+    fn visit(&self, key: &ClassKey, walk: &mut Children<G>) -> u8 {
+        walk.game = self.game.copy();
+        walk.rule = self.rule;
+        walk.position = self.position(key);
+        walk.bound = bound(&walk.position);
+        walk.left = distinct_moves(&self.game, &walk.position);
+        walk.bound
     }
 
     fn next(&self, walk: &mut Children<G>) -> Option<Child<ClassKey>> {
