@@ -136,7 +136,7 @@ rearranged_map {X} f xs d zs p =
     )) zs p
 
 -- cells whose bytes are in order are in order
-ordered_cells : (cells : List (Option ℕ)) → IsNonDecreasing (map cell_byte cells) → IsNonDecreasingBy cell_byte cells
+pub ordered_cells : (cells : List (Option ℕ)) → IsNonDecreasing (map cell_byte cells) → IsNonDecreasingBy cell_byte cells
 ordered_cells cells up i j d le inside =
     let long : length (map cell_byte cells) ≡ length cells = length-map cells cell_byte in
     let fact = up i j (cell_byte d) le (omega (arith, long)) in

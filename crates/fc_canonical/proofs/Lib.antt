@@ -4,6 +4,7 @@ pub mod KeyLemmas
 pub mod ListedLemmas
 pub mod ListingLemmas
 pub mod MoveLemmas
+pub mod MovedLemmas
 pub mod OrderLemmas
 pub mod ReadLemmas
 pub mod Rearrange

@@ -5,6 +5,7 @@
 
 pub use distinct::distinct_moves;
 pub use keys::{Key, key, padded_key};
+pub use moved::moved_key;
 pub use orders::canonical;
 pub use readers::{key_len, position_of, read_key};
 pub use searches::find_move;
@@ -12,6 +13,7 @@ pub use searches::find_move;
 mod distinct;
 mod keys;
 pub mod laws;
+mod moved;
 mod orders;
 mod readers;
 mod searches;

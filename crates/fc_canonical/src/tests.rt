@@ -1,5 +1,6 @@
 use crate::{
-    Key, canonical, distinct_moves, find_move, key, key_len, padded_key, position_of, read_key,
+    Key, canonical, distinct_moves, find_move, key, key_len, moved_key, padded_key, position_of,
+    read_key,
 };
 use arrayvec::ArrayVec;
 use fc_cards::{Card, Place};
@@ -352,5 +353,73 @@ fn boards_that_do_not_fit_step_otherwise(rt: HostRuntime) -> Result<(), Fail> {
     };
     assert!(rt; !allows(&game, &fits, into_cell));
     assert!(rt; allows(&game, &other, into_cell));
+    Ok(())
+}
+
+// Each allowed move from the canonical position of the board's class, but those home: the key made from the position's
+// own is that of where the move leads, and there is none exactly where the columns may change their order.
+fn check_moved_keys<G: Game>(rt: &impl Abort, game: &G, board: &Position) -> Result<bool, Fail> {
+    let position = canonical(board);
+    let before = padded_key(&position);
+    let mut made = false;
+    for m in moves(game, &position).as_slice() {
+        if m.to == Place::Home || !allows(game, &position, *m) {
+            continue;
+        }
+        let card = position.playable(m.from).ok_or("a playable card")?;
+        let leaves = match m.from {
+            Place::Column(i) => i >= 8 || position.column(i).len() > 1,
+            _ => true,
+        };
+        let joins = match m.to {
+            Place::Column(j) => j >= 8 || !position.column(j).is_empty(),
+            _ => true,
+        };
+        let mut after = position.copy();
+        apply(game, &mut after, *m);
+        match moved_key(&before, &position, card, m.from, m.to) {
+            Some(bytes) => {
+                assert!(rt; leaves && joins);
+                assert!(rt; bytes == padded_key(&after));
+                made = true;
+            }
+            None => assert!(rt; !leaves || !joins),
+        }
+    }
+    Ok(made)
+}
+
+#[test]
+fn makes_keys_of_moved_positions(rt: HostRuntime) -> Result<(), Fail> {
+    let dealt: [&[u8]; 8] = [
+        b"JD KD 2S 4C 3S 6D 6S",
+        b"2D KC KS 5C TD 8S 9C",
+        b"9H 9S 9D TS 4S 8D 2H",
+        b"JC 5S QD QH TH QS 6H",
+        b"5D AD JS 4H 8H 6C",
+        b"7H QC AS AC 2C 3D",
+        b"7C KH AH 4D JH 8C",
+        b"5H 3H 3C 7S 7D TC",
+    ];
+    let boards = [
+        position(&dealt, b"", [0, 0, 0, 0])?,
+        four_cards()?,
+        locked()?,
+        position(&[b"QS", b"JS", b"KS"], b"", [13, 13, 13, 10])?,
+        position(&[b"", b"QH", b"KH QS"], b"JS -- KS", [13, 13, 11, 10])?,
+        position(
+            &[b"KD JD", b"QS KH", b"KS"],
+            b"QD QH -- JS",
+            [13, 10, 11, 10],
+        )?,
+    ];
+    let game = FreeCell::new(4).ok_or("four cells")?;
+    let suits = BakersGame::new(3).ok_or("three cells")?;
+    let mut made = false;
+    for board in &boards {
+        made |= check_moved_keys(&rt, &game, board)?;
+        made |= check_moved_keys(&rt, &suits, board)?;
+    }
+    assert!(rt; made);
     Ok(())
 }
