@@ -1,10 +1,13 @@
-ghost use Rattle.std.specs.Prelude.{◌≡◌, ◌≤◌, length};
+ghost use Rattle.std.specs.Prelude.{◌≡◌, ◌≤◌, IfSome, length};
 ghost use Rattle.fc_position.specs.Position.{IsPosition};
-ghost use Rattle.fc_canonical.specs.Key.{IsKeyOf};
+ghost use Rattle.fc_canonical.specs.Key.{board_bytes, IsKeyOf};
+ghost use Rattle.fc_canonical.specs.Moved.{MayMove, moved};
+ghost use Rattle.fc_canonical.specs.Order.{IsCanonical};
 ghost use Rattle.fc_classes.specs.Key.{bytes_exact};
 
 use fc_best_first::ExactKey;
-use fc_canonical::{Key, key_len, padded_key};
+use fc_canonical::{Key, key_len, moved_key, padded_key};
+use fc_cards::{Card, Place};
 use fc_position::Position;
 use std::hash::{Hash, Hasher};
 use std::marker::Model;
@@ -76,6 +79,28 @@ impl ClassKey {
         ClassKey {
             bytes: padded_key(position),
         }
+    }
+
+    /// The key of the class to which a card is moved from the position that this key spells. `None` where the columns
+    /// may stand in another order then: the card is its column's only one, or goes to an empty column.
+    #[inline]
+    pub fn moved(&self, position: &Position, card: Card, from: Place, to: Place) -> Option<ClassKey>
+        requires whole { IsPosition position.now }
+        requires ordered { IsCanonical position.now }
+        requires key { self.now ≡ board_bytes position.now }
+        requires may { MayMove position.now card from to }
+        ensures value { IfSome result (IsKeyOf (moved position.now card from to)) }
+    {
+        let bytes = moved_key(&self.bytes, position, card, from, to)?;
+        Some(ClassKey { bytes })
+    }
+
+    /// The same key.
+    #[inline]
+    pub fn copy(&self) -> ClassKey
+        ensures value { result ≡ self.now }
+    {
+        ClassKey { bytes: self.bytes }
     }
 
     /// A copy of the key without its class.
