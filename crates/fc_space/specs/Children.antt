@@ -5,13 +5,18 @@ use Rattle.fc_position.specs.Board.{Board, playable, lifted, placed}
 use Rattle.fc_moves.specs.declared.steps.Move.{Move}
 use Rattle.fc_moves.specs.GameRules.{GameRules}
 use Rattle.fc_moves.specs.Step.{Step, Allows}
-use Rattle.fc_canonical.specs.Key.{IsKeyOf}
+use Rattle.fc_canonical.specs.Key.{IsKeyOf, board_bytes}
+use Rattle.fc_canonical.specs.Order.{IsCanonical}
 use Rattle.fc_home.specs.HomeRule.{GoesHome}
 use Rattle.fc_home.specs.Settles.{Settles}
 use Rattle.fc_bound.specs.Bound.{bound}
 use Rattle.fc_bound.proofs.EveryLemmas.{every_settles}
 use Rattle.fc_classes.proofs.OrderLemmas.{has_key}
 use Rattle.fc_best_first.specs.declared.spaces.Child.{Child}
+
+-- the position is canonical, and this is its key
+abbrev pub Spells : List ℕ → Board → Type 0
+Spells key b = IsCanonical b × (key ≡ board_bytes b)
 
 -- the child is of what the board settles to, at a cost of so many moves and those of settling
 abbrev pub IsSettled : GameRules → ℕ → Board → ℕ → Child (List ℕ) → Type 0

@@ -1,13 +1,16 @@
-ghost use Rattle.std.specs.Prelude.{◌≡◌, ◌≤◌, IfSome};
+ghost use Rattle.std.specs.Prelude.{◌≡◌, ◌≤◌, ℕ, IfSome, Some};
+ghost use Rattle.fc_position.specs.Board.{playable, lifted, placed};
 ghost use Rattle.fc_position.specs.Position.{Fits, IsPosition};
 ghost use Rattle.fc_moves.specs.GameRules.{IsPositionOf};
 ghost use Rattle.fc_moves.specs.Step.{Allows};
+ghost use Rattle.fc_canonical.specs.Key.{IsKeyOf};
+ghost use Rattle.fc_canonical.specs.Moved.{MayMove};
 ghost use Rattle.fc_home.specs.Settles.{NoneGoesHome};
 ghost use Rattle.fc_bound.specs.Bound.{bound as bound_of};
 ghost use Rattle.fc_classes.specs.Classes.{classes};
 ghost use Rattle.fc_classes.specs.Key.{IsKeyIn, spelled};
 ghost use Rattle.fc_classes.proofs.TableLemmas.{lawful};
-ghost use Rattle.fc_space.specs.Children.{IsSettled, IsChildOf, OthersStay, children_by};
+ghost use Rattle.fc_space.specs.Children.{IsSettled, IsChildOf, OthersStay, Spells, children_by};
 
 use arrayvec::ArrayVec;
 use fc_best_first::{Child, Space};
@@ -31,13 +34,14 @@ pub struct Positions<G: Game + Drop> {
     pub ghost fits: { IsPositionOf (G.game game) start },
 }
 
-/// The children of a class that are left: its position, with its bound, and the moves that lead to them, the next one
-/// last.
+/// The children of a class that are left: its position, with its key and its bound, and the moves that lead to them, the
+/// next one last.
 #[derive(Drop)]
 pub struct Children<G: Game + Drop> {
     game: G,
     rule: u8,
     position: Position,
+    key: ClassKey,
     bound: u8,
     left: ArrayVec<Move, 132>,
 }
@@ -47,14 +51,14 @@ impl<G: Game + Drop> Model for Children<G> {
     ghost use Rattle.fc_moves.specs.GameRules.{IsPositionOf};
     ghost use Rattle.fc_home.specs.Settles.{NoneGoesHome};
     ghost use Rattle.fc_bound.specs.Bound.{bound as bound_of};
-    ghost use Rattle.fc_space.specs.Children.{AreAllowed, Left};
+    ghost use Rattle.fc_space.specs.Children.{AreAllowed, Left, Spells};
 
     ghost Value = { Left G };
 
     ghost view = { λ s. record { game = s.game; rule = s.rule; position = s.position; moves = s.left.items } };
 
     ghost invariant = { λ s. (s.rule ≤ 2) × IsPositionOf (G.game s.game) s.position × AreAllowed (G.game s.game) s.position s.left.items
-        × (s.bound ≡ bound_of s.position) × NoneGoesHome s.rule (G.game s.game) s.position };
+        × (s.bound ≡ bound_of s.position) × NoneGoesHome s.rule (G.game s.game) s.position × Spells s.key s.position };
 }
 
 impl<G: Game + Drop> Positions<G> {
@@ -103,9 +107,11 @@ fn settled_already<G: Game>(
     position: &Position,
     from: Place,
     bound: u8,
+    key: Option<ClassKey>,
 ) -> Option<Child<ClassKey>>
     requires known { rule ≤ 2 }
     requires bound { bound ≡ bound_of position.now }
+    requires key { IfSome key (IsKeyOf position.now) }
     requires others { OthersStay rule (G.game game.now) position.now from }
     ensures settled { IfSome result (IsSettled (G.game game.now) rule position.now 1) }
 {
@@ -113,10 +119,34 @@ fn settled_already<G: Game>(
         return None;
     }
     Some(Child {
-        key: ClassKey::of(position),
+        key: key_or_new(key, position),
         cost: 1,
         bound,
     })
+}
+
+// The key of the position, where there is none yet written anew.
+#[inline]
+fn key_or_new(key: Option<ClassKey>, position: &Position) -> ClassKey
+    requires key { IfSome key (IsKeyOf position.now) }
+    ensures value { IsKeyOf position.now result }
+{
+    match key {
+        Some(key) => key,
+        None => ClassKey::of(position),
+    }
+}
+
+// The key of where a move leads that takes no card home, made from the key of the position, if it can be.
+#[inline]
+fn key_after(key: &ClassKey, position: &Position, m: Move) -> Option<ClassKey>
+    requires whole { IsPosition position.now }
+    requires key { Spells key.now position.now }
+    requires may { (u : ℕ) × MayMove position.now u m.from m.to }
+    ensures value { IfSome result (λ k. (u : ℕ) → playable position.now m.from ≡ Some u → IsKeyOf (placed (lifted position.now m.from) u m.to) k) }
+{
+    let card = position.playable(m.from)?;
+    key.moved(position, card, m.from, m.to)
 }
 
 // The child to which a move leads, made by moving the card forth and back; `None` where cards go home, which can't be
@@ -125,12 +155,15 @@ fn child_by_shift<G: Game>(
     game: &G,
     rule: u8,
     position: &mut Position,
+    key: &ClassKey,
     bound: u8,
     m: Move,
 ) -> Option<Child<ClassKey>>
     requires known { rule ≤ 2 }
     requires bound { bound ≡ bound_of position.old }
     requires settled { NoneGoesHome rule (G.game game.now) position.old }
+    requires whole { IsPosition position.old }
+    requires key { Spells key.now position.old }
     requires allowed { Allows (G.game game.now) position.old m }
     ensures child { IfSome result (IsChildOf (G.game game.now) rule position.old m) }
     ensures same { position.new ≡ position.old }
@@ -138,10 +171,11 @@ fn child_by_shift<G: Game>(
     if m.to == Place::Home {
         return None;
     }
+    let key = key_after(key, position, m);
     let before = is_held_back(position, m.from) as u8;
     apply(game, position, m);
     let after = is_held_back(position, m.to) as u8;
-    let child = settled_already(game, rule, position, m.from, bound + after - before);
+    let child = settled_already(game, rule, position, m.from, bound + after - before, key);
     position.shift(m.to, m.from);
     child
 }
@@ -162,17 +196,20 @@ fn child_by<G: Game>(
     game: &G,
     rule: u8,
     position: &mut Position,
+    key: &ClassKey,
     bound: u8,
     m: Move,
 ) -> Child<ClassKey>
     requires known { rule ≤ 2 }
     requires bound { bound ≡ bound_of position.old }
     requires settled { NoneGoesHome rule (G.game game.now) position.old }
+    requires whole { IsPosition position.old }
+    requires key { Spells key.now position.old }
     requires allowed { Allows (G.game game.now) position.old m }
     ensures child { IsChildOf (G.game game.now) rule position.old m result }
     ensures same { position.new ≡ position.old }
 {
-    match child_by_shift(game, rule, position, bound, m) {
+    match child_by_shift(game, rule, position, key, bound, m) {
         Some(child) => child,
         None => child_by_copy(game, rule, position, m),
     }
@@ -198,13 +235,14 @@ impl<G: Game + Drop> Space<ClassKey> for Positions<G> {
     }
 
     fn walk(&self) -> Children<G> {
-        let mut position = self.start.copy();
-        let _ = settle(&self.game, &mut position, self.rule);
+        let first = self.start();
+        let position = self.position(&first.key);
         let low = bound(&position);
         Children {
             game: self.game.copy(),
             rule: self.rule,
             position,
+            key: first.key,
             bound: low,
             left: ArrayVec::new(),
         }
@@ -214,6 +252,7 @@ impl<G: Game + Drop> Space<ClassKey> for Positions<G> {
         walk.game = self.game.copy();
         walk.rule = self.rule;
         walk.position = self.position(key);
+        walk.key = key.copy();
         walk.bound = bound(&walk.position);
         walk.left = distinct_moves(&self.game, &walk.position);
         walk.bound
@@ -221,7 +260,14 @@ impl<G: Game + Drop> Space<ClassKey> for Positions<G> {
 
     fn next(&self, walk: &mut Children<G>) -> Option<Child<ClassKey>> {
         let m = walk.left.pop()?;
-        Some(child_by(&walk.game, walk.rule, &mut walk.position, walk.bound, m))
+        Some(child_by(
+            &walk.game,
+            walk.rule,
+            &mut walk.position,
+            &walk.key,
+            walk.bound,
+            m,
+        ))
     }
 
     ghost lawful = { λ s. lawful (G.game s.game) s.rule s.start s.fits };

@@ -12,7 +12,7 @@ returns g c =
         b,
         0,
         settled_here c.args.rule (g.G.Game.game c.args.game.now) b c.args.from c.requires.others stays,
-        c.of.ensures.value,
+        c.key_or_new.ensures.value,
         refl,
         c.requires.bound,
       );

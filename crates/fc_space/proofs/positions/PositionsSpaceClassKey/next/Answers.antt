@@ -5,7 +5,7 @@ use Rattle.fc_moves.specs.GameRules.{IsPositionOf}
 use Rattle.fc_moves.specs.Step.{Allows}
 use Rattle.fc_home.specs.Settles.{NoneGoesHome}
 use Rattle.fc_bound.specs.Bound.{bound as bound_of}
-use Rattle.fc_space.specs.Children.{children_by}
+use Rattle.fc_space.specs.Children.{children_by, Spells}
 use Rattle.fc_space.proofs.ChildLemmas.{next_child}
 use Rattle.fc_space.proofs.positions.PositionsSpaceClassKey.next.Goals as goal
 
@@ -27,6 +27,7 @@ invariant_of-walk-2 g c =
           (subst (λ l. Contains l m) (sym c.in_ok-m.ensures.items) (Contains-append_left rest (c.in_ok-m.m ∷ []) m there))),
       subst (λ b. inner.bound ≡ bound_of b) same c.walk.invariant.3,
       subst (NoneGoesHome inner.rule rules) same c.walk.invariant.4,
+      subst (Spells inner.key) same c.walk.invariant.5,
     )
 
 pub returns : goal.returns

@@ -1,6 +1,8 @@
-use Rattle.std.proofs.Common.{map, sym, subst}
+use Rattle.std.proofs.Common.{map, sym, subst, ap, ◌∙◌}
 use Rattle.fc_moves.specs.GameRules.{IsPositionOf}
 use Rattle.fc_canonical.specs.Distinct.{ListsClasses}
+use Rattle.fc_canonical.specs.Key.{board_bytes}
+use Rattle.fc_canonical.specs.Order.{IsCanonical}
 use Rattle.fc_home.specs.Settles.{NoneGoesHome}
 use Rattle.fc_best_first.specs.Turn.{AreChildren}
 use Rattle.fc_classes.specs.Classes.{classes}
@@ -32,6 +34,10 @@ invariant_of-walk g c =
           c.distinct_moves-walk-inside.ensures.classes.allowed,
       c.bound-walk-inside.ensures.value,
       subst (λ r. NoneGoesHome own.rule r c.position-walk-inside.result) (sym c.copy.ensures.value) settled,
+      (
+        subst IsCanonical (sym c.position-walk-inside.ensures.value) valid.ordered,
+        c.copy-walk-inside.ensures.value ∙ valid.bytes ∙ ap board_bytes (sym c.position-walk-inside.ensures.value),
+      ),
     )
 
 pub returns-clause-children : goal.returns-clause-children
