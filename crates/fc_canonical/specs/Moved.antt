@@ -2,8 +2,8 @@
 use Rattle.std.specs.Prelude.{◌≡◌, ◌≢◌, ℕ, ◌+◌, ◌≤◌, ◌<◌, Some, length, map, List, [], ◌∷◌, ◌++◌}
 use Rattle.std.specs.List.{flat_map}
 use Rattle.fc_cards.specs.declared.places.Place.{Place}
-use Rattle.fc_cards.specs.declared.places.Place.TheVariants.{Home}
-use Rattle.fc_position.specs.Board.{Board, playable, lifted, placed, Receives}
+use Rattle.fc_cards.specs.declared.places.Place.TheVariants.{Column, Home}
+use Rattle.fc_position.specs.Board.{Board, column, playable, lifted, placed, Receives}
 use Rattle.fc_moves.specs.Step.{Joins}
 use Rattle.fc_canonical.specs.Key.{column_bytes, padded}
 use Rattle.fc_canonical.specs.Order.{cell_byte}
@@ -14,6 +14,16 @@ pub record MayMove (b : Board) (card : ℕ) (from to : Place) : Type 0 where
   pub receives : Receives b card to
   pub joins : Joins from to
   pub stays : to ≢ Home
+
+-- the card is its column's only one
+abbrev pub IsAlone : Board → Place → Type 0
+IsAlone b (Column i) = length (column b i) ≡ 1
+IsAlone b from = ⊥
+
+-- the place is an empty column
+abbrev pub IsEmptyColumn : Board → Place → Type 0
+IsEmptyColumn b (Column j) = column b j ≡ []
+IsEmptyColumn b to = ⊥
 
 -- where the card stands after it
 abbrev pub moved : Board → ℕ → Place → Place → Board

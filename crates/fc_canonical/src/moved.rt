@@ -1,11 +1,11 @@
-ghost use Rattle.std.specs.Prelude.{◌≡◌, ℕ, ◌+◌, ◌-◌, ◌≤◌, ◌<◌, IfSome, IsTrue, Some, length, map, take, drop, set, List, [], ◌∷◌, ◌++◌};
+ghost use Rattle.std.specs.Prelude.{◌≡◌, ℕ, ◌+◌, ◌-◌, ◌≤◌, ◌<◌, ◌⊎◌, IfSome, IfNone, IsTrue, false, Some, length, map, take, drop, set, List, [], ◌∷◌, ◌++◌};
 ghost use Rattle.std.specs.List.{flat_map};
 ghost use Rattle.std.specs.List.Sorted.{IsPermutation, IsNonDecreasing, IsNonDecreasingBy};
 ghost use Rattle.fc_cards.specs.declared.places.Place.TheVariants.{Cell};
 ghost use Rattle.fc_position.specs.Board.{Board, lifted, placed, playable};
 ghost use Rattle.fc_position.specs.Position.{IsPosition};
 ghost use Rattle.fc_canonical.specs.Key.{board_bytes, column_bytes, padded, IsKeyOf};
-ghost use Rattle.fc_canonical.specs.Moved.{MayMove, moved, SpellWith, Shortens, Lengthens};
+ghost use Rattle.fc_canonical.specs.Moved.{MayMove, IsAlone, IsEmptyColumn, moved, SpellWith, Shortens, Lengthens};
 ghost use Rattle.fc_canonical.specs.Order.{IsCanonical, column_order, cell_byte};
 
 use crate::orders::{bytes_of, sorted};
@@ -26,6 +26,7 @@ pub fn moved_key(
     requires ordered { IsCanonical position.now }
     requires key { before.now ≡ padded (board_bytes position.now) }
     requires may { MayMove position.now card from to }
+    ensures none { IfNone result (IsAlone position.now from ⊎ IsEmptyColumn position.now to) }
     ensures value { IfSome result (λ bytes. (key : List ℕ) × IsKeyOf (moved position.now card from to) key × (bytes ≡ padded key)) }
 {
     let mut bytes = *before;
@@ -49,6 +50,7 @@ fn take_out(before: &[u8; 68], bytes: &mut [u8; 68], position: &Position, from: 
     requires card { (u : ℕ) × playable position.now from ≡ Some u }
     ensures spelled { IsTrue result → SpellWith position.now (lifted position.now from).columns bytes.new }
     ensures ordered { IsTrue result → IsNonDecreasingBy column_order (lifted position.now from).columns }
+    ensures refused { result ≡ false → IsAlone position.now from }
 {
     match from {
         Place::Column(i) => {
@@ -73,6 +75,7 @@ fn put_in(bytes: &mut [u8; 68], position: &Position, card: Card, from: Place, to
     requires may { MayMove position.now card from to }
     ensures spelled { IsTrue result → SpellWith position.now (moved position.now card from to).columns bytes.new }
     ensures ordered { IsTrue result → IsNonDecreasingBy column_order (moved position.now card from to).columns }
+    ensures refused { result ≡ false → IsEmptyColumn position.now to }
 {
     match to {
         Place::Column(j) => {

@@ -1,7 +1,7 @@
-ghost use Rattle.std.specs.Prelude.{◌≡◌, ◌≤◌, IfSome, length};
+ghost use Rattle.std.specs.Prelude.{◌≡◌, ◌≤◌, ◌⊎◌, IfSome, IfNone, length};
 ghost use Rattle.fc_position.specs.Position.{IsPosition};
 ghost use Rattle.fc_canonical.specs.Key.{board_bytes, IsKeyOf};
-ghost use Rattle.fc_canonical.specs.Moved.{MayMove, moved};
+ghost use Rattle.fc_canonical.specs.Moved.{MayMove, IsAlone, IsEmptyColumn, moved};
 ghost use Rattle.fc_canonical.specs.Order.{IsCanonical};
 ghost use Rattle.fc_classes.specs.Key.{bytes_exact};
 
@@ -89,6 +89,7 @@ impl ClassKey {
         requires ordered { IsCanonical position.now }
         requires key { self.now ≡ board_bytes position.now }
         requires may { MayMove position.now card from to }
+        ensures none { IfNone result (IsAlone position.now from ⊎ IsEmptyColumn position.now to) }
         ensures value { IfSome result (IsKeyOf (moved position.now card from to)) }
     {
         let bytes = moved_key(&self.bytes, position, card, from, to)?;

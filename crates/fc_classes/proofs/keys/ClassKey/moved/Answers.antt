@@ -17,13 +17,10 @@ invariant_of-result c =
     let (key, k, e) = c.in_ok-bytes.ensures.value in
     is_padded after c.in_ok-bytes.bytes key k (class_positions after k.canonical whole k.class) e
 
-pub returns : goal.returns
-returns c =
+pub returns-clause-value : goal.returns-clause-value
+returns-clause-value c =
     let b = c.args.position.now in
     let after = moved b c.args.card c.args.from c.args.to in
     let whole = position-moved b c.args.from c.args.card c.args.to c.requires.whole c.requires.may.playable c.requires.may.receives in
     let (key, k, e) = c.in_ok-bytes.ensures.value in
-    record {
-      value = subst (IsKeyOf after)
-          (sym (front_padded after c.in_ok-bytes.bytes key k (class_positions after k.canonical whole k.class) e)) k;
-    }
+    subst (IsKeyOf after) (sym (front_padded after c.in_ok-bytes.bytes key k (class_positions after k.canonical whole k.class) e)) k
