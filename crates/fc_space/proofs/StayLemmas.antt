@@ -1,5 +1,5 @@
 -- After a move to a column or a cell from a settled position, only the card that lay below the one that moved can go home.
-use Rattle.std.proofs.Common.{◌≡◌, ◌≢◌, ℕ, ◌⊎◌, List, Some, None, [], ◌∷◌, ◌++◌, refl, sym, ◌∙◌, ap, subst, inl, inr, ⊎_elim, arith}
+use Rattle.std.proofs.Common.{◌≡◌, ◌≢◌, ℕ, ◌⊎◌, Some, None, [], ◌∷◌, ◌++◌, refl, sym, ◌∙◌, ap, subst, inl, inr, ⊎_elim, arith}
 use Rattle.std.proofs.lemmas.Bool.{cases_eq}
 use Rattle.std.proofs.lemmas.List.{get_or-set_other}
 use Rattle.fc_cards.specs.declared.places.Place.{Place}
@@ -10,7 +10,7 @@ use Rattle.fc_moves.specs.declared.steps.Move.{Move}
 use Rattle.fc_moves.specs.GameRules.{GameRules}
 use Rattle.fc_moves.specs.Step.{Step}
 use Rattle.fc_home.specs.HomeRule.{GoesHome}
-use Rattle.fc_home.specs.Settles.{NoneGoesHome, Settles, SettlesBy, sent_home}
+use Rattle.fc_home.specs.Settles.{NoneGoesHome, Settles}
 use Rattle.fc_space.specs.Children.{OthersStay}
 use Rattle.fc_space.proofs.BackLemmas.{taken_back}
 
@@ -84,8 +84,3 @@ settled_here rule g b from others here = (
 pub none_goes : (rule : ℕ) (g : GameRules) (b : Board) → Settles g rule b 0 b → NoneGoesHome rule g b
 none_goes rule g b ([], e, settles) = settles.1
 none_goes rule g b (m ∷ ms, e, settles) = absurd (omega (arith, e))
-
--- nothing goes home from what a board settles to
-pub settled_stays : (rule : ℕ) (g : GameRules) (b q : Board) (ms : List Move) → SettlesBy g rule b ms q → NoneGoesHome rule g q
-settled_stays rule g b q [] h = subst (NoneGoesHome rule g) (sym h.0) h.1
-settled_stays rule g b q (m ∷ ms) h = settled_stays rule g (sent_home b m.from h.0) q ms h.3
