@@ -1,0 +1,273 @@
+#!/usr/bin/env python3
+"""Tries the wrong edits crates/NAME/breaks/*.edit, many in one check: the prover must refuse each in the function that it changes.
+
+usage, at the top of the repository, once the libraries are built:  breaks.py [--alone] [--lanes N] [NAME..]
+
+An edit is a file as `rt must-fail` reads it: a line 'file: src/lib.rt', then pairs of lines 'old: TEXT' and 'new: TEXT', each
+old TEXT standing once in that file. A line 'fn: MODULE::NAME' names the function that must be refused, where the edit changes
+no function's own text.
+
+A wave is one check of a copy of the crate with as many edits as change different functions: a check goes on after a function
+that it refuses, and takes the callers of that function over its contract. An edit is refused where a goal of a function that
+it changes stays open; that the function calls one that isn't proved does not count. What a wave does not settle is tried alone.
+--alone tries each edit by itself. The last line is 'N passed, M failed'.
+"""
+import argparse
+import os
+import re
+import shutil
+import subprocess
+import sys
+import tempfile
+from concurrent.futures import ThreadPoolExecutor
+from dataclasses import dataclass, field
+
+sys.dont_write_bytecode = True
+from kit import crates_of_gate, rt, rtlib
+
+
+@dataclass
+class Edit:
+    """A wrong edit of a crate: its changes of texts, and the functions that must be refused."""
+
+    name: str
+    changes: list
+    functions: set = field(default_factory=set)
+
+
+class BadEdit(Exception):
+    """Why an edit says nothing: it doesn't apply, or doesn't read."""
+
+
+def bare(text):
+    """A type without what stands in angle brackets."""
+    while re.search(r"<[^<>]*>", text):
+        text = re.sub(r"<[^<>]*>", "", text)
+    return text
+
+
+def last_name(text):
+    """The last name of a type's path."""
+    return re.sub(r"\W", "", bare(text).strip().split("::")[-1])
+
+
+def owner_of(head):
+    """How a check spells the type of an impl or a trait: 'impl<R: Read> Source for FromReader<R>' is FromReaderSource, and
+    'impl From<AllocError> for Full' is FullFromAllocError."""
+    said = re.split(r"\swhere\s", re.sub(r"^(pub +)?(impl|trait)\b", "", head))[0]
+    depth = 0
+    for at, letter in enumerate(said):
+        depth += (letter == "<") - (letter == ">")
+        if not depth and letter != ">":
+            break
+    trait, _, kind = said[at:].rpartition(" for ")
+    if not trait:
+        return last_name(bare(kind).partition(":")[0])
+    name, _, arguments = trait.partition("<")
+    return last_name(kind) + last_name(name) + "".join(last_name(it) for it in bare(arguments.rpartition(">")[0]).split(","))
+
+
+def functions_of(path, text):
+    """Each function of a formatted source file, by the end of the name that a check gives it, with the span of its text."""
+    module = [] if path in ("src/lib.rt", "src/main.rt") else re.sub(r"(/mod)?\.rt$", "", path)[4:].split("/")
+    found, at, owner, begun = [], 0, [], None
+    for line in text.splitlines(True):
+        head = re.match(r"( *)(?:pub(?:\([^)]*\))? +|const +|final +|unsafe +)*fn +(\w+)", line)
+        if re.match(r"(pub +)?(impl|trait)\b", line):
+            owner = [owner_of(text[at : text.find("{", at)])]
+        elif head:
+            begun = (at, head[1], "::".join([*(owner if head[1] else module), head[2]]))
+        elif begun and line.rstrip() == begun[1] + "}":
+            found.append((begun[2], begun[0], at + len(line)))
+            begun = None
+        at += len(line)
+    return found
+
+
+def changes_of(text):
+    """The changes of an edit's text: the file, the old text and the new one."""
+    path, old, found = "", None, []
+    for line in text.split("\n"):
+        if line.startswith("file: "):
+            path = line[len("file: ") :].strip()
+        elif line.startswith("old: "):
+            old = line[len("old: ") :]
+        elif line.startswith("new:"):
+            found.append((path, old, line[len("new:") :].removeprefix(" ")))
+    return found
+
+
+def applied(folder, changes):
+    """The texts of the files that the changes make, by their path, or None where an old text does not stand once."""
+    texts = {}
+    for path, old, new in changes:
+        if path not in texts:
+            with open(f"{folder}/{path}", encoding="utf-8") as it:
+                texts[path] = it.read()
+        if texts[path].count(old) != 1:
+            return None
+        texts[path] = texts[path].replace(old, new)
+    return texts
+
+
+def read_edit(crate, name):
+    """An edit with the functions whose text it changes."""
+    with open(f"{crate.folder}/breaks/{name}", encoding="utf-8") as it:
+        text = it.read()
+    _, why = rt.edited(text, crate.folder)
+    if why:
+        raise BadEdit(why)
+    edit = Edit(name, changes_of(text), {*re.findall(r"(?m)^fn: (\S+)", text)})
+    if edit.functions:
+        return edit
+    for path, old, _ in edit.changes:
+        with open(f"{crate.folder}/{path}", encoding="utf-8") as it:
+            whole = it.read()
+        at = whole.find(old)
+        inside = [it for it in functions_of(path, whole) if it[1] <= at < it[2]] if path.startswith("src/") else []
+        if inside:
+            edit.functions.add(max(inside, key=lambda it: it[1])[0])
+        elif at >= 0:
+            raise BadEdit("it changes no function's text: name the function by a line 'fn: MODULE::NAME'")
+    return edit
+
+
+def in_waves(crate, edits):
+    """Puts each edit into the first wave whose edits change other functions, and with which each old text stands once."""
+    waves = []
+    for edit in edits:
+        for wave in waves:
+            is_apart = not any(edit.functions & other.functions for other in wave)
+            if is_apart and applied(crate.folder, [it for other in [*wave, edit] for it in other.changes]):
+                wave.append(edit)
+                break
+        else:
+            waves.append([edit])
+    return waves
+
+
+def check(crate, texts, functions, kept):
+    """Checks the functions and what they call in a copy of the crate with these texts, over what earlier checks kept.
+    Returns the status, the lines, and the processor seconds."""
+    with tempfile.TemporaryDirectory(prefix="breaks-") as room:
+        for part in rtlib.PARTS:
+            if os.path.isdir(f"{crate.folder}/{part}"):
+                shutil.copytree(f"{crate.folder}/{part}", f"{room}/{part}")
+        for path, text in texts.items():
+            with open(f"{room}/{path}", "w", encoding="utf-8") as it:
+                it.write(text)
+        only = [word for name in sorted(functions) for word in ("--only", name)]
+        words = [rtlib.RATTLE, "check", *crate.words(["--jobs", "1"], keeps=False), *only, "--incremental", kept]
+        how = {"cwd": room, "stdin": subprocess.DEVNULL, "stdout": subprocess.PIPE, "stderr": subprocess.STDOUT}
+        ran = subprocess.Popen([*rtlib.guarded(), *words], **how, text=True, errors="replace")
+        said = ran.stdout.read()
+        _, status, used = os.wait4(ran.pid, 0)
+        ran.returncode = os.waitstatus_to_exitcode(status)
+        return ran.returncode, said.rstrip("\n").split("\n"), used.ru_utime + used.ru_stime
+
+
+def judged(crate, lines):
+    """What a check says of each function: 'proved', 'calls' (only what it calls is open), 'refused', or its own words."""
+    said = {}
+    for line in lines:
+        found = re.match(rf"fn {crate.name}::(\S+): (.*)", line)
+        if not found:
+            continue
+        name, words = found[1], found[2]
+        if words.startswith("proved"):
+            said[name] = "proved"
+        elif words.startswith("no proof: it calls "):
+            said[name] = "calls"
+        elif words.startswith("not proved") or "did not prove" in words:
+            said[name] = "refused"
+        else:
+            said[name] = words
+    return said
+
+
+def is_of(name, function):
+    """Whether a name that a check prints is the function's, or that of a closure in it."""
+    module, _, last = function.rpartition("::")
+    inside = f"{module}::fn::{last}::" if module else f"fn::{last}::"
+    return name == function or name.endswith(f"::{function}") or name.startswith(inside)
+
+
+def try_wave(crate, wave, kept):
+    """Tries edits together. Returns what is wrong with each (None: it is refused), or why the check judged none, and its seconds."""
+    texts = applied(crate.folder, [it for edit in wave for it in edit.changes])
+    functions = {it for edit in wave for it in edit.functions}
+    status, lines, seconds = check(crate, texts, functions, kept)
+    bad = next((it for it in lines if rt.unread(it, texts)), None)
+    if bad:
+        return None, f"the prover cannot read an edited text: {bad[:200]}", seconds
+    said = judged(crate, lines)
+    if status not in (0, 1) or not said or not lines[-1].startswith("only="):
+        return None, f"the check judged nothing (status {status}): {' / '.join(lines[:4])[:400]}", seconds
+    wrong, edited = {}, set()
+    for edit in wave:
+        names = {function: [it for it in said if is_of(it, function)] for function in edit.functions}
+        own = [it for found in names.values() for it in found]
+        edited.update(own)
+        lost = [function for function, found in names.items() if not found]
+        if lost:
+            wrong[edit.name] = f"the check names no function {lost[0]}: name it by a line 'fn: MODULE::NAME'"
+        elif all(said[it] != "refused" for it in own):
+            wrong[edit.name] = f"NOT REFUSED: {', '.join(f'{it} is {said[it]}' for it in own)}"
+    others = sorted(it for it, word in said.items() if it not in edited and word not in ("proved", "calls"))
+    if others:
+        return None, f"functions that no edit changes were refused too: {', '.join(others)}", seconds
+    return {edit.name: wrong.get(edit.name) for edit in wave}, None, seconds
+
+
+def try_crate(crate, is_alone):
+    """Tries all edits of a crate. Returns how many were refused, and what is wrong with each other by its name."""
+    folder = f"{crate.folder}/breaks"
+    names = sorted(os.listdir(folder)) if os.path.isdir(folder) else []
+    edits, failed, again, used = [], {}, [], 0.0
+    for name in names:
+        try:
+            if not name.endswith(".edit"):
+                raise BadEdit("an edit's name ends in .edit")
+            edits.append(read_edit(crate, name))
+        except BadEdit as why:
+            failed[name] = f"BAD EDIT: {why}"
+    waves = [[it] for it in edits] if is_alone else in_waves(crate, edits)
+    with tempfile.TemporaryDirectory(prefix="breaks-kept-") as kept:
+        for wave in waves:
+            wrong, why, seconds = try_wave(crate, wave, kept)
+            used += seconds
+            again += [(it, why or wrong[it.name]) for it in wave if why or wrong[it.name]]
+        for edit, first in again:
+            wrong, why, seconds = try_wave(crate, [edit], kept)
+            used += seconds
+            if why or wrong[edit.name]:
+                failed[edit.name] = why or wrong[edit.name]
+            else:
+                print(f"breaks {crate.name}/{edit.name}: refused alone, and not in its wave ({first})", flush=True)
+    for name, why in failed.items():
+        print(f"breaks {crate.name}/{name}: FAILED: {why}", flush=True)
+    if names:
+        passed = len(names) - len(failed)
+        print(f"breaks {crate.name}: {passed} of {len(names)} refused, {len(waves)} waves, {used:.0f} s", flush=True)
+    return len(names) - len(failed), failed
+
+
+def main():
+    words = argparse.ArgumentParser(description="Tries the wrong edits of breaks/, which the prover must refuse.")
+    words.add_argument("--alone", action="store_true", help="try each edit by itself")
+    words.add_argument("--lanes", type=int, default=0, help="how many crates at a time (default: one a processor, as memory allows)")
+    words.add_argument("names", nargs="*", metavar="NAME", help="the crates to try (default: all)")
+    given = words.parse_args()
+    crates = [it for it in crates_of_gate() if not given.names or it.name in given.names]
+    # The longest first, so that no lane ends late.
+    crates.sort(key=lambda it: -sum(os.path.getsize(file) for file in rtlib.files_of(it.folder)))
+    lanes = given.lanes or max(1, min(rt.processors(), rt.free() // 3_500_000_000))
+    with ThreadPoolExecutor(lanes) as pool:
+        counts = [*pool.map(lambda it: try_crate(it, given.alone), crates)]
+    passed, failed = sum(it for it, _ in counts), sum(len(it) for _, it in counts)
+    print(f"{passed} passed, {failed} failed")
+    return 1 if failed else 0
+
+
+if __name__ == "__main__":
+    sys.exit(main())
