@@ -1,7 +1,7 @@
 #!/usr/bin/env python3
 """Tries the wrong edits crates/NAME/breaks/*.edit, many in one check: the prover must refuse each in the function that it changes.
 
-usage, at the top of the repository, once the libraries are built:  breaks.py [--alone] [--lanes N] [NAME..]
+usage, at the top of the repository:  breaks.py [--alone] [--built] [--lanes N] [NAME..]
 
 An edit is a file as `rt must-fail` reads it: a line 'file: src/lib.rt', then pairs of lines 'old: TEXT' and 'new: TEXT', each
 old TEXT standing once in that file. A line 'fn: MODULE::NAME' names the function that must be refused, where the edit changes
@@ -10,7 +10,8 @@ no function's own text.
 A wave is one check of a copy of the crate with as many edits as change different functions: a check goes on after a function
 that it refuses, and takes the callers of that function over its contract. An edit is refused where a goal of a function that
 it changes stays open; that the function calls one that isn't proved does not count. What a wave does not settle is tried alone.
---alone tries each edit by itself. The last line is 'N passed, M failed'.
+--alone tries each edit by itself. --built takes the libraries of out/ as they are, as right after `rt ci`; else those that have
+changed are built first. The last line is 'N passed, M failed'.
 """
 import argparse
 import os
@@ -252,13 +253,22 @@ def try_crate(crate, is_alone):
     return len(names) - len(failed), failed
 
 
+def built_below(crate):
+    """Whether the libraries below a crate are built, over what earlier checks kept, where they have changed."""
+    rtlib.Crate.cuts_libraries = False
+    return not any(it.build_rlib(["--jobs", "1"], anew=False) for it in crate.below())
+
+
 def main():
     words = argparse.ArgumentParser(description="Tries the wrong edits of breaks/, which the prover must refuse.")
     words.add_argument("--alone", action="store_true", help="try each edit by itself")
+    words.add_argument("--built", action="store_true", help="take the libraries as they are in out/")
     words.add_argument("--lanes", type=int, default=0, help="how many crates at a time (default: one a processor, as memory allows)")
     words.add_argument("names", nargs="*", metavar="NAME", help="the crates to try (default: all)")
     given = words.parse_args()
     crates = [it for it in crates_of_gate() if not given.names or it.name in given.names]
+    if not given.built and not all(built_below(it) for it in crates):
+        return 1
     # The longest first, so that no lane ends late.
     crates.sort(key=lambda it: -sum(os.path.getsize(file) for file in rtlib.files_of(it.folder)))
     lanes = given.lanes or max(1, min(rt.processors(), rt.free() // 3_500_000_000))
