@@ -7,6 +7,7 @@ use fc_io::{
 };
 use std::io;
 use std::io::{ErrorKind, Read, Write};
+use std::process::Abort;
 use std::test::Fail;
 
 // A reader and a writer that moves one byte a call, and answers an error at its second call alone.
@@ -60,16 +61,25 @@ fn writes_whole_pieces_or_fails(rt: HostRuntime) {
     assert!(rt; !sink.failed());
 }
 
+// The pieces are answered so, one after the other, and the sink has failed from the first fault on.
+fn check_writes<K: Sink>(rt: &impl Abort, sink: &mut K, cases: &[(&[u8], Result<usize, Failed>)]) {
+    for (piece, answer) in cases {
+        assert_eq!(rt; sink.write(piece), *answer);
+        assert_eq!(rt; sink.failed(), answer.is_err());
+    }
+}
+
 #[test]
 fn fills_an_array(rt: HostRuntime) {
+    let cases: [(&[u8], Result<usize, Failed>); 5] = [
+        (b"abc", Ok(3)),
+        (b"def", Ok(1)),
+        (b"", Ok(0)),
+        (b"e", Err(Failed)),
+        (b"", Err(Failed)),
+    ];
     let mut array = ToArray::<4>::new();
-    assert_eq!(rt; array.write(b"abc"), Ok(3));
-    assert_eq!(rt; array.write(b"def"), Ok(1));
-    assert_eq!(rt; array.write(b""), Ok(0));
-    assert!(rt; !array.failed());
-    assert_eq!(rt; array.write(b"e"), Err(Failed));
-    assert_eq!(rt; array.write(b""), Err(Failed));
-    assert!(rt; array.failed());
+    check_writes(&rt, &mut array, &cases);
     assert_eq!(rt; array.held(), b"abcd".as_slice());
 }
 
@@ -176,11 +186,10 @@ fn reads_a_reader(rt: HostRuntime) -> Result<(), Fail> {
     assert_eq!(rt; fault, Some(ReadFault::TooLong));
 
     let mut hiccup = FromReader::new(Hiccup { calls: 0 });
-    assert_eq!(rt; hiccup.read(&mut room), Ok(1));
-    assert!(rt; !hiccup.failed());
-    assert_eq!(rt; hiccup.read(&mut room), Err(Failed));
-    assert!(rt; hiccup.failed());
-    assert_eq!(rt; hiccup.read(&mut room), Err(Failed));
+    for answer in [Ok(1), Err(Failed), Err(Failed)] {
+        assert_eq!(rt; hiccup.read(&mut room), answer);
+        assert_eq!(rt; hiccup.failed(), answer.is_err());
+    }
     Ok(())
 }
 
@@ -193,17 +202,18 @@ fn writes_a_writer(rt: HostRuntime) -> Result<(), Fail> {
     assert_eq!(rt; bytes.as_slice(), b"abc".as_slice());
 
     let mut room = [0; 2];
-    let mut full = ToWriter::new(room.as_mut_slice());
-    assert_eq!(rt; full.write(b"abc"), Ok(2));
-    assert_eq!(rt; full.write(b""), Ok(0));
-    assert!(rt; !full.failed());
-    assert_eq!(rt; full.write(b"c"), Err(Failed));
-    assert!(rt; full.failed());
+    let cases: [(&[u8], Result<usize, Failed>); 3] = [
+        (b"abc", Ok(2)),
+        (b"", Ok(0)),
+        (b"c", Err(Failed)),
+    ];
+    check_writes(&rt, &mut ToWriter::new(room.as_mut_slice()), &cases);
 
-    let mut hiccup = ToWriter::new(Hiccup { calls: 0 });
-    assert_eq!(rt; hiccup.write(b"abc"), Ok(1));
-    assert_eq!(rt; hiccup.write(b"bc"), Err(Failed));
-    assert_eq!(rt; hiccup.write(b"bc"), Err(Failed));
-    assert!(rt; hiccup.failed());
+    let cases: [(&[u8], Result<usize, Failed>); 3] = [
+        (b"abc", Ok(1)),
+        (b"bc", Err(Failed)),
+        (b"bc", Err(Failed)),
+    ];
+    check_writes(&rt, &mut ToWriter::new(Hiccup { calls: 0 }), &cases);
     Ok(())
 }
