@@ -9,5 +9,3 @@ pub use bounds::{bound, is_held_back};
 
 mod bounds;
 pub mod laws;
-#[cfg(test)]
-mod tests;

@@ -17,5 +17,3 @@ mod moved;
 mod orders;
 mod readers;
 mod searches;
-#[cfg(test)]
-mod tests;

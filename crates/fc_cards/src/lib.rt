@@ -14,5 +14,3 @@ pub mod laws;
 mod places;
 mod ranks;
 mod suits;
-#[cfg(test)]
-mod tests;

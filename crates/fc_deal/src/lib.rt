@@ -11,6 +11,4 @@ pub use texts::deal_text;
 mod deals;
 mod decks;
 mod generator;
-#[cfg(test)]
-mod tests;
 mod texts;

@@ -14,5 +14,3 @@ mod frontiers;
 pub mod laws;
 mod lists;
 mod stacks;
-#[cfg(test)]
-mod tests;

@@ -11,5 +11,3 @@ mod known;
 pub mod laws;
 mod rules;
 mod settling;
-#[cfg(test)]
-mod tests;

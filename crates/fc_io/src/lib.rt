@@ -17,7 +17,5 @@ mod devices;
 mod readers;
 mod slices;
 pub mod testing;
-#[cfg(test)]
-mod tests;
 mod transfers;
 mod writers;

@@ -19,6 +19,4 @@ pub mod laws;
 mod lists;
 mod only_kings;
 mod steps;
-#[cfg(test)]
-mod tests;
 mod texts;

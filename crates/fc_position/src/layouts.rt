@@ -113,7 +113,7 @@ fn same_cells(cells: &[Option<Card>], others: &[Option<Card>]) -> bool
 }
 
 // The same columns.
-pub(crate) fn columns_of(columns: &[ArrayVec<Card, 52>; 8]) -> [ArrayVec<Card, 52>; 8]
+fn columns_of(columns: &[ArrayVec<Card, 52>; 8]) -> [ArrayVec<Card, 52>; 8]
     ensures { map (λ v. v.items) result ≡ map (λ v. v.items) columns.now }
 {
     let [a, b, c, d, e, f, g, h] = columns;

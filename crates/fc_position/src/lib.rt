@@ -13,5 +13,3 @@ mod faults;
 mod layouts;
 mod positions;
 mod tallies;
-#[cfg(test)]
-mod tests;

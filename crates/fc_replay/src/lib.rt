@@ -7,6 +7,4 @@ pub use replays::replay;
 mod faults;
 pub mod laws;
 mod replays;
-#[cfg(test)]
-mod tests;
 mod tokens;

@@ -13,6 +13,4 @@ mod lines;
 mod pieces;
 mod printers;
 mod readers;
-#[cfg(test)]
-mod tests;
 mod tokens;

@@ -1,0 +1,29 @@
+//! Tests of the public calls of all crates.
+#![tactic(auto)]
+
+#[cfg(test)]
+mod boards;
+#[cfg(test)]
+mod bounds;
+#[cfg(test)]
+mod canonical;
+#[cfg(test)]
+mod cards;
+#[cfg(test)]
+mod deals;
+#[cfg(test)]
+mod devices;
+#[cfg(test)]
+mod frontiers;
+#[cfg(test)]
+mod games;
+#[cfg(test)]
+mod home;
+#[cfg(test)]
+mod moves;
+#[cfg(test)]
+mod positions;
+#[cfg(test)]
+mod replays;
+#[cfg(test)]
+mod texts;
