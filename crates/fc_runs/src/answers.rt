@@ -3,7 +3,7 @@
 ghost use Rattle.std.specs.Prelude.{◌≡◌, ◌++◌, IfOk, OnOk, All};
 ghost use Rattle.fc_moves.specs.MoveText.{HasText};
 ghost use Rattle.fc_search.specs.Answer.{CanBeWritten};
-ghost use Rattle.fc_solve.specs.AnswerText.{answer_text, list_text, shortest_text, gave_up_text, status_of};
+ghost use Rattle.fc_runs.specs.AnswerText.{answer_text, list_text, shortest_text, gave_up_text, status_of};
 
 use fc_moves::{Move, move_text};
 use fc_search::Answer;

@@ -2,8 +2,8 @@
 
 ghost use Rattle.std.specs.Prelude.{◌≡◌, ◌≤◌, IfOk, IfErr};
 ghost use Rattle.fc_io.specs.Moves.{GivesAtMost};
-ghost use Rattle.fc_solve.specs.Runs.{IsSolved, IsSolveFault, GivesBoard, IsReadFault, IsDealt, IsDealFault, IsReplayed, IsReplayFault};
-ghost use Rattle.fc_solve.specs.Fault.{moves_fault, replay_fault};
+ghost use Rattle.fc_runs.specs.Runs.{IsSolved, IsSolveFault, GivesBoard, IsReadFault, IsDealt, IsDealFault, IsReplayed, IsReplayFault};
+ghost use Rattle.fc_runs.specs.Fault.{moves_fault, replay_fault};
 
 use crate::answers::{answer_text, status_of};
 use crate::faults::{Input, Output, ProgramFault};

@@ -1,9 +1,9 @@
 use Rattle.std.proofs.Common.{rules, ◌≡◌, Ok, IsTrue, refl, sym, ap, subst, ⊎_elim}
 use Rattle.fc_replay.specs.Played.{Replays, BeginsWithStep}
 use Rattle.fc_replay.specs.Token.{move_tokens}
-use Rattle.fc_solve.specs.Runs.{Device, GivesBoard, GivesMoves, IsReplayOf}
-use Rattle.fc_solve.proofs.ReplayLemmas.{none_played}
-use Rattle.fc_solve.proofs.runs.run_replay.Goals as goal
+use Rattle.fc_runs.specs.Runs.{Device, GivesBoard, GivesMoves, IsReplayOf}
+use Rattle.fc_runs.proofs.ReplayLemmas.{none_played}
+use Rattle.fc_runs.proofs.runs.run_replay.Goals as goal
 
 pub returns-in-Ok-replay-clause-replayed : goal.returns-in-Ok-replay-clause-replayed
 returns-in-Ok-replay-clause-replayed g c =

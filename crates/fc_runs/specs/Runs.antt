@@ -14,11 +14,11 @@ use Rattle.fc_replay.specs.Played.{Replays}
 use Rattle.fc_replay.specs.Token.{move_tokens}
 use Rattle.fc_search.specs.declared.answers.Answer.{Answer}
 use Rattle.fc_search.specs.Search.{Answers, IsRunToEnd}
-use Rattle.fc_solve.specs.declared.faults.Input.TheVariants.{Board as of_board, Moves as of_moves}
-use Rattle.fc_solve.specs.declared.faults.Output.TheVariants.{Answer as of_answer}
-use Rattle.fc_solve.specs.declared.faults.ProgramFault.{ProgramFault}
-use Rattle.fc_solve.specs.declared.faults.ProgramFault.TheVariants.{Number, Budget, Board as bad_board, TooLong, Moves, Read, Write, Memory}
-use Rattle.fc_solve.specs.AnswerText.{answer_text, status_of}
+use Rattle.fc_runs.specs.declared.faults.Input.TheVariants.{Board as of_board, Moves as of_moves}
+use Rattle.fc_runs.specs.declared.faults.Output.TheVariants.{Answer as of_answer}
+use Rattle.fc_runs.specs.declared.faults.ProgramFault.{ProgramFault}
+use Rattle.fc_runs.specs.declared.faults.ProgramFault.TheVariants.{Number, Budget, Board as bad_board, TooLong, Moves, Read, Write, Memory}
+use Rattle.fc_runs.specs.AnswerText.{answer_text, status_of}
 
 -- a device before and after a run: the bytes that it tells or holds, if it tells any, and whether it has failed then
 pub record Device : Type 0 where

@@ -1,5 +1,5 @@
 ghost use Rattle.std.specs.Prelude.{◌≡◌, Some};
-ghost use Rattle.fc_solve.specs.Fault.{fault_status, input_text, output_text};
+ghost use Rattle.fc_runs.specs.Fault.{fault_status, input_text, output_text};
 
 use fc_replay::ReplayFault;
 use fc_text::BoardFault;
@@ -88,7 +88,7 @@ impl ProgramFault {
 }
 
 impl From<AllocError> for ProgramFault {
-    ghost use Rattle.fc_solve.specs.declared.faults.ProgramFault.TheVariants.{Memory};
+    ghost use Rattle.fc_runs.specs.declared.faults.ProgramFault.TheVariants.{Memory};
 
     ghost from_gives = { λ _ fault. fault ≡ Memory };
 

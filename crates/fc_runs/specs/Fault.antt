@@ -4,12 +4,12 @@ use Rattle.fc_io.specs.declared.transfers.ReadFault.{ReadFault}
 use Rattle.fc_io.specs.declared.transfers.ReadFault.TheVariants.{Failed, TooLong as too_many, Memory as refused}
 use Rattle.fc_replay.specs.declared.faults.ReplayFault.{ReplayFault}
 use Rattle.fc_replay.specs.declared.faults.ReplayFault.TheVariants.{BadMove, NotAllowed, Write as unwritten}
-use Rattle.fc_solve.specs.declared.faults.Input.{Input}
-use Rattle.fc_solve.specs.declared.faults.Input.TheVariants.{Board as of_board, Moves as of_moves}
-use Rattle.fc_solve.specs.declared.faults.Output.{Output}
-use Rattle.fc_solve.specs.declared.faults.Output.TheVariants.{Answer as of_answer}
-use Rattle.fc_solve.specs.declared.faults.ProgramFault.{ProgramFault}
-use Rattle.fc_solve.specs.declared.faults.ProgramFault.TheVariants.{Number, Budget, Board, TooLong, Moves, Read, Write, Memory}
+use Rattle.fc_runs.specs.declared.faults.Input.{Input}
+use Rattle.fc_runs.specs.declared.faults.Input.TheVariants.{Board as of_board, Moves as of_moves}
+use Rattle.fc_runs.specs.declared.faults.Output.{Output}
+use Rattle.fc_runs.specs.declared.faults.Output.TheVariants.{Answer as of_answer}
+use Rattle.fc_runs.specs.declared.faults.ProgramFault.{ProgramFault}
+use Rattle.fc_runs.specs.declared.faults.ProgramFault.TheVariants.{Number, Budget, Board, TooLong, Moves, Read, Write, Memory}
 
 -- 3 for what was asked, 4 for want of memory, 5 for a device
 abbrev pub fault_status : ProgramFault → ℕ
