@@ -1,15 +1,21 @@
 #!/bin/sh
 # Runs each test of a crate's built tests again and again, each allocation refused in turn, until a run meets no refusal:
 # each run must pass, so that the test itself says what a refusal may do.
-# Usage: refused-tests.sh PROGRAM (crates/NAME/out/NAME_tests, which the gate and `rt test` build)
+# Usage: refused-tests.sh PROGRAM [WORD] (PROGRAM is crates/NAME/out/NAME_tests, which the gate and `rt test` build; with a
+# WORD only the tests whose names contain it)
 set -u
 program=$1
+word=${2-}
 folder=$(mktemp -d) || exit 1
 trap 'rm -rf "$folder"' EXIT
 cc -shared -fPIC -O1 -o "$folder/refused.so" "$(dirname "$0")/refused.c" -ldl || exit 1
 
 "$program" --list >"$folder/list" || exit 1
 for name in $(sed -n 's/: test$//p' "$folder/list"); do
+  case $name in
+    *"$word"*) ;;
+    *) continue ;;
+  esac
   number=0
   while :; do
     number=$((number + 1))

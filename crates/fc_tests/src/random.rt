@@ -1,10 +1,11 @@
 //! The program's search against the plain one, on random small boards.
 
+use crate::boards::{bakers_game, free_cell};
+use crate::plain::{self, Found};
 use arrayvec::ArrayVec;
 use fc_cards::{Card, Suit};
 use fc_frontier::{BucketFrontier, Frontier, ListFrontier};
-use fc_moves::{BakersGame, FreeCell, Game, Kings};
-use fc_plain as plain;
+use fc_moves::{Game, Kings};
 use fc_position::Position;
 use fc_search::{Answer, Search};
 use std::alloc::Global;
@@ -61,11 +62,11 @@ fn random_board(numbers: &mut Numbers, cells: u32) -> Result<Position, Fail> {
 }
 
 // Whether the answers agree, where the plain search had room enough.
-fn agree(answer: &Answer, plain: &plain::Answer) -> bool {
-    match (answer, plain) {
-        (Answer::Shortest(moves, _), plain::Answer::Shortest(list)) => moves.len() == list.len(),
-        (Answer::CannotWin(_), plain::Answer::CannotWin) => true,
-        (_, plain::Answer::GaveUp(_)) => true,
+fn agree(answer: &Answer, found: Found) -> bool {
+    match (answer, found) {
+        (Answer::Shortest(list, _), Found::Shortest(moves)) => list.len() == moves,
+        (Answer::CannotWin(_), Found::CannotWin) => true,
+        (_, Found::GaveUp) => true,
         _ => false,
     }
 }
@@ -98,12 +99,12 @@ fn compare<G: Game + Drop>(
         if !board.fits(game.cells()) {
             return Err("a board that doesn't fit".into());
         }
-        let plain = plain::search(alloc, game, &board, 300)?;
+        let found = plain::search(alloc, game, &board, 300)?;
         for rule in 0..3 {
             let list = answer_of::<ListFrontier, G>(alloc, game, rule, &board)?;
-            assert!(rt; agree(&list, &plain), "another answer with a list");
+            assert!(rt; agree(&list, found), "another answer with a list");
             let buckets = answer_of::<BucketFrontier, G>(alloc, game, rule, &board)?;
-            assert!(rt; agree(&buckets, &plain), "another answer with buckets");
+            assert!(rt; agree(&buckets, found), "another answer with buckets");
         }
     }
     Ok(())
@@ -112,8 +113,8 @@ fn compare<G: Game + Drop>(
 #[test]
 fn agrees_with_the_plain_search(rt: HostRuntime) -> Result<(), Fail> {
     for cells in 0..5u8 {
-        let free_cell = FreeCell::new(cells).ok_or("at most four cells")?;
-        let bakers = BakersGame::new(cells).ok_or("at most four cells")?;
+        let free_cell = free_cell(cells)?;
+        let bakers = bakers_game(cells)?;
         let seed = u32::from(cells);
         compare(&rt, rt.alloc(), &free_cell, seed)?;
         compare(&rt, rt.alloc(), &bakers, 100 + seed)?;
