@@ -4,4 +4,3 @@ pub mod Turn
 pub mod Kept
 pub mod Shown
 pub mod Search
-pub mod Sums

@@ -11,6 +11,4 @@ mod books;
 mod keys;
 mod searches;
 mod spaces;
-#[cfg(test)]
-mod tests;
 mod turns;

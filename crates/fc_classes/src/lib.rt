@@ -8,5 +8,3 @@ pub use keys::ClassKey;
 
 mod keys;
 pub mod laws;
-#[cfg(test)]
-mod tests;

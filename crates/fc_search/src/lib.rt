@@ -11,6 +11,4 @@ pub use searches::{Search, solve};
 mod answers;
 mod searches;
 mod tables;
-#[cfg(test)]
-mod tests;
 mod walks;

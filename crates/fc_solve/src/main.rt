@@ -1,21 +1,13 @@
 //! The program: FreeCell boards dealt, solved with answers that are proved, and moves replayed.
 #![tactic(auto)]
 
-mod answers;
-mod faults;
-#[cfg(test)]
-mod random_tests;
-mod runs;
-#[cfg(test)]
-mod tests;
 mod words;
 
-use crate::faults::{Input, ProgramFault};
-use crate::runs::{run_deal, run_replay, run_solve};
 use clap::ArgMatches;
 use clap::error::ErrorKind;
 use fc_io::{FromReader, ToWriter};
 use fc_moves::{BakersGame, FreeCell, Game, Kings};
+use fc_runs::{Input, ProgramFault, run_deal, run_replay, run_solve};
 use std::fs::File;
 use std::process::ExitCode;
 use std::{env, io};

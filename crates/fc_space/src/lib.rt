@@ -4,5 +4,3 @@
 pub use positions::{Children, Positions};
 
 mod positions;
-#[cfg(test)]
-mod tests;

@@ -1,19 +1,26 @@
-//! What the tests share: boards, cards and moves from their texts, and lists of moves that are made.
+//! What the tests share: boards, cards and moves from their texts, lists of moves that are made, and games.
 
 use arrayvec::ArrayVec;
 use fc_cards::Card;
-use fc_moves::{Game, Move, allows, apply, read_move};
+use fc_moves::{BakersGame, FreeCell, Game, Move, allows, apply, read_move};
 use fc_position::Position;
 use fc_text::read_board;
 use std::test::Fail;
 
-/// Four cards are left.
-pub const FOUR_CARDS: &str = "\
-    Foundations: H-J C-K D-K S-J\n\
-    QS KH\n\
-    QH KS\n";
+/// Every card is home.
+pub const ALL_HOME: &str = "Foundations: H-K C-K D-K S-K\n";
 
-/// Three spades are left, the queen above the jack.
+/// The king of spades is left, in the first cell.
+pub const ONE_KING: &str = "\
+    Foundations: H-K C-K D-K S-Q\n\
+    Freecells: KS\n";
+
+/// The queen of spades lies under her king.
+pub const QUEEN_UNDER_KING: &str = "\
+    Foundations: H-K C-K D-K S-J\n\
+    QS KS\n";
+
+/// The jack of spades lies under his queen, and the king beside them.
 pub const THREE_SPADES: &str = "\
     Foundations: H-K C-K D-K S-T\n\
     JS QS\n\
@@ -26,7 +33,32 @@ pub const LONE_SPADES: &str = "\
     JS\n\
     KS\n";
 
-/// No card can move.
+/// Two kings lie on two queens of other suits.
+pub const TWO_KINGS: &str = "\
+    Foundations: H-J C-K D-K S-J\n\
+    QS KH\n\
+    QH KS\n";
+
+/// The same two columns elsewhere.
+pub const TWO_KINGS_TURNED: &str = "\
+    Foundations: H-J C-K D-K S-J\n\
+    :\n\
+    QH KS\n\
+    QS KH\n";
+
+/// A queen lies under the king of her suit, and two kings beside them.
+pub const THREE_KINGS: &str = "\
+    Foundations: H-Q C-K D-Q S-J\n\
+    QS KS\n\
+    KD KH\n";
+
+/// The queen of hearts lies under the king of spades, whose queen is home; her own king stands in a cell.
+pub const FREE_KING: &str = "\
+    Foundations: H-J C-K D-K S-Q\n\
+    Freecells: KH\n\
+    QH KS\n";
+
+/// Four kings fill the cells, and no last card may stand on another or go home.
 pub const LOCKED: &str = "\
     Foundations: H-7 C-7 D-7 S-7\n\
     Freecells: KC KD KH KS\n\
@@ -41,7 +73,7 @@ pub const LOCKED: &str = "\
 
 /// Full cells, from which a list of thirty moves leads home. The nine of spades is next; the red eights, which could
 /// stand on it, are not home.
-pub const LONG: &str = "\
+pub const THIRTY_MOVES: &str = "\
     Foundations: H-6 C-7 D-7 S-8\n\
     Freecells: 9C KC KD KH\n\
     9H 9S\n\
@@ -53,15 +85,27 @@ pub const LONG: &str = "\
     QD TD JD\n\
     QC TC KS\n";
 
-/// All cards in one column, the king of spades deepest and the ace of clubs last.
+/// All cards in one column, the king of spades deepest and the ace of clubs last: each goes home after the other.
 pub const ONE_COLUMN: &str = "\
     KS KH KD KC QS QH QD QC JS JH JD JC TS \
     TH TD TC 9S 9H 9D 9C 8S 8H 8D 8C 7S 7H \
     7D 7C 6S 6H 6D 6C 5S 5H 5D 5C 4S 4H 4D \
     4C 3S 3H 3D 3C 2S 2H 2D 2C AS AH AD AC\n";
 
-/// Deal 1.
-pub const DEAL_1: &str = "\
+/// Nothing goes home or on a column: a class says how many of the last cards of each column stand in cells, at most four
+/// together, which makes 495 classes.
+pub const CLASSES_495: &str = "\
+    AC QC 3C 5C 4C 2C KC\n\
+    TC 8C 7C 6C 9C JC\n\
+    AD QD 3D 5D 4D 2D KD\n\
+    TD 8D 7D 6D 9D JD\n\
+    AH QH 3H 5H 4H 2H KH\n\
+    TH 8H 7H 6H 9H JH\n\
+    AS QS 3S 5S 4S 2S KS\n\
+    TS 8S 7S 6S 9S JS\n";
+
+/// The first of the numbered deals.
+pub const DEAL_ONE: &str = "\
     JD KD 2S 4C 3S 6D 6S\n\
     2D KC KS 5C TD 8S 9C\n\
     9H 9S 9D TS 4S 8D 2H\n\
@@ -110,4 +154,22 @@ pub fn play<G: Game>(game: &G, position: &mut Position, text: &[u8]) -> Result<(
         apply(game, position, *m);
     }
     Ok(())
+}
+
+/// A game and its number of cells: FreeCell, Baker's Game, or FreeCell with kings alone on empty columns.
+#[derive(Clone, Copy)]
+pub enum Rules {
+    FreeCell(u8),
+    Bakers(u8),
+    Kings(u8),
+}
+
+/// FreeCell with so many cells.
+pub fn free_cell(cells: u8) -> Result<FreeCell, Fail> {
+    Ok(FreeCell::new(cells).ok_or("at most four cells")?)
+}
+
+/// Baker's Game with so many cells.
+pub fn bakers_game(cells: u8) -> Result<BakersGame, Fail> {
+    Ok(BakersGame::new(cells).ok_or("at most four cells")?)
 }

@@ -1,6 +1,6 @@
 //! The lower bound, and cards above lower ones of their suit.
 
-use crate::boards::{DEAL_1, FOUR_CARDS, LONG, ONE_COLUMN, board};
+use crate::boards::{DEAL_ONE, TWO_KINGS, THIRTY_MOVES, ONE_COLUMN, board};
 use fc_bound::{bound, is_held_back};
 use fc_cards::Place;
 use std::test::Fail;
@@ -17,7 +17,7 @@ fn boards_worked_out_by_hand(rt: HostRuntime) -> Result<(), Fail> {
         // Both spades are not home, and the king stands above the queen.
         ("Foundations: H-K C-K D-K S-J\nQS KS\n", 3),
         // No king stands above a queen of its own suit.
-        (FOUR_CARDS, 4),
+        (TWO_KINGS, 4),
         // Four cards are not home, and the king of spades stands above its queen.
         ("Foundations: H-Q C-K D-Q S-J\nQS KS\nKD KH\n", 5),
         ("Foundations: H-K C-K D-K S-K\n", 0),
@@ -57,13 +57,13 @@ fn cards_above_lower_ones_of_their_suit(rt: HostRuntime) -> Result<(), Fail> {
 
 #[test]
 fn six_cards_above_lower_ones(rt: HostRuntime) -> Result<(), Fail> {
-    assert_eq!(rt; bound(&board(LONG)?), 30);
+    assert_eq!(rt; bound(&board(THIRTY_MOVES)?), 30);
     Ok(())
 }
 
 // Another program counted twelve cards above lower ones.
 #[test]
 fn a_deal(rt: HostRuntime) -> Result<(), Fail> {
-    assert_eq!(rt; bound(&board(DEAL_1)?), 64);
+    assert_eq!(rt; bound(&board(DEAL_ONE)?), 64);
     Ok(())
 }

@@ -1,6 +1,6 @@
 //! Classes of positions, their keys, and the moves that lead to different classes.
 
-use crate::boards::{DEAL_1, FOUR_CARDS, LOCKED, LONE_SPADES, THREE_SPADES, board};
+use crate::boards::{DEAL_ONE, TWO_KINGS, LOCKED, LONE_SPADES, THREE_SPADES, board};
 use arrayvec::ArrayVec;
 use fc_canonical::{
     Key, canonical, distinct_moves, find_move, key, key_len, moved_key, padded_key, position_of,
@@ -52,7 +52,7 @@ const WITH_CELLS: &str = "\
 #[test]
 fn writes_keys(rt: HostRuntime) -> Result<(), Fail> {
     let cases = [
-        (FOUR_CARDS, FOUR_CARDS_KEY),
+        (TWO_KINGS, FOUR_CARDS_KEY),
         (
             "Foundations: H-J C-K D-K S-J\n:\nQH KS\n:\nQS KH\n",
             FOUR_CARDS_KEY,
@@ -79,7 +79,7 @@ fn writes_padded_keys(rt: HostRuntime) -> Result<(), Fail> {
         8H 9H\n\
         TD QD JD\n";
     let cases = [
-        (FOUR_CARDS, FOUR_CARDS_KEY),
+        (TWO_KINGS, FOUR_CARDS_KEY),
         (
             "Foundations: H-J C-K D-K S-J\nQH KS\nQS KH\n",
             FOUR_CARDS_KEY,
@@ -215,7 +215,7 @@ fn after<G: Game>(game: &G, position: &Position, m: Move) -> Result<Position, Fa
 #[test]
 fn finds_moves(rt: HostRuntime) -> Result<(), Fail> {
     let game = FreeCell::new(4).ok_or("four cells")?;
-    let position = board(FOUR_CARDS)?;
+    let position = board(TWO_KINGS)?;
     let m = Move {
         from: Place::Column(0),
         to: Place::Cell(2),
@@ -232,7 +232,7 @@ fn finds_moves(rt: HostRuntime) -> Result<(), Fail> {
 fn lists_distinct_moves(rt: HostRuntime) -> Result<(), Fail> {
     let lone = board(LONE_SPADES)?;
     let none = FreeCell::new(0).ok_or("no cell")?;
-    for (text, cells, all, distinct) in [(FOUR_CARDS, 4, 20, 4), (LONE_SPADES, 0, 16, 2)] {
+    for (text, cells, all, distinct) in [(TWO_KINGS, 4, 20, 4), (LONE_SPADES, 0, 16, 2)] {
         let game = FreeCell::new(cells).ok_or("so many cells")?;
         let position = board(text)?;
         assert_eq!(rt; moves(&game, &position).len(), all);
@@ -278,7 +278,7 @@ fn lists_the_first_move_to_each_class(rt: HostRuntime) -> Result<(), Fail> {
         QD KS\n\
         TC QH\n";
     let texts = [
-        FOUR_CARDS,
+        TWO_KINGS,
         LOCKED,
         full,
         LONE_SPADES,
@@ -377,8 +377,8 @@ fn check_moved_keys<G: Game>(rt: &impl Abort, game: &G, board: &Position) -> Res
 #[test]
 fn makes_keys_of_moved_positions(rt: HostRuntime) -> Result<(), Fail> {
     let texts = [
-        DEAL_1,
-        FOUR_CARDS,
+        DEAL_ONE,
+        TWO_KINGS,
         LOCKED,
         LONE_SPADES,
         WITH_CELLS,

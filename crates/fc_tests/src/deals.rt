@@ -1,6 +1,6 @@
 //! Numbered deals and the draws that they are made of.
 
-use crate::boards::DEAL_1;
+use crate::boards::DEAL_ONE;
 use fc_cards::Card;
 use fc_deal::{Draws, deal, deal_text};
 use fc_text::read_board;
@@ -34,7 +34,7 @@ fn prints_deals(rt: HostRuntime) -> Result<(), Fail> {
         7H JS KH TS KC 7C\n\
         AH 5S 6S AD 8H JD\n\
         7S 6C 7D 4D 8S 9D\n";
-    for (number, text) in [(1, DEAL_1), (24, deal_24)] {
+    for (number, text) in [(1, DEAL_ONE), (24, deal_24)] {
         let position = deal(number).ok_or("a deal")?;
         assert_eq!(rt; deal_text(&position).as_str(), text);
     }

@@ -2,7 +2,7 @@
 
 ghost use Rattle.std.specs.Prelude.{◌≤◌};
 
-use crate::boards::{LONG, ONE_COLUMN, board, card, listed_moves};
+use crate::boards::{THIRTY_MOVES, ONE_COLUMN, board, card, listed_moves};
 use fc_cards::{Card, Place};
 use fc_home::{forced, free, goes_home_from, settle};
 use fc_moves::{BakersGame, FreeCell, Game, Kings, read_move};
@@ -66,7 +66,7 @@ fn settles_one_column(rt: HostRuntime) -> Result<(), Fail> {
 fn finds_forced_cards(rt: HostRuntime) -> Result<(), Fail> {
     let game = FreeCell::new(4).ok_or("four cells")?;
     let suits = BakersGame::new(4).ok_or("four cells")?;
-    let position = board(LONG)?;
+    let position = board(THIRTY_MOVES)?;
     let nine = card(b"9S")?;
     assert_eq!(rt; forced(&game, &position), None);
     assert_eq!(rt; forced(&suits, &position), Some(nine));
@@ -122,7 +122,7 @@ fn tells_what_goes_home_from_a_place(rt: HostRuntime) -> Result<(), Fail> {
         (ONE_COLUMN, 1, Place::Column(0), true),
         (ONE_COLUMN, 1, Place::Column(1), false),
         (ONE_COLUMN, 1, Place::Home, false),
-        (LONG, 1, Place::Column(0), false),
+        (THIRTY_MOVES, 1, Place::Column(0), false),
         (QUEEN_BELOW_KING, 1, Place::Column(0), false),
         (QUEEN_BELOW_KING, 2, Place::Column(0), true),
         (JACK_LEFT, 2, Place::Column(0), false),
@@ -133,6 +133,6 @@ fn tells_what_goes_home_from_a_place(rt: HostRuntime) -> Result<(), Fail> {
         }
         assert_eq!(rt; goes_home_from(&game, &board(text)?, rule, place), goes);
     }
-    assert!(rt; goes_home_from(&suits, &board(LONG)?, 1, Place::Column(0)));
+    assert!(rt; goes_home_from(&suits, &board(THIRTY_MOVES)?, 1, Place::Column(0)));
     Ok(())
 }

@@ -2,6 +2,8 @@
 #![tactic(auto)]
 
 #[cfg(test)]
+mod best_first;
+#[cfg(test)]
 mod boards;
 #[cfg(test)]
 mod bounds;
@@ -9,6 +11,8 @@ mod bounds;
 mod canonical;
 #[cfg(test)]
 mod cards;
+#[cfg(test)]
+mod classes;
 #[cfg(test)]
 mod deals;
 #[cfg(test)]
@@ -22,8 +26,18 @@ mod home;
 #[cfg(test)]
 mod moves;
 #[cfg(test)]
+mod plain;
+#[cfg(test)]
 mod positions;
 #[cfg(test)]
+mod random;
+#[cfg(test)]
 mod replays;
+#[cfg(test)]
+mod runs;
+#[cfg(test)]
+mod searches;
+#[cfg(test)]
+mod spaces;
 #[cfg(test)]
 mod texts;

@@ -1,6 +1,6 @@
 //! Games, the moves that they allow, and the texts of moves.
 
-use crate::boards::{FOUR_CARDS, THREE_SPADES, board, card, cards, listed_moves, play};
+use crate::boards::{TWO_KINGS, THREE_SPADES, board, card, cards, listed_moves, play};
 use crate::games::AnySuit;
 use fc_cards::Place;
 use fc_moves::{BakersGame, FreeCell, Game, Kings, Move, allows, move_text, moves, read_move};
@@ -26,7 +26,7 @@ fn check_moves<G: Game>(
 #[test]
 fn lists_moves(rt: HostRuntime) -> Result<(), Fail> {
     let game = FreeCell::new(4).ok_or("four cells")?;
-    let mut position = board(FOUR_CARDS)?;
+    let mut position = board(TWO_KINGS)?;
     let steps: [(&[u8], &[u8]); 3] = [
         (
             b"",
@@ -70,7 +70,7 @@ fn lists_moves_of_other_games(rt: HostRuntime) -> Result<(), Fail> {
         &spades,
         b"12 13 14 15 16 17 18 23 24 25 26 27 28",
     )?;
-    let mut position = board(FOUR_CARDS)?;
+    let mut position = board(TWO_KINGS)?;
     play(&AnySuit, &mut position, b"13 24 1a")?;
     let text =
         b"21 23 24 25 26 27 28 2b 2c 2d 2h 31 35 36 37 38 3b 3c 3d 41 45 46 47 48 4b 4c 4d a1 a3 a4 a5 a6 a7 a8 ah";
@@ -126,7 +126,7 @@ fn reads_moves(rt: HostRuntime) -> Result<(), Fail> {
         }
     }
     let game = FreeCell::new(4).ok_or("four cells")?;
-    let position = board(FOUR_CARDS)?;
+    let position = board(TWO_KINGS)?;
     for m in listed_moves(b"11 ab")?.as_slice() {
         assert!(rt; !allows(&game, &position, *m));
     }

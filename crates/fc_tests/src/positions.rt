@@ -2,7 +2,7 @@
 
 ghost use Rattle.std.specs.Prelude.{◌≡◌, map};
 
-use crate::boards::{FOUR_CARDS, board, card, cards};
+use crate::boards::{TWO_KINGS, board, card, cards};
 use arrayvec::ArrayVec;
 use fc_cards::{Card, Place, Suit};
 use fc_position::{PartsFault, Position, Tally};
@@ -64,7 +64,7 @@ fn shift(position: &mut Position, from: Place, to: Place) -> Result<(), Fail> {
 
 #[test]
 fn tells_parts(rt: HostRuntime) -> Result<(), Fail> {
-    let position = board(FOUR_CARDS)?;
+    let position = board(TWO_KINGS)?;
     assert_eq!(rt; position.column(0), cards(b"QS KH")?.as_slice());
     assert_eq!(rt; position.column(7).len(), 0);
     assert_eq!(rt; position.cell(3), None);
@@ -85,10 +85,10 @@ fn tells_parts(rt: HostRuntime) -> Result<(), Fail> {
 
 #[test]
 fn takes_known_parts(rt: HostRuntime) -> Result<(), Fail> {
-    let columns = columns(&board(FOUR_CARDS)?)?;
+    let columns = columns(&board(TWO_KINGS)?)?;
     let tested = Position::from_parts(same_columns(&columns), [None; 4], [13, 13, 11, 11])?;
     let position = Position::of_parts(columns, [None; 4], [13, 13, 11, 11]);
-    assert!(rt; position.equals(&tested) && position.equals(&board(FOUR_CARDS)?));
+    assert!(rt; position.equals(&tested) && position.equals(&board(TWO_KINGS)?));
     for (i, text) in [(0, b"KH"), (1, b"KS")] {
         assert_eq!(rt; position.playable(Place::Column(i)), Card::read(text));
     }
@@ -99,7 +99,7 @@ fn takes_known_parts(rt: HostRuntime) -> Result<(), Fail> {
 
 #[test]
 fn moves_cards(rt: HostRuntime) -> Result<(), Fail> {
-    let mut position = board(FOUR_CARDS)?;
+    let mut position = board(TWO_KINGS)?;
     let before = position.copy();
     assert!(rt; before.equals(&position));
     shift(&mut position, Place::Column(0), Place::Cell(2))?;
@@ -127,7 +127,7 @@ fn moves_cards(rt: HostRuntime) -> Result<(), Fail> {
 
 #[test]
 fn exchanges_places(rt: HostRuntime) -> Result<(), Fail> {
-    let mut position = board(FOUR_CARDS)?;
+    let mut position = board(TWO_KINGS)?;
     shift(&mut position, Place::Column(0), Place::Cell(0))?;
     position.swap_columns(0, 5);
     position.swap_cells(0, 3);

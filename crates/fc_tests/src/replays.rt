@@ -2,7 +2,7 @@
 
 ghost use Rattle.std.specs.Prelude.{◌≤◌, length};
 
-use crate::boards::{FOUR_CARDS, THREE_SPADES, board};
+use crate::boards::{TWO_KINGS, THREE_SPADES, board};
 use arrayvec::ArrayString;
 use fc_io::testing::Failing;
 use fc_io::{Sink, ToArray};
@@ -64,7 +64,7 @@ fn replays_to_the_first_move_that_is_not_allowed(rt: HostRuntime) -> Result<(), 
         (b"1a 1h 1h 9h 2h", Err(ReplayFault::NotAllowed(3))),
     ];
     for (text, answer) in cases {
-        check_replay(&rt, &game, FOUR_CARDS, text, (answer, TWO_BOARDS))?;
+        check_replay(&rt, &game, TWO_KINGS, text, (answer, TWO_BOARDS))?;
     }
     Ok(())
 }
@@ -81,7 +81,7 @@ fn replays_to_the_first_token_that_is_no_move(rt: HostRuntime) -> Result<(), Fai
     ];
     for (text, step, boards) in cases {
         let answer = Err(ReplayFault::BadMove(step));
-        check_replay(&rt, &game, FOUR_CARDS, text, (answer, boards))?;
+        check_replay(&rt, &game, TWO_KINGS, text, (answer, boards))?;
     }
     Ok(())
 }
@@ -99,7 +99,7 @@ fn reads_capitals_and_other_gaps(rt: HostRuntime) -> Result<(), Fail> {
         (b" \t\r\n", 0, ""),
     ];
     for (text, steps, boards) in cases {
-        check_replay(&rt, &game, FOUR_CARDS, text, (Ok(steps), boards))?;
+        check_replay(&rt, &game, TWO_KINGS, text, (Ok(steps), boards))?;
     }
     Ok(())
 }
@@ -127,7 +127,7 @@ fn replays_other_games(rt: HostRuntime) -> Result<(), Fail> {
 #[test]
 fn fails_with_its_sink(rt: HostRuntime) -> Result<(), Fail> {
     let game = FreeCell::new(4).ok_or("four cells")?;
-    let position = board(FOUR_CARDS)?;
+    let position = board(TWO_KINGS)?;
     let boards = TWO_BOARDS.as_bytes();
     let cases: [(&[u8], Result<u32, ReplayFault>); 6] = [
         (b"1a 1h", Err(ReplayFault::Write)),

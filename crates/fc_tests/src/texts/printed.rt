@@ -32,7 +32,7 @@ const TWO_CARDS: &str = "\
     :\n";
 
 // Four cards are left.
-const FOUR_CARDS: &str = "\
+const TWO_KINGS: &str = "\
     Foundations: H-J C-K D-K S-J\n\
     Freecells: - - - -\n\
     : QS KH\n\
@@ -58,7 +58,7 @@ const LOCKED: &str = "\
     : TS QS JS\n";
 
 // Full cells, from which a list of thirty moves leads home.
-const LONG: &str = "\
+const THIRTY_MOVES: &str = "\
     Foundations: H-6 C-7 D-7 S-8\n\
     Freecells: 9C KC KD KH\n\
     : 9H 9S\n\
@@ -111,9 +111,9 @@ fn prints_boards_that_read_back(rt: HostRuntime) -> Result<(), Fail> {
     let cases = [
         ("Foundations: H-K C-K D-K S-Q\nFreecells: KS\n", ONE_CARD),
         ("Foundations: H-K C-K D-K S-J\nQS KS\n", TWO_CARDS),
-        (boards::FOUR_CARDS, FOUR_CARDS),
+        (boards::TWO_KINGS, TWO_KINGS),
         (boards::LOCKED, LOCKED),
-        (boards::LONG, LONG),
+        (boards::THIRTY_MOVES, THIRTY_MOVES),
         (full, FULL),
     ];
     for (text, printed) in cases {
@@ -212,7 +212,7 @@ fn reads_exchanged_columns(rt: HostRuntime) -> Result<(), Fail> {
     let text = b"founds: s-j h-j c-k d-k\r\n: qh ks\r\n: qs kh\r\n";
     let mut position = read_board(text, 0)?;
     position.swap_columns(0, 1);
-    let four = read_board(boards::FOUR_CARDS.as_bytes(), 0)?;
+    let four = read_board(boards::TWO_KINGS.as_bytes(), 0)?;
     assert_eq!(rt; print_board(&position, 0), print_board(&four, 0));
     Ok(())
 }

@@ -1,3 +1,0 @@
-mod ExpandLemmas
-mod PlainLemmas
-mod SearchLemmas

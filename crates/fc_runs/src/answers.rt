@@ -1,0 +1,78 @@
+//! How an answer is printed, and the exit status that goes with it.
+
+ghost use Rattle.std.specs.Prelude.{◌≡◌, ◌++◌, IfOk, OnOk, All};
+ghost use Rattle.fc_moves.specs.MoveText.{HasText};
+ghost use Rattle.fc_search.specs.Answer.{CanBeWritten};
+ghost use Rattle.fc_runs.specs.AnswerText.{answer_text, list_text, shortest_text, gave_up_text, status_of};
+
+use fc_moves::{Move, move_text};
+use fc_search::Answer;
+use itoa::Buffer;
+use std::alloc::{AllocError, Global};
+
+/// The lines that tell an answer: `shortest N` and the moves, `can't be won`, or `gave up B`.
+///
+/// # Errors
+/// A growth of memory was refused.
+pub fn answer_text(alloc: Global, answer: &Answer) -> Result<Vec<u8>, AllocError>
+    requires texts { CanBeWritten answer.now }
+    ensures text { IfOk result (λ t. t.items ≡ answer_text answer.now) }
+{
+    match answer {
+        Answer::Shortest(moves, _) => shortest_text(alloc, moves.as_slice()),
+        Answer::CannotWin(_) => Vec::from_slice(alloc, b"can't be won\n"),
+        Answer::GaveUp(budget) => gave_up_text(alloc, *budget),
+    }
+}
+
+/// The exit status that tells an answer: 0 for moves, 1 where no list wins, 2 on giving up.
+pub fn status_of(answer: &Answer) -> u8
+    ensures value { result ≡ status_of answer.now }
+{
+    match answer {
+        Answer::Shortest(_, _) => 0,
+        Answer::CannotWin(_) => 1,
+        Answer::GaveUp(_) => 2,
+    }
+}
+
+// The lines of a shortest list.
+fn shortest_text(alloc: Global, moves: &[Move]) -> Result<Vec<u8>, AllocError>
+    requires texts { All HasText moves.now }
+    ensures text { IfOk result (λ t. t.items ≡ shortest_text moves.now) }
+{
+    let mut buffer = Buffer::new();
+    let mut text = Vec::from_slice(alloc, b"shortest ")?;
+    text.extend_from_slice(buffer.format(moves.len()).as_bytes())?;
+    text.extend_from_slice(b"\n")?;
+    push_moves(&mut text, moves)?;
+    text.extend_from_slice(b"\n")?;
+    Ok(text)
+}
+
+// The line of a search that gave up.
+fn gave_up_text(alloc: Global, budget: u32) -> Result<Vec<u8>, AllocError>
+    ensures text { IfOk result (λ t. t.items ≡ gave_up_text budget) }
+{
+    let mut buffer = Buffer::new();
+    let mut text = Vec::from_slice(alloc, b"gave up ")?;
+    text.extend_from_slice(buffer.format(budget).as_bytes())?;
+    text.extend_from_slice(b"\n")?;
+    Ok(text)
+}
+
+// Appends the texts of moves, with a blank between two.
+fn push_moves(text: &mut Vec<u8>, moves: &[Move]) -> Result<(), AllocError>
+    requires texts { All HasText moves.now }
+    ensures text { OnOk result (text.new.items ≡ text.old.items ++ list_text moves.now) }
+{
+    let Some((first, rest)) = moves.split_first() else {
+        return Ok(());
+    };
+    text.extend_from_slice(&move_text(*first))?;
+    for m in rest {
+        text.extend_from_slice(b" ")?;
+        text.extend_from_slice(&move_text(*m))?;
+    }
+    Ok(())
+}

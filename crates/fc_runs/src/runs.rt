@@ -1,0 +1,157 @@
+//! The runs of the program, over any source and any sink.
+
+ghost use Rattle.std.specs.Prelude.{◌≡◌, ◌≤◌, IfOk, IfErr};
+ghost use Rattle.fc_io.specs.Moves.{GivesAtMost};
+ghost use Rattle.fc_runs.specs.Runs.{IsSolved, IsSolveFault, GivesBoard, IsReadFault, IsDealt, IsDealFault, IsReplayed, IsReplayFault};
+ghost use Rattle.fc_runs.specs.Fault.{moves_fault, replay_fault};
+
+use crate::answers::{answer_text, status_of};
+use crate::faults::{Input, Output, ProgramFault};
+use fc_deal::{deal, deal_text};
+use fc_io::{ReadFault, Sink, Source, read_to_vec, read_up_to, write_all};
+use fc_moves::Game;
+use fc_position::Position;
+use fc_replay::{ReplayFault, replay};
+use fc_search::{MOST_BUDGET, solve};
+use fc_text::read_board;
+use std::alloc::Global;
+
+/// The most bytes that a board's text may have.
+const LONGEST_BOARD: usize = 4096;
+
+/// The most bytes that a text of moves may have.
+const LONGEST_MOVES: usize = 1_048_576;
+
+/// Reads a board of the game, searches under a home rule of at most 2 with at most `budget` stored classes, and writes the
+/// answer: the moves of a shortest list, that no list of moves wins, or that more than `budget` positions can be reached.
+/// The status tells which: 0, 1 or 2.
+///
+/// # Errors
+/// In this order: a budget outside 1 to 4,000,000; a board that can't be read; a text that is none of the game; want of
+/// memory; an answer that can't be written, of which a front may be written. After any other fault nothing is.
+pub fn run_solve<G: Game + Drop, S: Source, K: Sink>(
+    alloc: Global,
+    game: &G,
+    rule: u8,
+    board: &mut S,
+    budget: u32,
+    out: &mut K,
+) -> Result<u8, ProgramFault>
+    requires rule { rule ≤ 2 }
+    ensures answered { IfOk result (IsSolved (G.game game.now) rule budget
+        record { old = S.told board.old; new = S.told board.new; failed = S.has_failed board.new }
+        record { old = K.held out.old; new = K.held out.new; failed = K.has_failed out.new }) }
+    ensures fault { IfErr result (IsSolveFault (G.game game.now) rule budget
+        record { old = S.told board.old; new = S.told board.new; failed = S.has_failed board.new }
+        record { old = K.held out.old; new = K.held out.new; failed = K.has_failed out.new }) }
+    ensures taken { GivesAtMost (S.told board.old) (S.told board.new) 4097 }
+{
+    if budget == 0 || budget > MOST_BUDGET {
+        return Err(ProgramFault::Budget);
+    }
+    let start = read_position(board, game.cells())?;
+    let Ok(answer) = solve(alloc, game, rule, &start, budget) else {
+        return Err(ProgramFault::Memory);
+    };
+    let text = answer_text(alloc, &answer)?;
+    match write_all(out, text.as_slice()) {
+        Ok(()) => Ok(status_of(&answer)),
+        Err(_) => Err(ProgramFault::Write(Output::Answer)),
+    }
+}
+
+// Reads a board of a game with so many cells.
+fn read_position<S: Source>(board: &mut S, cells: u8) -> Result<Position, ProgramFault>
+    requires game { cells ≤ 4 }
+    ensures read { IfOk result (GivesBoard cells
+        record { old = S.told board.old; new = S.told board.new; failed = S.has_failed board.new }) }
+    ensures fault { IfErr result (IsReadFault cells
+        record { old = S.told board.old; new = S.told board.new; failed = S.has_failed board.new }) }
+    ensures taken { GivesAtMost (S.told board.old) (S.told board.new) 4097 }
+{
+    let mut room = [0; LONGEST_BOARD + 1];
+    let count = match read_up_to(board, &mut room) {
+        Ok(count) => count,
+        Err(_) => return Err(ProgramFault::Read(Input::Board)),
+    };
+    match read_board(&room[..count], cells) {
+        Ok(position) => Ok(position),
+        Err(fault) => Err(ProgramFault::Board(fault)),
+    }
+}
+
+/// Writes the columns of deal `n`. The status is 0.
+///
+/// # Errors
+/// A number outside 1 to 1,000,000, and nothing is written; or a text that can't be written, of which a front may be.
+pub fn run_deal<K: Sink>(n: u32, out: &mut K) -> Result<u8, ProgramFault>
+    ensures dealt { IfOk result (IsDealt n
+        record { old = K.held out.old; new = K.held out.new; failed = K.has_failed out.new }) }
+    ensures fault { IfErr result (IsDealFault n
+        record { old = K.held out.old; new = K.held out.new; failed = K.has_failed out.new }) }
+{
+    let Some(position) = deal(n) else {
+        return Err(ProgramFault::Number(n));
+    };
+    match write_all(out, deal_text(&position).as_bytes()) {
+        Ok(()) => Ok(0),
+        Err(_) => Err(ProgramFault::Write(Output::Answer)),
+    }
+}
+
+/// Reads a board of the game and a text of moves, and writes the boards after the first move, the second, and so on. The
+/// status is 0.
+///
+/// # Errors
+/// In this order: a board that can't be read; a text that is none of the game; moves that can't be read, are longer than
+/// 1,048,576 bytes, or want of memory, whichever is met first; then at its step a token that is no move, a move that
+/// isn't allowed, or a board that can't be written. The boards before that step stand written.
+pub fn run_replay<G: Game, B: Source, M: Source, K: Sink>(
+    alloc: Global,
+    game: &G,
+    board: &mut B,
+    moves: &mut M,
+    out: &mut K,
+) -> Result<u8, ProgramFault>
+    ensures replayed { IfOk result (IsReplayed (G.game game.now)
+        record { old = B.told board.old; new = B.told board.new; failed = B.has_failed board.new }
+        record { old = M.told moves.old; new = M.told moves.new; failed = M.has_failed moves.new }
+        record { old = K.held out.old; new = K.held out.new; failed = K.has_failed out.new }) }
+    ensures fault { IfErr result (IsReplayFault (G.game game.now)
+        record { old = B.told board.old; new = B.told board.new; failed = B.has_failed board.new }
+        record { old = M.told moves.old; new = M.told moves.new; failed = M.has_failed moves.new }
+        record { old = K.held out.old; new = K.held out.new; failed = K.has_failed out.new }) }
+    ensures taken_board { GivesAtMost (B.told board.old) (B.told board.new) 4097 }
+    ensures taken_moves { GivesAtMost (M.told moves.old) (M.told moves.new) 1048577 }
+{
+    let start = read_position(board, game.cells())?;
+    let text = match read_to_vec(alloc, moves, LONGEST_MOVES) {
+        Ok(text) => text,
+        Err(fault) => return Err(moves_fault(fault)),
+    };
+    match replay(game, &start, text.as_slice(), out) {
+        Ok(_) => Ok(0),
+        Err(fault) => Err(replay_fault(fault)),
+    }
+}
+
+// The fault of a text of moves that wasn't read.
+fn moves_fault(fault: ReadFault) -> ProgramFault
+    ensures value { result ≡ moves_fault fault }
+{
+    match fault {
+        ReadFault::Failed => ProgramFault::Read(Input::Moves),
+        ReadFault::TooLong => ProgramFault::TooLong(Input::Moves),
+        ReadFault::Memory => ProgramFault::Memory,
+    }
+}
+
+// The fault of moves that weren't replayed to their end.
+fn replay_fault(fault: ReplayFault) -> ProgramFault
+    ensures value { result ≡ replay_fault fault }
+{
+    match fault {
+        ReplayFault::Write => ProgramFault::Write(Output::Answer),
+        _ => ProgramFault::Moves(fault),
+    }
+}

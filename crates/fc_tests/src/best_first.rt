@@ -1,0 +1,372 @@
+//! The search over a question of the tests' own: to reach a sum by adding 2, 4 and 6.
+
+ghost use Rattle.std.specs.Prelude.{◌≡◌, ℕ, ◌+◌, ◌-◌, ◌≤◌, ◌++◌, option_to_list};
+ghost use Rattle.fc_best_first.specs.Turn.{AreChildren};
+ghost use Rattle.fc_tests.specs.Sums.{IsChildOf, number_exact, sums, sums_lawful};
+
+use fc_best_first::{
+    Book, Child, ExactKey, Mark, Offered, Search, SearchFault, Space, Status, Step,
+};
+use fc_frontier::{BucketFrontier, Frontier, ListFrontier};
+use std::alloc::Global;
+use std::marker::Model;
+use std::process::Abort;
+use std::test::Fail;
+
+// A sum that was reached.
+#[derive(Clone, Copy, PartialEq, Eq, Hash)]
+struct Sum {
+    value: u32,
+}
+
+impl Model for Sum {
+    ghost Value = { ℕ };
+
+    ghost view = { λ s. s.value };
+
+    ghost inverse = { λ n. record { value = n } };
+}
+
+impl ExactKey for Sum {
+    ghost exact = { number_exact };
+}
+
+// To reach a sum by adding 2 at a cost of 3, 4 at a cost of 4 and 6 at a cost of 9.
+#[derive(Drop)]
+struct Sums {
+    goal: u8,
+}
+
+#[derive(Drop)]
+struct Addends {
+    two: Option<Child<Sum>>,
+    four: Option<Child<Sum>>,
+    six: Option<Child<Sum>>,
+}
+
+impl Sums {
+    fn child(&self, key: Sum, size: u8, cost: u8) -> Option<Child<Sum>>
+        ensures child { IsChildOf self.now.goal key size cost result }
+    {
+        let goal = self.goal;
+        let room = goal.checked_sub(size)?;
+        if u32::from(room) < key.value {
+            return None;
+        }
+        let value = key.value + u32::from(size);
+        let bound = (u32::from(goal) - value) as u8;
+        Some(Child {
+            key: Sum { value },
+            cost,
+            bound,
+        })
+    }
+
+    fn addends(&self, key: Sum) -> Addends
+        ensures children { AreChildren (sums self.now.goal) key (option_to_list result.two ++ (option_to_list result.four ++ option_to_list result.six)) }
+    {
+        Addends {
+            two: self.child(key, 2, 3),
+            four: self.child(key, 4, 4),
+            six: self.child(key, 6, 9),
+        }
+    }
+}
+
+impl Space<Sum> for Sums {
+    ghost graph = { λ s. sums s.goal };
+
+    type Walk = Addends;
+
+    ghost rest = { λ w. option_to_list w.two ++ (option_to_list w.four ++ option_to_list w.six) };
+
+    fn start(&self) -> Child<Sum> {
+        Child {
+            key: Sum { value: 0 },
+            cost: 0,
+            bound: self.goal,
+        }
+    }
+
+    fn is_won(&self, key: &Sum) -> bool {
+        key.value == u32::from(self.goal)
+    }
+
+    fn bound(&self, key: &Sum) -> u8 {
+        u32::from(self.goal).saturating_sub(key.value) as u8
+    }
+
+    fn walk(&self) -> Addends {
+        Addends {
+            two: None,
+            four: None,
+            six: None,
+        }
+    }
+
+    fn visit(&self, key: &Sum, walk: &mut Addends) -> u8 {
+        *walk = self.addends(*key);
+        self.bound(key)
+    }
+
+    fn next(&self, walk: &mut Addends) -> Option<Child<Sum>> {
+        if let Some(child) = walk.two.take() {
+            return Some(child);
+        }
+        if let Some(child) = walk.four.take() {
+            return Some(child);
+        }
+        walk.six.take()
+    }
+
+    ghost lawful = { λ s. sums_lawful s.goal };
+}
+
+// How a search for a goal ends: at this cost; with no way to it; where this sum, met from the one of this number, finds no
+// place; or in no such way.
+#[derive(Clone, Copy, PartialEq)]
+enum End {
+    Cost(u32),
+    CannotWin,
+    GaveUp(u32, u32),
+    Other,
+}
+
+// A goal and a budget, and how a search ends: how many sums it stores, where that is told, and how many of its turns
+// answer `Running`, at least and at most.
+struct Row {
+    goal: u8,
+    budget: u32,
+    end: End,
+    stored: Option<u32>,
+    turns: (u32, u32),
+}
+
+fn end_of<F: Frontier + Drop>(search: &Search<Sum, F, Sums>) -> End {
+    match search.status() {
+        Status::Shortest(number) => search
+            .entry(*number)
+            .map_or(End::Other, |e| End::Cost(e.1.cost)),
+        Status::CannotWin => End::CannotWin,
+        Status::GaveUp(key, parent) => End::GaveUp(key.value, *parent),
+        _ => End::Other,
+    }
+}
+
+// A search for the goal, after all its turns, and how many of them answered `Running`.
+fn by_turns<F: Frontier + Drop>(
+    alloc: Global,
+    row: &Row,
+) -> Result<(Search<Sum, F, Sums>, u32), Fail> {
+    let goal = row.goal;
+    let mut search: Search<Sum, F, Sums> = Search::new(alloc, Sums { goal }, row.budget)?;
+    for turns in 0..1000u32 {
+        if search.turn()? == Step::Done {
+            return Ok((search, turns));
+        }
+    }
+    Err("a search that ends".into())
+}
+
+// The search has stored what the row tells, the sum 0 first.
+fn stores<F: Frontier + Drop>(
+    rt: &impl Abort,
+    search: &Search<Sum, F, Sums>,
+    row: &Row,
+) -> Result<(), Fail> {
+    if let Some(count) = row.stored {
+        assert!(rt;
+            search.len() == count as usize && search.entry(count).is_none(),
+            "sums stored"
+        );
+    }
+    let zero = Sum { value: 0 };
+    let start = Mark { cost: 0, parent: 0 };
+    let first = search.entry(0).ok_or("the sum 0")?;
+    assert!(rt; *first.0 == zero && first.1 == start, "the sum 0");
+    assert!(rt;
+        search.budget() == row.budget && search.space().goal == row.goal,
+        "what was asked"
+    );
+    Ok(())
+}
+
+// Searches with this queue, by turns and in one run, and then once more, which changes nothing.
+fn ends<F: Frontier + Drop>(rt: &impl Abort, alloc: Global, row: &Row) -> Result<(), Fail> {
+    let (mut search, turns) = by_turns::<F>(alloc, row)?;
+    assert!(rt;
+        row.turns.0 <= turns && turns <= row.turns.1,
+        "turns that answered Running"
+    );
+    assert!(rt;
+        search.turn() == Ok(Step::Done) && end_of(&search) == row.end,
+        "a turn more"
+    );
+    stores(rt, &search, row)?;
+    let goal = row.goal;
+    let mut whole: Search<Sum, F, Sums> = Search::new(alloc, Sums { goal }, row.budget)?;
+    for _ in 0..2 {
+        assert!(rt; whole.run() == Ok(()) && end_of(&whole) == row.end, "a run");
+    }
+    Ok(())
+}
+
+// Searches end as the rows tell, with either queue.
+fn all_end(rt: &impl Abort, alloc: Global, rows: &[Row]) -> Result<(), Fail> {
+    for row in rows {
+        ends::<ListFrontier>(rt, alloc, row)?;
+        ends::<BucketFrontier>(rt, alloc, row)?;
+    }
+    Ok(())
+}
+
+// 6 is 2 and 4 at a cost of 7; one addend alone costs 9, and it is the first way that is met.
+static SIX: [Row; 2] = [
+    Row {
+        goal: 6,
+        budget: 100,
+        end: End::Cost(7),
+        stored: Some(4),
+        turns: (2, 3),
+    },
+    Row {
+        goal: 6,
+        budget: 4,
+        end: End::Cost(7),
+        stored: None,
+        turns: (0, 1000),
+    },
+];
+
+#[test]
+fn a_cheaper_way_that_is_met_later_counts(rt: HostRuntime) -> Result<(), Fail> {
+    all_end(&rt, rt.alloc(), SIX.as_slice())
+}
+
+// 20 is five times 4 at a cost of 20, and 22 is 2 more at a cost of 23.
+static GREATER: [Row; 3] = [
+    Row {
+        goal: 20,
+        budget: 100,
+        end: End::Cost(20),
+        stored: None,
+        turns: (0, 1000),
+    },
+    Row {
+        goal: 22,
+        budget: 100,
+        end: End::Cost(23),
+        stored: None,
+        turns: (0, 1000),
+    },
+    Row {
+        goal: 0,
+        budget: 1,
+        end: End::Cost(0),
+        stored: None,
+        turns: (0, 0),
+    },
+];
+
+#[test]
+fn the_least_cost_is_found(rt: HostRuntime) -> Result<(), Fail> {
+    all_end(&rt, rt.alloc(), GREATER.as_slice())
+}
+
+// No odd sum can be reached: the sums 0, 2, 4, 6 and 8 are stored, and that is all.
+static NINE: [Row; 1] = [Row {
+    goal: 9,
+    budget: 5,
+    end: End::CannotWin,
+    stored: Some(5),
+    turns: (0, 1000),
+}];
+
+#[test]
+fn an_odd_sum_cannot_be_reached(rt: HostRuntime) -> Result<(), Fail> {
+    all_end(&rt, rt.alloc(), NINE.as_slice())
+}
+
+// With room for three sums the third child of 0, the sum 6, finds no place.
+static TOO_FEW: [Row; 1] = [Row {
+    goal: 6,
+    budget: 3,
+    end: End::GaveUp(6, 0),
+    stored: Some(3),
+    turns: (0, 0),
+}];
+
+#[test]
+fn a_search_gives_up_at_its_budget(rt: HostRuntime) -> Result<(), Fail> {
+    all_end(&rt, rt.alloc(), TOO_FEW.as_slice())
+}
+
+// 12 is three times 4, at a cost of 12.
+static TWELVE: [Row; 1] = [Row {
+    goal: 12,
+    budget: 7,
+    end: End::Cost(12),
+    stored: None,
+    turns: (0, 1000),
+}];
+
+#[test]
+fn a_search_runs_to_its_end(rt: HostRuntime) -> Result<(), Fail> {
+    all_end(&rt, rt.alloc(), TWELVE.as_slice())
+}
+
+#[test]
+fn a_budget_is_one_to_four_million(rt: HostRuntime) {
+    let budgets = [
+        (0, Err(SearchFault::Budget)),
+        (4_000_000, Ok(true)),
+        (4_000_001, Err(SearchFault::Budget)),
+    ];
+    for (budget, wanted) in budgets {
+        let search: Result<Search<Sum, ListFrontier, Sums>, SearchFault> = Search::new(
+            rt.alloc(),
+            Sums { goal: 1 },
+            budget,
+        );
+        let is_running = search.map(|s| matches!(s.status(), Status::Running));
+        assert!(rt; is_running == wanted, "at a budget of {budget}");
+    }
+}
+
+// A key is added, met at no less and at less with this budget, and one more finds no place; the two pairs are open, the
+// lesser first.
+fn one_place<F: Frontier + Drop>(rt: &impl Abort, alloc: Global, budget: u32) -> Result<(), Fail>
+    requires { 1 ≤ budget }
+{
+    let forty = Sum { value: 40 };
+    let other = Sum { value: 41 };
+    let dear = Mark { cost: 9, parent: 3 };
+    let cheap = Mark { cost: 7, parent: 5 };
+    let mut book: Book<Sum, F> = Book::new(alloc);
+    assert!(rt; matches!(book.offer(1, forty, dear, 11)?, Offered::Added));
+    assert!(rt; matches!(book.offer(budget, forty, dear, 11)?, Offered::Known));
+    assert!(rt; matches!(book.offer(budget, forty, cheap, 9)?, Offered::Lowered));
+    assert!(rt;
+        matches!(
+            book.offer(1, other, cheap, 9)?,
+            Offered::Full(Sum { value: 41 })
+        )
+    );
+    assert_eq!(rt; book.len(), 1);
+    let stored = book.entry(0).ok_or("the key 40")?;
+    assert!(rt; *stored.0 == forty && stored.1 == cheap);
+    assert!(rt; book.entry(1).is_none());
+    assert_eq!(rt; book.take(), Some((9, 0)));
+    assert_eq!(rt; book.take(), Some((11, 0)));
+    assert_eq!(rt; book.take(), None);
+    Ok(())
+}
+
+#[test]
+fn a_book_with_one_place(rt: HostRuntime) -> Result<(), Fail> {
+    for budget in 1..3 {
+        one_place::<ListFrontier>(&rt, rt.alloc(), budget)?;
+        one_place::<BucketFrontier>(&rt, rt.alloc(), budget)?;
+    }
+    Ok(())
+}

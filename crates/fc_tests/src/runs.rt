@@ -1,0 +1,551 @@
+//! Runs of the program: what they print, their statuses and their faults, over devices that fail too.
+
+use crate::boards::{
+    ALL_HOME, DEAL_ONE, LOCKED, ONE_KING, QUEEN_UNDER_KING, Rules, THREE_SPADES, TWO_KINGS,
+    bakers_game, free_cell,
+};
+use fc_cards::Card;
+use fc_io::testing::Failing;
+use fc_io::{FromReader, FromSlice, ToArray};
+use fc_moves::{Game, Kings, allows, apply, read_move};
+use fc_replay::ReplayFault;
+use fc_runs::{Input, Output, ProgramFault, run_deal, run_replay, run_solve};
+use fc_text::{BoardFault, read_board};
+use std::alloc::Global;
+use std::io;
+use std::process::Abort;
+use std::test::Fail;
+
+// What a run prints: this text; or this line, and then so many moves, which win.
+#[derive(Clone, Copy)]
+enum Printed {
+    Text(&'static [u8]),
+    Moves(&'static [u8], usize),
+}
+
+// A game and a board's text, a budget, and how solving ends.
+struct Row {
+    game: Rules,
+    board: &'static str,
+    budget: u32,
+    wanted: Result<u8, ProgramFault>,
+    printed: Printed,
+}
+
+// Whether the line's moves are so many, each allowed after those before it, and win.
+fn win<G: Game>(game: &G, board: &[u8], line: &[u8], count: usize) -> Result<bool, Fail> {
+    let mut position = read_board(board, game.cells())?;
+    let mut made = 0usize;
+    for word in line.chunks(3) {
+        let m = read_move(word.get(..2).ok_or("two letters")?).ok_or("a move")?;
+        if !allows(game, &position, m) {
+            return Ok(false);
+        }
+        apply(game, &mut position, m);
+        made = made.saturating_add(1);
+    }
+    Ok(made == count && position.is_won())
+}
+
+// Whether what the row's run printed is right.
+fn is_right<G: Game>(game: &G, row: &Row, text: &[u8]) -> Result<bool, Fail> {
+    match row.printed {
+        Printed::Text(wanted) => Ok(text == wanted),
+        Printed::Moves(head, count) => match text.strip_prefix(head) {
+            Some(line) => win(game, row.board.as_bytes(), line, count),
+            None => Ok(false),
+        },
+    }
+}
+
+// Solving the row's board by the first rule ends so.
+fn ends<G: Game + Drop>(rt: &impl Abort, alloc: Global, game: &G, row: &Row) -> Result<(), Fail> {
+    let mut source = FromSlice::new(row.board.as_bytes());
+    let mut out = ToArray::<200>::new();
+    let result = run_solve(alloc, game, 1, &mut source, row.budget, &mut out);
+    assert!(rt; result == row.wanted, "another answer");
+    assert!(rt; is_right(game, row, out.held())?, "another text");
+    Ok(())
+}
+
+// Solving the rows' boards ends so.
+fn all_end(rt: &impl Abort, alloc: Global, rows: &[Row]) -> Result<(), Fail> {
+    for row in rows {
+        match row.game {
+            Rules::FreeCell(cells) => ends(rt, alloc, &free_cell(cells)?, row)?,
+            Rules::Bakers(cells) => ends(rt, alloc, &bakers_game(cells)?, row)?,
+            Rules::Kings(cells) => ends(rt, alloc, &Kings::new(free_cell(cells)?), row)?,
+        }
+    }
+    Ok(())
+}
+
+const SHORTEST: [Row; 4] = [
+    Row {
+        game: Rules::FreeCell(4),
+        board: ONE_KING,
+        budget: 100,
+        wanted: Ok(0),
+        printed: Printed::Text(b"shortest 1\nah\n"),
+    },
+    Row {
+        game: Rules::FreeCell(4),
+        board: ALL_HOME,
+        budget: 1,
+        wanted: Ok(0),
+        printed: Printed::Text(b"shortest 0\n\n"),
+    },
+    Row {
+        game: Rules::FreeCell(4),
+        board: "Foundations: H-K C-K D-K S-Q\n\n\nKS\n",
+        budget: 100,
+        wanted: Ok(0),
+        printed: Printed::Text(b"shortest 1\n3h\n"),
+    },
+    Row {
+        game: Rules::FreeCell(4),
+        board: QUEEN_UNDER_KING,
+        budget: 4000,
+        wanted: Ok(0),
+        printed: Printed::Moves(b"shortest 3\n", 3),
+    },
+];
+
+#[test]
+fn prints_shortest_lists(rt: HostRuntime) -> Result<(), Fail> {
+    all_end(&rt, rt.alloc(), SHORTEST.as_slice())
+}
+
+// Where only kings may go to an empty column and there is no cell, the king of three spades may stand in each of seven
+// columns, which is one class, and nothing else may move.
+const GAMES: [Row; 6] = [
+    Row {
+        game: Rules::FreeCell(0),
+        board: THREE_SPADES,
+        budget: 4000,
+        wanted: Ok(0),
+        printed: Printed::Moves(b"shortest 4\n", 4),
+    },
+    Row {
+        game: Rules::Kings(1),
+        board: THREE_SPADES,
+        budget: 4000,
+        wanted: Ok(0),
+        printed: Printed::Moves(b"shortest 4\n", 4),
+    },
+    Row {
+        game: Rules::Kings(0),
+        board: THREE_SPADES,
+        budget: 1,
+        wanted: Ok(1),
+        printed: Printed::Text(b"can't be won\n"),
+    },
+    Row {
+        game: Rules::Kings(0),
+        board: THREE_SPADES,
+        budget: 100_000,
+        wanted: Ok(1),
+        printed: Printed::Text(b"can't be won\n"),
+    },
+    Row {
+        game: Rules::Bakers(4),
+        board: ONE_KING,
+        budget: 100,
+        wanted: Ok(0),
+        printed: Printed::Text(b"shortest 1\nah\n"),
+    },
+    Row {
+        game: Rules::FreeCell(0),
+        board: ONE_KING,
+        budget: 2,
+        wanted: Err(ProgramFault::Board(BoardFault::TooManyCells(2))),
+        printed: Printed::Text(b""),
+    },
+];
+
+#[test]
+fn tells_games_apart(rt: HostRuntime) -> Result<(), Fail> {
+    all_end(&rt, rt.alloc(), GAMES.as_slice())
+}
+
+const STORED: [Row; 2] = [
+    Row {
+        game: Rules::FreeCell(4),
+        board: QUEEN_UNDER_KING,
+        budget: 1,
+        wanted: Ok(2),
+        printed: Printed::Text(b"gave up 1\n"),
+    },
+    Row {
+        game: Rules::FreeCell(4),
+        board: QUEEN_UNDER_KING,
+        budget: 2,
+        wanted: Ok(0),
+        printed: Printed::Moves(b"shortest 3\n", 3),
+    },
+];
+
+#[test]
+fn stores_as_many_classes_as_are_needed(rt: HostRuntime) -> Result<(), Fail> {
+    all_end(&rt, rt.alloc(), STORED.as_slice())
+}
+
+const LOST: [Row; 2] = [
+    Row {
+        game: Rules::FreeCell(4),
+        board: LOCKED,
+        budget: 1,
+        wanted: Ok(1),
+        printed: Printed::Text(b"can't be won\n"),
+    },
+    Row {
+        game: Rules::FreeCell(4),
+        board: LOCKED,
+        budget: 100,
+        wanted: Ok(1),
+        printed: Printed::Text(b"can't be won\n"),
+    },
+];
+
+#[test]
+fn tells_what_cannot_be_won(rt: HostRuntime) -> Result<(), Fail> {
+    all_end(&rt, rt.alloc(), LOST.as_slice())
+}
+
+const REFUSED: [Row; 6] = [
+    Row {
+        game: Rules::FreeCell(4),
+        board: DEAL_ONE,
+        budget: 1,
+        wanted: Ok(2),
+        printed: Printed::Text(b"gave up 1\n"),
+    },
+    Row {
+        game: Rules::FreeCell(4),
+        board: DEAL_ONE,
+        budget: 30,
+        wanted: Ok(2),
+        printed: Printed::Text(b"gave up 30\n"),
+    },
+    Row {
+        game: Rules::FreeCell(4),
+        board: DEAL_ONE,
+        budget: 0,
+        wanted: Err(ProgramFault::Budget),
+        printed: Printed::Text(b""),
+    },
+    Row {
+        game: Rules::FreeCell(4),
+        board: DEAL_ONE,
+        budget: 4_000_001,
+        wanted: Err(ProgramFault::Budget),
+        printed: Printed::Text(b""),
+    },
+    Row {
+        game: Rules::FreeCell(4),
+        board: "KX\n",
+        budget: 0,
+        wanted: Err(ProgramFault::Budget),
+        printed: Printed::Text(b""),
+    },
+    Row {
+        game: Rules::FreeCell(4),
+        board: "KX\n",
+        budget: 1,
+        wanted: Err(ProgramFault::Board(BoardFault::BadCard(1))),
+        printed: Printed::Text(b""),
+    },
+];
+
+#[test]
+fn gives_up_and_refuses(rt: HostRuntime) -> Result<(), Fail> {
+    all_end(&rt, rt.alloc(), REFUSED.as_slice())
+}
+
+// Solves one king over devices that move one byte a call and fail after so many calls: the run ends so, with so much of
+// its text written.
+fn ends_over(
+    rt: &impl Abort,
+    alloc: Global,
+    calls: (u32, u32),
+    wanted: Result<u8, ProgramFault>,
+    printed: &[u8],
+) -> Result<(), Fail> {
+    let mut source = Failing::new(FromSlice::new(ONE_KING.as_bytes()), calls.0);
+    let mut out = Failing::new(ToArray::<200>::new(), calls.1);
+    let result = run_solve(alloc, &free_cell(4)?, 1, &mut source, 100, &mut out);
+    assert!(rt;
+        result == wanted && out.device.held() == printed,
+        "another answer"
+    );
+    Ok(())
+}
+
+static PRINTED: [u8; 14] = *b"shortest 1\nah\n";
+
+#[test]
+fn reads_byte_by_byte(rt: HostRuntime) -> Result<(), Fail> {
+    ends_over(&rt, rt.alloc(), (1000, 1000), Ok(0), PRINTED.as_slice())
+}
+
+#[test]
+fn tells_failing_devices(rt: HostRuntime) -> Result<(), Fail> {
+    // The text is read by as many calls as it has bytes and one more, which finds the end.
+    for calls in 0..=ONE_KING.len() as u32 {
+        let wanted = Err(ProgramFault::Read(Input::Board));
+        ends_over(&rt, rt.alloc(), (calls, 1000), wanted, b"")?;
+    }
+    for count in 0..PRINTED.len() {
+        let calls = (1000, count as u32);
+        let wanted = Err(ProgramFault::Write(Output::Answer));
+        ends_over(&rt, rt.alloc(), calls, wanted, &PRINTED[..count])?;
+    }
+    Ok(())
+}
+
+#[test]
+fn stops_a_reader_that_never_ends(rt: HostRuntime) -> Result<(), Fail> {
+    let mut source = FromReader::new(io::repeat(b' '));
+    let mut out = ToArray::<200>::new();
+    let result = run_solve(rt.alloc(), &free_cell(4)?, 1, &mut source, 100, &mut out);
+    let wanted = Err(ProgramFault::Board(BoardFault::TooLong));
+    assert!(rt; result == wanted && out.held() == b"".as_slice());
+    Ok(())
+}
+
+const DEALS: [(u32, Result<u8, ProgramFault>, &str); 3] = [
+    (1, Ok(0), DEAL_ONE),
+    (0, Err(ProgramFault::Number(0)), ""),
+    (1_000_001, Err(ProgramFault::Number(1_000_001)), ""),
+];
+
+#[test]
+fn deals(rt: HostRuntime) {
+    for (number, wanted, printed) in DEALS {
+        let mut out = ToArray::<200>::new();
+        let result = run_deal(number, &mut out);
+        assert!(rt; result == wanted && out.held() == printed.as_bytes(), "deal {number}");
+    }
+    let mut short = ToArray::<10>::new();
+    let result = run_deal(1, &mut short);
+    let wanted = Err(ProgramFault::Write(Output::Answer));
+    assert!(rt; result == wanted && short.held() == b"JD KD 2S 4".as_slice());
+}
+
+const FAULTS: [(ProgramFault, &str, u8); 15] = [
+    (
+        ProgramFault::Number(0),
+        "deal number 0 is outside 1 to 1000000",
+        3,
+    ),
+    (
+        ProgramFault::Budget,
+        "the budget is outside 1 to 4000000",
+        3,
+    ),
+    (
+        ProgramFault::Board(BoardFault::TooLong),
+        "board: too long",
+        3,
+    ),
+    (
+        ProgramFault::Board(BoardFault::BadCard(2)),
+        "board: line 2: not a card",
+        3,
+    ),
+    (
+        ProgramFault::Board(BoardFault::BadFoundation(1)),
+        "board: line 1: not a foundation",
+        3,
+    ),
+    (
+        ProgramFault::Board(BoardFault::TooManyCells(1)),
+        "board: line 1: too many cells",
+        3,
+    ),
+    (
+        ProgramFault::Board(BoardFault::TooManyColumns(9)),
+        "board: line 9: too many columns",
+        3,
+    ),
+    (
+        ProgramFault::Board(BoardFault::RepeatedLine(2)),
+        "board: line 2: repeated",
+        3,
+    ),
+    (ProgramFault::TooLong(Input::Moves), "moves: too long", 3),
+    (
+        ProgramFault::Moves(ReplayFault::BadMove(1)),
+        "step 1: not a move",
+        3,
+    ),
+    (
+        ProgramFault::Moves(ReplayFault::NotAllowed(3)),
+        "step 3: not allowed",
+        3,
+    ),
+    (ProgramFault::Read(Input::Moves), "cannot read the moves", 5),
+    (ProgramFault::Read(Input::Board), "cannot read the board", 5),
+    (
+        ProgramFault::Write(Output::Answer),
+        "cannot write the answer",
+        5,
+    ),
+    (ProgramFault::Memory, "want of memory", 4),
+];
+
+// A fault's text and its status are these.
+fn tells(
+    rt: &impl Abort,
+    alloc: Global,
+    fault: ProgramFault,
+    text: &str,
+    status: u8,
+) -> Result<(), Fail> {
+    let told = format!(in alloc; "{fault}")?;
+    assert!(rt; told.as_str() == text && fault.status() == status, "{text}");
+    Ok(())
+}
+
+#[test]
+fn tells_faults(rt: HostRuntime) -> Result<(), Fail> {
+    for (fault, text, status) in FAULTS {
+        tells(&rt, rt.alloc(), fault, text, status)?;
+    }
+    let card = Card::read(b"JD").ok_or("a card")?;
+    let faults = [
+        (
+            BoardFault::RepeatedCard(card),
+            "board: card JD stands twice",
+        ),
+        (BoardFault::MissingCard(card), "board: card JD is missing"),
+    ];
+    for (fault, text) in faults {
+        tells(&rt, rt.alloc(), ProgramFault::Board(fault), text, 3)?;
+    }
+    Ok(())
+}
+
+// The boards of two kings after `1a` and then `1h`.
+const TWO_BOARDS: &[u8] = b"Foundations: H-J C-K D-K S-J
+Freecells: KH - - -
+: QS
+: QH KS
+:
+:
+:
+:
+:
+:
+Foundations: H-J C-K D-K S-Q
+Freecells: KH - - -
+:
+: QH KS
+:
+:
+:
+:
+:
+:
+";
+
+// After how many calls the board, the moves and the sink fail.
+#[derive(Clone, Copy)]
+struct Calls {
+    board: u32,
+    moves: u32,
+    sink: u32,
+}
+
+// Replays moves of two kings over devices that move one byte a call and fail after so many calls: the run ends so, with
+// this written.
+fn replays_over(
+    rt: &impl Abort,
+    alloc: Global,
+    moves: &[u8],
+    calls: Calls,
+    wanted: Result<u8, ProgramFault>,
+    printed: &[u8],
+) -> Result<(), Fail> {
+    let mut board = Failing::new(FromSlice::new(TWO_KINGS.as_bytes()), calls.board);
+    let mut list = Failing::new(FromSlice::new(moves), calls.moves);
+    let mut out = Failing::new(ToArray::<400>::new(), calls.sink);
+    let result = run_replay(alloc, &free_cell(4)?, &mut board, &mut list, &mut out);
+    assert!(rt;
+        result == wanted && out.device.held() == printed,
+        "another end"
+    );
+    Ok(())
+}
+
+// So many calls that no device fails.
+const ENOUGH: Calls = Calls {
+    board: 1000,
+    moves: 1000,
+    sink: 1000,
+};
+
+const REPLAYS: [(&[u8], Result<u8, ProgramFault>, &[u8]); 3] = [
+    (b"1a 1H\r\n", Ok(0), TWO_BOARDS),
+    (
+        b"1a 1h 1h",
+        Err(ProgramFault::Moves(ReplayFault::NotAllowed(3))),
+        TWO_BOARDS,
+    ),
+    (
+        b"9h",
+        Err(ProgramFault::Moves(ReplayFault::BadMove(1))),
+        b"",
+    ),
+];
+
+#[test]
+fn replays_moves(rt: HostRuntime) -> Result<(), Fail> {
+    for (moves, wanted, printed) in REPLAYS {
+        replays_over(&rt, rt.alloc(), moves, ENOUGH, wanted, printed)?;
+        // And over devices that move as many bytes as they can.
+        let mut board = FromSlice::new(TWO_KINGS.as_bytes());
+        let mut list = FromSlice::new(moves);
+        let mut out = ToArray::<400>::new();
+        let result = run_replay(rt.alloc(), &free_cell(4)?, &mut board, &mut list, &mut out);
+        assert!(rt; result == wanted && out.held() == printed, "another end");
+    }
+    Ok(())
+}
+
+#[test]
+fn replays_over_failing_devices(rt: HostRuntime) -> Result<(), Fail> {
+    let moves = b"1a 1h".as_slice();
+    for board in 0..=TWO_KINGS.len() as u32 {
+        let calls = Calls { board, ..ENOUGH };
+        let wanted = Err(ProgramFault::Read(Input::Board));
+        replays_over(&rt, rt.alloc(), moves, calls, wanted, b"")?;
+    }
+    for read in 0..=moves.len() as u32 {
+        let calls = Calls {
+            moves: read,
+            ..ENOUGH
+        };
+        let wanted = Err(ProgramFault::Read(Input::Moves));
+        replays_over(&rt, rt.alloc(), moves, calls, wanted, b"")?;
+    }
+    for count in 0..TWO_BOARDS.len() {
+        let calls = Calls {
+            sink: count as u32,
+            ..ENOUGH
+        };
+        let wanted = Err(ProgramFault::Write(Output::Answer));
+        replays_over(&rt, rt.alloc(), moves, calls, wanted, &TWO_BOARDS[..count])?;
+    }
+    Ok(())
+}
+
+#[test]
+fn stops_moves_that_never_end(rt: HostRuntime) -> Result<(), Fail> {
+    let mut board = FromSlice::new(TWO_KINGS.as_bytes());
+    let mut moves = FromReader::new(io::repeat(b' '));
+    let mut out = ToArray::<400>::new();
+    let result = run_replay(rt.alloc(), &free_cell(4)?, &mut board, &mut moves, &mut out);
+    assert!(rt; result == Err(ProgramFault::TooLong(Input::Moves)));
+    Ok(())
+}
