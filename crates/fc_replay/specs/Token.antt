@@ -13,11 +13,6 @@ is_gap b = is_blank b || (b == 13) || is_line_end b
 abbrev pub move_tokens : List ℕ → List (List ℕ)
 move_tokens text = filter is_token (parts_of is_gap text)
 
--- a text is parted into its first token and the rest; an empty token stands for none
-abbrev pub SplitsToken : List ℕ → List ℕ → List ℕ → Type 0
-SplitsToken text [] rest = (move_tokens text ≡ []) × (move_tokens rest ≡ [])
-SplitsToken text (b ∷ bytes) rest = move_tokens text ≡ (b ∷ bytes) ∷ move_tokens rest
-
 -- the token is the move's text, in either case
 abbrev pub SpellsMove : List ℕ → Move → Type 0
 SpellsMove token m = HasText m × (map to_ascii_lowercase token ≡ move_text m)

@@ -3,6 +3,7 @@
 
 pub use boards::read_board;
 pub use faults::BoardFault;
+pub use pieces::{Gaps, Tokens};
 pub use printers::print_board;
 
 mod boards;
