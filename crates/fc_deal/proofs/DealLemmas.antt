@@ -14,7 +14,6 @@ use Rattle.fc_position.specs.Board.{Board, places, count_in_column, count_at_hom
 use Rattle.fc_position.specs.Tally.{IsFaultOf}
 use Rattle.fc_position.proofs.TallyLemmas.{no_fault}
 use Rattle.fc_position.specs.declared.faults.PartsFault.{PartsFault}
-use Rattle.fc_position.specs.declared.faults.PartsFault.TheVariants.{Repeated, Missing}
 use Rattle.fc_deal.specs.Draw.{draw}
 use Rattle.fc_deal.specs.Deal.{whole_deck, picked, deck_after, taken, dealt_column, dealt_columns, dealt_board}
 

@@ -1,14 +1,13 @@
 -- The letters of cards are ASCII, and the lines of a position have room in 200 bytes.
-use Rattle.std.proofs.Common.{◌≡◌, ℕ, ◌+◌, ◌-◌, ◌*◌, ◌≤◌, ◌<◌, List, [], ◌∷◌, ◌++◌, length, take, true, cond, eqb, ltb, refl, sym, ◌∙◌, ap, ⊎_elim, arith}
+use Rattle.std.proofs.Common.{◌≡◌, ℕ, ◌+◌, ◌-◌, ◌*◌, ◌≤◌, ◌<◌, List, [], ◌∷◌, ◌++◌, length, take, true, ltb, refl, sym, ◌∙◌, ap, ⊎_elim, arith}
 use Rattle.std.specs.Prelude.{slice_index, sum_by, codes}
 use Rattle.std.specs.List.{list_all, flat_map}
 use Rattle.std.proofs.lemmas.List.{append-nil, append_assoc, get_or_past, length-append, length-take-le, take_all}
-use Rattle.std.proofs.lemmas.List.Concat.{length-flat_map}
-use Rattle.std.proofs.lemmas.List.Sums.{AllPass-from_list_all, sum_by-cons, sum_by-append, sum_by_more_le}
+use Rattle.std.proofs.lemmas.List.Sums.{AllPass-from_list_all, sum_by-cons, sum_by_more_le}
 use Rattle.std.proofs.lemmas.Bool.{cases_lt}
 use Rattle.std.proofs.lemmas.Bool.Decides.{nat_tests}
 use Rattle.fc_cards.specs.Texts.{rank_letter, suit_letter, card_text}
-use Rattle.fc_position.specs.Board.{Board, column, places, count_in_column}
+use Rattle.fc_position.specs.Board.{Board, column}
 use Rattle.fc_position.specs.Position.{IsPosition}
 use Rattle.fc_position.proofs.BoardLemmas.{cards_most}
 use Rattle.fc_deal.specs.DealText.{cards_text, line_text}

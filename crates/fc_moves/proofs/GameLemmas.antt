@@ -12,7 +12,7 @@ use Rattle.fc_cards.specs.contracts.suits.Suit.{the_type}
 use denote.Enum.Bare.{sameb}
 use Rattle.fc_cards.specs.Suit.{suit_index}
 use Rattle.fc_moves.specs.GameRules.{GameRules, Stands, Opens, IsLowerOf, all_cards, pairs_where, free_cell, bakers_game, kings, is_red, are_of_other_colour}
-use Rattle.fc_moves.specs.GameLaws.{Contains-cases, Contains-first, Contains-later, Contains-filter, Contains-from_filter, pairs_where-have, pairs_where-only, every_card}
+use Rattle.fc_moves.specs.GameLaws.{Contains-cases, Contains-first, Contains-filter, Contains-from_filter, pairs_where-have, pairs_where-only, every_card}
 
 -- the test tells the colour
 is_red-is : (c : ℕ) (b : Bool) → (IsTrue b ↔ IsRed c) → is_red c ≡ b

@@ -1,5 +1,5 @@
 -- Texts of moves: their tokens, and the moves that these spell.
-use Rattle.std.specs.Prelude.{◌≡◌, ℕ, ◌==◌, ◌||◌, Bool, List, [], ◌∷◌, map, filter}
+use Rattle.std.specs.Prelude.{◌≡◌, ℕ, ◌==◌, ◌||◌, Bool, List, map, filter}
 use Rattle.std.specs.Char.{to_ascii_lowercase}
 use Rattle.fc_moves.specs.declared.steps.Move.{Move}
 use Rattle.fc_moves.specs.MoveText.{HasText, move_text}

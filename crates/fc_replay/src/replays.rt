@@ -40,7 +40,7 @@ pub fn replay<G: Game, K: Sink>(
 {
     let mut board = position.copy();
     let mut steps = 0;
-    for token in (Tokens { rest: text, gaps: MoveGaps }) {
+    for token in Tokens::new(text, MoveGaps) {
         steps += 1;
         let Some(m) = read_token(token) else {
             return Err(ReplayFault::BadMove(steps));

@@ -1,12 +1,10 @@
 -- From a draft of all lines to a position.
-use Rattle.std.proofs.Common.{◌≡◌, ℕ, zero, suc, ◌+◌, ◌≤◌, ◌<◌, Option, Some, None, Result, Ok, Err, List, [], ◌∷◌, length, map, get_or, sym, ◌∙◌, ap, subst, ⊎_elim, arith}
+use Rattle.std.proofs.Common.{◌≡◌, ℕ, zero, suc, ◌+◌, ◌≤◌, ◌<◌, Option, Some, None, Result, Ok, Err, List, [], ◌∷◌, length, map, get_or, sym, ◌∙◌, ap, subst, arith}
 use Rattle.std.specs.Prelude.{All, IfOk, IfErr, IfSome, slice_get, slice_index, replicate}
 use Rattle.std.specs.List.{AllZip}
 use Rattle.std.proofs.lemmas.List.{ext_get_or, length-map, take_all}
-use Rattle.std.proofs.lemmas.List.Sums.{get_or-le-sum_by}
-use Rattle.std.proofs.lemmas.Bool.{cases_lt}
 use Rattle.std.proofs.lemmas.Option.{slice_get-get_or}
-use Rattle.fc_position.specs.Board.{Board, board_of, column, cell, places, count_in_column, count_at_home}
+use Rattle.fc_position.specs.Board.{Board, board_of, column, cell, places, count_at_home}
 use Rattle.fc_position.specs.Position.{IsPosition}
 use Rattle.fc_position.specs.Tally.{Adds, AllCards, IsOfCards, IsFaultOf, EachOnce}
 use Rattle.fc_position.specs.declared.faults.PartsFault.{PartsFault}

@@ -3,11 +3,9 @@ use Rattle.std.proofs.Common.{true, false, ◌≡◌, ℕ, ◌<◌, List, [], �
 use Rattle.std.specs.Prelude.{◌↔◌, IsTrue, slice_get, slice_index, count_by}
 use Rattle.std.specs.List.{AllZip}
 use Rattle.fc_position.specs.Board.{Board, column, cell}
-use Rattle.fc_text.specs.declared.faults.LineFault.TheVariants.{BadCard, BadFoundation, TooManyCells, TooManyColumns, RepeatedLine}
 use Rattle.fc_text.specs.declared.lines.LineKind.TheVariants.{Foundations, Freecells, Column}
 use Rattle.fc_text.specs.declared.drafts.Draft.{Draft}
 use Rattle.fc_text.specs.Line.{Line, tokens_of}
-use Rattle.fc_text.specs.Fault.{HasBadFoundation, IsLineFault, IsSound}
 use Rattle.fc_text.specs.Spelling.{SpellsBoard, SpellsCard, SpellsCellAt, SpellsHomeIn, is_kind}
 use Rattle.fc_text.specs.Reading.{ReadsHomes}
 use Rattle.fc_text.specs.Draft.{IsDraftOf, homes_line}

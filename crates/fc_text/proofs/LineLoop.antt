@@ -1,10 +1,10 @@
 -- Reading the lines of a text one by one.
-use Rattle.std.proofs.Common.{Bool, true, false, ◌≡◌, ℕ, ◌+◌, ◌≤◌, ◌⊎◌, List, [], ◌∷◌, ◌++◌, length, map, cond, inl, inr, refl, sym, ◌∙◌, ap, subst, ⊎_elim, arith}
+use Rattle.std.proofs.Common.{◌≡◌, ℕ, ◌+◌, ◌≤◌, ◌⊎◌, List, [], ◌∷◌, ◌++◌, length, map, inl, inr, refl, sym, ◌∙◌, ap, subst, ⊎_elim, arith}
 use Rattle.std.specs.Prelude.{count_by}
 use Rattle.std.proofs.lemmas.List.{append_assoc, append-nil, length-append, length-map}
 use Rattle.fc_text.specs.declared.drafts.Draft.{Draft}
 use Rattle.fc_text.specs.declared.faults.LineFault.{LineFault}
-use Rattle.fc_text.specs.Line.{Line, begin_part, parts_of, is_line_end, without_return, line_of, lines_of, board_lines}
+use Rattle.fc_text.specs.Line.{Line, parts_of, is_line_end, without_return, line_of, lines_of, board_lines}
 use Rattle.fc_text.specs.Spelling.{is_kind}
 use Rattle.fc_text.specs.Fault.{IsLineFault, IsSound, AreSound, IsFirstFault}
 use Rattle.fc_text.specs.Reading.{IsTally}

@@ -15,7 +15,6 @@ use Rattle.fc_text.specs.declared.lines.LineKind.TheVariants.{Foundations, Freec
 use Rattle.fc_text.specs.Line.{Line}
 use Rattle.fc_text.specs.Spelling.{SpellsBoard, SpellsCard, SpellsCellAt, SpellsCount, SpellsHome, SpellsHomeIn, IsMark, tokens_at}
 use Rattle.fc_position.specs.Board.{places}
-use Rattle.fc_position.specs.Position.{IsPosition}
 use Rattle.fc_position.specs.Tally.{IsFaultOf}
 use Rattle.fc_position.proofs.TallyLemmas.{no_fault}
 use Rattle.fc_position.specs.declared.faults.PartsFault.{PartsFault}

@@ -1,7 +1,6 @@
 -- A printed board is read as the board.
 use Rattle.std.proofs.Common.{true, false, Bool, ◌==◌, ◌≡◌, ℕ, zero, suc, ◌+◌, ◌-◌, ◌≤◌, ◌<◌, Option, Some, None, List, [], ◌∷◌, ◌++◌, length, take, map, cond, inl, inr, refl, sym, ◌∙◌, ap, subst, ⊎_elim, append_assoc, arith, rules}
 use Rattle.std.specs.Prelude.{Contains, codes, filter, slice_get, slice_index, slice_index_or, sum_by, count_by}
-use Rattle.std.specs.Char.{to_ascii_uppercase}
 use Rattle.std.specs.List.{AllZip, flat_map}
 use Rattle.std.proofs.lemmas.List.{append-nil, get_or_past, get_or-take, length-map, length-take, take_all}
 use Rattle.std.proofs.lemmas.List.Sums.{sum_by-cons}

@@ -56,6 +56,15 @@ pub struct Tokens<'a, G> {
     pub gaps: G,
 }
 
+impl<'a, G> Tokens<'a, G> {
+    /// The tokens of the text, parted by these gaps.
+    pub fn new(text: &'a [u8], gaps: G) -> Tokens<'a, G>
+        ensures { result.rest.now ≡ text.now }
+    {
+        Tokens { rest: text, gaps }
+    }
+}
+
 impl<'a, G: Gaps + Drop> Iterator for Tokens<'a, G> {
     type Item = &'a [u8];
 
