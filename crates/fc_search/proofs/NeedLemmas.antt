@@ -1,12 +1,12 @@
 -- Work that was needed: the boards of the keys that a search had to store.
-use Rattle.std.proofs.Common.{◌≡◌, ◌≢◌, ℕ, zero, suc, ◌+◌, ◌<◌, ◌≤◌, List, [], ◌∷◌, ◌++◌, length, get_or, Some, refl, sym, ◌∙◌, ap, subst, inl, inr, ⊎_elim, arith}
+use Rattle.std.proofs.Common.{◌≡◌, ℕ, zero, suc, ◌+◌, List, [], ◌∷◌, ◌++◌, length, get_or, Some, refl, ◌∙◌, ap, subst, inl, inr, arith}
 use Rattle.std.specs.Prelude.{All, AllPairs, slice_get}
 use Rattle.std.proofs.lemmas.List.Elements.{All-cons}
 use Rattle.std.proofs.lemmas.List.Kept.{AllPairs-cons}
 use Rattle.std.proofs.lemmas.Option.{slice_get-get_or}
 use Rattle.fc_position.specs.Board.{Board}
 use Rattle.fc_moves.specs.GameRules.{GameRules, IsPositionOf}
-use Rattle.fc_moves.specs.Run.{CanReach, ReachesMore, Wins}
+use Rattle.fc_moves.specs.Run.{CanReach, ReachesMore}
 use Rattle.fc_moves.proofs.StepLemmas.{step_keeps, run_keeps}
 use Rattle.fc_canonical.specs.Class.{SameClass}
 use Rattle.fc_canonical.specs.Key.{IsKeyOf}
@@ -15,7 +15,6 @@ use Rattle.fc_canonical.proofs.KeyLemmas.{keys_tell}
 use Rattle.fc_home.specs.Settles.{Settles}
 use Rattle.fc_home.proofs.MateLemmas.{class_settle}
 use Rattle.fc_home.proofs.SettleLemmas.{settles_keep, settles_run}
-use Rattle.fc_bound.specs.Bound.{bound}
 use Rattle.fc_bound.proofs.HeldLemmas.{class_bound}
 use Rattle.fc_best_first.specs.Kept as kept
 use Rattle.fc_best_first.specs.Shown.{AreNeeded}

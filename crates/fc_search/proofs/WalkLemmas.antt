@@ -1,5 +1,5 @@
 -- The way from the start to a stored class.
-use Rattle.std.proofs.Common.{◌≡◌, ℕ, ◌+◌, ◌-◌, ◌<◌, ◌≤◌, ◌↔◌, List, [], ◌∷◌, ◌++◌, length, reverse, refl, sym, ◌∙◌, ap, subst, ⊎_elim, arith}
+use Rattle.std.proofs.Common.{◌≡◌, ℕ, ◌+◌, ◌-◌, ◌<◌, ◌≤◌, List, [], ◌∷◌, ◌++◌, length, reverse, refl, sym, ◌∙◌, ap, subst, ⊎_elim, arith}
 use Rattle.std.specs.Prelude.{Option, Some, None, MatchOption}
 use Rattle.std.specs.Option.{IsSome}
 use Rattle.std.proofs.lemmas.List.{length-append, reverse-append}
@@ -9,25 +9,25 @@ use Rattle.fc_moves.specs.declared.steps.Move.{Move}
 use Rattle.fc_moves.specs.GameRules.{GameRules, IsPositionOf}
 use Rattle.fc_moves.specs.Run.{Run}
 use Rattle.fc_moves.specs.Step.{Step}
-use Rattle.fc_moves.proofs.StepLemmas.{step_keeps, run_keeps}
+use Rattle.fc_moves.proofs.StepLemmas.{run_keeps}
 use Rattle.fc_canonical.specs.Class.{SameClass}
 use Rattle.fc_canonical.specs.Key.{IsKeyOf}
 use Rattle.fc_canonical.proofs.ClassLemmas.{class-refl, class-sym, class-trans, class_step}
 use Rattle.fc_canonical.proofs.KeyLemmas.{keys_tell}
-use Rattle.fc_canonical.proofs.MoveLemmas.{step_once}
+use Rattle.fc_moves.proofs.StepLemmas.{step_once}
 use Rattle.fc_home.specs.Settles.{SettlesBy, Settles}
 use Rattle.fc_home.proofs.MateLemmas.{class_settle}
 use Rattle.fc_home.proofs.SettleLemmas.{settles_keep, settles_run}
 use Rattle.fc_home.proofs.WayLemmas.{settles_once}
 use Rattle.fc_best_first.specs.declared.books.Mark.{Mark}
-use Rattle.fc_best_first.specs.Kept.{IsSound, Comes}
+use Rattle.fc_best_first.specs.Kept.{IsSound}
 use Rattle.fc_best_first.specs.Store.{Store, Stands}
 use Rattle.fc_best_first.proofs.KeptLemmas.{same_entry}
-use Rattle.fc_classes.specs.Classes.{classes, SettlesTo, LeadsTo}
+use Rattle.fc_classes.specs.Classes.{classes}
 use Rattle.fc_classes.specs.Key.{spelled}
 use Rattle.fc_classes.proofs.KeyLemmas.{key_spells}
 use Rattle.fc_classes.proofs.PathLemmas.{run_on}
-use Rattle.fc_search.specs.Walk.{IsStart, IsWay, IsAtClass, StepsTo, LeadsWithin}
+use Rattle.fc_search.specs.Walk.{IsStart, IsWay, IsAtClass, LeadsWithin}
 
 -- a move that leads to a key leads to one key, by one number of moves
 pub leads_once : (g : GameRules) (rule : ℕ) (b z q : Board) (key : List ℕ) (m : Move) (most : ℕ) (settling : List Move)
