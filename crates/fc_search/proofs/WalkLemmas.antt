@@ -44,6 +44,15 @@ leads_once g rule b z q key m most settling pz pq step by (count, (x, also, (y, 
 pub key_once : (q : Board) (k l : List ℕ) → IsPosition q → IsKeyOf q k → IsKeyOf q l → k ≡ l
 key_once q k l p a b = (keys_tell q q k l p p a b).1 (class-refl q)
 
+-- a key of a board is one of its class-mates too
+pub key_of_mate : (b c : Board) (k : List ℕ) → SameClass b c → IsKeyOf c k → IsKeyOf b k
+key_of_mate b c k same key = record {
+  canonical = key.canonical;
+  class = class-trans b c key.canonical same key.class;
+  ordered = key.ordered;
+  bytes = key.bytes;
+}
+
 -- from the board that a walk came to, a step leads on to the next class within what is left of its cost
 pub leads_on : (g : GameRules) (rule : ℕ) (p : Board) (budget : ℕ) (s : Store (List ℕ)) → IsPositionOf g p
     → IsSound (classes g rule p) budget s → (number next : ℕ) (made : List Move) (b : Board) (x : List ℕ) (mark : Mark)
@@ -61,12 +70,7 @@ leads_on g rule p budget s pp sound number next made b x mark (y, mine, there, r
     let next_step = class_step g (spelled w) b z m kw.position pb (class-sym b (spelled w) mates) step in
     let settled = class_settle g rule z next_step.1 q count next_step.3 settles in
     let left : 1 + count ≤ mark.cost - length made = omega (arith, less, paid, le, cost) in
-    let own_key : IsKeyOf settled.0 x = record {
-      canonical = key.canonical;
-      class = class-trans settled.0 q key.canonical (class-sym q settled.0 settled.2) key.class;
-      ordered = key.ordered;
-      bytes = key.bytes;
-    } in (
+    let own_key = key_of_mate settled.0 q x (class-sym q settled.0 settled.2) key in (
       omega (arith, less, le, cost),
       (next_step.0, (count, (next_step.1, next_step.2, (settled.0, settled.1, own_key)), left)),
     ))
