@@ -4,7 +4,7 @@ use Rattle.std.specs.Prelude.{◌==◌, ◌&&◌, ◌||◌, nat_lt, nat_le, coun
 use Rattle.std.specs.List.{list_any}
 use Rattle.std.proofs.lemmas.Bool.{cases_lt, cases_eq}
 use Rattle.std.proofs.lemmas.Bool.Decides.{nat_tests}
-use Rattle.std.proofs.lemmas.List.{get_or-set_same, get_or-set_other, get_or_past, take_all}
+use Rattle.std.proofs.lemmas.List.{get_or-set_same, get_or-set_other, get_or_past, get_or-replicate, take_all}
 use Rattle.std.proofs.lemmas.List.Folds.{list_any_more}
 use Rattle.std.proofs.lemmas.List.Sums.{sum_by_more, sum_by-take-le, get_or-le-sum_by}
 use Rattle.std.proofs.lemmas.List.Sorted.{list_any-IsPermutation}
@@ -191,20 +191,13 @@ pub won_none : (b : Board) → IsPosition b → IsWon b → bound b ≡ 0
 unfolding bound
 won_none b p won =
     let home_all : (c : ℕ) → c < 52 → is_away b c ≡ false = λ c below.
-    let full : home b (suit c) ≡ 13 = ap (λ h. slice_index h (suit c)) won ∙ thirteens (suit c) (omega arith) in
+    let full : home b (suit c) ≡ 13 = ap (λ h. slice_index h (suit c)) won ∙ get_or-replicate 4 (suit c) 13 0 (omega arith) in
     let test : nat_lt 13 (rank c) ≡ false = grind (arith, nat_tests) in
     ap (λ h. nat_lt h (rank c)) full ∙ test in
     let away = count-none (is_away b) home_all in
     let held = count-none (is_held_back b) (λ c below. not_true (is_held_back b c) (λ h.
     let e : ◌≡◌ {A = Bool} true false = sym (held_away b c p h) ∙ home_all c below in absurd (cc))) in
     omega arith
-  where
-    thirteens : (s : ℕ) → s < 4 → slice_index (13 ∷ 13 ∷ 13 ∷ 13 ∷ []) s ≡ 13
-    thirteens zero h = refl
-    thirteens (suc zero) h = refl
-    thirteens (suc (suc zero)) h = refl
-    thirteens (suc (suc (suc zero))) h = refl
-    thirteens (suc (suc (suc (suc s)))) h = absurd (omega arith)
 
 -- every list that wins has at least so many moves
 pub wins_need : WinsNeedTheBound
