@@ -1,4 +1,4 @@
--- How lifting and placing a card changes the places of each card.
+-- The places of cards on a board: what lifting and placing a card changes, and how many cards a position's columns have.
 use Rattle.std.proofs.Common.{◌≡◌, ◌≢◌, ℕ, ◌+◌, ◌-◌, ◌≤◌, ◌<◌, Option, Some, None, List, [], ◌∷◌, ◌++◌, length, take, set, get_or, cond, eqb, refl, sym, ◌∙◌, ap, subst, ⊎_elim, arith}
 use Rattle.std.specs.Prelude.{slice_index, sum_by}
 use Rattle.std.specs.List.{flat_map}
