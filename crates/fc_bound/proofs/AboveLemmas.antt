@@ -1,9 +1,9 @@
 -- Cards that stand above a lower card of their own suit.
-use Rattle.std.proofs.Common.{◌≡◌, ◌≢◌, ℕ, ◌+◌, ◌<◌, ◌≤◌, zero, suc, Bool, true, false, cond, List, [], ◌∷◌, ◌++◌, length, get_or, set, take, refl, sym, ◌∙◌, ap, subst, ⊎_elim, arith}
+use Rattle.std.proofs.Common.{◌≡◌, ◌≢◌, ℕ, ◌+◌, ◌<◌, ◌≤◌, Bool, true, false, cond, List, [], ◌∷◌, ◌++◌, length, get_or, set, take, refl, sym, ◌∙◌, ap, subst, ⊎_elim, arith}
 use Rattle.std.specs.Prelude.{◌==◌, ◌&&◌, ◌||◌, nat_lt, count_by, slice_index}
 use Rattle.std.specs.List.{list_any}
 use Rattle.std.proofs.lemmas.Bool.{cases_eq}
-use Rattle.std.proofs.lemmas.List.{get_or-set_same, get_or-set_other, length-set, take_more}
+use Rattle.std.proofs.lemmas.List.{get_or-set_same, get_or-set_other, get_or-replicate, length-set, take_more}
 use Rattle.std.proofs.lemmas.Bool.Decides.{nat_tests}
 use Rattle.std.proofs.lemmas.List.Folds.{list_any-append}
 use Rattle.std.proofs.lemmas.List.Sums.{sum_by-cons, sum_by_push, sum_by-take-le}
@@ -113,16 +113,9 @@ lower-more x y seen =
 -- nothing is told at first
 pub tells-none : Tells (14 ∷ 14 ∷ 14 ∷ 14 ∷ []) []
 tells-none x below =
-    let four : slice_index (14 ∷ 14 ∷ 14 ∷ 14 ∷ []) (suit x) ≡ 14 = fours (suit x) (omega arith) in
+    let four : slice_index (14 ∷ 14 ∷ 14 ∷ 14 ∷ []) (suit x) ≡ 14 = get_or-replicate 4 (suit x) 14 0 (omega arith) in
     let test : nat_lt 14 (rank x) ≡ false = grind (arith, nat_tests) in
     sym (ap (λ n. nat_lt n (rank x)) four ∙ test)
-  where
-    fours : (s : ℕ) → s < 4 → slice_index (14 ∷ 14 ∷ 14 ∷ 14 ∷ []) s ≡ 14
-    fours zero h = refl
-    fours (suc zero) h = refl
-    fours (suc (suc zero)) h = refl
-    fours (suc (suc (suc zero))) h = refl
-    fours (suc (suc (suc (suc s)))) h = absurd (omega arith)
 
 -- the tests of one more card, as numbers
 kept_test : (l lx ry rx sy sx : ℕ) → l < ry → (sy ≡ sx → lx ≡ l)

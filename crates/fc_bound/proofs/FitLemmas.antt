@@ -10,21 +10,8 @@ use Rattle.fc_moves.specs.GameRules.{GameRules, IsPositionOf}
 use Rattle.fc_canonical.specs.Class.{SameClass}
 use Rattle.fc_canonical.specs.Order.{IsCanonical, cell_byte}
 use Rattle.fc_canonical.proofs.ClassLemmas.{class_positions}
-use Rattle.fc_canonical.proofs.Rearrange.{one_full}
+use Rattle.fc_canonical.proofs.Rearrange.{one_full, full_most}
 use Rattle.fc_bound.specs.Laws.{CanonicalBoardsFit}
-
--- where the options from n on are empty, at most n are full
-pub few_full : (n : ℕ) (xs : List (Option ℕ)) → ((i : ℕ) → n ≤ i → get_or xs i None ≡ None) → sum_by one_full xs ≤ n
-few_full n [] empty = omega arith
-few_full zero (x ∷ xs) empty =
-    let none : one_full x ≡ 0 = ap one_full (empty 0 (omega arith)) in
-    omega (arith, sum_by-cons one_full x xs, none, few_full zero xs (λ i a. empty (suc i) (omega arith)))
-few_full (suc n) (None ∷ xs) empty =
-    let sum : sum_by one_full (None ∷ xs) ≡ 0 + sum_by one_full xs = sum_by-cons one_full None xs in
-    omega (arith, sum, few_full n xs (λ i a. empty (suc i) (omega arith)))
-few_full (suc n) (Some c ∷ xs) empty =
-    let sum : sum_by one_full (Some c ∷ xs) ≡ 1 + sum_by one_full xs = sum_by-cons one_full (Some c) xs in
-    omega (arith, sum, few_full n xs (λ i a. empty (suc i) (omega arith)))
 
 -- where the first n are full, at least n are
 many_full : (n : ℕ) (xs : List (Option ℕ)) → ((i : ℕ) → i < n → one_full (get_or xs i None) ≡ 1) → n ≤ sum_by one_full xs
@@ -45,7 +32,7 @@ no_card : (g : GameRules) (x c : Board) (i u : ℕ) → IsPositionOf g x → Sam
 no_card g x c i u p s ordered past there =
     let inside = cell_there c i u there in
     let below = playable_below c (Cell i) u (class_positions x c p.position s) there in
-    let most = few_full g.cells x.cells p.fits in
+    let most = full_most g.cells x.cells p.fits in
     let same = sum_by-IsPermutation one_full x.cells c.cells s.cells in
     let first : (j : ℕ) → j < i + 1 → one_full (get_or c.cells j None) ≡ 1 = λ j lt.
     let order = ordered.cells j i None (omega arith) inside in

@@ -4,19 +4,20 @@ use Rattle.std.specs.Prelude.{◌==◌, ◌&&◌, ◌||◌, nat_lt, nat_le, coun
 use Rattle.std.specs.List.{list_any}
 use Rattle.std.proofs.lemmas.Bool.{cases_lt, cases_eq}
 use Rattle.std.proofs.lemmas.Bool.Decides.{nat_tests}
-use Rattle.std.proofs.lemmas.List.{get_or-set_same, get_or-set_other, get_or_past, take_all}
+use Rattle.std.proofs.lemmas.List.{get_or-set_same, get_or-set_other, get_or_past, get_or-replicate, take_all}
 use Rattle.std.proofs.lemmas.List.Folds.{list_any_more}
 use Rattle.std.proofs.lemmas.List.Sums.{sum_by_more, sum_by-take-le, get_or-le-sum_by}
 use Rattle.std.proofs.lemmas.List.Sorted.{list_any-IsPermutation}
 use Rattle.fc_cards.specs.Card.{rank, suit}
 use Rattle.fc_cards.specs.declared.places.Place.{Place}
 use Rattle.fc_cards.specs.declared.places.Place.TheVariants.{Column, Cell, Home}
-use Rattle.fc_position.specs.Board.{Board, column, home, playable, lifted, placed, places, front_of, count_in_column, count_at_home, IsNext, Receives}
+use Rattle.fc_position.specs.Board.{Board, column, home, playable, lifted, placed, front_of, count_in_column, count_at_home, IsNext}
 use Rattle.fc_position.specs.Position.{IsPosition, IsWon}
-use Rattle.fc_position.proofs.BoardLemmas.{front_last, playable_below, position-moved, homes-lifted}
+use Rattle.fc_position.proofs.BoardLemmas.{front_last, playable_below, places_most, position-moved, homes-lifted}
 use Rattle.fc_moves.specs.declared.steps.Move.{Move}
 use Rattle.fc_moves.specs.GameRules.{GameRules, all_cards}
 use Rattle.fc_moves.specs.Step.{Step, Takes}
+use Rattle.fc_moves.proofs.StepLemmas.{receives-takes}
 use Rattle.fc_bound.specs.Bound.{bound, is_away, is_held_back, is_above_lower, stands_in}
 use Rattle.fc_bound.specs.Laws.{StepsLowerTheBoundByOne, StepsMoveTheBoundByTheirCard, WinsNeedTheBound, ClassMatesHaveOneBound}
 use Rattle.fc_bound.proofs.AboveLemmas.{above-one, above-other, not_true, stands-counted}
@@ -63,17 +64,13 @@ held-moved : (b : Board) (from : Place) (u : ℕ) (to : Place) (c : ℕ) → pla
     → is_held_back b c ≡ is_held_back (placed (lifted b from) u to) c
 held-moved b from u to c there other = sym (held-placed (lifted b from) u to c other ∙ held-lifted b from u c there other)
 
--- no card has two places
-places_once : (b : Board) (c : ℕ) → IsPosition b → places b c ≤ 1
-places_once b c p = ⊎_elim (λ lt. omega (arith, p.once c lt)) (λ le. omega (arith, p.no_other c le)) (cases_lt c 52)
-
 -- a card in a column is not home
 pub column_away : (b : Board) (i c : ℕ) → IsPosition b → i < length b.columns → stands_in (column b i) c ≡ true
     → is_away b c ≡ true
 column_away b i c p inside stands =
     let counted = stands-counted (column b i) c stands in
     let all = get_or-le-sum_by (count_in_column c) b.columns i [] inside in
-    let most = places_once b c p in
+    let most = places_most b c p in
     let none : count_at_home c b.homes ≡ 0 = omega arith in
     go (home b (suit c)) (rank c) none
   where
@@ -185,35 +182,22 @@ step_moves g b c m u p step other there =
     kept (Cell j) ne = homes-lifted b m.from
     kept Home ne = absurd (ne refl)
 
--- a place that takes a card can receive it
-pub receives : (g : GameRules) (b : Board) (u : ℕ) (to : Place) → Takes g b u to → Receives b u to
-receives g b u (Column j) t = t.0
-receives g b u (Cell j) t = (t.1, t.2)
-receives g b u Home t = t
-
 pub step_position : (g : GameRules) (b c : Board) (m : Move) → IsPosition b → Step g b m c → IsPosition c
 step_position g b c m p step =
-    subst IsPosition (sym step.after) (position-moved b m.from step.card m.to p step.playable (receives g b step.card m.to step.takes))
+    subst IsPosition (sym step.after) (position-moved b m.from step.card m.to p step.playable (receives-takes g b step.card m.to step.takes))
 
 -- the bound of a position with every card home is 0
 pub won_none : (b : Board) → IsPosition b → IsWon b → bound b ≡ 0
 unfolding bound
 won_none b p won =
     let home_all : (c : ℕ) → c < 52 → is_away b c ≡ false = λ c below.
-    let full : home b (suit c) ≡ 13 = ap (λ h. slice_index h (suit c)) won ∙ thirteens (suit c) (omega arith) in
+    let full : home b (suit c) ≡ 13 = ap (λ h. slice_index h (suit c)) won ∙ get_or-replicate 4 (suit c) 13 0 (omega arith) in
     let test : nat_lt 13 (rank c) ≡ false = grind (arith, nat_tests) in
     ap (λ h. nat_lt h (rank c)) full ∙ test in
     let away = count-none (is_away b) home_all in
     let held = count-none (is_held_back b) (λ c below. not_true (is_held_back b c) (λ h.
     let e : ◌≡◌ {A = Bool} true false = sym (held_away b c p h) ∙ home_all c below in absurd (cc))) in
     omega arith
-  where
-    thirteens : (s : ℕ) → s < 4 → slice_index (13 ∷ 13 ∷ 13 ∷ 13 ∷ []) s ≡ 13
-    thirteens zero h = refl
-    thirteens (suc zero) h = refl
-    thirteens (suc (suc zero)) h = refl
-    thirteens (suc (suc (suc zero))) h = refl
-    thirteens (suc (suc (suc (suc s)))) h = absurd (omega arith)
 
 -- every list that wins has at least so many moves
 pub wins_need : WinsNeedTheBound
@@ -238,7 +222,7 @@ class_bound b c s =
 pub column_once : (b : Board) (i c : ℕ) → IsPosition b → count_in_column c (column b i) ≤ 1
 column_once b i c p =
     ⊎_elim
-    (λ inside. omega (arith, get_or-le-sum_by (count_in_column c) b.columns i [] inside, places_once b c p))
+    (λ inside. omega (arith, get_or-le-sum_by (count_in_column c) b.columns i [] inside, places_most b c p))
     (λ past. subst (λ cards. count_in_column c cards ≤ 1) (sym (get_or_past b.columns i [] past)) (omega arith))
     (cases_lt i (length b.columns))
 
@@ -261,7 +245,7 @@ apart b i c p inside before here =
       get_or-le-sum_by (count_in_column c) (take i b.columns) f.place [] f.inside,
       sum_by_more (count_in_column c) b.columns i [] inside,
       sum_by-take-le (count_in_column c) b.columns (i + 1),
-      places_once b c p,
+      places_most b c p,
     )
 
 -- two tests that aren't both passed count as one

@@ -1,15 +1,15 @@
 -- What a move to a column or a cell changes in the bound: whether the card that moves is held back.
-use Rattle.std.proofs.Common.{◌≡◌, ◌≢◌, ℕ, ◌<◌, ◌≤◌, zero, suc, Bool, false, cond, List, [], ◌∷◌, ◌++◌, Option, Some, None, length, get_or, refl, sym, ◌∙◌, ap, subst, arith}
+use Rattle.std.proofs.Common.{◌≡◌, ◌≢◌, ℕ, ◌<◌, zero, suc, Bool, false, cond, List, [], ◌∷◌, ◌++◌, Option, Some, None, length, get_or, refl, sym, ◌∙◌, ap, subst, arith}
 use Rattle.std.specs.Prelude.{◌==◌, ◌||◌, MatchOption}
 use Rattle.std.specs.List.{list_any}
 use Rattle.std.proofs.lemmas.Bool.Decides.{nat_tests}
-use Rattle.std.proofs.lemmas.List.Sums.{sum_by_push, get_or-le-sum_by}
+use Rattle.std.proofs.lemmas.List.Sums.{get_or-le-sum_by}
 use Rattle.fc_cards.specs.declared.places.Place.{Place}
 use Rattle.fc_cards.specs.declared.places.Place.TheVariants.{Column, Cell, Home}
 use Rattle.fc_position.specs.Board.{Board, column, cell, playable, last_of, front_of, count_in_column, count_in_cell}
 use Rattle.fc_position.specs.Position.{IsPosition}
-use Rattle.fc_position.proofs.BoardLemmas.{front_last, column_there, cell_there}
-use Rattle.fc_canonical.proofs.KeyLemmas.{two_of_sum, places_most}
+use Rattle.fc_position.proofs.BoardLemmas.{front_last, last_counted, places_most, column_there, cell_there}
+use Rattle.fc_canonical.proofs.KeyLemmas.{two_of_sum}
 use Rattle.fc_bound.specs.Bound.{is_held_back, is_above_lower, is_lower}
 use Rattle.fc_bound.proofs.AboveLemmas.{above-one, above-top, stands-counted, not_true, or-false}
 
@@ -31,19 +31,6 @@ any_only test (x ∷ xs) zero inside others =
 any_only test (x ∷ xs) (suc i) inside others =
     ap (λ t. t || list_any test xs) (others zero (λ e. omega (arith, e)) (omega arith))
     ∙ any_only test xs i (omega (arith, inside)) (λ k other within. others (suc k) (λ e. other (omega (arith, e))) (omega (arith, within)))
-
-one_itself : (u : ℕ) → ◌≡◌ {A = ℕ} (cond (u == u) 1 0) 1
-one_itself u = grind (arith, nat_tests)
-
--- the last card of a column stands in it
-last_counted : (cards : List ℕ) (u : ℕ) → last_of cards ≡ Some u → 1 ≤ count_in_column u cards
-last_counted cards u last =
-    omega (
-      arith,
-      sum_by_push (λ x. cond (x == u) 1 0) (front_of cards) u,
-      one_itself u,
-      ap (count_in_column u) (front_last cards u last),
-    )
 
 -- a card is no lower than itself
 lower-push : (u : ℕ) (cards : List ℕ) → list_any (is_lower u) (cards ++ u ∷ []) ≡ list_any (is_lower u) cards
@@ -72,7 +59,8 @@ held-last b i u p last =
 -- a card in a cell is not held back
 pub held-cell : (b : Board) (i u : ℕ) → IsPosition b → cell b i ≡ Some u → is_held_back b u ≡ false
 held-cell b i u p held =
-    let one : count_in_cell u (cell b i) ≡ 1 = ap (count_in_cell u) held ∙ one_itself u in
+    let itself : ◌≡◌ {A = ℕ} (cond (u == u) 1 0) 1 = grind (arith, nat_tests) in
+    let one : count_in_cell u (cell b i) ≡ 1 = ap (count_in_cell u) held ∙ itself in
     any_none (is_above_lower u) b.columns
     (λ k within. not_true (is_above_lower u (column b k)) (λ above.
     let there = stands-counted (column b k) u (above-one u (column b k) above).stands in

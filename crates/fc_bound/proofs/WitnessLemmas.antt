@@ -16,12 +16,11 @@ use Rattle.fc_moves.specs.Run.{Wins}
 use Rattle.fc_moves.specs.Step.{Step}
 use Rattle.fc_canonical.specs.Class.{SameClass}
 use Rattle.fc_canonical.proofs.ClassLemmas.{class-refl, class_positions}
-use Rattle.fc_canonical.proofs.Rearrange.{one_full}
+use Rattle.fc_canonical.proofs.Rearrange.{one_full, full_most}
 use Rattle.fc_home.specs.HomeRule.{GoesHome}
 use Rattle.fc_home.specs.Settles.{Settles, NoneGoesHome, sent_home}
 use Rattle.fc_home.proofs.SettleLemmas.{goes_next, home_step}
 use Rattle.fc_bound.specs.Laws.{IsClosedYetWon, ClosedTablesNeedSettling, ClosedTablesNeedFitting, ClosedTablesNeedPositions}
-use Rattle.fc_bound.proofs.FitLemmas.{few_full}
 
 -- some list wins; so one does from a board that a step leads from, or from which a next card is sent home
 abbrev CanWin : GameRules → Board → Type 0
@@ -188,7 +187,7 @@ full_mates : (g : GameRules) (x : Board) → g.cells < 4 → IsPositionOf g x �
 full_mates g x few px s =
     let same = sum_by-IsPermutation one_full x.cells full_cells.cells s.cells in
     let four : sum_by one_full full_cells.cells ≡ 4 = refl in
-    omega (arith, few_full g.cells x.cells px.fits, same, four, few)
+    omega (arith, full_most g.cells x.cells px.fits, same, four, few)
 
 pub need_fitting : ClosedTablesNeedFitting
 need_fitting g rule few opens = (

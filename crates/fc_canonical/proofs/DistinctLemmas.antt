@@ -14,14 +14,15 @@ use Rattle.fc_cards.specs.declared.places.Place.{Place}
 use Rattle.fc_cards.specs.declared.places.Place.TheVariants.{Column, Cell, Home}
 use Rattle.fc_position.specs.Board.{Board, column, cell, playable, lifted, placed, last_of, front_of, count_in_column, count_in_cell, IsNext}
 use Rattle.fc_position.specs.Position.{IsPosition}
-use Rattle.fc_position.proofs.BoardLemmas.{column_there, cell_there, columns-lifted, homes-lifted, front_last}
+use Rattle.fc_position.proofs.BoardLemmas.{column_there, cell_there, columns-lifted, homes-lifted, front_last, last_counted, places_most}
 use Rattle.fc_moves.specs.declared.steps.Move.{Move}
 use Rattle.fc_moves.specs.GameRules.{GameRules}
 use Rattle.fc_moves.specs.Step.{Step, Joins, Takes}
+use Rattle.fc_moves.proofs.StepLemmas.{other_column}
 use Rattle.fc_canonical.specs.Class.{SameClass}
 use Rattle.fc_canonical.specs.Distinct.{Stays}
 use Rattle.fc_canonical.proofs.ClassLemmas.{class-refl, class-sym, class-trans, class-placed, Alike}
-use Rattle.fc_canonical.proofs.KeyLemmas.{two_of_sum, places_most, no_more}
+use Rattle.fc_canonical.proofs.KeyLemmas.{two_of_sum, no_more}
 
 -- the two are the same column or two empty ones, two cells, or both home
 abbrev pub IsSameKind : Board → Place → Place → Type 0
@@ -52,9 +53,6 @@ front_once cards u last =
       ap (count_in_column u) (front_last cards u last),
     )
 
-count-last : (cards : List ℕ) (u : ℕ) → last_of cards ≡ Some u → 1 ≤ count_in_column u cards
-count-last cards u last = omega (arith, front_once cards u last)
-
 count-pushed : (cards : List ℕ) (u : ℕ) → 1 ≤ count_in_column u (cards ++ u ∷ [])
 count-pushed cards u = omega (arith, sum_by_push (λ x. cond (eqb x u) 1 0) cards u, one_itself u)
 
@@ -80,7 +78,7 @@ one_or_empty b i j (c ∷ rest) p one two x y =
 in_column : (b : Board) (from : Place) (u k : ℕ) → IsPosition b → playable b from ≡ Some u → k < length b.columns
     → 1 ≤ count_in_column u (column b k) → from ≡ Column k
 in_column b (Column i) u k p there inside some =
-    ap (λ (n : ℕ). Column n) (one_column b u i k p (column_there b i u there) inside (count-last (column b i) u there) some)
+    ap (λ (n : ℕ). Column n) (one_column b u i k p (column_there b i u there) inside (last_counted (column b i) u there) some)
 in_column b (Cell i) u k p there inside some =
     let held : count_in_cell u (cell b i) ≡ 1 = ap (count_in_cell u) there ∙ one_itself u in
     absurd (omega (
@@ -95,9 +93,9 @@ in_column b Home u k p there inside some = absurd (cc there)
 -- a card is playable at one place
 pub source_once : (b : Board) (from to : Place) (u : ℕ) → IsPosition b → playable b from ≡ Some u → playable b to ≡ Some u → from ≡ to
 source_once b from (Column j) u p x y =
-    in_column b from u j p x (column_there b j u y) (count-last (column b j) u y)
+    in_column b from u j p x (column_there b j u y) (last_counted (column b j) u y)
 source_once b (Column i) (Cell j) u p x y =
-    sym (in_column b (Cell j) u i p y (column_there b i u x) (count-last (column b i) u x))
+    sym (in_column b (Cell j) u i p y (column_there b i u x) (last_counted (column b i) u x))
 source_once b (Cell i) (Cell j) u p x y =
     let one : count_in_cell u (cell b i) ≡ 1 = ap (count_in_cell u) x ∙ one_itself u in
     let two : count_in_cell u (cell b j) ≡ 1 = ap (count_in_cell u) y ∙ one_itself u in
@@ -112,12 +110,6 @@ source_once b (Cell i) (Cell j) u p x y =
     (cases_eq i j)
 source_once b Home (Cell j) u p x y = absurd (cc x)
 source_once b from Home u p x y = absurd (cc y)
-
--- lifting a card leaves another column than its own as it is
-column-lifted : (b : Board) (from : Place) (j : ℕ) → Joins from (Column j) → column (lifted b from) j ≡ column b j
-column-lifted b (Column i) j joins = get_or-set_other b.columns i j (front_of (column b i)) [] joins
-column-lifted b (Cell i) j joins = refl
-column-lifted b Home j joins = refl
 
 -- the front of a column has no card more often
 count-front_le : (cards : List ℕ) (u : ℕ) → count_in_column u (front_of cards) ≤ count_in_column u cards
@@ -194,7 +186,7 @@ landed b from u j source v k p there also joins joined one two (n, inside, e) =
     sym (get_or-set_same x.columns k pushed [] (omega (arith, columns-lifted b source)))
     ∙ ap (λ i. get_or (set x.columns k pushed) i []) (sym same) ∙ read in
     let parts = same_from_push (column x k) (column b j) v u at in
-    inl (sym parts.1, sym parts.0 ∙ column-lifted b source k joined))
+    inl (sym parts.1, sym parts.0 ∙ other_column b source k joined))
     (λ other. let at : column x n ≡ column b j ++ u ∷ [] = sym (get_or-set_other x.columns k n pushed [] other) ∙ read in
     inr (stood b from u j source v n p there also joins one within at))
     (cases_eq n k)
@@ -218,7 +210,7 @@ made x y b from u j joins one perm =
     let within : j < length l.columns = omega (arith, columns-lifted b from) in
     let inside : j < length (set l.columns j pushed) = omega (arith, length-set l.columns j pushed) in
     let at : get_or (set l.columns j pushed) j [] ≡ column b j ++ u ∷ [] =
-    get_or-set_same l.columns j pushed [] within ∙ ap (λ c. c ++ u ∷ []) (column-lifted b from j joins) in
+    get_or-set_same l.columns j pushed [] within ∙ ap (λ c. c ++ u ∷ []) (other_column b from j joins) in
     Contains-permutation (set l.columns j pushed) y.columns (column b j ++ u ∷ []) perm
     (subst (Contains (set l.columns j pushed)) at (Contains-get_or (set l.columns j pushed) j [] inside))
 
@@ -317,7 +309,7 @@ stay_class g b (Column i) (Column j) u there joins takes (long, empty) =
     let inside = column_there b i u there in
     let only = only_card (column b i) u there long in
     let front : front_of (column b i) ≡ [] = ap front_of only in
-    let other : column (lifted b (Column i)) j ≡ [] = column-lifted b (Column i) j joins ∙ empty in
+    let other : column (lifted b (Column i)) j ≡ [] = other_column b (Column i) j joins ∙ empty in
     record {
       columns = IsPermutation-swap b.columns (set (set b.columns i (front_of (column b i))) j (column (lifted b (Column i)) j ++ u ∷ [])) i j inside takes.0
           (ap (λ l. set (set b.columns i l) j (column (lifted b (Column i)) j ++ u ∷ [])) (front ∙ sym empty)
@@ -339,7 +331,7 @@ kind_alike g b from (Column i) (Column j) u joins joined takes taken kind =
       omega (arith, long, takes.0),
       omega (arith, long, taken.0),
       ⊎_elim (λ e. ap (column (lifted b from)) e)
-          (λ e. column-lifted b from i joins ∙ e.0 ∙ sym (column-lifted b from j joined ∙ e.1)) kind,
+          (λ e. other_column b from i joins ∙ e.0 ∙ sym (other_column b from j joined ∙ e.1)) kind,
     )
 kind_alike g b (Column h) (Cell i) (Cell j) u joins joined takes taken kind = (takes.1, taken.1, takes.2 ∙ sym taken.2)
 kind_alike g b (Cell h) (Cell i) (Cell j) u joins joined takes taken kind = absurd joins

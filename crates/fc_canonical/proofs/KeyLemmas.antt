@@ -9,13 +9,13 @@ use Rattle.std.proofs.lemmas.List.Concat.{length-flat_map}
 use Rattle.std.proofs.lemmas.List.Elements.{All-cons, All-nil, All-head, All-tail}
 use Rattle.std.proofs.lemmas.List.FromFn.{get_or-range_with_len}
 use Rattle.std.proofs.lemmas.List.Sorted.{All-permutation, IsPermutation-keeps, IsPermutation-refl, IsPermutation-trans, IsPermutation-swap, IsPermutation-map, sum_by-IsPermutation}
-use Rattle.std.proofs.lemmas.List.Sums.{sum_by-cons, sum_by-append, sum_by-set, get_or-le-sum_by, sum_by_more_le}
+use Rattle.std.proofs.lemmas.List.Sums.{sum_by-cons, sum_by-set, get_or-le-sum_by, sum_by_more_le}
 use Rattle.std.proofs.lemmas.Bool.{cases_lt, cases_eq}
 use Rattle.std.proofs.lemmas.Bool.Decides.{nat_tests}
-use Rattle.fc_position.specs.Board.{Board, column, places, count_in_column, count_in_cell}
+use Rattle.fc_position.specs.Board.{Board, column, count_in_column, count_in_cell}
 use Rattle.fc_position.specs.Position.{IsPosition}
 use Rattle.fc_position.proofs.LayoutLemmas.{eight, map-swap}
-use Rattle.fc_position.proofs.Pigeonhole.{room_for_one}
+use Rattle.fc_position.proofs.BoardLemmas.{places_most, column_most, cards_most}
 use Rattle.fc_canonical.specs.Class.{SameClass}
 use Rattle.fc_canonical.specs.Key.{column_bytes, board_bytes, padded, IsKeyOf}
 use Rattle.fc_canonical.specs.Laws.{ClassesHaveOneCanonicalBoard, KeysTellClasses, BytesBeginWithOneKey, KeysHaveExtents}
@@ -72,35 +72,14 @@ orders_stand orders long up i j d le inside =
       ap (slice_index orders) (at j inside),
     )
 
--- the columns joined end to end
-joined : List (List ℕ) → List ℕ
-joined [] = []
-joined (x ∷ xs) = x ++ joined xs
-
-count-joined : (c : ℕ) (columns : List (List ℕ)) → count_in_column c (joined columns) ≡ sum_by (count_in_column c) columns
-unfolding joined
-count-joined c [] = refl
-count-joined c (x ∷ xs) =
-    omega (arith, sum_by-append (λ y. cond (eqb y c) 1 0) x (joined xs), sum_by-cons (count_in_column c) x xs, count-joined c xs)
-
-length-bytes : (columns : List (List ℕ)) → sum_by (λ x. length (column_bytes x)) columns ≡ length columns + length (joined columns)
-unfolding joined
+length-bytes : (columns : List (List ℕ)) → sum_by (λ x. length (column_bytes x)) columns ≡ length columns + sum_by (λ x. length x) columns
 length-bytes [] = refl
 length-bytes (x ∷ xs) =
-    omega (arith, sum_by-cons (λ y. length (column_bytes y)) x xs, length-append x (joined xs), length-bytes xs)
-
--- no card stands twice
-pub places_most : (b : Board) (c : ℕ) → IsPosition b → places b c ≤ 1
-places_most b c p = ⊎_elim (λ lt. omega (arith, p.once c lt)) (λ le. omega (arith, p.no_other c le)) (cases_lt c 52)
+    omega (arith, sum_by-cons (λ y. length (column_bytes y)) x xs, sum_by-cons (λ (y : List ℕ). length y) x xs, length-bytes xs)
 
 -- the columns have at most 52 cards, so that they are spelled by at most sixty bytes
 pub bytes_most : (b : Board) → IsPosition b → sum_by (λ x. length (column_bytes x)) b.columns ≤ 60
-bytes_most b p =
-    let few = room_for_one 53 (joined b.columns)
-    (λ c. omega (arith, count-joined c b.columns, places_most b c p))
-    (λ c above. omega (arith, count-joined c b.columns, p.no_other c (omega arith)))
-    52 (omega arith) (omega (arith, count-joined 52 b.columns, p.no_other 52 (omega arith))) in
-    omega (arith, length-bytes b.columns, few, p.columns)
+bytes_most b p = omega (arith, length-bytes b.columns, cards_most b p, p.columns)
 
 map-take : {X Y : Type 0} (f : X → Y) (n : ℕ) (xs : List X) → map f (take n xs) ≡ take n (map f xs)
 map-take f zero xs = refl
@@ -416,16 +395,6 @@ member_count xs k e inside =
     let here : ◌≡◌ {A = ℕ} (cond (eqb x x) 1 0) 1 = grind (arith, nat_tests) in
     omega (arith, here, get_or-le-sum_by (λ y. cond (eqb y x) 1 0) xs k e inside)
 
-few_cards : (b : Board) → IsPosition b → (i : ℕ) (d : List ℕ) → i < length b.columns → length (get_or b.columns i d) ≤ 52
-few_cards b p i d inside =
-    let column = get_or b.columns i d in
-    let less : (c : ℕ) → count_in_column c column ≤ places b c = λ c.
-    omega (arith, get_or-le-sum_by (count_in_column c) b.columns i d inside) in
-    let few = room_for_one 53 column (λ c. omega (arith, less c, places_most b c p))
-    (λ c above. omega (arith, less c, p.no_other c (omega arith))) 52 (omega arith)
-    (omega (arith, less 52, p.no_other 52 (omega arith))) in
-    omega arith
-
 -- a column of a position holds cards, at most 52
 pub columns_hold : (b : Board) → IsPosition b → All IsHolding b.columns
 columns_hold b p i d inside = record {
@@ -434,7 +403,7 @@ columns_hold b p i d inside = record {
       let one = member_count (get_or b.columns i d) k e there in
       absurd (omega (arith, one, get_or-le-sum_by (count_in_column x) b.columns i d inside, p.no_other x le)))
       (cases_lt (get_or (get_or b.columns i d) k e) 52);
-  few = few_cards b p i d inside;
+  few = column_most b i d p inside;
 }
 
 -- a key has at most 68 bytes
@@ -448,17 +417,6 @@ key_most b key p k =
       length-flat_map column_bytes k.canonical.columns,
       bytes_most k.canonical whole,
     )
-
--- zeros after keys hide no difference
-pub padded_once : (b c : Board) (k l : List ℕ) → IsPosition b → IsPosition c → IsKeyOf b k → IsKeyOf c l
-    → padded k ≡ padded l → k ≡ l
-padded_once b c k l p q x y e =
-    let one = replicate (68 - length k) 0 in
-    let two = replicate (68 - length l) 0 in
-    let same = (board_once x.canonical y.canonical one two (class_positions b x.canonical p x.class)
-    (class_positions c y.canonical q y.class)
-    (ap (λ m. m ++ one) (sym x.bytes) ∙ e ∙ ap (λ m. m ++ two) y.bytes)).0 in
-    x.bytes ∙ ap board_bytes same ∙ sym y.bytes
 
 -- the next byte is written over the first of the zeros
 padded-set : (key : List ℕ) (i v : ℕ) → length key ≡ i → i < 68 → set (padded key) i v ≡ padded (key ++ v ∷ [])

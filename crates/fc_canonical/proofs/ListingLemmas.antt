@@ -1,5 +1,5 @@
 -- Listing the first of the moves to each class, place by place.
-use Rattle.std.proofs.Common.{◌≡◌, ℕ, ◌+◌, ◌*◌, ◌<◌, ◌≤◌, ◌⊎◌, ◌↔◌, Bool, true, Option, Some, None, List, [], ◌∷◌, ◌++◌, length, get_or, eqb, refl, sym, ◌∙◌, ap, subst, inl, inr, ⊎_elim, arith}
+use Rattle.std.proofs.Common.{◌≡◌, ℕ, ◌+◌, ◌*◌, ◌<◌, ◌≤◌, ◌↔◌, Bool, true, Option, Some, None, List, [], ◌∷◌, ◌++◌, length, get_or, eqb, refl, sym, ◌∙◌, ap, subst, inl, inr, ⊎_elim, arith}
 use Rattle.std.specs.Prelude.{Contains, IsTrue}
 use Rattle.std.specs.Option.{option_eq}
 use Rattle.std.proofs.lemmas.List.{length_push, get_or_append_left, get_or_push}
@@ -18,20 +18,12 @@ use Rattle.fc_moves.specs.MoveText.{IsThere, IsSource}
 use Rattle.fc_moves.specs.Step.{Joins, Takes, place_number, move_number}
 use Rattle.fc_moves.proofs.StepLemmas.{allowed_has_text, source_is_there, place_once, place_most, move_same}
 use Rattle.fc_canonical.specs.Distinct.{Stays, IsLoneBelow, IsLaterLone, IsListed, ListsBelow, IsFirstColumn, IsFirstCell, IsOpening, IsCellOf, GoesTo}
-use Rattle.fc_canonical.proofs.ListedLemmas.{first_once, empty_or_not, no_last, opens_it, joins_empty, allows_to, moves_on}
+use Rattle.fc_canonical.proofs.ListedLemmas.{first_once, empty_or_not, no_last, joins_empty, allows_to, moves_on}
 
 -- what was read as the last card of a column is its last
 pub last_is : (cards other : List ℕ) (read value : Option ℕ) → cards ≡ other → read ≡ last_of cards → read ≡ value
     → last_of other ≡ value
 last_is cards other read value same last is = ap last_of (sym same) ∙ sym last ∙ is
-
--- no move has a number below zero
-pub lists_none : (g : GameRules) (b : Board) (ms : List Move) → length ms ≡ 0 → ListsBelow g b 0 ms
-lists_none g b ms long = record {
-  listed = λ m (k, below, e). absurd (omega (arith, below));
-  complete = λ m ok below. absurd (omega (arith, below));
-  rising = λ i j d lt inside. absurd (omega (arith, inside));
-}
 
 -- where no move with a number from n on, below n + k, is to be listed, the list has those below n + k
 lists_past : (g : GameRules) (b : Board) (n k : ℕ) (ms : List Move) → ListsBelow g b n ms
@@ -219,19 +211,6 @@ later_lone g b (Column i) u j p there stays below = (omega (arith, column_there 
 later_lone g b (Cell i) u j p there stays below = absurd stays
 later_lone g b Home u j p there stays below = absurd stays
 
-not_later : (g : GameRules) (b : Board) (from : Place) (j : ℕ) → column b j ≡ []
-    → (Stays b from (Column j) → IsLoneBelow g b (place_number from) → ⊥) → IsLaterLone g b from → ⊥
-not_later g b (Column i) j empty first later = first (later.1, empty) later.2
-not_later g b (Cell i) j empty first later = later
-not_later g b Home j empty first later = later
-
--- the card opens the column to which its move is listed
-listed_opens : (g : GameRules) (b : Board) (from : Place) (u j : ℕ) → playable b from ≡ Some u → column b j ≡ []
-    → IsListed g b (record { from = from; to = Column j }) → Opens g u
-listed_opens g b from u j there empty ok =
-    let card : ok.allowed.1.card ≡ u = let e = ok.allowed.1.playable in cc in
-    subst (Opens g) card (opens_it g (column b j) ok.allowed.1.card empty ok.allowed.1.takes.1)
-
 -- the first empty column is the one to go to, where the card may go there and its column isn't a later lone one
 pub opening_first : (g : GameRules) (b : Board) (from : Place) (u j : ℕ) → IsPosition b → playable b from ≡ Some u
     → IsFirstColumn b (Some j) → Opens g u → (IsLaterLone g b from → ⊥) → IsOpening g b from (Some j)
@@ -245,16 +224,6 @@ opening_first g b from u j p there first opens early k empty = (
       }),
   λ ok. let same : j ≡ k = first_once (λ n. column b n ≡ []) j k first.1 empty first.2 (ok.first empty) in
       ap (λ (n : ℕ). Some n) same,
-)
-
--- there is none to go to where no column is empty, the card may not go there, or its column is a later lone one
-pub opening_none : (g : GameRules) (b : Board) (from : Place) (u : ℕ) → IsPosition b → playable b from ≡ Some u
-    → IsFirstColumn b None ⊎ ((Opens g u → ⊥) ⊎ IsLaterLone g b from) → IsOpening g b from None
-opening_none g b from u p there why k empty = (
-  λ e. absurd (cc e),
-  λ ok. absurd (⊎_elim (λ none. none k (omega (arith, ok.allowed.1.takes.0, p.columns)) empty)
-      (λ other. ⊎_elim (λ closed. closed (listed_opens g b from u k there empty ok))
-      (λ later. not_later g b from k empty ok.stays later) other) why),
 )
 
 -- the first empty cell of the game is where the last card of a column goes, and a card of a cell goes to none
@@ -275,9 +244,6 @@ cell_of_column g b i u (Some k) p game there first j = (
   λ ok. let same : k ≡ j = first_once (λ n. cell b n ≡ None) k j first.1 ok.allowed.1.takes.2 first.2 ok.first in
       ap (λ (n : ℕ). Some n) same,
 )
-
-pub cell_of_cell : (g : GameRules) (b : Board) (i : ℕ) → IsCellOf g b (Cell i) None
-cell_of_cell g b i j = (λ e. absurd (cc e), λ ok. absurd ok.allowed.1.joins)
 
 -- a card of a column or a cell may go home
 joins_home : (from : Place) → IsSource from → Joins from Home

@@ -2,20 +2,15 @@
 use Rattle.std.proofs.Common.{◌≡◌, ℕ, ◌+◌, ◌<◌, length, get_or, sym, ◌∙◌, ap, subst, ⊎_elim, List, arith}
 use Rattle.std.proofs.lemmas.List.{get_or_default}
 use Rattle.std.proofs.lemmas.Bool.{cases_lt}
-use Rattle.fc_position.specs.Board.{Board, placed, lifted}
+use Rattle.fc_position.specs.Board.{Board}
 use Rattle.fc_position.specs.Position.{IsPosition}
 use Rattle.fc_moves.specs.declared.steps.Move.{Move}
 use Rattle.fc_moves.specs.GameRules.{GameRules}
 use Rattle.fc_moves.specs.Step.{Step}
+use Rattle.fc_moves.proofs.StepLemmas.{step_once}
 use Rattle.fc_canonical.specs.Key.{IsKeyOf}
 use Rattle.fc_canonical.proofs.ClassLemmas.{class-refl}
 use Rattle.fc_canonical.proofs.KeyLemmas.{keys_tell}
-
--- a move leads to one board
-pub step_once : (g : GameRules) (b : Board) (m : Move) (x y : Board) → Step g b m x → Step g b m y → x ≡ y
-step_once g b m x y p q =
-    let same : p.card ≡ q.card = let e = p.playable in let f = q.playable in cc in
-    p.after ∙ ap (λ u. placed (lifted b m.from) u m.to) same ∙ sym q.after
 
 -- a move whose result has another key doesn't lead to this one
 pub not_this : (g : GameRules) (b : Board) (m : Move) (y : Board) (key target : List ℕ) → IsPosition y → Step g b m y

@@ -5,7 +5,7 @@ use Rattle.std.specs.List.Sorted.{IsPermutation, IsNonDecreasing, IsNonDecreasin
 use Rattle.std.specs.Prelude.{sum_by}
 use Rattle.std.proofs.Math.Seq.{set-append_seam, take-set-lt, map-set_same}
 use Rattle.std.proofs.lemmas.Grind.{flat_map-append}
-use Rattle.std.proofs.lemmas.List.{append-nil, take_at, take_more, take-set-le, drop_at, get_or-map, get_or-take, get_or-set_other, length-set, set_split, set-append_right, length-replicate, replicate-append-replicate}
+use Rattle.std.proofs.lemmas.List.{append-nil, take_at, take_more, drop_at, get_or-map, get_or-take, length-set, set_split, set-append_right, length-replicate, replicate-append-replicate}
 use Rattle.std.proofs.lemmas.List.Concat.{length-flat_map}
 use Rattle.std.proofs.lemmas.List.Sorted.{IsPermutation-refl}
 use Rattle.std.proofs.lemmas.List.Sums.{sum_by-set, sum_by_more_le}
@@ -14,7 +14,7 @@ use Rattle.fc_cards.specs.declared.places.Place.TheVariants.{Column, Cell, Home}
 use Rattle.fc_position.specs.Board.{Board, column, last_of, front_of, lifted}
 use Rattle.fc_position.specs.Position.{IsPosition}
 use Rattle.fc_position.proofs.BoardLemmas.{front_last, column_there, columns-lifted, position-moved}
-use Rattle.fc_moves.specs.Step.{Joins}
+use Rattle.fc_moves.proofs.StepLemmas.{other_column}
 use Rattle.fc_canonical.specs.Key.{column_bytes, padded, IsKeyOf}
 use Rattle.fc_canonical.specs.Moved.{MayMove, moved, SpellWith, Shortens, Lengthens}
 use Rattle.fc_canonical.specs.Order.{column_order, cell_byte}
@@ -224,12 +224,6 @@ pub order_put : (columns : List (List ℕ)) (j u : ℕ) → 1 ≤ length (get_or
     → IsNonDecreasingBy column_order columns → IsNonDecreasingBy column_order (set columns j (get_or columns j [] ++ u ∷ []))
 order_put columns j u some up = order_kept columns j (get_or columns j [] ++ u ∷ []) (order_more (get_or columns j []) u some) up
 
--- a card isn't lifted from the column to which it goes
-pub other_column : (b : Board) (from : Place) (j : ℕ) → Joins from (Column j) → column (lifted b from) j ≡ column b j
-other_column b (Column i) j other = get_or-set_other b.columns i j (front_of (column b i)) [] other
-other_column b (Cell i) j other = refl
-other_column b Home j other = absurd other
-
 -- where a column begins once a card is lifted from one before it, or not
 pub start_lifted : (columns : List (List ℕ)) (i j u : ℕ) → i < j → i < length columns → last_of (get_or columns i []) ≡ Some u
     → length (flat_map column_bytes (take j (set columns i (front_of (get_or columns i []))))) + 1 ≡ length (flat_map column_bytes (take j columns))
@@ -247,10 +241,6 @@ start_lifted columns i j u before inside last =
       ap length (front_last cards u last),
       length-append front (u ∷ []),
     )
-
-pub start_stays : (columns : List (List ℕ)) (i j : ℕ) (cards : List ℕ) → j ≤ i
-    → length (flat_map column_bytes (take j (set columns i cards))) ≡ length (flat_map column_bytes (take j columns))
-start_stays columns i j cards le = ap (λ l. length (flat_map column_bytes l)) (take-set-le j columns i cards le)
 
 -- a board whose columns stand in order, with the cells' bytes in order, is spelled by its key
 pub key_stands : (b : Board) (bytes : List ℕ) → IsNonDecreasingBy column_order b.columns

@@ -10,8 +10,8 @@ use Rattle.fc_position.specs.Board.{Board, places}
 use Rattle.fc_position.specs.Position.{IsPosition}
 use Rattle.fc_position.specs.Tally.{IsFaultOf}
 use Rattle.fc_position.specs.declared.faults.PartsFault.{PartsFault}
-use Rattle.fc_position.specs.declared.faults.PartsFault.TheVariants.{Repeated, Missing}
 use Rattle.fc_position.proofs.BoardLemmas.{home_most}
+use Rattle.fc_position.proofs.TallyLemmas.{no_fault}
 use Rattle.fc_canonical.specs.Key.{column_bytes, board_bytes, IsKeyOf, HasExtent, BeginsWithKey}
 use Rattle.fc_canonical.specs.Order.{cell_byte, IsCanonical}
 use Rattle.fc_canonical.specs.Parts.{IsHolding}
@@ -192,17 +192,12 @@ board_columns bytes b rest p e =
 pub counts_most : (b : Board) → IsPosition b → All (λ n. n ≤ 13) b.homes
 counts_most b p k d inside = rw (get_or_default b.homes k d 0 inside) (home_most b p k)
 
--- a position has no fault
-pub no_fault : (b : Board) (fault : PartsFault) → IsPosition b → IsFaultOf (places b) fault → ⊥
-no_fault b (Repeated c) p (below, more, least) = omega (arith, p.once c below, more)
-no_fault b (Missing c) p (below, none, least, once) = omega (arith, p.once c below, none)
-
 -- so a board with a fault is not spelled at the front of bytes that begin with a position
 pub no_position : (bytes : List ℕ) (x : Board) (r : List ℕ) (fault : PartsFault) → IsSpelled x → bytes ≡ board_bytes x ++ r
     → IsFaultOf (places x) fault → (b : Board) (rest : List ℕ) → IsPosition b → bytes ≡ board_bytes b ++ rest → ⊥
 no_position bytes x r fault spelled at bad b rest p e =
     let same = (spelled_once x b r rest spelled (position_spelled b p) (sym at ∙ e)).0 in
-    no_fault b fault p (subst (λ y. IsFaultOf (places y) fault) same bad)
+    no_fault (places b) fault p.once (subst (λ y. IsFaultOf (places y) fault) same bad)
 
 -- what is read of a board in its three parts is spelled by the bytes up to the rest
 pub spelled_parts : (bytes : List ℕ) (b : Board) (r s t : List ℕ) → length b.homes ≡ 4 → length b.cells ≡ 4

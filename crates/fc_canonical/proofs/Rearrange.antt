@@ -149,7 +149,7 @@ one_full_most None = omega arith
 one_full_most (Some x) = omega arith
 
 -- where the options from n on are empty, at most n are full
-full_most : (n : ℕ) (xs : List (Option ℕ)) → ((i : ℕ) → n ≤ i → get_or xs i None ≡ None) → sum_by one_full xs ≤ n
+pub full_most : (n : ℕ) (xs : List (Option ℕ)) → ((i : ℕ) → n ≤ i → get_or xs i None ≡ None) → sum_by one_full xs ≤ n
 full_most n [] fits = omega arith
 full_most zero (x ∷ xs) fits =
     let none : one_full x ≡ 0 = ap one_full (fits 0 (omega arith)) in

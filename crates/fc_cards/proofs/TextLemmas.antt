@@ -60,12 +60,12 @@ card_text_once c d text a b p q =
     omega (arith, ranks, suits)
 
 -- a letter of a rank, and one of a suit, is no small letter
-rank_letter-upper : (r : ℕ) → IsRank r → to_ascii_uppercase (rank_letter r) ≡ rank_letter r
+pub rank_letter-upper : (r : ℕ) → IsRank r → to_ascii_uppercase (rank_letter r) ≡ rank_letter r
 rank_letter-upper =
     by_rank (λ r. to_ascii_uppercase (rank_letter r) ≡ rank_letter r)
     refl refl refl refl refl refl refl refl refl refl refl refl refl
 
-suit_letter-upper : (s : ℕ) → s < 4 → to_ascii_uppercase (suit_letter s) ≡ suit_letter s
+pub suit_letter-upper : (s : ℕ) → s < 4 → to_ascii_uppercase (suit_letter s) ≡ suit_letter s
 suit_letter-upper = by_suit (λ s. to_ascii_uppercase (suit_letter s) ≡ suit_letter s) refl refl refl refl
 
 -- a card's text spells the card

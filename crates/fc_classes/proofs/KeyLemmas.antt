@@ -78,19 +78,7 @@ key_spells g b key p k =
       subst (SameClass b) (sym back) k.class,
     )
 
--- what is read at the front of a key of the game is the position that it spells
-pub key_read : (g : GameRules) (key : List ℕ) (b : Board) (n : ℕ) → IsKeyIn g key → BeginsWithKey key b n → b ≡ spelled key
-key_read g key b n k read =
-    let own : BeginsWithKey key (spelled key) (length (board_bytes (spelled key))) = record {
-      position = k.position.position;
-      ordered = k.ordered;
-      rest = [];
-      parts = k.bytes ∙ sym (append-nil (board_bytes (spelled key)));
-      size = refl;
-    } in
-    (key_begins_once key b (spelled key) n (length (board_bytes (spelled key))) read own).0
-
--- and there is one
+-- a key of the game is the key at its own front
 pub key_begins : (g : GameRules) (key : List ℕ) → IsKeyIn g key
     → BeginsWithKey key (spelled key) (length (board_bytes (spelled key)))
 key_begins g key k = record {
@@ -100,3 +88,8 @@ key_begins g key k = record {
   parts = k.bytes ∙ sym (append-nil (board_bytes (spelled key)));
   size = refl;
 }
+
+-- what is read at the front of a key of the game is the position that it spells
+pub key_read : (g : GameRules) (key : List ℕ) (b : Board) (n : ℕ) → IsKeyIn g key → BeginsWithKey key b n → b ≡ spelled key
+key_read g key b n k read =
+    (key_begins_once key b (spelled key) n (length (board_bytes (spelled key))) read (key_begins g key k)).0

@@ -12,8 +12,8 @@ use Rattle.std.proofs.lemmas.Bool.Decides.{nat_tests}
 use Rattle.fc_cards.specs.Card.{suit}
 use Rattle.fc_position.specs.Board.{Board, places, count_in_column, count_at_home}
 use Rattle.fc_position.specs.Tally.{IsFaultOf}
+use Rattle.fc_position.proofs.TallyLemmas.{no_fault}
 use Rattle.fc_position.specs.declared.faults.PartsFault.{PartsFault}
-use Rattle.fc_position.specs.declared.faults.PartsFault.TheVariants.{Repeated, Missing}
 use Rattle.fc_deal.specs.Draw.{draw}
 use Rattle.fc_deal.specs.Deal.{whole_deck, picked, deck_after, taken, dealt_column, dealt_columns, dealt_board}
 
@@ -150,11 +150,6 @@ places-dealt_board n c below =
     let columns = sum_by-dealt_all (λ x. cond (eqb x c) 1 0) n 52 refl in
     omega (arith, columns, count-whole_deck c below, none_home c)
 
--- so its parts have no fault
-pub no_fault : (n : ℕ) (fault : PartsFault) → IsFaultOf (places (dealt_board n)) fault → ⊥
-no_fault n (Repeated c) (below, more, least) = omega (arith, places-dealt_board n c below)
-no_fault n (Missing c) (below, none, least, once) = omega (arith, places-dealt_board n c below)
-
 -- a list that has each number of a card at its own place is the deck
 pub whole_deck_is : (cards : List ℕ) → length cards ≡ 52 → ((k : ℕ) → k < 52 → slice_index cards k ≡ k) → take 52 cards ≡ whole_deck
 unfolding whole_deck
@@ -199,7 +194,8 @@ dealt_board_is n columns e = ap (λ v. record { columns = v; cells = replicate 4
 pub board_given : (n : ℕ) (b : Board) (reply : Result Board PartsFault) → b ≡ dealt_board n
     → IfErr reply (IsFaultOf (places b)) → IsSome (result_ok reply)
 board_given n b (Ok p) e fault = refl
-board_given n b (Err f) e fault = absurd (no_fault n f (subst (λ x. IsFaultOf (places x) f) e fault))
+board_given n b (Err f) e fault =
+    absurd (no_fault (places (dealt_board n)) f (places-dealt_board n) (subst (λ x. IsFaultOf (places x) f) e fault))
 
 pub board_same : (n : ℕ) (b : Board) (reply : Result Board PartsFault) → b ≡ dealt_board n
     → IfOk reply (λ p. p ≡ b) → IfSome (result_ok reply) (λ p. p ≡ dealt_board n)

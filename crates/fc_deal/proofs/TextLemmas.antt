@@ -1,16 +1,15 @@
 -- The letters of cards are ASCII, and the lines of a position have room in 200 bytes.
-use Rattle.std.proofs.Common.{◌≡◌, ℕ, ◌+◌, ◌-◌, ◌*◌, ◌≤◌, ◌<◌, List, [], ◌∷◌, ◌++◌, length, take, true, cond, eqb, ltb, refl, sym, ◌∙◌, ap, ⊎_elim, arith}
+use Rattle.std.proofs.Common.{◌≡◌, ℕ, ◌+◌, ◌-◌, ◌*◌, ◌≤◌, ◌<◌, List, [], ◌∷◌, ◌++◌, length, take, true, ltb, refl, sym, ◌∙◌, ap, ⊎_elim, arith}
 use Rattle.std.specs.Prelude.{slice_index, sum_by, codes}
 use Rattle.std.specs.List.{list_all, flat_map}
 use Rattle.std.proofs.lemmas.List.{append-nil, append_assoc, get_or_past, length-append, length-take-le, take_all}
-use Rattle.std.proofs.lemmas.List.Concat.{length-flat_map}
-use Rattle.std.proofs.lemmas.List.Sums.{AllPass-from_list_all, sum_by-cons, sum_by-append, sum_by_more_le}
+use Rattle.std.proofs.lemmas.List.Sums.{AllPass-from_list_all, sum_by-cons, sum_by_more_le}
 use Rattle.std.proofs.lemmas.Bool.{cases_lt}
 use Rattle.std.proofs.lemmas.Bool.Decides.{nat_tests}
 use Rattle.fc_cards.specs.Texts.{rank_letter, suit_letter, card_text}
-use Rattle.fc_position.specs.Board.{Board, column, places, count_in_column}
+use Rattle.fc_position.specs.Board.{Board, column}
 use Rattle.fc_position.specs.Position.{IsPosition}
-use Rattle.fc_position.proofs.Pigeonhole.{room_for_one}
+use Rattle.fc_position.proofs.BoardLemmas.{cards_most}
 use Rattle.fc_deal.specs.DealText.{cards_text, line_text}
 
 -- a letter of an ASCII text, or the zero past its end, is ASCII
@@ -55,27 +54,6 @@ length-lines (x ∷ xs) =
     let one = length-append (cards_text x) (10 ∷ []) in
     let two = length-append (line_text x) (flat_map line_text xs) in
     omega arith
-
--- the cards of all columns in a row
-abbrev in_columns : List (List ℕ) → List ℕ
-in_columns columns = flat_map (λ v. v) columns
-
-count-in_columns : (c : ℕ) (columns : List (List ℕ)) → count_in_column c (in_columns columns) ≡ sum_by (count_in_column c) columns
-count-in_columns c [] = refl
-count-in_columns c (x ∷ xs) =
-    let rest = count-in_columns c xs in
-    let all = sum_by-cons (count_in_column c) x xs in
-    let both = sum_by-append (λ y. cond (eqb y c) 1 0) x (in_columns xs) in
-    omega arith
-
--- a position has at most 52 cards in its columns
-pub cards_most : (b : Board) → IsPosition b → sum_by (λ v. length v) b.columns ≤ 52
-cards_most b p =
-    let each : (c : ℕ) → count_in_column c (in_columns b.columns) ≤ places b c = λ c. omega (arith, count-in_columns c b.columns) in
-    let fewer = room_for_one 53 (in_columns b.columns)
-    (λ c. ⊎_elim (λ lt. omega (arith, each c, p.once c lt)) (λ le. omega (arith, each c, p.no_other c le)) (cases_lt c 52))
-    (λ c above. omega (arith, each c, p.no_other c (omega arith))) 52 (omega arith) (omega (arith, each 52, p.no_other 52 (omega arith))) in
-    omega (arith, length-flat_map (λ (v : List ℕ). v) b.columns)
 
 -- after the lines of some columns there is room for the next
 pub room_for_line : (b : Board) (i : ℕ) → IsPosition b → i < length b.columns

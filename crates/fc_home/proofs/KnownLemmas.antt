@@ -1,13 +1,12 @@
 -- What is known of the next cards, and what of it stays known while cards go home.
-use Rattle.std.proofs.Common.{◌≡◌, ◌≢◌, ℕ, zero, suc, ◌+◌, ◌<◌, ◌≤◌, ◌↔◌, Bool, true, false, Option, Some, None, List, length, set, get_or, refl, sym, ◌∙◌, ap, subst, inl, inr, ⊎_elim, arith}
+use Rattle.std.proofs.Common.{◌≡◌, ◌≢◌, ℕ, zero, suc, ◌↔◌, Bool, true, Option, Some, None, List, length, refl, sym, ◌∙◌, ap, subst, inl, inr, ⊎_elim, arith}
 use Rattle.std.specs.Prelude.{IsTrue, slice_index}
-use Rattle.std.proofs.lemmas.List.{get_or-set_same, get_or-set_other}
 use Rattle.std.proofs.lemmas.Bool.{cases_eq}
 use Rattle.fc_cards.specs.Card.{rank, suit}
 use Rattle.fc_position.specs.Board.{IsHome, IsNext}
 use Rattle.fc_moves.specs.GameRules.{GameRules, IsGame}
 use Rattle.fc_home.specs.HomeRule.{IsForced, IsFreeWithin, IsFree}
-use Rattle.fc_home.specs.Known.{IsLevel, answer_of, Tells, IsKnown, lasting}
+use Rattle.fc_home.specs.Known.{IsLevel, answer_of, Tells, IsKnown}
 use Rattle.fc_home.specs.Laws.{GoersStay}
 use Rattle.fc_home.proofs.CountLemmas.{with_home, home-kept, home-own, home-cases, next-kept, other_count}
 use Rattle.fc_home.proofs.RuleLemmas.{host_lower, forced_free}
@@ -49,14 +48,6 @@ goers_stay zero g homes c u four goes next apart = goes
 goers_stay (suc zero) g homes c u four goes next apart = forced_stays g homes c u four next apart goes
 goers_stay (suc (suc more)) g homes c u four goes next apart = within_stays (rank c) g homes c u four next apart goes
 
--- what holds for each of the four suits
-pub of_four : (P : ℕ → Type 0) → P 0 → P 1 → P 2 → P 3 → (s : ℕ) → s < 4 → P s
-of_four P a b c d s below =
-    ⊎_elim (λ e. subst P (sym e) a)
-    (λ not_a. ⊎_elim (λ e. subst P (sym e) b)
-    (λ not_b. ⊎_elim (λ e. subst P (sym e) c) (λ not_c. let e : s ≡ 3 = omega arith in subst P (sym e) d) (cases_eq s 2)) (cases_eq s 1))
-    (cases_eq s 0)
-
 -- a next card is forced where every card of a lower rank is home
 pub level_forced : (g : GameRules) (homes : List ℕ) (c : ℕ) → IsGame g → IsNext homes c
     → IsLevel homes c → IsForced g homes c
@@ -66,12 +57,6 @@ level_forced g homes c game next level =
 pub level_free : (g : GameRules) (homes : List ℕ) (c : ℕ) → IsGame g → IsNext homes c
     → IsLevel homes c → IsFree g homes c
 level_free g homes c game next level = forced_free g homes c (level_forced g homes c game next level)
-
--- before anything was asked, what is known holds
-pub known_nothing : (g : GameRules) (homes : List ℕ) (answers : List (Option Bool)) → ((s : ℕ) → answer_of answers s ≡ None)
-    → IsKnown g homes answers
-known_nothing g homes answers nothing c next =
-    let empty = nothing (suit c) in subst (λ a. Tells a (IsFree g homes c)) (sym empty) tt
 
 -- an answer that is kept tells whether the next card of its suit is free
 pub known_tells : (g : GameRules) (homes : List ℕ) (answers : List (Option Bool)) (c : ℕ) (t : Bool) → IsKnown g homes answers
@@ -104,39 +89,3 @@ known_send g homes old new u four next known left c also =
           let apart : u ≡ c → ⊥ = λ same. ne (ap (λ (x : ℕ). suit x) (sym same)) in
           (λ _. goers_stay 2 g homes c u four free next apart, λ _. t_true)
     ] refl
-
--- the change of the answer at one place, where those before it have been changed
-pub lasting_done : (old now : List (Option Bool)) (i : ℕ) → i < length now
-    → ((k : ℕ) → k < i → get_or now k None ≡ lasting (get_or old k None)) → ((k : ℕ) → i ≤ k → get_or now k None ≡ get_or old k None)
-    → (k : ℕ) → k < i + 1 → get_or (set now i (lasting (get_or now i None))) k None ≡ lasting (get_or old k None)
-lasting_done old now i inside done rest k below =
-    ⊎_elim
-    (λ e. ap (λ j. get_or (set now i (lasting (get_or now i None))) j None) e
-    ∙ get_or-set_same now i (lasting (get_or now i None)) None inside
-    ∙ ap lasting (ap (λ j. get_or now j None) (sym e) ∙ rest k (omega (arith, e))))
-    (λ ne. get_or-set_other now i k (lasting (get_or now i None)) None ne ∙ done k (omega arith))
-    (cases_eq k i)
-
-pub lasting_rest : (old now : List (Option Bool)) (i : ℕ) (x : Option Bool) → ((k : ℕ) → i ≤ k → get_or now k None ≡ get_or old k None)
-    → (k : ℕ) → i + 1 ≤ k → get_or (set now i x) k None ≡ get_or old k None
-lasting_rest old now i x rest k past =
-    get_or-set_other now i k x None (λ e. omega (arith, e, past)) ∙ rest k (omega (arith, past))
-
--- after all of them, and with none for one suit: what is left was a yes of another suit, and each such yes is left
-pub lasting_some : (x : Option Bool) (t : Bool) → lasting x ≡ Some t → (t ≡ true) × (x ≡ Some true)
-lasting_some None t e = absurd (cc e)
-lasting_some (Some true) t e = (cc e, refl)
-lasting_some (Some false) t e = absurd (cc e)
-
-pub lasting_left : (old now : List (Option Bool)) (i s : ℕ) (t : Bool) → i < length now
-    → ((k : ℕ) → get_or now k None ≡ lasting (get_or old k None)) → answer_of (set now i None) s ≡ Some t
-    → (t ≡ true) × (answer_of old s ≡ Some true) × (s ≢ i)
-lasting_left old now i s t inside all e =
-    ⊎_elim (λ same. absurd (let x = ap (answer_of (set now i None)) same ∙ get_or-set_same now i None None inside in cc (sym x ∙ e)))
-    (λ ne. let (yes_it_is, was) = lasting_some (get_or old s None) t (sym (get_or-set_other now i s None None ne ∙ all s) ∙ e) in
-    (yes_it_is, was, ne))
-    (cases_eq s i)
-
-pub lasting_kept : (old now : List (Option Bool)) (i s : ℕ) → ((k : ℕ) → get_or now k None ≡ lasting (get_or old k None))
-    → answer_of old s ≡ Some true → s ≢ i → answer_of (set now i None) s ≡ Some true
-lasting_kept old now i s all was ne = get_or-set_other now i s None None ne ∙ all s ∙ ap lasting was

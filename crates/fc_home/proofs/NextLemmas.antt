@@ -1,8 +1,8 @@
 -- Looking at one place after the other for the next cards, and taking the first of them that goes home.
-use Rattle.std.proofs.Common.{◌≡◌, ◌≢◌, ℕ, Bool, true, ◌+◌, ◌<◌, ◌⊎◌, Option, Some, None, List, length, set, refl, sym, ◌∙◌, ap, subst, inl, inr, ⊎_elim, arith}
+use Rattle.std.proofs.Common.{◌≡◌, ◌≢◌, ℕ, Bool, true, ◌+◌, ◌<◌, Option, Some, None, List, length, set, refl, sym, ◌∙◌, ap, subst, ⊎_elim, arith}
 use Rattle.std.specs.Prelude.{slice_set}
 use Rattle.std.proofs.lemmas.List.{get_or-set_same, get_or-set_other, length-set}
-use Rattle.std.proofs.lemmas.Bool.{cases_lt, cases_eq}
+use Rattle.std.proofs.lemmas.Bool.{cases_eq}
 use Rattle.fc_cards.specs.Card.{rank, suit}
 use Rattle.fc_cards.specs.declared.places.Place.{Place}
 use Rattle.fc_position.specs.Board.{Board, IsNext, playable}
@@ -15,22 +15,11 @@ use Rattle.fc_moves.proofs.StepLemmas.{source_there, source_most}
 use Rattle.fc_home.specs.declared.settling.Goer.{Goer}
 use Rattle.fc_home.specs.HomeRule.{GoesHome}
 use Rattle.fc_home.specs.Known.{answer_of, IsKnown}
-use Rattle.fc_home.specs.Nexts.{goer_of, HasNexts, IsLeastBelow, IsEarlier}
+use Rattle.fc_home.specs.Nexts.{goer_of, HasNexts, IsLeastBelow}
 use Rattle.fc_home.specs.Settles.{IsFirstHome, NoneGoesHome, sent_home}
 use Rattle.fc_home.proofs.KnownLemmas.{next_once, known_send}
 use Rattle.fc_home.proofs.SearchLemmas.{up_to}
 use Rattle.fc_home.proofs.SettleLemmas.{goes_next}
-
--- before any place was looked at there are none
-pub nexts_none : (P : ℕ → Type 0) (b : Board) (nexts : List (Option Goer)) → length nexts ≡ 4 → ((s : ℕ) → goer_of nexts s ≡ None)
-    → HasNexts P b 0 nexts
-nexts_none P b nexts four empty = record {
-  four = four;
-  lies = λ s goer e. absurd (let x = empty s in cc);
-  next = λ s goer e. absurd (let x = empty s in cc);
-  suits = λ s goer e. absurd (let x = empty s in cc);
-  each = λ from c below there holds. absurd (omega arith);
-}
 
 -- the card of a place isn't next, or there is none
 pub nexts_pass : (P : ℕ → Type 0) (b : Board) (from : Place) (nexts : List (Option Goer)) → IsPosition b → IsThere from
@@ -89,17 +78,6 @@ nexts_more P b from nexts goer p at has place lies next =
           (cases_eq (suit c) (suit goer.card));
     }
 
--- of fewer cards it is asked that they stand in the list
-pub nexts_fewer : (P Q : ℕ → Type 0) (b : Board) (n : ℕ) (nexts : List (Option Goer)) → ((c : ℕ) → Q c → P c) → HasNexts P b n nexts
-    → HasNexts Q b n nexts
-nexts_fewer P Q b n nexts fewer has = record {
-  four = has.four;
-  lies = has.lies;
-  next = has.next;
-  suits = has.suits;
-  each = λ from c below there holds. has.each from c below there (fewer c holds);
-}
-
 -- a card of the list doesn't go home, and is struck off
 pub nexts_struck : (rule : ℕ) (g : GameRules) (b : Board) (n : ℕ) (nexts : List (Option Goer)) (goer : Goer)
     → HasNexts (GoesHome rule g b.homes) b n nexts → IsLeastBelow 4 nexts (Some goer) → (GoesHome rule g b.homes goer.card → ⊥)
@@ -145,50 +123,6 @@ pub least_none : (rule : ℕ) (g : GameRules) (b : Board) (nexts : List (Option 
 least_none rule g b nexts p has none other d there goes =
     let found = has.each other d (source_most other (source_there b other d p there)) there goes in
     absurd (let x = none (suit d) (omega arith) in cc (sym x ∙ found.1))
-
--- the least so far, and the next element
-pub least_start : (nexts : List (Option Goer)) → IsLeastBelow 0 nexts None
-least_start nexts s below = absurd (omega arith)
-
-below_or_at : (s n : ℕ) → s < n + 1 → (s < n) ⊎ (s ≡ n)
-below_or_at s n below = ⊎_elim (λ lt. inl lt) (λ le. inr (omega arith)) (cases_lt s n)
-
-pub least_more : (nexts : List (Option Goer)) (n : ℕ) (first new result : Option Goer) → IsLeastBelow n nexts first
-    → goer_of nexts n ≡ new → IsEarlier first new result → IsLeastBelow (n + 1) nexts result
-least_more nexts n None None result empty here e =
-    subst (IsLeastBelow (n + 1) nexts) (sym e)
-    (λ s below. ⊎_elim (λ lt. empty s lt) (λ at. ap (goer_of nexts) at ∙ here) (below_or_at s n below))
-least_more nexts n None (Some b) result empty here e =
-    subst (IsLeastBelow (n + 1) nexts) (sym e) (
-      (n, here),
-      λ s other below found.
-          ⊎_elim (λ lt. absurd (let x = empty s lt in cc (sym x ∙ found)))
-          (λ at. let same : b ≡ other = let x = ap (goer_of nexts) at in cc in omega (arith, ap (λ (x : Goer). x.card) same))
-          (below_or_at s n below),
-    )
-least_more nexts n (Some a) None result least here e =
-    subst (IsLeastBelow (n + 1) nexts) (sym e) (
-      least.0,
-      λ s other below found.
-          ⊎_elim (λ lt. least.1 s other lt found) (λ at. absurd (let x = ap (goer_of nexts) at in cc)) (below_or_at s n below),
-    )
-least_more nexts n (Some a) (Some b) result least here e =
-    ⊎_elim
-    (λ (le, same). subst (IsLeastBelow (n + 1) nexts) (sym same) (
-      least.0,
-      λ s other below found.
-          ⊎_elim (λ lt. least.1 s other lt found)
-          (λ at. let card : b ≡ other = let x = ap (goer_of nexts) at in cc in omega (arith, le, ap (λ (x : Goer). x.card) card))
-          (below_or_at s n below),
-    ))
-    (λ (lt, same). subst (IsLeastBelow (n + 1) nexts) (sym same) (
-      (n, here),
-      λ s other below found.
-          ⊎_elim (λ old. omega (arith, lt, least.1 s other old found))
-          (λ at. let card : b ≡ other = let x = ap (goer_of nexts) at in cc in omega (arith, ap (λ (x : Goer). x.card) card))
-          (below_or_at s n below),
-    ))
-    e
 
 -- one turn: of what was known, what stays known once the card is home
 pub turn_known : (rule : ℕ) (g : GameRules) (b next : Board) (from : Place) (c s : ℕ) (old new : List (Option Bool)) → IsPosition b

@@ -1,6 +1,5 @@
 -- Looking at one place after the other for the first card that goes home.
 use Rattle.std.proofs.Common.{◌≡◌, ℕ, ◌+◌, ◌<◌, ◌≤◌, ◌⊎◌, Option, Some, None, sym, ◌∙◌, ap, subst, inl, inr, ⊎_elim, arith}
-use Rattle.std.specs.Prelude.{IfSome, IfNone}
 use Rattle.std.proofs.lemmas.Bool.{cases_lt}
 use Rattle.fc_cards.specs.declared.places.Place.{Place}
 use Rattle.fc_position.specs.Board.{Board, playable}
@@ -70,17 +69,6 @@ stays_at_stuck rule g b from first card p at before lies stuck =
     first_stays rule g b from first p at before
     (λ d there goes. let same : d ≡ card = cc in absurd (stuck (subst (GoesHome rule g b.homes) same goes)))
 
-goes_after : (first : Option Goer) (card : ℕ) → (IfSome first (λ goer. card < goer.card) → ⊥) → GoesAfter first card
-goes_after None card late = late tt
-goes_after (Some goer) card late = ⊎_elim (λ lt. absurd (late lt)) (λ le. le) (cases_lt card goer.card)
-
-pub stays_at_later : (rule : ℕ) (g : GameRules) (b : Board) (from : Place) (first : Option Goer) (card : ℕ) → IsPosition b
-    → IsThere from → IsFirstBelow rule g b (place_number from) first → playable b from ≡ Some card
-    → (IfSome first (λ goer. card < goer.card) → ⊥) → IsFirstBelow rule g b (place_number from + 1) first
-stays_at_later rule g b from first card p at before lies late =
-    first_stays rule g b from first p at before
-    (λ d there goes. let same : card ≡ d = cc in subst (GoesAfter first) same (goes_after first card late))
-
 -- the card of this place goes before it
 first_turns : (rule : ℕ) (g : GameRules) (b : Board) (from : Place) (first : Option Goer) (goer : Goer) → IsPosition b
     → IsThere from → playable b from ≡ Some goer.card → goer.from ≡ from → GoesHome rule g b.homes goer.card
@@ -117,13 +105,3 @@ first_found rule g b goer p first = record {
 
 pub none_found : (rule : ℕ) (g : GameRules) (b : Board) → IsPosition b → IsFirstBelow rule g b 12 None → NoneGoesHome rule g b
 none_found rule g b p none other d there goes = none other d (source_most other (source_there b other d p there)) there goes
-
-pub first_after : (rule : ℕ) (g : GameRules) (b : Board) (first : Option Goer) → IsPosition b → IsFirstBelow rule g b 12 first
-    → IfSome first (λ goer. IsFirstHome rule g b goer.from goer.card)
-first_after rule g b None p first = tt
-first_after rule g b (Some goer) p first = first_found rule g b goer p first
-
-pub none_after : (rule : ℕ) (g : GameRules) (b : Board) (first : Option Goer) → IsPosition b → IsFirstBelow rule g b 12 first
-    → IfNone first (NoneGoesHome rule g b)
-none_after rule g b None p none = none_found rule g b p none
-none_after rule g b (Some goer) p none = tt

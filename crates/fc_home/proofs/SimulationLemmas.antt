@@ -8,17 +8,17 @@
 -- It goes to a cell, to an empty column, home, or onto a card that isn't ahead: the same move. It goes onto a card that is
 -- ahead: then it is of the set too, and goes home on the right. So the moves on the right, less those that the cards at home
 -- are more, are never more than those on the left; at the end all cards are home on both sides.
-use Rattle.std.proofs.Common.{◌≡◌, ℕ, ◌+◌, ◌<◌, ◌≤◌, ◌⊎◌, Some, [], length, refl, sym, ◌∙◌, ap, subst, inl, inr, ⊎_elim, arith}
-use Rattle.std.proofs.lemmas.List.{get_or-set_other}
+use Rattle.std.proofs.Common.{◌≡◌, ℕ, ◌+◌, ◌<◌, ◌≤◌, ◌⊎◌, Some, length, refl, sym, ◌∙◌, ap, subst, inl, inr, ⊎_elim, arith}
 use Rattle.std.proofs.lemmas.Bool.Decides.{nat_tests}
 use Rattle.fc_cards.specs.declared.places.Place.{Place}
 use Rattle.fc_cards.specs.declared.places.Place.TheVariants.{Column, Cell, Home}
-use Rattle.fc_position.specs.Board.{Board, IsHome, IsNext, column, playable, lifted, placed, front_of, last_of, count_in_cell, count_at_home, Receives}
+use Rattle.fc_position.specs.Board.{Board, IsHome, IsNext, column, playable, lifted, placed, last_of, count_in_cell, count_at_home}
 use Rattle.fc_position.specs.Position.{IsPosition}
 use Rattle.fc_position.proofs.BoardLemmas.{places-lifted, playable_below, position-moved, homes-lifted, columns-lifted, cells-lifted}
 use Rattle.fc_moves.specs.declared.steps.Move.{Move}
 use Rattle.fc_moves.specs.GameRules.{GameRules, Stands}
 use Rattle.fc_moves.specs.Step.{Step, Joins, Takes, MayLand}
+use Rattle.fc_moves.proofs.StepLemmas.{other_column, receives-takes}
 use Rattle.fc_home.specs.Settles.{sent_home}
 use Rattle.fc_home.proofs.CountLemmas.{with_home, home-kept, home-own, IsAhead, next_right, ahead-left, ahead-right, ahead-both}
 use Rattle.fc_home.proofs.CoverLemmas.{Covers, cover_cases, cover_column, cover_cell, cover_left_column, cover_left_cell, cover_more, cover_home, cover_right_home, empty_cell, empty_column, last_card}
@@ -31,18 +31,6 @@ not_home b from u p there home =
     let itself : ◌≡◌ {A = ℕ} (count_in_cell u (Some u)) 1 = grind (arith, nat_tests) in
     let counted : ◌≡◌ {A = ℕ} (count_at_home u (lifted b from).homes) 1 = rw (homes-lifted b from) (grind (arith, nat_tests)) in
     omega (arith, one, itself, counted, p.once u (playable_below b from u p there))
-
--- lifting a card leaves another column as it is
-other_column : (b : Board) (from : Place) (j : ℕ) → Joins from (Column j) → column (lifted b from) j ≡ column b j
-other_column b (Column i) j joins = get_or-set_other b.columns i j (front_of (column b i)) [] joins
-other_column b (Cell i) j joins = refl
-other_column b Home j joins = absurd joins
-
--- a step keeps positions, whatever the game
-takes_receives : (g : GameRules) (b : Board) (u : ℕ) (to : Place) → Takes g b u to → Receives b u to
-takes_receives g b u (Column j) t = t.0
-takes_receives g b u (Cell j) t = (t.1, t.2)
-takes_receives g b u Home t = t
 
 -- the two boards
 pub record Trails (S : ℕ → Type 0) (g : GameRules) (a b : Board) : Type 0 where
@@ -67,7 +55,7 @@ passed S g a b from u (Column j) t there home covers takes =
     let same = homes-lifted a from in
     inl (
       record {
-        left = position-moved a from u (Column j) t.left there (takes_receives g a u (Column j) takes);
+        left = position-moved a from u (Column j) t.left there (receives-takes g a u (Column j) takes);
         right = t.right;
         covers = cover_left_column b.homes x b u j covers inside home;
         ahead = subst (λ h. IsAhead S g h b.homes) (sym same) t.ahead;
@@ -80,7 +68,7 @@ passed S g a b from u (Cell j) t there home covers takes =
     let same = homes-lifted a from in
     inl (
       record {
-        left = position-moved a from u (Cell j) t.left there (takes_receives g a u (Cell j) takes);
+        left = position-moved a from u (Cell j) t.left there (receives-takes g a u (Cell j) takes);
         right = t.right;
         covers = cover_left_cell b.homes x b u j covers inside (empty_cell b.homes a b j t.covers takes.2) home;
         ahead = subst (λ h. IsAhead S g h b.homes) (sym same) t.ahead;

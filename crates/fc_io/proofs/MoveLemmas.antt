@@ -5,11 +5,6 @@ use borrow.Rule.Slice.PartMut.{put_mid, post_of}
 use Rattle.std.specs.Io.KnownBytes.{prepend_known, append_known}
 use Rattle.fc_io.specs.Moves.{Gives, GivesAtMost, Takes, TakesFront}
 
--- nothing was given where nothing changed
-pub Gives-none : (told : Option (List ℕ)) → Gives told told []
-Gives-none None = refl
-Gives-none (Some bytes) = refl
-
 -- nothing was taken where nothing changed
 pub Takes-none : (held : Option (List ℕ)) → Takes held held []
 Takes-none None = refl
@@ -75,13 +70,4 @@ takes_then_front a b c xs ys first second = record {
   rest = second.rest;
   parts = ap (λ l. xs ++ l) second.parts ∙ sym (append_assoc xs second.front second.rest);
   taken = Takes-both a b c xs second.front first second.taken;
-}
-
--- a front of a piece is a front of a longer one
-pub front_of_longer : (a b : Option (List ℕ)) (xs ys : List ℕ) → TakesFront a b xs → TakesFront a b (xs ++ ys)
-front_of_longer a b xs ys short = record {
-  front = short.front;
-  rest = short.rest ++ ys;
-  parts = ap (λ l. l ++ ys) short.parts ∙ append_assoc short.front short.rest ys;
-  taken = short.taken;
 }

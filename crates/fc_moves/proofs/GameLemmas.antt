@@ -12,7 +12,7 @@ use Rattle.fc_cards.specs.contracts.suits.Suit.{the_type}
 use denote.Enum.Bare.{sameb}
 use Rattle.fc_cards.specs.Suit.{suit_index}
 use Rattle.fc_moves.specs.GameRules.{GameRules, Stands, Opens, IsLowerOf, all_cards, pairs_where, free_cell, bakers_game, kings, is_red, are_of_other_colour}
-use Rattle.fc_moves.specs.GameLaws.{Contains-cases, Contains-first, Contains-later, Contains-filter, Contains-from_filter, pairs_where-have, pairs_where-only, every_card}
+use Rattle.fc_moves.specs.GameLaws.{Contains-cases, Contains-first, Contains-filter, Contains-from_filter, pairs_where-have, pairs_where-only, every_card}
 
 -- the test tells the colour
 is_red-is : (c : ℕ) (b : Bool) → (IsTrue b ↔ IsRed c) → is_red c ≡ b
@@ -70,27 +70,6 @@ kings_open g c below = (
 -- the one or two cards of a list, by their numbers
 Contains-one : (x u : ℕ) → Contains (x ∷ []) u → x ≡ u
 Contains-one x u found = ⊎_elim (λ e. e) (λ f. absurd (omega arith)) (Contains-cases x [] u found)
-
-Contains-two : (x y u : ℕ) → Contains (x ∷ y ∷ []) u → (x ≡ u) ⊎ (y ≡ u)
-Contains-two x y u found =
-    ⊎_elim (λ e. inl e) (λ f. inr (Contains-one y u f)) (Contains-cases x (y ∷ []) u found)
-
--- two cards of one rank are those of their suits
-pub two_lower : (card low high x y : ℕ) → card < 52 → 2 ≤ rank card → low < high → high < 4
-    → x ≡ (rank card - 1 - 1) * 4 + low → y ≡ (rank card - 1 - 1) * 4 + high
-    → (u : ℕ) → Contains (x ∷ y ∷ []) u ↔ IsLowerOf card low high u
-two_lower card low high x y below two order four ex ey u = (
-  λ found. ⊎_elim (λ e. (omega arith, omega arith, inl (omega arith)))
-      (λ e. (omega arith, omega arith, inr (omega arith))) (Contains-two x y u found),
-  λ (_, next, suits). ⊎_elim
-      (λ s. let e : x ≡ u = omega arith in subst (Contains (x ∷ y ∷ [])) e (Contains-first (y ∷ []) x))
-      (λ s. let e : y ≡ u = omega arith in
-      subst (Contains (x ∷ y ∷ [])) e (Contains-later x (y ∷ []) y (Contains-first [] y))) suits,
-)
-
--- no card is below an ace
-pub none_lower : (card low high : ℕ) → rank card ≡ 1 → (u : ℕ) → Contains {X = ℕ} [] u ↔ IsLowerOf card low high u
-none_lower card low high ace u = (λ found. absurd (omega (arith, found.1)), λ (_, next, _). absurd (omega arith))
 
 -- the colour of a card that passes the test with one of the other colour
 black-of : (u l : ℕ) → is_red l ≡ true → are_of_other_colour u l ≡ true → is_red u ≡ false

@@ -31,14 +31,6 @@ rising_push xs y rising less k within =
     omega (arith, before, after, less k (omega (arith, size))))
     (cases_lt (k + 1) (length xs))
 
--- no move has a number below zero
-pub lists_none : (g : GameRules) (b : Board) (ms : List Move) → ms ≡ [] → ListsBelow g b 0 ms
-lists_none g b ms none = rw none (record {
-  allowed = λ m (k, below, e). absurd (omega arith);
-  complete = λ m ok below. absurd (omega arith);
-  rising = λ k within. absurd (omega arith);
-})
-
 -- where no move with a number from n on, below n + k, is allowed, the list has those below n + k
 pub lists_past : (g : GameRules) (b : Board) (n k : ℕ) (ms : List Move) → ListsBelow g b n ms
     → ((m : Move) → Allows g b m → n ≤ move_number m → move_number m < n + k → ⊥) → ListsBelow g b (n + k) ms
@@ -122,11 +114,6 @@ pub joined-le : (from : Place) (n : ℕ) → joined from n ≤ joined from (n + 
 joined-le (Column i) n = grind (arith, nat_tests)
 joined-le (Cell i) n = omega arith
 joined-le Home n = omega arith
-
-pub joined-most : (from : Place) (n : ℕ) → IsSource from → n ≤ 13 → joined from n ≤ most_from from
-joined-most (Column i) n s below = let small : i < 8 = s in grind (arith, nat_tests)
-joined-most (Cell i) n s below = omega arith
-joined-most Home n s below = absurd s
 
 -- how many moves the sources before this one can have, and this one
 abbrev pub most_before : ℕ → ℕ

@@ -1,18 +1,18 @@
 -- Steps: when one is allowed, that moves have numbers of their own, and what a step keeps.
-use Rattle.std.proofs.Common.{◌≡◌, ℕ, ◌≤◌, ◌<◌, ◌↔◌, Bool, Some, None, [], ◌∷◌, length, refl, ◌∙◌, ap, subst, ⊎_elim, arith}
+use Rattle.std.proofs.Common.{◌≡◌, ℕ, ◌≤◌, ◌<◌, ◌↔◌, Bool, Some, None, [], ◌∷◌, length, refl, sym, ◌∙◌, ap, subst, ⊎_elim, arith}
 use Rattle.std.specs.Prelude.{IsTrue}
 use Rattle.std.proofs.lemmas.List.{get_or-set_same, get_or-set_other, set_past}
 use Rattle.std.proofs.lemmas.Bool.{cases_lt, cases_eq}
 use Rattle.fc_cards.specs.declared.places.Place.{Place}
 use Rattle.fc_cards.specs.declared.places.Place.TheVariants.{Column, Cell, Home}
-use Rattle.fc_position.specs.Board.{Board, playable, lifted, placed, Receives}
+use Rattle.fc_position.specs.Board.{Board, column, playable, lifted, placed, front_of, Receives}
 use Rattle.fc_position.specs.Position.{IsPosition, Fits}
 use Rattle.fc_position.proofs.BoardLemmas.{column_there, cell_there, position-moved}
 use Rattle.fc_moves.specs.declared.steps.Move.{Move}
 use Rattle.fc_moves.specs.GameRules.{GameRules}
 use Rattle.fc_moves.specs.Laws.{StepsKeepPositions, RunsKeepPositions, AllowedMovesHaveTexts}
 use Rattle.fc_moves.specs.MoveText.{IsThere, IsSource, HasText}
-use Rattle.fc_moves.specs.Step.{Allows, Joins, Takes, place_number, move_number}
+use Rattle.fc_moves.specs.Step.{Allows, Joins, Step, Takes, place_number, move_number}
 
 -- a move of a playable card to a place that joins and takes it is allowed, and no other
 pub allows_by : (g : GameRules) (b : Board) (m : Move) (card : ℕ) (t : Bool) → playable b m.from ≡ Some card
@@ -93,8 +93,8 @@ move_once m n a b e =
     (place_once m.from n.from (source_is_there m.from a.from) (source_is_there n.from b.from) (omega (arith, e, low, high)))
     (place_once m.to n.to a.to b.to (omega (arith, e, low, high)))
 
--- a step from a position leads to a position
-receives-takes : (g : GameRules) (b : Board) (u : ℕ) (to : Place) → Takes g b u to → Receives b u to
+-- a place that takes a card can receive it
+pub receives-takes : (g : GameRules) (b : Board) (u : ℕ) (to : Place) → Takes g b u to → Receives b u to
 receives-takes g b u (Column j) t = t.0
 receives-takes g b u (Cell j) t = (t.1, t.2)
 receives-takes g b u Home t = t
@@ -115,6 +115,19 @@ fits-placed g b x u (Cell j) t fits = λ k past.
     get_or-set_other x.cells j k (Some u) None (λ e. omega (arith, t.0, e)) ∙ fits k past
 fits-placed g b x u Home t fits = fits
 
+-- lifting a card changes no other column
+pub other_column : (b : Board) (from : Place) (j : ℕ) → Joins from (Column j) → column (lifted b from) j ≡ column b j
+other_column b (Column i) j joins = get_or-set_other b.columns i j (front_of (column b i)) [] joins
+other_column b (Cell i) j joins = refl
+other_column b Home j joins = absurd joins
+
+-- a move leads from a board to one board
+pub step_once : (g : GameRules) (b : Board) (m : Move) (x y : Board) → Step g b m x → Step g b m y → x ≡ y
+step_once g b m x y p q =
+    let same : p.card ≡ q.card = let e = p.playable in let f = q.playable in cc in
+    p.after ∙ ap (λ u. placed (lifted b m.from) u m.to) same ∙ sym q.after
+
+-- a step from a position leads to a position, and so does a run
 pub step_keeps : StepsKeepPositions
 step_keeps g b c m p step = record {
   position = rw step.after

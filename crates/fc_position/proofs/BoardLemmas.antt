@@ -1,8 +1,10 @@
--- How lifting and placing a card changes the places of each card.
-use Rattle.std.proofs.Common.{◌≡◌, ◌≢◌, ℕ, ◌+◌, ◌-◌, ◌≤◌, ◌<◌, Option, Some, None, List, [], ◌∷◌, ◌++◌, length, take, set, cond, eqb, refl, sym, ◌∙◌, ap, subst, ⊎_elim, arith}
-use Rattle.std.specs.Prelude.{slice_index}
+-- The places of cards on a board: what lifting and placing a card changes, and how many cards a position's columns have.
+use Rattle.std.proofs.Common.{◌≡◌, ◌≢◌, ℕ, ◌+◌, ◌-◌, ◌≤◌, ◌<◌, Option, Some, None, List, [], ◌∷◌, ◌++◌, length, take, set, get_or, cond, eqb, refl, sym, ◌∙◌, ap, subst, ⊎_elim, arith}
+use Rattle.std.specs.Prelude.{slice_index, sum_by}
+use Rattle.std.specs.List.{flat_map}
 use Rattle.std.proofs.lemmas.List.{take_more, take_all, get_or_past, get_or-set_same, get_or-set_other, length-set}
-use Rattle.std.proofs.lemmas.List.Sums.{sum_by-set, sum_by_push, get_or-le-sum_by}
+use Rattle.std.proofs.lemmas.List.Concat.{length-flat_map}
+use Rattle.std.proofs.lemmas.List.Sums.{sum_by-set, sum_by_push, sum_by-cons, sum_by-append, get_or-le-sum_by}
 use Rattle.std.specs.List.Sorted.{IsPermutation}
 use Rattle.std.proofs.lemmas.List.Sorted.{sum_by-IsPermutation, length_permutation}
 use Rattle.std.proofs.lemmas.Option.{slice_get_within, get_or_from_slice_get}
@@ -29,6 +31,16 @@ count-front : (cards : List ℕ) (u c : ℕ) → last_of cards ≡ Some u
     → count_in_column c (front_of cards) + count_in_cell c (Some u) ≡ count_in_column c cards
 count-front cards u c last =
     sym (sum_by_push (λ x. cond (eqb x c) 1 0) (front_of cards) u) ∙ ap (count_in_column c) (sym (front_last cards u last))
+
+-- the last card of a column stands in it
+pub last_counted : (cards : List ℕ) (u : ℕ) → last_of cards ≡ Some u → 1 ≤ count_in_column u cards
+last_counted cards u last =
+    let itself : ◌≡◌ {A = ℕ} (count_in_cell u (Some u)) 1 = grind (arith, nat_tests) in
+    omega (arith, count-front cards u u last, itself)
+
+-- no card has two places
+pub places_most : (b : Board) (c : ℕ) → IsPosition b → places b c ≤ 1
+places_most b c p = ⊎_elim (λ lt. omega (arith, p.once c lt)) (λ le. omega (arith, p.no_other c le)) (cases_lt c 52)
 
 -- a column with a playable card is there
 pub column_there : (b : Board) (i u : ℕ) → last_of (column b i) ≡ Some u → i < length b.columns
@@ -171,17 +183,45 @@ room-lifted b from u (Column j) p there takes =
     let inside : j < length x.columns = receives-lifted b from u (Column j) takes in
     let lower : (c : ℕ) → places x c + count_in_cell c (Some u) ≡ places b c = λ c. places-lifted b from u c there in
     let below = playable_below b from u p there in
-    let here : ◌≡◌ {A = ℕ} (count_in_cell u (Some u)) 1 = grind (arith, nat_tests) in
-    let most : (c : ℕ) → places b c ≤ 1 = λ c.
-    ⊎_elim (λ lt. omega (arith, p.once c lt)) (λ le. omega (arith, p.no_other c le)) (cases_lt c 52) in (
+    let here : ◌≡◌ {A = ℕ} (count_in_cell u (Some u)) 1 = grind (arith, nat_tests) in (
       inside,
       room_for_one 52 (column x j)
-          (λ c. omega (arith, count-le-places x j c inside, lower c, most c))
+          (λ c. omega (arith, count-le-places x j c inside, lower c, places_most b c p))
           (λ c above. omega (arith, count-le-places x j c inside, lower c, p.no_other c above)) u below
           (omega (arith, count-le-places x j u inside, lower u, p.once u below, here)),
     )
 room-lifted b from u (Cell j) p there takes = (receives-lifted b from u (Cell j) takes).0
 room-lifted b from u Home p there takes = tt
+
+-- cards that stand no more often than the board has places for them are at most 52
+cards_within : (b : Board) (cards : List ℕ) → IsPosition b → ((c : ℕ) → count_in_column c cards ≤ places b c) → length cards ≤ 52
+cards_within b cards p less =
+    let fewer = room_for_one 53 cards (λ c. omega (arith, less c, places_most b c p))
+    (λ c above. omega (arith, less c, p.no_other c (omega arith))) 52 (omega arith) (omega (arith, less 52, p.no_other 52 (omega arith))) in
+    omega arith
+
+-- a column of a position has at most 52 cards
+pub column_most : (b : Board) (i : ℕ) (d : List ℕ) → IsPosition b → i < length b.columns → length (get_or b.columns i d) ≤ 52
+column_most b i d p inside =
+    cards_within b (get_or b.columns i d) p (λ c. omega (arith, get_or-le-sum_by (count_in_column c) b.columns i d inside))
+
+-- the cards of all columns in a row
+abbrev in_columns : List (List ℕ) → List ℕ
+in_columns columns = flat_map (λ v. v) columns
+
+count-in_columns : (c : ℕ) (columns : List (List ℕ)) → count_in_column c (in_columns columns) ≡ sum_by (count_in_column c) columns
+count-in_columns c [] = refl
+count-in_columns c (x ∷ xs) =
+    let rest = count-in_columns c xs in
+    let all = sum_by-cons (count_in_column c) x xs in
+    let both = sum_by-append (λ y. cond (eqb y c) 1 0) x (in_columns xs) in
+    omega arith
+
+-- and all columns have at most 52
+pub cards_most : (b : Board) → IsPosition b → sum_by (λ v. length v) b.columns ≤ 52
+cards_most b p =
+    let few = cards_within b (in_columns b.columns) p (λ c. omega (arith, count-in_columns c b.columns)) in
+    omega (arith, length-flat_map (λ (v : List ℕ). v) b.columns)
 
 -- what can take a place's playable card can take the card that was found there
 pub receives_found : (b : Board) (from to : Place) (card : ℕ) → playable b from ≡ Some card

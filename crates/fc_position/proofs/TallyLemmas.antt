@@ -13,15 +13,6 @@ use Rattle.fc_position.specs.Board.{Board, places, count_in_column, count_in_cel
 use Rattle.fc_position.specs.Position.{IsPosition, IsShaped}
 use Rattle.fc_position.specs.Tally.{Adds, AllCards, IsOfCards, IsFaultOf, EachOnce}
 
--- a count is at most two
-pub count_small : (tally : List ℕ) → All (λ n. n ≤ 2) tally → (c : ℕ) → slice_index tally c ≤ 2
-count_small tally small c =
-    ⊎_elim (λ lt. small c 0 lt) (λ le. rw (get_or_past tally c 0 le) (omega arith)) (cases_lt c (length tally))
-
--- counting no card changes nothing
-pub adds_none : (tally : List ℕ) → All (λ n. n ≤ 2) tally → Adds (λ _. 0) tally tally
-adds_none tally small c _ = let most = count_small tally small c in omega arith
-
 -- counting on adds up
 pub adds_more : (f g : ℕ → ℕ) (a b d : List ℕ) → Adds f a b → Adds g b d → Adds (λ c. f c + g c) a d
 adds_more f g a b d p q c below = let one = p c below in let two = q c below in omega arith
@@ -64,6 +55,11 @@ pub each_once-tally : (times : ℕ → ℕ) (tally : List ℕ) → Adds times (r
     → EachOnce (slice_index tally) → EachOnce times
 each_once-tally times tally adds once c below =
     omega (arith, tally_times times tally adds c below, once c below)
+
+-- cards that stand once each have no fault
+pub no_fault : (times : ℕ → ℕ) (fault : PartsFault) → EachOnce times → IsFaultOf times fault → ⊥
+no_fault times (Repeated c) once (below, more, least) = omega (arith, once c below, more)
+no_fault times (Missing c) once (below, none, least, others) = omega (arith, once c below, none)
 
 -- a number that is no card's stands nowhere among cards
 count-other : (cards : List ℕ) (c : ℕ) → AllCards cards → 52 ≤ c → count_in_column c cards ≡ 0

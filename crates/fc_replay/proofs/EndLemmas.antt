@@ -10,7 +10,8 @@ use Rattle.fc_replay.specs.declared.faults.ReplayFault.TheVariants.{BadMove, Not
 use Rattle.fc_replay.specs.Token.{SpellsMove, IsNoMove}
 use Rattle.fc_replay.specs.Played.{SpellMoves, Passes, Plays, Ends, BeginsWithStep, board_after}
 use Rattle.fc_replay.specs.Laws.{TokensEndInOneWay}
-use Rattle.fc_replay.proofs.PlayLemmas.{no_moves_pass, step_once, spelled_once}
+use Rattle.fc_moves.proofs.StepLemmas.{step_once}
+use Rattle.fc_replay.proofs.PlayLemmas.{no_moves_pass, spelled_once}
 
 -- where one more token plays, the tokens before it don't end there
 cant_stop : (g : GameRules) (b : Board) (u : List ℕ) (f r rest : List (List ℕ)) (ns : List Move) (zs ys : List Board)

@@ -1,4 +1,3 @@
 pub mod EndLemmas
 pub mod PlayLemmas
 pub mod ReplayLoop
-pub mod TokenLemmas

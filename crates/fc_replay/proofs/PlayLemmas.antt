@@ -1,9 +1,9 @@
 -- Tokens that play, and one more.
-use Rattle.std.proofs.Common.{◌≡◌, ℕ, List, [], ◌∷◌, ◌++◌, length, Some, refl, sym, ◌∙◌, ap, subst, append-nil, arith}
+use Rattle.std.proofs.Common.{◌≡◌, ℕ, List, [], ◌∷◌, ◌++◌, length, refl, sym, ◌∙◌, ap, subst, append-nil, arith}
 use Rattle.std.proofs.lemmas.List.Concat.{flat_map-append, flat_map-cons}
 use Rattle.fc_cards.specs.declared.places.Place.{Place}
 use Rattle.fc_cards.specs.declared.places.Place.TheVariants.{Column, Cell, Home}
-use Rattle.fc_position.specs.Board.{Board, lifted, placed}
+use Rattle.fc_position.specs.Board.{Board}
 use Rattle.fc_moves.specs.declared.steps.Move.{Move}
 use Rattle.fc_moves.specs.GameRules.{GameRules}
 use Rattle.fc_moves.specs.MoveText.{IsThere, move_text, place_letter}
@@ -36,13 +36,6 @@ spelled_once token m n one two =
     move_same m n
     (letter_once m.from n.from (source_is_there m.from one.0.from) (source_is_there n.from two.0.from) from)
     (letter_once m.to n.to one.0.to two.0.to to)
-
--- no move is a step to two boards
-pub step_once : (g : GameRules) (b : Board) (m : Move) (x y : Board) → Step g b m x → Step g b m y → x ≡ y
-step_once g b m x y p q =
-    let both : Some p.card ≡ Some q.card = sym p.playable ∙ q.playable in
-    let card : p.card ≡ q.card = cc both in
-    p.after ∙ ap (λ u. placed (lifted b m.from) u m.to) card ∙ sym q.after
 
 -- one more token that spells a move
 spell_push : (tokens : List (List ℕ)) (ms : List Move) (token : List ℕ) (m : Move) → SpellMoves tokens ms → SpellsMove token m

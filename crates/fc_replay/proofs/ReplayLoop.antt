@@ -12,9 +12,9 @@ use Rattle.fc_moves.proofs.StepLemmas.{step_keeps}
 use Rattle.fc_text.specs.Printed.{board_text}
 use Rattle.fc_replay.specs.declared.faults.ReplayFault.{ReplayFault}
 use Rattle.fc_replay.specs.declared.faults.ReplayFault.TheVariants.{BadMove, NotAllowed, Write}
-use Rattle.fc_replay.specs.Token.{move_tokens, SpellsMove, IsNoMove}
+use Rattle.fc_replay.specs.Token.{is_gap, move_tokens, SpellsMove, IsNoMove}
 use Rattle.fc_replay.specs.Played.{Plays, StopsAt, IsNotAllowed, Replays, BeginsWithStep, board_after, boards_text}
-use Rattle.fc_replay.proofs.TokenLemmas.{length-move_tokens}
+use Rattle.fc_text.proofs.PartLemmas.{length-tokens_between}
 use Rattle.fc_replay.proofs.PlayLemmas.{plays_none, plays_push, none_played, board_after_push, boards_text_push, spelled_once}
 
 -- what a replay keeps from token to token: some tokens have played and their boards are written, the others are left;
@@ -85,7 +85,7 @@ pub so_room : (g : GameRules) (start : Board) (text rest : List ℕ) (more : Lis
 so_room g start text rest more steps here old new before after token so first =
     let size = ap length so.parts in
     let left = ap length first in
-    omega (arith, so.count, size, left, length-append so.front (move_tokens rest), length-move_tokens text)
+    omega (arith, so.count, size, left, length-append so.front (move_tokens rest), length-tokens_between is_gap text)
 
 -- the tokens so far, the next one, and the others
 stop_parts : (front rest more all : List (List ℕ)) (token : List ℕ) → front ++ rest ≡ all → rest ≡ token ∷ more

@@ -1,5 +1,5 @@
 -- Texts of moves: their tokens, and the moves that these spell.
-use Rattle.std.specs.Prelude.{◌≡◌, ℕ, ◌==◌, ◌||◌, Bool, List, [], ◌∷◌, map, filter}
+use Rattle.std.specs.Prelude.{◌≡◌, ℕ, ◌==◌, ◌||◌, Bool, List, map, filter}
 use Rattle.std.specs.Char.{to_ascii_lowercase}
 use Rattle.fc_moves.specs.declared.steps.Move.{Move}
 use Rattle.fc_moves.specs.MoveText.{HasText, move_text}
@@ -12,11 +12,6 @@ is_gap b = is_blank b || (b == 13) || is_line_end b
 -- the tokens of a text of moves: what stands between gaps
 abbrev pub move_tokens : List ℕ → List (List ℕ)
 move_tokens text = filter is_token (parts_of is_gap text)
-
--- a text is parted into its first token and the rest; an empty token stands for none
-abbrev pub SplitsToken : List ℕ → List ℕ → List ℕ → Type 0
-SplitsToken text [] rest = (move_tokens text ≡ []) × (move_tokens rest ≡ [])
-SplitsToken text (b ∷ bytes) rest = move_tokens text ≡ (b ∷ bytes) ∷ move_tokens rest
 
 -- the token is the move's text, in either case
 abbrev pub SpellsMove : List ℕ → Move → Type 0

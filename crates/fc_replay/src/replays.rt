@@ -5,11 +5,11 @@ ghost use Rattle.fc_replay.specs.Token.{move_tokens};
 ghost use Rattle.fc_replay.specs.Played.{Replays, BeginsWithStep};
 
 use crate::faults::ReplayFault;
-use crate::tokens::{Tokens, read_token};
+use crate::tokens::{MoveGaps, read_token};
 use fc_io::{Sink, write_all};
 use fc_moves::{Game, allows, apply};
 use fc_position::Position;
-use fc_text::print_board;
+use fc_text::{Tokens, print_board};
 
 /// Plays a text of moves from a position that fits the game, writes the printed board after each move to `sink`, one
 /// straight after the other, and answers the number of moves.
@@ -40,7 +40,7 @@ pub fn replay<G: Game, K: Sink>(
 {
     let mut board = position.copy();
     let mut steps = 0;
-    for token in (Tokens { rest: text }) {
+    for token in Tokens::new(text, MoveGaps) {
         steps += 1;
         let Some(m) = read_token(token) else {
             return Err(ReplayFault::BadMove(steps));

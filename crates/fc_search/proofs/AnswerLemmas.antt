@@ -1,5 +1,5 @@
 -- What a search that is done holds makes its answer right, and its table backs it.
-use Rattle.std.proofs.Common.{◌≡◌, ℕ, zero, suc, ◌+◌, ◌*◌, ◌<◌, ◌≤◌, true, List, [], ◌∷◌, length, map, refl, sym, ◌∙◌, ap, subst, arith}
+use Rattle.std.proofs.Common.{◌≡◌, ℕ, zero, suc, ◌+◌, ◌<◌, ◌≤◌, true, List, [], ◌∷◌, length, refl, sym, ◌∙◌, ap, subst, arith}
 use Rattle.std.specs.Prelude.{All, Contains, nat_lt}
 use Rattle.std.specs.List.Sorted.{IsPermutation}
 use Rattle.std.proofs.lemmas.Bool.Decides.{nat_tests}
@@ -18,8 +18,6 @@ use Rattle.fc_bound.specs.Table as boards
 use Rattle.fc_bound.proofs.RowLemmas.{rows_inside, inside_all, costs_free}
 use Rattle.fc_best_first.specs.declared.books.Mark.{Mark}
 use Rattle.fc_best_first.specs.declared.turns.Status.TheVariants as status
-use Rattle.fc_best_first.specs.Graph.{IsClosedInside}
-use Rattle.fc_best_first.specs.Kept.{IsSound}
 use Rattle.fc_best_first.specs.Shown.{IsFound, IsExhausted, Shows}
 use Rattle.fc_best_first.specs.Store.{Store, Stands}
 use Rattle.fc_best_first.proofs.KeptLemmas.{same_entry, stands_within}

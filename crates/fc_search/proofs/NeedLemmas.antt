@@ -1,21 +1,20 @@
 -- Work that was needed: the boards of the keys that a search had to store.
-use Rattle.std.proofs.Common.{◌≡◌, ◌≢◌, ℕ, zero, suc, ◌+◌, ◌<◌, ◌≤◌, List, [], ◌∷◌, ◌++◌, length, get_or, Some, refl, sym, ◌∙◌, ap, subst, inl, inr, ⊎_elim, arith}
+use Rattle.std.proofs.Common.{◌≡◌, ℕ, zero, suc, ◌+◌, List, [], ◌∷◌, ◌++◌, length, get_or, Some, refl, ◌∙◌, ap, subst, inl, inr, arith}
 use Rattle.std.specs.Prelude.{All, AllPairs, slice_get}
 use Rattle.std.proofs.lemmas.List.Elements.{All-cons}
 use Rattle.std.proofs.lemmas.List.Kept.{AllPairs-cons}
 use Rattle.std.proofs.lemmas.Option.{slice_get-get_or}
 use Rattle.fc_position.specs.Board.{Board}
 use Rattle.fc_moves.specs.GameRules.{GameRules, IsPositionOf}
-use Rattle.fc_moves.specs.Run.{CanReach, ReachesMore, Wins}
+use Rattle.fc_moves.specs.Run.{CanReach, ReachesMore}
 use Rattle.fc_moves.proofs.StepLemmas.{step_keeps, run_keeps}
 use Rattle.fc_canonical.specs.Class.{SameClass}
 use Rattle.fc_canonical.specs.Key.{IsKeyOf}
-use Rattle.fc_canonical.proofs.ClassLemmas.{class-refl, class-sym, class-trans, class_step}
+use Rattle.fc_canonical.proofs.ClassLemmas.{class-refl, class-sym, class_step}
 use Rattle.fc_canonical.proofs.KeyLemmas.{keys_tell}
 use Rattle.fc_home.specs.Settles.{Settles}
 use Rattle.fc_home.proofs.MateLemmas.{class_settle}
 use Rattle.fc_home.proofs.SettleLemmas.{settles_keep, settles_run}
-use Rattle.fc_bound.specs.Bound.{bound}
 use Rattle.fc_bound.proofs.HeldLemmas.{class_bound}
 use Rattle.fc_best_first.specs.Kept as kept
 use Rattle.fc_best_first.specs.Shown.{AreNeeded}
@@ -23,6 +22,7 @@ use Rattle.fc_classes.specs.Classes.{classes}
 use Rattle.fc_classes.specs.Key.{spelled}
 use Rattle.fc_classes.proofs.PathLemmas.{reached_of_positions, reached_run_to, settles_none, run_on}
 use Rattle.fc_search.specs.Answer.{IsNeeded, NeedsMore}
+use Rattle.fc_search.proofs.WalkLemmas.{key_of_mate}
 
 -- a position of the game whose key had to be stored
 record Needed (g : GameRules) (rule : ℕ) (p : Board) (x : List ℕ) : Type 0 where
@@ -64,12 +64,7 @@ board_of g rule p y pp (inr (x, d, c, reached, (kw, (m, z, count, step, (q, sett
         settled.1,
         λ wins w. let most = least (length wins) (wins, refl, w) in let long = before.2 in omega (arith, most, long, alike),
       );
-      key = record {
-        canonical = key.canonical;
-        class = class-trans settled.0 q key.canonical (class-sym q settled.0 settled.2) key.class;
-        ordered = key.ordered;
-        bytes = key.bytes;
-      };
+      key = key_of_mate settled.0 q y (class-sym q settled.0 settled.2) key;
       position = settles_keep g rule there.1 settled.0 count (step_keeps g b there.1 there.0 pb there.2) settled.1;
     }
 

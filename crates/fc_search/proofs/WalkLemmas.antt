@@ -1,5 +1,5 @@
 -- The way from the start to a stored class.
-use Rattle.std.proofs.Common.{◌≡◌, ℕ, ◌+◌, ◌-◌, ◌<◌, ◌≤◌, ◌↔◌, List, [], ◌∷◌, ◌++◌, length, reverse, refl, sym, ◌∙◌, ap, subst, ⊎_elim, arith}
+use Rattle.std.proofs.Common.{◌≡◌, ℕ, ◌+◌, ◌-◌, ◌<◌, ◌≤◌, List, [], ◌∷◌, ◌++◌, length, reverse, refl, sym, ◌∙◌, ap, subst, ⊎_elim, arith}
 use Rattle.std.specs.Prelude.{Option, Some, None, MatchOption}
 use Rattle.std.specs.Option.{IsSome}
 use Rattle.std.proofs.lemmas.List.{length-append, reverse-append}
@@ -9,25 +9,25 @@ use Rattle.fc_moves.specs.declared.steps.Move.{Move}
 use Rattle.fc_moves.specs.GameRules.{GameRules, IsPositionOf}
 use Rattle.fc_moves.specs.Run.{Run}
 use Rattle.fc_moves.specs.Step.{Step}
-use Rattle.fc_moves.proofs.StepLemmas.{step_keeps, run_keeps}
+use Rattle.fc_moves.proofs.StepLemmas.{run_keeps}
 use Rattle.fc_canonical.specs.Class.{SameClass}
 use Rattle.fc_canonical.specs.Key.{IsKeyOf}
 use Rattle.fc_canonical.proofs.ClassLemmas.{class-refl, class-sym, class-trans, class_step}
 use Rattle.fc_canonical.proofs.KeyLemmas.{keys_tell}
-use Rattle.fc_canonical.proofs.MoveLemmas.{step_once}
+use Rattle.fc_moves.proofs.StepLemmas.{step_once}
 use Rattle.fc_home.specs.Settles.{SettlesBy, Settles}
 use Rattle.fc_home.proofs.MateLemmas.{class_settle}
 use Rattle.fc_home.proofs.SettleLemmas.{settles_keep, settles_run}
 use Rattle.fc_home.proofs.WayLemmas.{settles_once}
 use Rattle.fc_best_first.specs.declared.books.Mark.{Mark}
-use Rattle.fc_best_first.specs.Kept.{IsSound, Comes}
+use Rattle.fc_best_first.specs.Kept.{IsSound}
 use Rattle.fc_best_first.specs.Store.{Store, Stands}
 use Rattle.fc_best_first.proofs.KeptLemmas.{same_entry}
-use Rattle.fc_classes.specs.Classes.{classes, SettlesTo, LeadsTo}
+use Rattle.fc_classes.specs.Classes.{classes}
 use Rattle.fc_classes.specs.Key.{spelled}
 use Rattle.fc_classes.proofs.KeyLemmas.{key_spells}
 use Rattle.fc_classes.proofs.PathLemmas.{run_on}
-use Rattle.fc_search.specs.Walk.{IsStart, IsWay, IsAtClass, StepsTo, LeadsWithin}
+use Rattle.fc_search.specs.Walk.{IsStart, IsWay, IsAtClass, LeadsWithin}
 
 -- a move that leads to a key leads to one key, by one number of moves
 pub leads_once : (g : GameRules) (rule : ℕ) (b z q : Board) (key : List ℕ) (m : Move) (most : ℕ) (settling : List Move)
@@ -43,6 +43,15 @@ leads_once g rule b z q key m most settling pz pq step by (count, (x, also, (y, 
 -- two keys of one board are the same
 pub key_once : (q : Board) (k l : List ℕ) → IsPosition q → IsKeyOf q k → IsKeyOf q l → k ≡ l
 key_once q k l p a b = (keys_tell q q k l p p a b).1 (class-refl q)
+
+-- a key of a board is one of its class-mates too
+pub key_of_mate : (b c : Board) (k : List ℕ) → SameClass b c → IsKeyOf c k → IsKeyOf b k
+key_of_mate b c k same key = record {
+  canonical = key.canonical;
+  class = class-trans b c key.canonical same key.class;
+  ordered = key.ordered;
+  bytes = key.bytes;
+}
 
 -- from the board that a walk came to, a step leads on to the next class within what is left of its cost
 pub leads_on : (g : GameRules) (rule : ℕ) (p : Board) (budget : ℕ) (s : Store (List ℕ)) → IsPositionOf g p
@@ -61,12 +70,7 @@ leads_on g rule p budget s pp sound number next made b x mark (y, mine, there, r
     let next_step = class_step g (spelled w) b z m kw.position pb (class-sym b (spelled w) mates) step in
     let settled = class_settle g rule z next_step.1 q count next_step.3 settles in
     let left : 1 + count ≤ mark.cost - length made = omega (arith, less, paid, le, cost) in
-    let own_key : IsKeyOf settled.0 x = record {
-      canonical = key.canonical;
-      class = class-trans settled.0 q key.canonical (class-sym q settled.0 settled.2) key.class;
-      ordered = key.ordered;
-      bytes = key.bytes;
-    } in (
+    let own_key = key_of_mate settled.0 q x (class-sym q settled.0 settled.2) key in (
       omega (arith, less, le, cost),
       (next_step.0, (count, (next_step.1, next_step.2, (settled.0, settled.1, own_key)), left)),
     ))

@@ -1,5 +1,5 @@
 -- A search of a position's classes as a whole: how it begins, runs and is answered.
-use Rattle.std.specs.Prelude.{◌≡◌, ℕ, ◌<◌, ◌≤◌, ◌⊎◌, List, [], length, Result, Ok}
+use Rattle.std.specs.Prelude.{◌≡◌, ℕ, List, length}
 use Rattle.fc_position.specs.Board.{Board}
 use Rattle.fc_moves.specs.GameRules.{GameRules}
 use Rattle.fc_best_first.specs.declared.books.Mark.{Mark}

@@ -1,4 +1,4 @@
-//! The search over the classes of a game's positions, under a home rule.
+//! The positions of a game as a space to search: classes of settled positions, with their bounds and their children.
 #![tactic(auto)]
 
 pub use positions::{Children, Positions};

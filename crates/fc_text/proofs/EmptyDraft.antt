@@ -27,9 +27,6 @@ empty_spelled = record {
   homes = λ s below. inr ((λ token m member _. omega (arith, member.1)), get_or-replicate 4 s 0 0 below);
 }
 
-nothing_counted : (c : ℕ) → dealt_places empty_board c ≡ 0
-nothing_counted c = refl
-
 told : (b : Bool) → b ≡ false → IsTrue b ↔ (0 < 0)
 told b no' = ((λ yes'. absurd (cc (no', yes'))), (λ lt. absurd (omega (arith, lt))))
 

@@ -1,17 +1,15 @@
 -- From a draft of all lines to a position.
-use Rattle.std.proofs.Common.{◌≡◌, ℕ, zero, suc, ◌+◌, ◌≤◌, ◌<◌, Option, Some, None, Result, Ok, Err, List, [], ◌∷◌, length, map, get_or, sym, ◌∙◌, ap, subst, ⊎_elim, arith}
+use Rattle.std.proofs.Common.{◌≡◌, ℕ, zero, suc, ◌+◌, ◌≤◌, ◌<◌, Option, Some, None, Result, Ok, Err, List, [], ◌∷◌, length, map, get_or, sym, ◌∙◌, ap, subst, arith}
 use Rattle.std.specs.Prelude.{All, IfOk, IfErr, IfSome, slice_get, slice_index, replicate}
 use Rattle.std.specs.List.{AllZip}
 use Rattle.std.proofs.lemmas.List.{ext_get_or, length-map, take_all}
-use Rattle.std.proofs.lemmas.List.Sums.{get_or-le-sum_by}
-use Rattle.std.proofs.lemmas.Bool.{cases_lt}
 use Rattle.std.proofs.lemmas.Option.{slice_get-get_or}
-use Rattle.fc_position.specs.Board.{Board, board_of, column, cell, places, count_in_column, count_at_home}
+use Rattle.fc_position.specs.Board.{Board, board_of, column, cell, places, count_at_home}
 use Rattle.fc_position.specs.Position.{IsPosition}
 use Rattle.fc_position.specs.Tally.{Adds, AllCards, IsOfCards, IsFaultOf, EachOnce}
 use Rattle.fc_position.specs.declared.faults.PartsFault.{PartsFault}
 use Rattle.fc_position.proofs.TallyLemmas.{adds_more, adds_same, fault-tally, position-tally}
-use Rattle.fc_position.proofs.Pigeonhole.{room_for_one}
+use Rattle.fc_position.proofs.BoardLemmas.{column_most}
 use Rattle.fc_text.specs.declared.drafts.Draft.{Draft}
 use Rattle.fc_text.specs.declared.lines.LineKind.TheVariants.{Freecells, Column}
 use Rattle.fc_text.specs.Line.{Line}
@@ -59,23 +57,8 @@ pub spelled_fault : (lines : List Line) (d : Draft) (new : List ℕ) (fault : Pa
 spelled_fault lines d new fault old counted here =
     (old.board, old.spelled, fault-tally (places old.board) new (all_counted lines d new old counted) fault here)
 
-places_most : (b : Board) (c : ℕ) → IsPosition b → places b c ≤ 1
-places_most b c p = ⊎_elim (λ lt. omega (arith, p.once c lt)) (λ le. omega (arith, p.no_other c le)) (cases_lt c 52)
-
 abbrev pub parted : List (List ℕ) → List (Option ℕ) → List ℕ → Board
 parted columns cells homes = record { columns = columns; cells = cells; homes = homes }
-
--- a column of a position has at most 52 cards
-column_few : (b : Board) (i : ℕ) → IsPosition b → i < 8 → length (column b i) ≤ 52
-column_few b i p below =
-    let inside : i < length b.columns = omega (arith, below, p.columns) in
-    let within : (c : ℕ) → count_in_column c (column b i) ≤ places b c =
-    λ c. omega (arith, get_or-le-sum_by (count_in_column c) b.columns i [] inside) in
-    let most : (c : ℕ) → places b c ≤ 1 = λ c. places_most b c p in
-    let short = room_for_one 53 (column b i) (λ c. omega (arith, within c, most c))
-    (λ c above. omega (arith, within c, p.no_other c (omega (arith, above)))) 52 (omega arith)
-    (omega (arith, within 52, p.no_other 52 (omega arith))) in
-    omega (arith, short)
 
 -- a draft without a fault keeps all cards
 pub whole_board : (lines : List Line) (d : Draft) (new : List ℕ) (old : IsDraftOf lines d)
@@ -89,7 +72,7 @@ whole_board lines d new old counted once =
     ext_get_or [] (map (λ v. v.items) d.columns) b.columns
     (length-map d.columns (λ v. v.items) ∙ old.eight ∙ sym old.spelled.shape.columns)
     (λ i below. let inside : i < 8 = omega (arith, below, length-map d.columns (λ v. v.items), old.eight) in
-    old.kept i inside ∙ take_all 52 (column b i) (column_few b i p inside)) in (
+    old.kept i inside ∙ take_all 52 (column b i) (column_most b i [] p (omega (arith, inside, p.columns)))) in (
       p,
       ap (λ columns. parted columns d.cells d.homes) same ∙ ap (λ cells. parted b.columns cells d.homes) (sym old.cells)
           ∙ ap (λ homes. parted b.columns b.cells homes) (sym old.homes),

@@ -3,11 +3,9 @@ use Rattle.std.proofs.Common.{true, false, ◌≡◌, ℕ, ◌<◌, List, [], �
 use Rattle.std.specs.Prelude.{◌↔◌, IsTrue, slice_get, slice_index, count_by}
 use Rattle.std.specs.List.{AllZip}
 use Rattle.fc_position.specs.Board.{Board, column, cell}
-use Rattle.fc_text.specs.declared.faults.LineFault.TheVariants.{BadCard, BadFoundation, TooManyCells, TooManyColumns, RepeatedLine}
 use Rattle.fc_text.specs.declared.lines.LineKind.TheVariants.{Foundations, Freecells, Column}
 use Rattle.fc_text.specs.declared.drafts.Draft.{Draft}
 use Rattle.fc_text.specs.Line.{Line, tokens_of}
-use Rattle.fc_text.specs.Fault.{HasBadFoundation, IsLineFault, IsSound}
 use Rattle.fc_text.specs.Spelling.{SpellsBoard, SpellsCard, SpellsCellAt, SpellsHomeIn, is_kind}
 use Rattle.fc_text.specs.Reading.{ReadsHomes}
 use Rattle.fc_text.specs.Draft.{IsDraftOf, homes_line}
@@ -55,20 +53,3 @@ homes_first lines d piece kept old read fresh =
       has_homes = (λ _. subst (λ k. 0 < k) (sym (kind_more lines (homes_line piece) Foundations refl)) (omega arith), λ _. refl);
       tally = old.tally;
     }
-
--- the first foundation line without a bad token is sound
-pub homes_sound : (n : ℕ) (lines : List Line) (d : Draft) (piece : List ℕ) → IsDraftOf lines d
-    → (HasBadFoundation Foundations (tokens_of piece) → ⊥) → d.has_homes ≡ false
-    → IsSound n (count_by (is_kind Foundations) lines) (homes_line piece)
-homes_sound n lines d piece old good fresh BadCard bad = bad
-homes_sound n lines d piece old good fresh BadFoundation bad = good bad
-homes_sound n lines d piece old good fresh TooManyCells bad = bad.1
-homes_sound n lines d piece old good fresh TooManyColumns bad = bad.1
-homes_sound n lines d piece old good fresh RepeatedLine bad =
-    let place = unset d.has_homes (count_by (is_kind Foundations) lines) fresh old.has_homes in omega (arith, place, bad.3)
-
--- a second one has a fault
-pub homes_again : (n : ℕ) (lines : List Line) (d : Draft) (piece : List ℕ) → IsDraftOf lines d
-    → (HasBadFoundation Foundations (tokens_of piece) → ⊥) → d.has_homes ≡ true
-    → IsLineFault n (count_by (is_kind Foundations) lines) (homes_line piece) RepeatedLine
-homes_again n lines d piece old good told = ((λ bad. bad), good, (λ bad. bad), old.has_homes.0 told)

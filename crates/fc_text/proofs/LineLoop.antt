@@ -1,14 +1,15 @@
 -- Reading the lines of a text one by one.
-use Rattle.std.proofs.Common.{Bool, true, false, ◌≡◌, ℕ, ◌+◌, ◌≤◌, ◌⊎◌, List, [], ◌∷◌, ◌++◌, length, map, cond, inl, inr, refl, sym, ◌∙◌, ap, subst, ⊎_elim, arith}
+use Rattle.std.proofs.Common.{◌≡◌, ℕ, ◌+◌, ◌≤◌, ◌⊎◌, List, [], ◌∷◌, ◌++◌, length, map, inl, inr, refl, sym, ◌∙◌, ap, subst, ⊎_elim, arith}
 use Rattle.std.specs.Prelude.{count_by}
 use Rattle.std.proofs.lemmas.List.{append_assoc, append-nil, length-append, length-map}
 use Rattle.fc_text.specs.declared.drafts.Draft.{Draft}
 use Rattle.fc_text.specs.declared.faults.LineFault.{LineFault}
-use Rattle.fc_text.specs.Line.{Line, begin_part, parts_of, is_line_end, without_return, line_of, lines_of, board_lines}
+use Rattle.fc_text.specs.Line.{Line, parts_of, is_line_end, without_return, line_of, lines_of, board_lines}
 use Rattle.fc_text.specs.Spelling.{is_kind}
 use Rattle.fc_text.specs.Fault.{IsLineFault, IsSound, AreSound, IsFirstFault}
 use Rattle.fc_text.specs.Reading.{IsTally}
 use Rattle.fc_text.specs.Draft.{IsDraftOf}
+use Rattle.fc_text.proofs.PartLemmas.{length-parts_of}
 
 -- a list with one more element, parted at an element
 push_parts : {A : Type 0} (xs front rest : List A) (x y : A) → xs ++ x ∷ [] ≡ front ++ y ∷ rest
@@ -39,26 +40,11 @@ no_line_sound n [] rest line same = absurd (cc same)
 no_line_sound n (f ∷ front) rest line same = absurd (cc same)
 
 -- a text has at most as many lines as bytes
-begin_long : (b : ℕ) (parts : List (List ℕ)) → length (begin_part b parts) ≤ length parts + 1
-begin_long b [] = omega arith
-begin_long b (part ∷ parts) = omega arith
-
-cond_long : {A : Type 0} (t : Bool) (xs ys : List A) (n : ℕ) → length xs ≤ n → length ys ≤ n → length (cond t xs ys) ≤ n
-cond_long true xs ys n one two = one
-cond_long false xs ys n one two = two
-
-parts_long : (is_end : ℕ → Bool) (text : List ℕ) → length (parts_of is_end text) ≤ length text
-parts_long is_end [] = omega arith
-parts_long is_end (b ∷ bytes) =
-    let rest = parts_long is_end bytes in
-    cond_long (is_end b) ([] ∷ parts_of is_end bytes) (begin_part b (parts_of is_end bytes)) (length (b ∷ bytes))
-    (omega (arith, rest)) (omega (arith, rest, begin_long b (parts_of is_end bytes)))
-
 lines_long : (text : List ℕ) → length (board_lines text) ≤ length text
 lines_long text =
     let one = length-map (lines_of text) line_of in
     let two = length-map (parts_of is_line_end text) without_return in
-    omega (arith, parts_long is_line_end text, one, two)
+    omega (arith, length-parts_of is_line_end text, one, two)
 
 -- the lines that are left
 abbrev pub lines_left : List ℕ → List Line

@@ -15,8 +15,8 @@ use Rattle.fc_text.specs.declared.lines.LineKind.TheVariants.{Foundations, Freec
 use Rattle.fc_text.specs.Line.{Line}
 use Rattle.fc_text.specs.Spelling.{SpellsBoard, SpellsCard, SpellsCellAt, SpellsCount, SpellsHome, SpellsHomeIn, IsMark, tokens_at}
 use Rattle.fc_position.specs.Board.{places}
-use Rattle.fc_position.specs.Position.{IsPosition}
 use Rattle.fc_position.specs.Tally.{IsFaultOf}
+use Rattle.fc_position.proofs.TallyLemmas.{no_fault}
 use Rattle.fc_position.specs.declared.faults.PartsFault.{PartsFault}
 use Rattle.fc_position.specs.declared.faults.PartsFault.TheVariants.{Repeated, Missing}
 use Rattle.fc_text.specs.declared.faults.LineFault.{LineFault}
@@ -152,14 +152,10 @@ no_twice n lines sound twice =
 pub spell_one : TextsSpellOnePosition
 spell_one n text b c p q = board_once (board_lines text) b c (no_twice n (board_lines text) p.sound) p.spelled q.spelled
 
-no_fault_of : (b : Board) (fault : PartsFault) → IsPosition b → IsFaultOf (places b) fault → ⊥
-no_fault_of b (Repeated c) p f = let one = p.once c f.0 in omega (arith, one, f.1)
-no_fault_of b (Missing c) p f = let one = p.once c f.0 in omega (arith, one, f.1)
-
 no_card_fault : (n : ℕ) (text : List ℕ) (b : Board) (fault : PartsFault) → Spells n text b → HasCardFault n text fault → ⊥
 no_card_fault n text b fault p f =
     let same : f.board ≡ b = board_once (board_lines text) f.board b (no_twice n (board_lines text) p.sound) f.spelled p.spelled in
-    no_fault_of b fault p.position (subst (λ x. IsFaultOf (places x) fault) same f.here)
+    no_fault (places b) fault p.position.once (subst (λ x. IsFaultOf (places x) fault) same f.here)
 
 no_line_fault : (n : ℕ) (text : List ℕ) (b : Board) (k : ℕ) (fault : LineFault) → Spells n text b → HasLineFault n text k fault → ⊥
 no_line_fault n text b k fault p f =

@@ -3,7 +3,7 @@ use Rattle.std.proofs.Common.{◌≡◌, ℕ, suc, ◌+◌, ◌≤◌, ◌<◌, 
 use Rattle.std.specs.Prelude.{filter}
 use Rattle.std.specs.List.{position_or_len}
 use Rattle.std.proofs.lemmas.List.Sums.{length-filter, count_by-le-length}
-use Rattle.fc_text.specs.Line.{parts_of, begin_part, is_blank, is_token, tokens_of, SplitsToken}
+use Rattle.fc_text.specs.Line.{parts_of, begin_part, is_token, tokens_between, SplitsToken}
 
 -- a text begins with its first part, and the other parts stand behind the byte that ends it
 pub parts_of-first : (p : ℕ → Bool) (b : ℕ) (bytes : List ℕ)
@@ -24,115 +24,116 @@ parts_of-first p b (d ∷ bytes) =
           ∙ ap (λ k. take k (b ∷ d ∷ bytes) ∷ parts_of p (drop 1 (drop k (b ∷ d ∷ bytes)))) e
     ]
 
--- a blank before the tokens is none of them
-pub tokens_of-blank : (b : ℕ) (bytes : List ℕ) → is_blank b ≡ true → tokens_of (b ∷ bytes) ≡ tokens_of bytes
-tokens_of-blank b bytes blank = rw blank refl
+module _ (p : ℕ → Bool) where
+  -- a gap before the tokens is none of them
+  pub tokens-gap : (b : ℕ) (bytes : List ℕ) → p b ≡ true → tokens_between p (b ∷ bytes) ≡ tokens_between p bytes
+  tokens-gap b bytes gap = rw gap refl
 
--- blanks before the tokens are none of them
-pub tokens_of-blanks : (bytes : List ℕ) → tokens_of (drop (position_or_len (λ b. not (is_blank b)) bytes) bytes) ≡ tokens_of bytes
-tokens_of-blanks [] = refl
-tokens_of-blanks (b ∷ bytes) =
-    let n = position_or_len (λ x. not (is_blank x)) bytes in
-    let e : suc n ≡ 1 + n = omega arith in
-    elim (is_blank b) as (λ t. is_blank b ≡ t → tokens_of (drop (cond (not (not t)) (1 + n) 0) (b ∷ bytes)) ≡ tokens_of (b ∷ bytes)) [
-      | true ↦ λ blank.
-          ap (λ k. tokens_of (drop k (b ∷ bytes))) (sym e) ∙ tokens_of-blanks bytes ∙ sym (tokens_of-blank b bytes blank)
-      | false ↦ λ _. refl
-    ] refl
+  -- gaps before the tokens are none of them
+  tokens-gaps : (bytes : List ℕ) → tokens_between p (drop (position_or_len (λ b. not (p b)) bytes) bytes) ≡ tokens_between p bytes
+  tokens-gaps [] = refl
+  tokens-gaps (b ∷ bytes) =
+      let n = position_or_len (λ x. not (p x)) bytes in
+      let e : suc n ≡ 1 + n = omega arith in
+      elim (p b) as (λ t. p b ≡ t → tokens_between p (drop (cond (not (not t)) (1 + n) 0) (b ∷ bytes)) ≡ tokens_between p (b ∷ bytes)) [
+        | true ↦ λ gap.
+            ap (λ k. tokens_between p (drop k (b ∷ bytes))) (sym e) ∙ tokens-gaps bytes ∙ sym (tokens-gap b bytes gap)
+        | false ↦ λ _. refl
+      ] refl
 
--- the blank that ends a token is none of the tokens behind it
-tokens_of-end : (bytes : List ℕ)
-    → tokens_of (drop 1 (drop (position_or_len is_blank bytes) bytes)) ≡ tokens_of (drop (position_or_len is_blank bytes) bytes)
-tokens_of-end [] = refl
-tokens_of-end (b ∷ bytes) =
-    let n = position_or_len is_blank bytes in
-    let e : suc n ≡ 1 + n = omega arith in
-    elim (is_blank b) as (λ t. is_blank b ≡ t
-    → tokens_of (drop 1 (drop (cond (not t) (1 + n) 0) (b ∷ bytes))) ≡ tokens_of (drop (cond (not t) (1 + n) 0) (b ∷ bytes))) [
-      | true ↦ λ blank. sym (tokens_of-blank b bytes blank)
-      | false ↦ λ _.
-          ap (λ k. tokens_of (drop 1 (drop k (b ∷ bytes)))) (sym e) ∙ tokens_of-end bytes
-          ∙ ap (λ k. tokens_of (drop k (b ∷ bytes))) e
-    ] refl
+  -- the gap that ends a token is none of the tokens behind it
+  tokens-end : (bytes : List ℕ)
+      → tokens_between p (drop 1 (drop (position_or_len p bytes) bytes)) ≡ tokens_between p (drop (position_or_len p bytes) bytes)
+  tokens-end [] = refl
+  tokens-end (b ∷ bytes) =
+      let n = position_or_len p bytes in
+      let e : suc n ≡ 1 + n = omega arith in
+      elim (p b) as (λ t. p b ≡ t
+      → tokens_between p (drop 1 (drop (cond (not t) (1 + n) 0) (b ∷ bytes))) ≡ tokens_between p (drop (cond (not t) (1 + n) 0) (b ∷ bytes))) [
+        | true ↦ λ gap. sym (tokens-gap b bytes gap)
+        | false ↦ λ _.
+            ap (λ k. tokens_between p (drop 1 (drop k (b ∷ bytes)))) (sym e) ∙ tokens-end bytes
+            ∙ ap (λ k. tokens_between p (drop k (b ∷ bytes))) e
+      ] refl
 
--- a piece that begins with a token
-pub tokens_of-token : (b : ℕ) (bytes : List ℕ) → is_blank b ≡ false
-    → let n = position_or_len is_blank (b ∷ bytes) in
-    tokens_of (b ∷ bytes) ≡ take n (b ∷ bytes) ∷ tokens_of (drop n (b ∷ bytes))
-tokens_of-token b bytes mark =
-    let n = position_or_len is_blank (b ∷ bytes) in
-    let m = position_or_len is_blank bytes in
-    let size : n ≡ suc m = rw mark (omega arith) in
-    let first = ap (filter is_token) (parts_of-first is_blank b bytes) in
-    let kept : filter is_token (take n (b ∷ bytes) ∷ parts_of is_blank (drop 1 (drop n (b ∷ bytes))))
-    ≡ take n (b ∷ bytes) ∷ tokens_of (drop 1 (drop n (b ∷ bytes))) =
-    let P : ℕ → Type 0 = λ k. filter is_token (take k (b ∷ bytes) ∷ parts_of is_blank (drop 1 (drop n (b ∷ bytes))))
-    ≡ take k (b ∷ bytes) ∷ tokens_of (drop 1 (drop n (b ∷ bytes))) in
-    let here : P (suc m) = refl in
-    subst P (sym size) here in
-    first ∙ kept ∙ ap (λ x. take n (b ∷ bytes) ∷ x) (tokens_of-end (b ∷ bytes))
+  -- a text that begins with a token
+  tokens-token : (b : ℕ) (bytes : List ℕ) → p b ≡ false
+      → let n = position_or_len p (b ∷ bytes) in
+      tokens_between p (b ∷ bytes) ≡ take n (b ∷ bytes) ∷ tokens_between p (drop n (b ∷ bytes))
+  tokens-token b bytes mark =
+      let n = position_or_len p (b ∷ bytes) in
+      let m = position_or_len p bytes in
+      let size : n ≡ suc m = rw mark (omega arith) in
+      let first = ap (filter is_token) (parts_of-first p b bytes) in
+      let kept : filter is_token (take n (b ∷ bytes) ∷ parts_of p (drop 1 (drop n (b ∷ bytes))))
+      ≡ take n (b ∷ bytes) ∷ tokens_between p (drop 1 (drop n (b ∷ bytes))) =
+      let P : ℕ → Type 0 = λ k. filter is_token (take k (b ∷ bytes) ∷ parts_of p (drop 1 (drop n (b ∷ bytes))))
+      ≡ take k (b ∷ bytes) ∷ tokens_between p (drop 1 (drop n (b ∷ bytes))) in
+      let here : P (suc m) = refl in
+      subst P (sym size) here in
+      first ∙ kept ∙ ap (λ x. take n (b ∷ bytes) ∷ x) (tokens-end (b ∷ bytes))
 
--- the first token of a piece that begins with none of its blanks, by how many bytes it has
-splits_token : (bytes : List ℕ)
-    → SplitsToken bytes (take (position_or_len is_blank bytes) bytes) (drop (position_or_len is_blank bytes) bytes)
-    ⊎ ((0 < length bytes) × (position_or_len is_blank bytes ≡ 0))
-splits_token [] = inl (refl, refl)
-splits_token (b ∷ bytes) =
-    elim (is_blank b) as (λ t. is_blank b ≡ t
-    → SplitsToken (b ∷ bytes) (take (position_or_len is_blank (b ∷ bytes)) (b ∷ bytes)) (drop (position_or_len is_blank (b ∷ bytes)) (b ∷ bytes))
-    ⊎ ((0 < length (b ∷ bytes)) × (position_or_len is_blank (b ∷ bytes) ≡ 0))) [
-      | true ↦ λ blank. inr (omega arith, rw blank refl)
-      | false ↦ λ mark.
-          let n = position_or_len is_blank (b ∷ bytes) in
-          let m = position_or_len is_blank bytes in
-          let size : n ≡ suc m = rw mark (omega arith) in
-          let P : ℕ → Type 0 = λ k. SplitsToken (b ∷ bytes) (take k (b ∷ bytes)) (drop k (b ∷ bytes)) in
-          let Q : ℕ → Type 0 = λ k. tokens_of (b ∷ bytes) ≡ take k (b ∷ bytes) ∷ tokens_of (drop k (b ∷ bytes)) in
-          let split : Q (suc m) = subst Q size (tokens_of-token b bytes mark) in
-          inl (subst P (sym size) split)
-    ] refl
+  -- the first token of a text that begins with none of its gaps, by how many bytes it has
+  splits_token : (bytes : List ℕ)
+      → SplitsToken p bytes (take (position_or_len p bytes) bytes) (drop (position_or_len p bytes) bytes)
+      ⊎ ((0 < length bytes) × (position_or_len p bytes ≡ 0))
+  splits_token [] = inl (refl, refl)
+  splits_token (b ∷ bytes) =
+      elim (p b) as (λ t. p b ≡ t
+      → SplitsToken p (b ∷ bytes) (take (position_or_len p (b ∷ bytes)) (b ∷ bytes)) (drop (position_or_len p (b ∷ bytes)) (b ∷ bytes))
+      ⊎ ((0 < length (b ∷ bytes)) × (position_or_len p (b ∷ bytes) ≡ 0))) [
+        | true ↦ λ gap. inr (omega arith, rw gap refl)
+        | false ↦ λ mark.
+            let n = position_or_len p (b ∷ bytes) in
+            let m = position_or_len p bytes in
+            let size : n ≡ suc m = rw mark (omega arith) in
+            let P : ℕ → Type 0 = λ k. SplitsToken p (b ∷ bytes) (take k (b ∷ bytes)) (drop k (b ∷ bytes)) in
+            let Q : ℕ → Type 0 = λ k. tokens_between p (b ∷ bytes) ≡ take k (b ∷ bytes) ∷ tokens_between p (drop k (b ∷ bytes)) in
+            let split : Q (suc m) = subst Q size (tokens-token b bytes mark) in
+            inl (subst P (sym size) split)
+      ] refl
 
--- what follows the blanks that a piece begins with doesn't begin with a blank
-no_blank_first : (bytes : List ℕ)
-    → 0 < length (drop (position_or_len (λ b. not (is_blank b)) bytes) bytes)
-    → position_or_len is_blank (drop (position_or_len (λ b. not (is_blank b)) bytes) bytes) ≡ 0 → ⊥
-no_blank_first [] = λ some none. absurd (omega arith)
-no_blank_first (b ∷ bytes) =
-    let n = position_or_len (λ x. not (is_blank x)) bytes in
-    let e : suc n ≡ 1 + n = omega arith in
-    elim (is_blank b) as (λ t. is_blank b ≡ t → 0 < length (drop (cond (not (not t)) (1 + n) 0) (b ∷ bytes))
-    → position_or_len is_blank (drop (cond (not (not t)) (1 + n) 0) (b ∷ bytes)) ≡ 0 → ⊥) [
-      | true ↦ λ blank some none.
-          no_blank_first bytes (subst (λ k. 0 < length (drop k (b ∷ bytes))) (sym e) some)
-          (subst (λ k. position_or_len is_blank (drop k (b ∷ bytes)) ≡ 0) (sym e) none)
-      | false ↦ λ mark some none.
-          let size : position_or_len is_blank (b ∷ bytes) ≡ 1 + position_or_len is_blank bytes = rw mark refl in
-          absurd (omega arith)
-    ] refl
+  -- what follows the gaps that a text begins with doesn't begin with a gap
+  no_gap_first : (bytes : List ℕ)
+      → 0 < length (drop (position_or_len (λ b. not (p b)) bytes) bytes)
+      → position_or_len p (drop (position_or_len (λ b. not (p b)) bytes) bytes) ≡ 0 → ⊥
+  no_gap_first [] = λ some none. absurd (omega arith)
+  no_gap_first (b ∷ bytes) =
+      let n = position_or_len (λ x. not (p x)) bytes in
+      let e : suc n ≡ 1 + n = omega arith in
+      elim (p b) as (λ t. p b ≡ t → 0 < length (drop (cond (not (not t)) (1 + n) 0) (b ∷ bytes))
+      → position_or_len p (drop (cond (not (not t)) (1 + n) 0) (b ∷ bytes)) ≡ 0 → ⊥) [
+        | true ↦ λ gap some none.
+            no_gap_first bytes (subst (λ k. 0 < length (drop k (b ∷ bytes))) (sym e) some)
+            (subst (λ k. position_or_len p (drop k (b ∷ bytes)) ≡ 0) (sym e) none)
+        | false ↦ λ mark some none.
+            let size : position_or_len p (b ∷ bytes) ≡ 1 + position_or_len p bytes = rw mark refl in
+            absurd (omega arith)
+      ] refl
 
--- what parts one piece parts another one with the same tokens
-splits-same : (a b token rest : List ℕ) → tokens_of a ≡ tokens_of b → SplitsToken a token rest → SplitsToken b token rest
-splits-same a b [] rest e split = (sym e ∙ split.0, split.1)
-splits-same a b (x ∷ token) rest e split = sym e ∙ split
+  -- what parts one text parts another one with the same tokens
+  splits-same : (a b token rest : List ℕ) → tokens_between p a ≡ tokens_between p b → SplitsToken p a token rest → SplitsToken p b token rest
+  splits-same a b [] rest e split = (sym e ∙ split.0, split.1)
+  splits-same a b (x ∷ token) rest e split = sym e ∙ split
 
--- a piece is parted behind its blanks and its first token
-pub split_token-is : (bytes piece token rest : List ℕ) (n k : ℕ) → n ≡ position_or_len (λ b. not (is_blank b)) bytes
-    → piece ≡ drop n bytes → k ≡ position_or_len is_blank piece → token ≡ take k piece → rest ≡ drop k piece
-    → SplitsToken bytes token rest
-split_token-is bytes piece token rest n k blanks cut count front back =
-    let from = drop (position_or_len (λ b. not (is_blank b)) bytes) bytes in
-    let same : piece ≡ from = cut ∙ ap (λ i. drop i bytes) blanks in
-    let size : k ≡ position_or_len is_blank from = count ∙ ap (position_or_len is_blank) same in
-    let head : token ≡ take (position_or_len is_blank from) from =
-    front ∙ ap (λ x. take k x) same ∙ ap (λ i. take i from) size in
-    let tail : rest ≡ drop (position_or_len is_blank from) from =
-    back ∙ ap (λ x. drop k x) same ∙ ap (λ i. drop i from) size in
-    let split =
-    splits-same from bytes (take (position_or_len is_blank from) from) (drop (position_or_len is_blank from) from)
-    (tokens_of-blanks bytes)
-    (⊎_elim (λ s. s) (λ (some, none). absurd (no_blank_first bytes some none)) (splits_token from)) in
-    subst (λ x. SplitsToken bytes x rest) (sym head)
-    (subst (λ y. SplitsToken bytes (take (position_or_len is_blank from) from) y) (sym tail) split)
+  -- a text is parted behind its gaps and its first token
+  pub split_token-is : (bytes piece token rest : List ℕ) (n k : ℕ) → n ≡ position_or_len (λ b. not (p b)) bytes
+      → piece ≡ drop n bytes → k ≡ position_or_len p piece → token ≡ take k piece → rest ≡ drop k piece
+      → SplitsToken p bytes token rest
+  split_token-is bytes piece token rest n k gaps cut count front back =
+      let from = drop (position_or_len (λ b. not (p b)) bytes) bytes in
+      let same : piece ≡ from = cut ∙ ap (λ i. drop i bytes) gaps in
+      let size : k ≡ position_or_len p from = count ∙ ap (position_or_len p) same in
+      let head : token ≡ take (position_or_len p from) from =
+      front ∙ ap (λ x. take k x) same ∙ ap (λ i. take i from) size in
+      let tail : rest ≡ drop (position_or_len p from) from =
+      back ∙ ap (λ x. drop k x) same ∙ ap (λ i. drop i from) size in
+      let split =
+      splits-same from bytes (take (position_or_len p from) from) (drop (position_or_len p from) from)
+      (tokens-gaps bytes)
+      (⊎_elim (λ s. s) (λ (some, none). absurd (no_gap_first bytes some none)) (splits_token from)) in
+      subst (λ x. SplitsToken p bytes x rest) (sym head)
+      (subst (λ y. SplitsToken p bytes (take (position_or_len p from) from) y) (sym tail) split)
 
 -- a text is parted behind the byte that ends its first line
 pub split_line-is : (p : ℕ → Bool) (text line rest : List ℕ) → 0 < length text
@@ -155,6 +156,6 @@ length-parts_of p (b ∷ bytes) =
     elim (p b) as (λ t. length (cond t ([] ∷ parts_of p bytes) (begin_part b (parts_of p bytes))) ≤ length (b ∷ bytes))
     [ true ↦ omega arith | false ↦ omega (arith, length-begin_part b (parts_of p bytes)) ]
 
-pub length-tokens_of : (bytes : List ℕ) → length (tokens_of bytes) ≤ length bytes
-length-tokens_of bytes =
-    omega (arith, length-parts_of is_blank bytes, length-filter is_token (parts_of is_blank bytes), count_by-le-length is_token (parts_of is_blank bytes))
+pub length-tokens_between : (p : ℕ → Bool) (text : List ℕ) → length (tokens_between p text) ≤ length text
+length-tokens_between p text =
+    omega (arith, length-parts_of p text, length-filter is_token (parts_of p text), count_by-le-length is_token (parts_of p text))

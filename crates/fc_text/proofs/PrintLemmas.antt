@@ -1,15 +1,14 @@
 -- The lines of a printed board have room in 400 bytes.
-use Rattle.std.proofs.Common.{◌≡◌, ℕ, ◌+◌, ◌*◌, ◌≤◌, ◌<◌, Option, Some, None, List, [], ◌∷◌, ◌++◌, length, take, get_or, map, cond, eqb, refl, ◌∙◌, ap, ⊎_elim, append_assoc, arith}
+use Rattle.std.proofs.Common.{◌≡◌, ℕ, ◌+◌, ◌*◌, ◌≤◌, ◌<◌, Option, Some, None, List, [], ◌∷◌, ◌++◌, length, take, get_or, map, ◌∙◌, ap, append_assoc, arith}
 use Rattle.std.specs.Prelude.{sum_by}
 use Rattle.std.specs.List.{flat_map}
 use Rattle.std.proofs.lemmas.List.{append-nil, map-append, take_more, length-append, length-take, length-take-le}
-use Rattle.std.proofs.lemmas.List.Concat.{length-flat_map, flat_map-append}
-use Rattle.std.proofs.lemmas.List.Sums.{sum_by-cons, sum_by-append, sum_by_more_le}
-use Rattle.std.proofs.lemmas.Bool.{cases_lt}
+use Rattle.std.proofs.lemmas.List.Concat.{flat_map-append}
+use Rattle.std.proofs.lemmas.List.Sums.{sum_by-cons, sum_by_more_le}
 use Rattle.fc_cards.specs.Texts.{card_text}
-use Rattle.fc_position.specs.Board.{Board, column, places, count_in_column}
+use Rattle.fc_position.specs.Board.{Board, column}
 use Rattle.fc_position.specs.Position.{IsPosition}
-use Rattle.fc_position.proofs.Pigeonhole.{room_for_one}
+use Rattle.fc_position.proofs.BoardLemmas.{cards_most}
 use Rattle.fc_text.specs.Printed.{cell_text, entries_text, foundations_text, cells_text, column_text, ended, board_text}
 
 -- what is appended twice
@@ -40,27 +39,6 @@ length-columns (x ∷ xs) =
     let one = length-ended (column_text x) in
     let two = length-append (ended (column_text x)) (flat_map ended (map column_text xs)) in
     omega arith
-
--- the cards of all columns in a row
-abbrev in_columns : List (List ℕ) → List ℕ
-in_columns columns = flat_map (λ v. v) columns
-
-count-in_columns : (c : ℕ) (columns : List (List ℕ)) → count_in_column c (in_columns columns) ≡ sum_by (count_in_column c) columns
-count-in_columns c [] = refl
-count-in_columns c (x ∷ xs) =
-    let rest = count-in_columns c xs in
-    let all = sum_by-cons (count_in_column c) x xs in
-    let both = sum_by-append (λ y. cond (eqb y c) 1 0) x (in_columns xs) in
-    omega arith
-
--- a position has at most 52 cards in its columns
-cards_most : (b : Board) → IsPosition b → sum_by (λ v. length v) b.columns ≤ 52
-cards_most b p =
-    let each : (c : ℕ) → count_in_column c (in_columns b.columns) ≤ places b c = λ c. omega (arith, count-in_columns c b.columns) in
-    let fewer = room_for_one 53 (in_columns b.columns)
-    (λ c. ⊎_elim (λ lt. omega (arith, each c, p.once c lt)) (λ le. omega (arith, each c, p.no_other c le)) (cases_lt c 52))
-    (λ c above. omega (arith, each c, p.no_other c (omega arith))) 52 (omega arith) (omega (arith, each 52, p.no_other 52 (omega arith))) in
-    omega (arith, length-flat_map (λ (v : List ℕ). v) b.columns)
 
 -- the first lines of a printed board, with so many columns
 abbrev pub lines_text : ℕ → Board → List (List ℕ) → List ℕ

@@ -1,7 +1,6 @@
 -- A printed board is read as the board.
 use Rattle.std.proofs.Common.{true, false, Bool, ◌==◌, ◌≡◌, ℕ, zero, suc, ◌+◌, ◌-◌, ◌≤◌, ◌<◌, Option, Some, None, List, [], ◌∷◌, ◌++◌, length, take, map, cond, inl, inr, refl, sym, ◌∙◌, ap, subst, ⊎_elim, append_assoc, arith, rules}
 use Rattle.std.specs.Prelude.{Contains, codes, filter, slice_get, slice_index, slice_index_or, sum_by, count_by}
-use Rattle.std.specs.Char.{to_ascii_uppercase}
 use Rattle.std.specs.List.{AllZip, flat_map}
 use Rattle.std.proofs.lemmas.List.{append-nil, get_or_past, get_or-take, length-map, length-take, take_all}
 use Rattle.std.proofs.lemmas.List.Sums.{sum_by-cons}
@@ -11,7 +10,7 @@ use Rattle.std.proofs.lemmas.Bool.Decides.{nat_tests}
 use Rattle.fc_cards.specs.Card.{rank, suit}
 use Rattle.fc_cards.specs.Texts.{IsRank, rank_letter, suit_letter, card_text}
 use Rattle.fc_cards.proofs.EachRank.{by_rank, by_suit}
-use Rattle.fc_cards.proofs.TextLemmas.{card_text_back}
+use Rattle.fc_cards.proofs.TextLemmas.{card_text_back, rank_letter-upper, suit_letter-upper}
 use Rattle.fc_position.specs.Board.{Board, column, cell, home, count_in_column, count_in_cell}
 use Rattle.fc_position.specs.Position.{IsPosition, Fits}
 use Rattle.fc_position.proofs.BoardLemmas.{home_most}
@@ -23,7 +22,7 @@ use Rattle.fc_text.specs.Spelling.{SpellsCard, SpellsCellAt, SpellsCount, Spells
 use Rattle.fc_text.specs.Fault.{IsNoHome, NamesSuitTwice, HasBadCard, HasBadFoundation, IsSound, AreSound}
 use Rattle.fc_text.specs.Board.{Spells}
 use Rattle.fc_text.specs.Printed.{count_letter, home_text, cell_text, entries_text, foundations_text, cells_text, column_text, ended, board_text}
-use Rattle.fc_text.proofs.PartLemmas.{tokens_of-blank}
+use Rattle.fc_text.proofs.PartLemmas.{tokens-gap}
 use Rattle.fc_text.proofs.CellDraft.{spelled_not_bad}
 use Rattle.fc_text.proofs.FaultLemmas.{column_sound}
 use Rattle.fc_text.proofs.DraftLemmas.{kind_more}
@@ -88,7 +87,7 @@ tokens_of-first (b ∷ bytes) (u ∷ us) p q =
 tokens_of-entries : (tokens : List (List ℕ)) → ArePrinted tokens → tokens_of (entries_text tokens) ≡ tokens
 tokens_of-entries [] p = refl
 tokens_of-entries (token ∷ tokens) p =
-    tokens_of-blank 32 (token ++ entries_text tokens) refl ∙ tokens_of-first token tokens p.0 p.1
+    tokens-gap is_blank 32 (token ++ entries_text tokens) refl ∙ tokens_of-first token tokens p.0 p.1
 
 entries-above : (tokens : List (List ℕ)) → ArePrinted tokens → AllAbove 31 (entries_text tokens)
 entries-above [] p = tt
@@ -128,9 +127,6 @@ line_of-foundations rest = refl
 
 line_of-freecells : (rest : List ℕ) → line_of (codes "Freecells:" ++ rest) ≡ cells_line rest
 line_of-freecells rest = refl
-
-line_of-column : (rest : List ℕ) → line_of (codes ":" ++ rest) ≡ column_line rest
-line_of-column rest = refl
 
 abbrev homes_piece : Board → List ℕ
 homes_piece b = entries_text (map (λ s. home_text s (home b s)) (2 ∷ 0 ∷ 1 ∷ 3 ∷ []))
@@ -249,27 +245,18 @@ homes_printed b p = (
 homes_of : (b : Board) → IsPosition b → tokens_of (homes_piece b) ≡ homes_tokens b
 homes_of b p = tokens_of-entries (homes_tokens b) (homes_printed b p)
 
--- letters are no small letters
-rank_upper : (r : ℕ) → IsRank r → to_ascii_uppercase (rank_letter r) ≡ rank_letter r
-rank_upper =
-    by_rank (λ r. to_ascii_uppercase (rank_letter r) ≡ rank_letter r)
-    refl refl refl refl refl refl refl refl refl refl refl refl refl
-
-suit_upper : (s : ℕ) → s < 4 → to_ascii_uppercase (suit_letter s) ≡ suit_letter s
-suit_upper = by_suit (λ s. to_ascii_uppercase (suit_letter s) ≡ suit_letter s) refl refl refl refl
-
 count_spelled : (n : ℕ) → n ≤ 13 → SpellsCount (count_letter n ∷ []) n
 count_spelled zero most = inl (refl, refl)
 count_spelled (suc r) most =
     let ranked : IsRank (suc r) = record { least = omega arith; greatest = omega arith } in
-    inr (ranked, inl (rank_letter (suc r), refl, rank_upper (suc r) ranked))
+    inr (ranked, inl (rank_letter (suc r), refl, rank_letter-upper (suc r) ranked))
 
 home_spelled : (s n : ℕ) → s < 4 → n ≤ 13 → SpellsHome (home_text s n) s n
 home_spelled s n below most = record {
   suit_part = suit_letter s;
   rank_part = count_letter n ∷ [];
   parts = refl;
-  suit = suit_upper s below;
+  suit = suit_letter-upper s below;
   count = count_spelled n most;
 }
 

@@ -30,10 +30,6 @@ zip_push R [] (b ∷ ys) x y zip here = absurd zip
 zip_push R (a ∷ xs) [] x y zip here = absurd zip
 zip_push R (a ∷ xs) (b ∷ ys) x y zip here = (zip.0, zip_push R xs ys x y zip.1 here)
 
--- counting leaves a tally
-pub adds_tally : (times : ℕ → ℕ) (old new : List ℕ) → Adds times old new → IsTally new
-adds_tally times old new adds c below = omega (arith, adds c below)
-
 -- what the reader of a column line keeps from token to token: those so far are read, and the others are left
 pub record ColumnSoFar (piece rest kept old new : List ℕ) : Type 0 where
   pub tokens : List (List ℕ)

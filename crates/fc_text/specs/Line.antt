@@ -38,14 +38,18 @@ abbrev pub is_token : List ℕ → Bool
 is_token [] = false
 is_token (b ∷ bytes) = true
 
+-- the tokens of a text: what stands between the bytes that part them
+abbrev pub tokens_between : (ℕ → Bool) → List ℕ → List (List ℕ)
+tokens_between is_gap text = filter is_token (parts_of is_gap text)
+
 -- the tokens of a piece of a line: what stands between blanks
 abbrev pub tokens_of : List ℕ → List (List ℕ)
 tokens_of piece = filter is_token (parts_of is_blank piece)
 
--- a piece is parted into its first token and the rest; an empty token stands for none
-abbrev pub SplitsToken : List ℕ → List ℕ → List ℕ → Type 0
-SplitsToken piece [] rest = (tokens_of piece ≡ []) × (tokens_of rest ≡ [])
-SplitsToken piece (b ∷ bytes) rest = tokens_of piece ≡ (b ∷ bytes) ∷ tokens_of rest
+-- a text is parted into its first token and the rest; an empty token stands for none
+abbrev pub SplitsToken : (ℕ → Bool) → List ℕ → List ℕ → List ℕ → Type 0
+SplitsToken is_gap text [] rest = (tokens_between is_gap text ≡ []) × (tokens_between is_gap rest ≡ [])
+SplitsToken is_gap text (b ∷ bytes) rest = tokens_between is_gap text ≡ (b ∷ bytes) ∷ tokens_between is_gap rest
 
 -- a line without the blanks that it begins with
 abbrev pub after_blanks : List ℕ → List ℕ

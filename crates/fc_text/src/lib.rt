@@ -1,8 +1,11 @@
 //! Board texts in Freecell Solver's form: read exactly, and printed. No call allocates.
+//!
+//! `Tokens` parts any text at the gaps that its reader names, for the readers of other texts too.
 #![tactic(auto)]
 
 pub use boards::read_board;
 pub use faults::BoardFault;
+pub use pieces::{Gaps, Tokens};
 pub use printers::print_board;
 
 mod boards;

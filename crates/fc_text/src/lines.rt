@@ -2,7 +2,7 @@ ghost use Rattle.std.specs.Prelude.{◌≡◌, map};
 ghost use Rattle.std.specs.Option.{option_copied};
 ghost use Rattle.fc_text.specs.Line.{after_blanks, after_colon, after_name, begins_with, line_of, without_return, tokens_of};
 
-use crate::pieces::blank_len;
+use crate::pieces::{Blanks, gap_len};
 
 /// What a line of a board text tells.
 #[derive(Clone, Copy, Debug, PartialEq, Eq)]
@@ -42,7 +42,7 @@ pub(crate) fn without_return(line: &[u8]) -> &[u8]
 fn after_blanks(line: &[u8]) -> &[u8]
     ensures { result.now ≡ after_blanks line.now }
 {
-    &line[blank_len(line)..]
+    &line[gap_len(line, &Blanks)..]
 }
 
 // Whether the piece begins with the name, in either case.

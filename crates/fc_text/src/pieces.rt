@@ -1,7 +1,7 @@
-ghost use Rattle.std.specs.Prelude.{◌≡◌, ◌<◌, ◌≤◌, ◌∷◌, length, not};
+ghost use Rattle.std.specs.Prelude.{◌≡◌, ℕ, ◌<◌, ◌≤◌, ◌∷◌, Bool, length, not};
 ghost use Rattle.std.specs.List.{position_or_len};
 ghost use Rattle.std.specs.Iterator.{YieldsFirstRef, item_count};
-ghost use Rattle.fc_text.specs.Line.{is_blank, is_line_end, parts_of, tokens_of, SplitsToken};
+ghost use Rattle.fc_text.specs.Line.{is_blank, is_line_end, parts_of, tokens_between, SplitsToken};
 
 /// The lines of a text, each without the LF that ends it.
 #[derive(Debug, Drop)]
@@ -26,21 +26,54 @@ impl<'a> Iterator for Lines<'a> {
     }
 }
 
-/// The tokens of a piece of a line: what stands between blanks.
-#[derive(Debug, Drop)]
-pub(crate) struct Tokens<'a> {
-    pub rest: &'a [u8],
+/// Which bytes part the tokens of a text.
+pub trait Gaps {
+    ghost gap: { ℕ → Bool };
+
+    /// Whether the byte parts tokens.
+    fn is_gap(&self, byte: u8) -> bool
+        ensures { result ≡ gap byte };
 }
 
-impl<'a> Iterator for Tokens<'a> {
+/// The gaps in a line of a board text: spaces and tabs.
+#[derive(Debug, Drop)]
+pub(crate) struct Blanks;
+
+impl Gaps for Blanks {
+    ghost gap = { is_blank };
+
+    fn is_gap(&self, byte: u8) -> bool {
+        byte == b' ' || byte == b'\t'
+    }
+}
+
+/// The tokens of a text: what stands between gaps.
+#[derive(Debug, Drop)]
+pub struct Tokens<'a, G> {
+    /// What follows the tokens so far.
+    pub rest: &'a [u8],
+    /// Which bytes are gaps.
+    pub gaps: G,
+}
+
+impl<'a, G> Tokens<'a, G> {
+    /// The tokens of the text, parted by these gaps.
+    pub fn new(text: &'a [u8], gaps: G) -> Tokens<'a, G>
+        ensures { result.rest.now ≡ text.now }
+    {
+        Tokens { rest: text, gaps }
+    }
+}
+
+impl<'a, G: Gaps + Drop> Iterator for Tokens<'a, G> {
     type Item = &'a [u8];
 
-    ghost next_gives = { YieldsFirstRef (λ s. tokens_of s.rest.now) };
+    ghost next_gives = { YieldsFirstRef (λ s. tokens_between G.gap s.rest.now) };
 
-    ghost remaining = { item_count (λ s. tokens_of s.rest.now) };
+    ghost remaining = { item_count (λ s. tokens_between G.gap s.rest.now) };
 
     fn next(&mut self) -> Option<&'a [u8]> {
-        let (token, rest) = split_token(self.rest);
+        let (token, rest) = split_token(self.rest, &self.gaps);
         self.rest = rest;
         if token.is_empty() { None } else { Some(token) }
     }
@@ -58,45 +91,38 @@ fn split_line(text: &[u8]) -> (&[u8], &[u8])
     }
 }
 
-// The first token of a piece and what follows it; an empty token where there is none.
-fn split_token(piece: &[u8]) -> (&[u8], &[u8])
-    ensures { SplitsToken piece.now result.0.now result.1.now }
+// The first token of a text and what follows it; an empty token where there is none.
+fn split_token<'a, G: Gaps>(text: &'a [u8], gaps: &G) -> (&'a [u8], &'a [u8])
+    ensures { SplitsToken G.gap text.now result.0.now result.1.now }
 {
-    let piece = &piece[blank_len(piece)..];
-    piece.split_at(token_len(piece))
+    let text = &text[gap_len(text, gaps)..];
+    text.split_at(token_len(text, gaps))
 }
 
-// Whether the byte is a space or a tab.
-pub(crate) fn is_blank(byte: u8) -> bool
-    ensures { result ≡ is_blank byte }
+// How many gaps the text begins with.
+pub(crate) fn gap_len<G: Gaps>(text: &[u8], gaps: &G) -> usize
+    ensures value { result ≡ position_or_len (λ b. not (G.gap b)) text.now }
+    ensures within { result ≤ length text.now }
 {
-    byte == b' ' || byte == b'\t'
-}
-
-// How many blanks the piece begins with.
-pub(crate) fn blank_len(piece: &[u8]) -> usize
-    ensures value { result ≡ position_or_len (λ b. not (is_blank b)) piece.now }
-    ensures within { result ≤ length piece.now }
-{
-    for (i, byte) in piece.iter().enumerate() {
-        if !is_blank(*byte) {
+    for (i, byte) in text.iter().enumerate() {
+        if !gaps.is_gap(*byte) {
             return i;
         }
     }
-    piece.len()
+    text.len()
 }
 
-// How many bytes the piece begins with that are no blanks.
-fn token_len(piece: &[u8]) -> usize
-    ensures value { result ≡ position_or_len is_blank piece.now }
-    ensures within { result ≤ length piece.now }
+// How many bytes the text begins with that are no gaps.
+fn token_len<G: Gaps>(text: &[u8], gaps: &G) -> usize
+    ensures value { result ≡ position_or_len G.gap text.now }
+    ensures within { result ≤ length text.now }
 {
-    for (i, byte) in piece.iter().enumerate() {
-        if is_blank(*byte) {
+    for (i, byte) in text.iter().enumerate() {
+        if gaps.is_gap(*byte) {
             return i;
         }
     }
-    piece.len()
+    text.len()
 }
 
 // How many bytes stand before the first LF.

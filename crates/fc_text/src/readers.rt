@@ -5,7 +5,7 @@ ghost use Rattle.fc_text.specs.Fault.{HasBadCard, HasBadFoundation};
 
 use crate::faults::LineFault;
 use crate::lines::LineKind;
-use crate::pieces::Tokens;
+use crate::pieces::{Blanks, Tokens};
 use crate::tokens::{read_card, read_cell, read_home};
 use arrayvec::ArrayVec;
 use fc_cards::Card;
@@ -18,7 +18,7 @@ pub(crate) fn read_column(piece: &[u8], tally: &mut Tally) -> Result<ArrayVec<Ca
     ensures fault { IfErr result (λ fault. (fault ≡ LineFault.BadCard) × HasBadCard LineKind.Column (tokens_of piece.now)) }
 {
     let mut column = ArrayVec::new();
-    for token in (Tokens { rest: piece }) {
+    for token in Tokens::new(piece, Blanks) {
         let Some(card) = read_card(token) else {
             return Err(LineFault::BadCard);
         };
@@ -36,7 +36,7 @@ pub(crate) fn read_cells(piece: &[u8]) -> Result<([Option<Card>; 4], usize), Lin
 {
     let mut cells = [None; 4];
     let mut count = 0usize;
-    for token in (Tokens { rest: piece }) {
+    for token in Tokens::new(piece, Blanks) {
         let Some(held) = read_cell(token) else {
             return Err(LineFault::BadCard);
         };
@@ -57,7 +57,7 @@ pub(crate) fn read_homes(piece: &[u8]) -> Result<[u8; 4], LineFault>
 {
     let mut homes = [0; 4];
     let mut named = [false; 4];
-    for token in (Tokens { rest: piece }) {
+    for token in Tokens::new(piece, Blanks) {
         let Some((suit, count)) = read_home(token) else {
             return Err(LineFault::BadFoundation);
         };

@@ -1,10 +1,6 @@
-use Rattle.std.proofs.Common.{◌≡◌, ◌+◌, ◌≤◌, ◌++◌, ◌∷◌, [], length, Some, None, refl, sym, ◌∙◌, ap, subst, rules, arith}
-use Rattle.std.specs.Prelude.{MatchOption}
-use Rattle.std.specs.declared.option.Option.{Option}
+use Rattle.std.proofs.Common.{◌++◌, ◌∷◌, [], ◌∙◌, ap, arith}
 use Rattle.std.proofs.lemmas.List.{append_assoc}
 use Rattle.std.proofs.lemmas.Option.{MatchOption-at_some}
-use Rattle.fc_moves.specs.declared.steps.Move.{Move}
-use Rattle.fc_search.specs.Walk.{LeadsWithin}
 use Rattle.fc_search.proofs.WalkLemmas.{leads_once, found}
 use Rattle.fc_search.proofs.walks.follow.Goals as goal
 

@@ -1,8 +1,7 @@
-use Rattle.std.proofs.Common.{◌≡◌, ◌+◌, ◌≤◌, length, subst, sym, ◌∙◌, refl, rules, arith}
+use Rattle.std.proofs.Common.{◌≡◌, ◌+◌, ◌≤◌, length, subst, sym, ◌∙◌, refl, arith}
 use Rattle.std.proofs.lemmas.Bool.Decides.{nat_tests}
 use Rattle.std.specs.Cmp.Lexicographic.{bytes_decides}
 use Rattle.fc_moves.specs.Step.{Step}
-use Rattle.fc_home.specs.Settles.{SettlesBy}
 use Rattle.fc_canonical.specs.Key.{IsKeyOf}
 use Rattle.fc_search.proofs.WalkLemmas.{leads_once, key_once}
 use Rattle.fc_search.proofs.walks.leads_within.Goals as goal

@@ -1,13 +1,12 @@
 use Rattle.std.proofs.Common.{length, sym, ◌∙◌, arith}
 use Rattle.std.proofs.lemmas.List.Sums.{position_or_len_is}
-use Rattle.fc_text.specs.Line.{is_blank}
 use Rattle.fc_text.proofs.pieces.token_len.Goals as goal
 
-pub returns-then-is_blank-clause-value : goal.returns-then-is_blank-clause-value
-returns-then-is_blank-clause-value c =
-    sym (position_or_len_is is_blank c.args.piece.now c.loop-i.i 0 (omega arith) c.loop-i.invariant
-    (λ _. sym c.is_blank.ensures ∙ c.if-is_blank.true))
+pub returns-then-is_gap-clause-value : goal.returns-then-is_gap-clause-value
+returns-then-is_gap-clause-value g c =
+    sym (position_or_len_is g.G.Gaps.gap c.args.text.now c.loop-i.i 0 (omega arith) c.loop-i.invariant
+    (λ _. sym c.is_gap.ensures ∙ c.if-is_gap.true))
 
 pub returns-clause-value : goal.returns-clause-value
-returns-clause-value c =
-    sym (position_or_len_is is_blank c.args.piece.now (length c.args.piece.now) 0 (omega arith) (λ k h. c.loop-i.invariant k (omega arith)) (λ h. absurd (omega arith)))
+returns-clause-value g c =
+    sym (position_or_len_is g.G.Gaps.gap c.args.text.now (length c.args.text.now) 0 (omega arith) (λ k h. c.loop-i.invariant k (omega arith)) (λ h. absurd (omega arith)))

@@ -1,4 +1,4 @@
-use Rattle.std.proofs.Common.{refl, ap, arith}
+use Rattle.std.proofs.Common.{◌∙◌, refl, ap, arith}
 use Rattle.fc_text.proofs.ReaderLemmas.{cells_none, cells_next, cells_all}
 use Rattle.fc_text.proofs.readers.read_cells.Goals as goal
 use Rattle.fc_text.proofs.readers.read_cells.Goals.{then-count-lt4, else-count-lt4}
@@ -6,7 +6,7 @@ use Rattle.fc_text.proofs.readers.read_cells.Goals.{then-count-lt4, else-count-l
 pub loop-token-init : goal.loop-token-init
 loop-token-init c =
     cells_none c.args.piece.now c.into_iter-token-iterator.result.rest.now _ _
-    (ap (λ i. i.rest.now) c.into_iter-token-iterator.ensures.into_iter_gives) refl refl
+    (ap (λ i. i.rest.now) c.into_iter-token-iterator.ensures.into_iter_gives ∙ c.new-token-items.ensures) refl refl
 
 pub loop-token-preserved : goal.loop-token-preserved
 loop-token-preserved c =

@@ -1,11 +1,11 @@
-use Rattle.std.proofs.Common.{ap, arith}
+use Rattle.std.proofs.Common.{◌∙◌, ap, arith}
 use Rattle.fc_text.proofs.ReaderLemmas.{column_none, column_next, column_all, on_ok, on_err}
 use Rattle.fc_text.proofs.readers.read_column.Goals as goal
 
 pub loop-token-init : goal.loop-token-init
 loop-token-init c =
     column_none c.args.piece.now c.into_iter-token-iterator.result.rest.now c.new-column.result.items c.args.tally.now
-    (ap (λ i. i.rest.now) c.into_iter-token-iterator.ensures.into_iter_gives) c.new-column.ensures c.requires.tally
+    (ap (λ i. i.rest.now) c.into_iter-token-iterator.ensures.into_iter_gives ∙ c.new-token-items.ensures) c.new-column.ensures c.requires.tally
 
 pub loop-token-preserved : goal.loop-token-preserved
 loop-token-preserved c =

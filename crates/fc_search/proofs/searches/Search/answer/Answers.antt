@@ -1,7 +1,6 @@
-use Rattle.std.proofs.Common.{◌≡◌, sym, ◌∙◌, ap, subst}
+use Rattle.std.proofs.Common.{◌≡◌, sym, ◌∙◌, subst}
 use Rattle.std.specs.Prelude.{IfOk}
-use Rattle.fc_moves.specs.GameRules.{IsPositionOf}
-use Rattle.fc_best_first.specs.Shown.{Holds, Shows}
+use Rattle.fc_best_first.specs.Shown.{Shows}
 use Rattle.fc_classes.specs.Classes.{classes}
 use Rattle.fc_best_first.specs.declared.turns.Status.TheVariants.{GaveUp}
 use Rattle.fc_search.specs.declared.answers.Answer.TheVariants as answer

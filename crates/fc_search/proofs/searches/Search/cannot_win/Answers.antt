@@ -1,4 +1,4 @@
-use Rattle.std.proofs.Common.{sym, subst}
+use Rattle.std.proofs.Common.{subst}
 use Rattle.fc_best_first.specs.Shown.{Holds, Shows}
 use Rattle.fc_classes.specs.Classes.{classes}
 use Rattle.fc_search.proofs.AnswerLemmas.{cannot_win_answers}

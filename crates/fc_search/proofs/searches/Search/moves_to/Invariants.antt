@@ -1,4 +1,4 @@
-use Rattle.std.proofs.Common.{◌≡◌, ℕ, length, reverse}
+use Rattle.std.proofs.Common.{ℕ, length, reverse}
 use Rattle.fc_search.specs.Walk.{IsAtClass, IsWay}
 use Rattle.fc_search.proofs.searches.Search.moves_to.Given as goal
 

@@ -1,4 +1,4 @@
-use Rattle.std.proofs.Common.{◌≡◌, ◌<◌, length, reverse, get_or, []}
+use Rattle.std.proofs.Common.{◌<◌, length, reverse, get_or, []}
 use Rattle.fc_search.specs.Walk.{IsWay}
 use Rattle.fc_search.proofs.searches.Search.way_to.Given as goal
 

@@ -1,7 +1,0 @@
-use Rattle.std.proofs.Common.{◌≡◌, ℕ, ◌<◌, true, get_or}
-use Rattle.fc_replay.specs.Token.{is_gap}
-use Rattle.fc_replay.proofs.tokens.gap_len.Given as goal
-
--- what was passed is a gap
-abbrev pub invariant-loop-i : goal.invariant-loop-i
-invariant-loop-i l = (k : ℕ) → k < l.i → is_gap (get_or l.text k 0) ≡ true

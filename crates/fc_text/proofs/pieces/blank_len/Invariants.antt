@@ -1,7 +1,0 @@
-use Rattle.std.proofs.Common.{◌≡◌, ℕ, ◌<◌, true, get_or}
-use Rattle.fc_text.specs.Line.{is_blank}
-use Rattle.fc_text.proofs.pieces.blank_len.Given as goal
-
--- what was passed is blank
-abbrev pub invariant-loop-i : goal.invariant-loop-i
-invariant-loop-i l = (k : ℕ) → k < l.i → is_blank (get_or l.piece k 0) ≡ true
