@@ -1,7 +1,7 @@
 #!/usr/bin/env python3
 """Tries the wrong edits crates/NAME/breaks/*.edit, many in one check: the prover must refuse each in the function that it changes.
 
-usage, at the top of the repository:  breaks.py [--alone] [--built] [--lanes N] [NAME..]
+usage, at the top of the repository:  breaks.py [--alone] [--follow LOG] [--lanes N] [NAME..]
 
 An edit is a file as `rt must-fail` reads it: a line 'file: src/lib.rt', then pairs of lines 'old: TEXT' and 'new: TEXT', each
 old TEXT standing once in that file. A line 'fn: MODULE::NAME' names the function that must be refused, where the edit changes
@@ -10,8 +10,8 @@ no function's own text.
 A wave is one check of a copy of the crate with as many edits as change different functions: a check goes on after a function
 that it refuses, and takes the callers of that function over its contract. An edit is refused where a goal of a function that
 it changes stays open; that the function calls one that isn't proved does not count. What a wave does not settle is tried alone.
---alone tries each edit by itself. --built takes the libraries of out/ as they are, as right after `rt ci`; else those that have
-changed are built first. The last line is 'N passed, M failed'.
+--alone tries each edit by itself. --follow LOG tries a crate's edits as soon as the `rt ci` that writes LOG says that the crate is
+proved, over the libraries that it builds; else those that have changed are built first. The last line is 'N passed, M failed'.
 """
 import argparse
 import os
@@ -20,6 +20,7 @@ import shutil
 import subprocess
 import sys
 import tempfile
+import time
 from concurrent.futures import ThreadPoolExecutor
 from dataclasses import dataclass, field
 
@@ -54,18 +55,20 @@ def last_name(text):
 
 def owner_of(head):
     """How a check spells the type of an impl or a trait: 'impl<R: Read> Source for FromReader<R>' is FromReaderSource, and
-    'impl From<AllocError> for Full' is FullFromAllocError."""
+    'impl From<AllocError> for Full' is FullFromAllocError; of a type parameter it is Any."""
     said = re.split(r"\swhere\s", re.sub(r"^(pub +)?(impl|trait)\b", "", head))[0]
     depth = 0
     for at, letter in enumerate(said):
         depth += (letter == "<") - (letter == ">")
         if not depth and letter != ">":
             break
+    parameters = [last_name(it.partition(":")[0]) for it in said[1:at].split(",")]
     trait, _, kind = said[at:].rpartition(" for ")
     if not trait:
         return last_name(bare(kind).partition(":")[0])
     name, _, arguments = trait.partition("<")
-    return last_name(kind) + last_name(name) + "".join(last_name(it) for it in bare(arguments.rpartition(">")[0]).split(","))
+    owner = "Any" if last_name(kind) in parameters else last_name(kind)
+    return owner + last_name(name) + "".join(last_name(it) for it in bare(arguments.rpartition(">")[0]).split(","))
 
 
 def functions_of(path, text):
@@ -121,15 +124,17 @@ def read_edit(crate, name):
     edit = Edit(name, changes_of(text), {*re.findall(r"(?m)^fn: (\S+)", text)})
     if edit.functions:
         return edit
-    for path, old, _ in edit.changes:
-        with open(f"{crate.folder}/{path}", encoding="utf-8") as it:
-            whole = it.read()
-        at = whole.find(old)
-        inside = [it for it in functions_of(path, whole) if it[1] <= at < it[2]] if path.startswith("src/") else []
-        if inside:
-            edit.functions.add(max(inside, key=lambda it: it[1])[0])
-        elif at >= 0:
+    texts = {}
+    for path, old, new in edit.changes:
+        if path not in texts:
+            with open(f"{crate.folder}/{path}", encoding="utf-8") as it:
+                texts[path] = it.read()
+        at = texts[path].find(old)
+        inside = [it for it in functions_of(path, texts[path]) if it[1] <= at < it[2]] if path.startswith("src/") else []
+        if not inside:
             raise BadEdit("it changes no function's text: name the function by a line 'fn: MODULE::NAME'")
+        edit.functions.add(max(inside, key=lambda it: it[1])[0])
+        texts[path] = texts[path].replace(old, new)
     return edit
 
 
@@ -253,27 +258,61 @@ def try_crate(crate, is_alone):
     return len(names) - len(failed), failed
 
 
-def built_below(crate):
+def is_built(crate):
     """Whether the libraries below a crate are built, over what earlier checks kept, where they have changed."""
-    rtlib.Crate.cuts_libraries = False
     return not any(it.build_rlib(["--jobs", "1"], anew=False) for it in crate.below())
+
+
+def built(crates):
+    """Each crate, and whether the libraries below it are built."""
+    rtlib.Crate.cuts_libraries = False
+    for crate in crates:
+        yield crate, is_built(crate)
+
+
+def followed(crates, log):
+    """Each crate once the `rt ci` that writes the log says whether it is proved, or ends."""
+    waiting = [*crates]
+    while waiting:
+        with open(log, encoding="utf-8", errors="replace") as it:
+            said = it.read()
+        has_ended = re.search(r"(?m)^\d+ passed, \d+ failed$", said)
+        for crate in [*waiting]:
+            told = re.search(rf"(?m)^rt: {crate.name} (NOT PROVED|proved$)", said)
+            if told or has_ended:
+                waiting.remove(crate)
+                yield crate, bool(told) and told[1] == "proved"
+        time.sleep(1)
+
+
+def tried(crate, is_ready, is_alone):
+    """Tries a crate's edits, where what they stand on is built."""
+    if is_ready:
+        return try_crate(crate, is_alone)
+    print(f"breaks {crate.name}: not tried, since it or a library below it is not proved", flush=True)
+    return 0, dict.fromkeys(os.listdir(f"{crate.folder}/breaks"), "not tried")
 
 
 def main():
     words = argparse.ArgumentParser(description="Tries the wrong edits of breaks/, which the prover must refuse.")
     words.add_argument("--alone", action="store_true", help="try each edit by itself")
-    words.add_argument("--built", action="store_true", help="take the libraries as they are in out/")
+    words.add_argument("--follow", metavar="LOG", help="follow the `rt ci` that writes this file")
     words.add_argument("--lanes", type=int, default=0, help="how many crates at a time (default: one a processor, as memory allows)")
     words.add_argument("names", nargs="*", metavar="NAME", help="the crates to try (default: all)")
     given = words.parse_args()
     crates = [it for it in crates_of_gate() if not given.names or it.name in given.names]
-    if not given.built and not all(built_below(it) for it in crates):
-        return 1
+    crates = [it for it in crates if os.path.isdir(f"{it.folder}/breaks")]
     # The longest first, so that no lane ends late.
     crates.sort(key=lambda it: -sum(os.path.getsize(file) for file in rtlib.files_of(it.folder)))
-    lanes = given.lanes or max(1, min(rt.processors(), rt.free() // 3_500_000_000))
-    with ThreadPoolExecutor(lanes) as pool:
-        counts = [*pool.map(lambda it: try_crate(it, given.alone), crates)]
+    lanes = max(1, min(rt.processors(), rt.free() // 3_500_000_000))
+    if given.follow:
+        # The proofs that others wait for come first.
+        os.nice(10)
+        lanes = max(1, rt.processors() // 2)
+    with ThreadPoolExecutor(given.lanes or lanes) as pool:
+        ready = followed(crates, given.follow) if given.follow else built(crates)
+        runs = [pool.submit(tried, crate, is_ready, given.alone) for crate, is_ready in ready]
+        counts = [it.result() for it in runs]
     passed, failed = sum(it for it, _ in counts), sum(len(it) for _, it in counts)
     print(f"{passed} passed, {failed} failed")
     return 1 if failed else 0

@@ -66,6 +66,7 @@ OWNERS = {
     "impl<R: io::Read> Source for FromReader<R> ": "FromReaderSource",
     "impl<T: Drop> From<AllocFailed<T>> for Full ": "FullFromAllocFailed",
     "impl<G: Game + Drop> Space<ClassKey> for Positions<G> ": "PositionsSpaceClassKey",
+    "impl<R: Read> Reading for R ": "AnyReading",
     "pub trait Frontier: Drop ": "Frontier",
 }
 
