@@ -7,10 +7,10 @@
 
 pub use arrays::ToArray;
 pub use devices::{Failed, Sink, Source};
-pub use readers::FromReader;
+pub use readers::{FromReader, Reading};
 pub use slices::FromSlice;
 pub use transfers::{ReadFault, read_to_vec, read_up_to, write_all};
-pub use writers::ToWriter;
+pub use writers::{ToWriter, Writing};
 
 mod arrays;
 mod devices;
