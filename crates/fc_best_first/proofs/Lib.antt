@@ -2,6 +2,5 @@ pub mod KeptLemmas
 pub mod RunLemmas
 pub mod SearchLemmas
 pub mod StoreLemmas
-pub mod SumsLemmas
 pub mod TurnLemmas
 pub mod WorkLemmas
