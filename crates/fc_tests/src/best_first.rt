@@ -1,6 +1,6 @@
 //! The search over a question of the tests' own: to reach a sum by adding 2, 4 and 6.
 
-ghost use Rattle.std.specs.Prelude.{◌≡◌, ℕ, ◌+◌, ◌-◌, ◌≤◌, ◌++◌, option_to_list};
+ghost use Rattle.std.specs.Prelude.{◌≡◌, ℕ, [], ◌+◌, ◌-◌, ◌≤◌, ◌++◌, option_to_list};
 ghost use Rattle.fc_best_first.specs.Turn.{AreChildren};
 ghost use Rattle.fc_tests.specs.Sums.{IsChildOf, number_exact, sums, sums_lawful};
 
@@ -333,16 +333,19 @@ fn a_budget_is_one_to_four_million(rt: HostRuntime) {
     }
 }
 
-// A key is added, met at no less and at less with this budget, and one more finds no place; the two pairs are open, the
-// lesser first.
-fn one_place<F: Frontier + Drop>(rt: &impl Abort, alloc: Global, budget: u32) -> Result<(), Fail>
-    requires { 1 ≤ budget }
+// A key is added, met at no less and at less with this budget, and one more finds no place.
+fn offer_two<F: Frontier + Drop>(
+    rt: &impl Abort,
+    book: &mut Book<Sum, F>,
+    budget: u32,
+) -> Result<(), Fail>
+    requires some { 1 ≤ budget }
+    requires empty { book.old.stored ≡ [] }
 {
     let forty = Sum { value: 40 };
     let other = Sum { value: 41 };
     let dear = Mark { cost: 9, parent: 3 };
     let cheap = Mark { cost: 7, parent: 5 };
-    let mut book: Book<Sum, F> = Book::new(alloc);
     assert!(rt; matches!(book.offer(1, forty, dear, 11)?, Offered::Added));
     assert!(rt; matches!(book.offer(budget, forty, dear, 11)?, Offered::Known));
     assert!(rt; matches!(book.offer(budget, forty, cheap, 9)?, Offered::Lowered));
@@ -352,13 +355,23 @@ fn one_place<F: Frontier + Drop>(rt: &impl Abort, alloc: Global, budget: u32) ->
             Offered::Full(Sum { value: 41 })
         )
     );
-    assert_eq!(rt; book.len(), 1);
+    Ok(())
+}
+
+// The first key alone is stored, at less; the two pairs are open, the lesser first.
+fn one_place<F: Frontier + Drop>(rt: &impl Abort, alloc: Global, budget: u32) -> Result<(), Fail>
+    requires { 1 ≤ budget }
+{
+    let mut book: Book<Sum, F> = Book::new(alloc);
+    offer_two(rt, &mut book, budget)?;
+    let forty = Sum { value: 40 };
+    let cheap = Mark { cost: 7, parent: 5 };
     let stored = book.entry(0).ok_or("the key 40")?;
     assert!(rt; *stored.0 == forty && stored.1 == cheap);
-    assert!(rt; book.entry(1).is_none());
-    assert_eq!(rt; book.take(), Some((9, 0)));
-    assert_eq!(rt; book.take(), Some((11, 0)));
-    assert_eq!(rt; book.take(), None);
+    assert!(rt; book.len() == 1 && book.entry(1).is_none());
+    for pair in [Some((9, 0)), Some((11, 0)), None] {
+        assert!(rt; book.take() == pair);
+    }
     Ok(())
 }
 
