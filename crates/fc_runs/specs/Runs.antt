@@ -64,12 +64,14 @@ pub record IsSolved (g : GameRules) (rule : ℕ) (budget : ℕ) (source sink : D
   pub sound : IsTrue sink.failed → ⊥
   pub told : status ≡ status_of answer
 
--- the sink failed while it was given the text of an answer that is right for the position that the source gave
+-- the sink failed while it was given the text of an answer that is right for the position that the source gave, of a
+-- search that ran to its end within the budget
 pub record IsUnwritten (g : GameRules) (rule : ℕ) (budget : ℕ) (source sink : Device) : Type 0 where
   pub start : Board
   pub given : GivesBoard g.cells source start
   pub answer : Answer
   pub answers : Answers g rule start budget answer
+  pub ran : IsRunToEnd g rule start budget answer
   pub front : TakesFront sink.old sink.new (answer_text answer)
   pub failed : IsTrue sink.failed
 

@@ -32,7 +32,7 @@ pub trait Gaps {
 
     /// Whether the byte parts tokens.
     fn is_gap(&self, byte: u8) -> bool
-        ensures { result ≡ gap byte };
+        ensures value { result ≡ gap byte };
 }
 
 /// The gaps in a line of a board text: spaces and tabs.
@@ -59,7 +59,7 @@ pub struct Tokens<'a, G> {
 impl<'a, G> Tokens<'a, G> {
     /// The tokens of the text, parted by these gaps.
     pub fn new(text: &'a [u8], gaps: G) -> Tokens<'a, G>
-        ensures { result.rest.now ≡ text.now }
+        ensures rest { result.rest.now ≡ text.now }
     {
         Tokens { rest: text, gaps }
     }
