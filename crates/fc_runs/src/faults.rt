@@ -10,13 +10,16 @@ use thiserror::Error;
 /// What the program reads.
 #[derive(Clone, Copy, Debug, PartialEq, Eq)]
 pub enum Input {
+    /// A board's text, of at most 4,096 bytes.
     Board,
+    /// A text of moves, of at most 1,048,576 bytes.
     Moves,
 }
 
 /// What the program writes.
 #[derive(Clone, Copy, Debug, PartialEq, Eq)]
 pub enum Output {
+    /// The text that tells the answer.
     Answer,
 }
 
