@@ -1,6 +1,6 @@
 //! The lower bound, and cards above lower ones of their suit.
 
-use crate::boards::{DEAL_ONE, TWO_KINGS, THIRTY_MOVES, ONE_COLUMN, board};
+use crate::boards::{DEAL_ONE, ONE_COLUMN, THIRTY_MOVES, TWO_KINGS, board};
 use fc_bound::{bound, is_held_back};
 use fc_cards::Place;
 use std::test::Fail;

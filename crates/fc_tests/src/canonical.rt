@@ -1,6 +1,6 @@
 //! Classes of positions, their keys, and the moves that lead to different classes.
 
-use crate::boards::{DEAL_ONE, TWO_KINGS, LOCKED, LONE_SPADES, THREE_SPADES, board};
+use crate::boards::{DEAL_ONE, LOCKED, LONE_SPADES, THREE_SPADES, TWO_KINGS, board};
 use arrayvec::ArrayVec;
 use fc_canonical::{
     Key, canonical, distinct_moves, find_move, key, key_len, moved_key, padded_key, position_of,

@@ -2,7 +2,7 @@
 
 ghost use Rattle.std.specs.Prelude.{◌≤◌};
 
-use crate::boards::{THIRTY_MOVES, ONE_COLUMN, board, card, listed_moves};
+use crate::boards::{ONE_COLUMN, THIRTY_MOVES, board, card, listed_moves};
 use fc_cards::{Card, Place};
 use fc_home::{forced, free, goes_home_from, settle};
 use fc_moves::{BakersGame, FreeCell, Game, Kings, read_move};

@@ -1,6 +1,6 @@
 //! Games, the moves that they allow, and the texts of moves.
 
-use crate::boards::{TWO_KINGS, THREE_SPADES, board, card, cards, listed_moves, play};
+use crate::boards::{THREE_SPADES, TWO_KINGS, board, card, cards, listed_moves, play};
 use crate::games::AnySuit;
 use fc_cards::Place;
 use fc_moves::{BakersGame, FreeCell, Game, Kings, Move, allows, move_text, moves, read_move};

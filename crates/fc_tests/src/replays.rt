@@ -2,7 +2,7 @@
 
 ghost use Rattle.std.specs.Prelude.{◌≤◌, length};
 
-use crate::boards::{TWO_KINGS, THREE_SPADES, board};
+use crate::boards::{THREE_SPADES, TWO_KINGS, board};
 use arrayvec::ArrayString;
 use fc_io::testing::Failing;
 use fc_io::{Sink, ToArray};

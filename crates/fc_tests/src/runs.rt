@@ -324,7 +324,10 @@ fn deals(rt: HostRuntime) {
     for (number, wanted, printed) in DEALS {
         let mut out = ToArray::<200>::new();
         let result = run_deal(number, &mut out);
-        assert!(rt; result == wanted && out.held() == printed.as_bytes(), "deal {number}");
+        assert!(rt;
+            result == wanted && out.held() == printed.as_bytes(),
+            "deal {number}"
+        );
     }
     let mut short = ToArray::<10>::new();
     let result = run_deal(1, &mut short);
