@@ -1,7 +1,6 @@
 pub mod AboveLemmas
 pub mod CountLemmas
 pub mod EveryLemmas
-pub mod FitLemmas
 pub mod HeldLemmas
 pub mod LookLemmas
 pub mod MovedLemmas

@@ -129,7 +129,3 @@ EveryBoardSettles = (g : GameRules) (rule : ℕ) (b : Board) → (count : ℕ) �
 -- so no empty table is closed
 abbrev pub NoEmptyTableIsClosed : Type 0
 NoEmptyTableIsClosed = (g : GameRules) (rule : ℕ) (p : Board) → IsClosed g rule p [] → ⊥
-
--- a canonical board is a position of the game wherever any board of its class is one
-abbrev pub CanonicalBoardsFit : Type 0
-CanonicalBoardsFit = (g : GameRules) (x c : Board) → IsPositionOf g x → SameClass x c → IsCanonical c → IsPositionOf g c

@@ -1,5 +1,6 @@
 pub mod ClassLemmas
 pub mod DistinctLemmas
+pub mod FitLemmas
 pub mod KeyLemmas
 pub mod ListedLemmas
 pub mod ListingLemmas
@@ -8,3 +9,5 @@ pub mod MovedLemmas
 pub mod OrderLemmas
 pub mod ReadLemmas
 pub mod Rearrange
+pub mod SortLemmas
+pub mod SpelledLemmas

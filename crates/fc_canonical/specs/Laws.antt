@@ -1,14 +1,15 @@
 -- What the laws of this crate state.
-use Rattle.std.specs.Prelude.{◌≡◌, ℕ, ◌↔◌, length, List}
+use Rattle.std.specs.Prelude.{◌≡◌, ℕ, ◌≤◌, ◌↔◌, length, List}
 use Rattle.fc_position.specs.Board.{Board}
-use Rattle.fc_position.specs.Position.{IsPosition}
+use Rattle.fc_position.specs.Position.{IsPosition, Fits}
 use Rattle.fc_moves.specs.declared.steps.Move.{Move}
 use Rattle.fc_moves.specs.GameRules.{GameRules, IsPositionOf}
 use Rattle.fc_moves.specs.Run.{Wins}
 use Rattle.fc_moves.specs.Step.{Step}
 use Rattle.fc_canonical.specs.Class.{SameClass}
 use Rattle.fc_canonical.specs.Key.{IsKeyOf, HasExtent, BeginsWithKey}
-use Rattle.fc_canonical.specs.Order.{IsCanonical}
+use Rattle.fc_canonical.specs.Order.{IsCanonical, full_cells}
+use Rattle.fc_canonical.specs.Spelled.{IsKeyIn, spelled}
 
 -- a board is of its own class, and to be of one class may be turned round and joined
 abbrev pub ClassesAreEquivalences : Type 0
@@ -51,3 +52,36 @@ BytesBeginWithOneKey = (bytes : List ℕ) (b c : Board) (m n : ℕ) → BeginsWi
 -- the extent of a key by its length bytes is the key
 abbrev pub KeysHaveExtents : Type 0
 KeysHaveExtents = (bytes : List ℕ) (b : Board) (m n : ℕ) → BeginsWithKey bytes b m → HasExtent bytes n ↔ (m ≡ n)
+
+-- every position has a key
+abbrev pub PositionsHaveKeys : Type 0
+PositionsHaveKeys = (b : Board) → (key : List ℕ) × IsKeyOf b key
+
+-- the key of a position of the game spells a canonical position of the game, of the same class
+abbrev pub KeysSpellPositions : Type 0
+KeysSpellPositions = (g : GameRules) (b : Board) (key : List ℕ) → IsPositionOf g b → IsKeyOf b key
+    → IsKeyIn g key × SameClass b (spelled key)
+
+-- a canonical board is a position of the game wherever any board of its class is one
+abbrev pub CanonicalBoardsFit : Type 0
+CanonicalBoardsFit = (g : GameRules) (x c : Board) → IsPositionOf g x → SameClass x c → IsCanonical c → IsPositionOf g c
+
+-- a canonical position has no card in the cells from the n-th on exactly where at most n of its cells are full
+abbrev pub CanonicalBoardsFitByCount : Type 0
+CanonicalBoardsFitByCount = (n : ℕ) (b : Board) → IsPosition b → IsCanonical b → Fits n b ↔ (full_cells b ≤ n)
+
+-- the extent by the length bytes is one, whatever the other bytes are
+abbrev pub ExtentsAreOne : Type 0
+ExtentsAreOne = (bytes : List ℕ) (m n : ℕ) → HasExtent bytes m → HasExtent bytes n → m ≡ n
+
+-- a key has at most 68 bytes
+abbrev pub KeysAreShort : Type 0
+KeysAreShort = (b : Board) (key : List ℕ) → IsPosition b → IsKeyOf b key → length key ≤ 68
+
+-- a key of the game is the key at its own front
+abbrev pub KeysBeginThemselves : Type 0
+KeysBeginThemselves = (g : GameRules) (key : List ℕ) → IsKeyIn g key → BeginsWithKey key (spelled key) (length key)
+
+-- bytes that begin with the key of a position spell it, whatever follows
+abbrev pub FrontKeysSpellTheirBoard : Type 0
+FrontKeysSpellTheirBoard = (bytes : List ℕ) (b : Board) (n : ℕ) → BeginsWithKey bytes b n → spelled bytes ≡ b

@@ -5,3 +5,4 @@ pub mod Laws
 pub mod Moved
 pub mod Order
 pub mod Parts
+pub mod Spelled

@@ -1,6 +1,6 @@
 //! Laws of the definitions, each the contract of a function that does nothing.
 
-ghost use Rattle.fc_canonical.specs.Laws.{ClassesAreEquivalences, ClassMatesArePositions, ClassMatesStepAlike, ClassMatesWinAlike, ClassesHaveOneCanonicalBoard, KeysTellClasses, BytesBeginWithOneKey, KeysHaveExtents};
+ghost use Rattle.fc_canonical.specs.Laws.{ClassesAreEquivalences, ClassMatesArePositions, ClassMatesStepAlike, ClassMatesWinAlike, ClassesHaveOneCanonicalBoard, KeysTellClasses, BytesBeginWithOneKey, KeysHaveExtents, ExtentsAreOne, KeysAreShort, PositionsHaveKeys, KeysSpellPositions, KeysBeginThemselves, FrontKeysSpellTheirBoard, CanonicalBoardsFit, CanonicalBoardsFitByCount};
 
 /// A board is of its own class, and to be of one class may be turned round and joined.
 pub fn classes_are_equivalences()
@@ -41,4 +41,44 @@ pub fn bytes_begin_with_one_key()
 /// Where bytes begin with a key, the extent by the length bytes is the key's.
 pub fn keys_have_extents()
     ensures { KeysHaveExtents }
+{}
+
+/// Every position has a key.
+pub fn positions_have_keys()
+    ensures { PositionsHaveKeys }
+{}
+
+/// The key of a position that fits the game spells the canonical position of its class, which fits the game.
+pub fn keys_spell_positions()
+    ensures { KeysSpellPositions }
+{}
+
+/// A canonical board fits the game wherever any position of its class does.
+pub fn canonical_boards_fit()
+    ensures { CanonicalBoardsFit }
+{}
+
+/// A canonical position has no card in its cells from the n-th on exactly where at most n of its cells are full.
+pub fn canonical_boards_fit_by_count()
+    ensures { CanonicalBoardsFitByCount }
+{}
+
+/// The extent of a key by its length bytes is one, whatever the other bytes are.
+pub fn extents_are_one()
+    ensures { ExtentsAreOne }
+{}
+
+/// A key has at most 68 bytes.
+pub fn keys_are_short()
+    ensures { KeysAreShort }
+{}
+
+/// A key of the game stands at its own front, as the key of the position that it spells.
+pub fn keys_begin_themselves()
+    ensures { KeysBeginThemselves }
+{}
+
+/// Bytes that begin with the key of a position spell that position, whatever follows.
+pub fn front_keys_spell_their_board()
+    ensures { FrontKeysSpellTheirBoard }
 {}

@@ -7,8 +7,9 @@ use Rattle.fc_position.specs.Position.{IsPosition}
 use Rattle.fc_canonical.specs.Key.{board_bytes, padded, IsKeyOf, HasExtent, BeginsWithKey}
 use Rattle.fc_canonical.specs.Order.{IsCanonical}
 use Rattle.fc_canonical.proofs.KeyLemmas.{key_extents}
-use Rattle.fc_classes.specs.Key.{spelled, front_key, IsPadded}
-use Rattle.fc_classes.proofs.KeyLemmas.{spelled_front}
+use Rattle.fc_canonical.specs.Spelled.{spelled}
+use Rattle.fc_classes.specs.Key.{front_key, IsPadded}
+use Rattle.fc_canonical.proofs.SpelledLemmas.{spelled_front}
 
 -- the key stands at the front
 begins : (bytes : List ℕ) → IsPadded bytes → BeginsWithKey bytes (spelled bytes) (length (front_key bytes))

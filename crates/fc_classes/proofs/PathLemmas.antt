@@ -15,9 +15,9 @@ use Rattle.fc_home.proofs.MateLemmas.{class_settle}
 use Rattle.fc_home.proofs.SettleLemmas.{settles_keep, settles_run, settled_stays, sent_position, total, total-most, turn_total}
 use Rattle.fc_best_first.specs.Graph.{Reached, ReachedBy}
 use Rattle.fc_classes.specs.Classes.{SettlesTo, LeadsTo, classes}
-use Rattle.fc_classes.specs.Key.{IsKeyIn, spelled}
+use Rattle.fc_canonical.specs.Spelled.{IsKeyIn, spelled}
 use Rattle.fc_classes.specs.Laws.{ReachedKeysAreOfPositions, ReachedKeysAreRunTo}
-use Rattle.fc_classes.proofs.KeyLemmas.{key_spells}
+use Rattle.fc_canonical.proofs.SpelledLemmas.{key_spells}
 
 -- what settles by no move stays as it is
 pub settles_none : (g : GameRules) (rule : ℕ) (b q : Board) → Settles g rule b 0 q → q ≡ b

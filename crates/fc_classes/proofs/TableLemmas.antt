@@ -17,10 +17,10 @@ use Rattle.fc_bound.proofs.LookLemmas.{one_enough}
 use Rattle.fc_bound.proofs.TableLemmas.{inside_long}
 use Rattle.fc_best_first.specs.Graph.{IsClosedInside, Covers}
 use Rattle.fc_classes.specs.Classes.{classes, as_boards}
-use Rattle.fc_classes.specs.Key.{spelled}
+use Rattle.fc_canonical.specs.Spelled.{spelled}
 use Rattle.fc_classes.specs.Laws.{ClassesAreLawful}
-use Rattle.fc_classes.proofs.KeyLemmas.{key_spells}
-use Rattle.fc_classes.proofs.OrderLemmas.{has_key}
+use Rattle.fc_canonical.proofs.SpelledLemmas.{key_spells}
+use Rattle.fc_canonical.proofs.SortLemmas.{has_key}
 use Rattle.fc_classes.proofs.PathLemmas.{reached_of_positions, reached_wins, settling_few, edge_costs}
 
 -- what the one lists, the other does

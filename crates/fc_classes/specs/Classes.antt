@@ -11,7 +11,7 @@ use Rattle.fc_home.specs.Settles.{Settles}
 use Rattle.fc_bound.specs.Bound.{bound}
 use Rattle.fc_bound.specs.Table.{Table}
 use Rattle.fc_best_first.specs.Graph.{Graph}
-use Rattle.fc_classes.specs.Key.{IsKeyIn, spelled}
+use Rattle.fc_canonical.specs.Spelled.{IsKeyIn, spelled}
 
 -- the position settles in so many moves to one with this key
 abbrev pub SettlesTo : GameRules → ℕ → Board → ℕ → List ℕ → Type 0

@@ -9,16 +9,7 @@ use Rattle.fc_canonical.specs.Key.{IsKeyOf}
 use Rattle.fc_home.specs.Settles.{Settles}
 use Rattle.fc_best_first.specs.Graph.{IsLawful, Reached}
 use Rattle.fc_classes.specs.Classes.{classes}
-use Rattle.fc_classes.specs.Key.{IsKeyIn, spelled}
-
--- every position has a key
-abbrev pub PositionsHaveKeys : Type 0
-PositionsHaveKeys = (b : Board) → (key : List ℕ) × IsKeyOf b key
-
--- the key of a position of the game spells a canonical position of the game, of the same class
-abbrev pub KeysSpellPositions : Type 0
-KeysSpellPositions = (g : GameRules) (b : Board) (key : List ℕ) → IsPositionOf g b → IsKeyOf b key
-    → IsKeyIn g key × SameClass b (spelled key)
+use Rattle.fc_canonical.specs.Spelled.{IsKeyIn, spelled}
 
 -- a reached key spells a canonical position of the game, which is settled
 abbrev pub ReachedKeysAreOfPositions : Type 0

@@ -1,16 +1,6 @@
 //! Laws of the definitions, each the contract of a function that does nothing.
 
-ghost use Rattle.fc_classes.specs.Laws.{PositionsHaveKeys, KeysSpellPositions, ReachedKeysAreOfPositions, ReachedKeysAreRunTo, ClassesAreLawful};
-
-/// Every position has a key.
-pub fn positions_have_keys()
-    ensures { PositionsHaveKeys }
-{}
-
-/// The key of a position that fits the game spells the canonical position of its class, which fits the game.
-pub fn keys_spell_positions()
-    ensures { KeysSpellPositions }
-{}
+ghost use Rattle.fc_classes.specs.Laws.{ReachedKeysAreOfPositions, ReachedKeysAreRunTo, ClassesAreLawful};
 
 /// A key that is reached spells a canonical position of the game, in which no card goes home by the rule.
 pub fn reached_keys_are_of_positions()

@@ -23,7 +23,7 @@ use Rattle.fc_best_first.specs.Store.{Store, Stands}
 use Rattle.fc_best_first.proofs.KeptLemmas.{same_entry, stands_within}
 use Rattle.fc_best_first.proofs.SearchLemmas.{closed_inside}
 use Rattle.fc_classes.specs.Classes.{classes, as_boards}
-use Rattle.fc_classes.specs.Key.{spelled}
+use Rattle.fc_canonical.specs.Spelled.{spelled}
 use Rattle.fc_classes.proofs.PathLemmas.{reached_of_positions}
 use Rattle.fc_classes.proofs.TableLemmas.{board_listed, key_listed, closed_board}
 use Rattle.fc_search.specs.declared.answers.Answer.TheVariants.{Shortest, CannotWin, GaveUp}

@@ -19,7 +19,7 @@ use Rattle.fc_bound.proofs.HeldLemmas.{class_bound}
 use Rattle.fc_best_first.specs.Kept as kept
 use Rattle.fc_best_first.specs.Shown.{AreNeeded}
 use Rattle.fc_classes.specs.Classes.{classes}
-use Rattle.fc_classes.specs.Key.{spelled}
+use Rattle.fc_canonical.specs.Spelled.{spelled}
 use Rattle.fc_classes.proofs.PathLemmas.{reached_of_positions, reached_run_to, settles_none, run_on}
 use Rattle.fc_search.specs.Answer.{IsNeeded, NeedsMore}
 use Rattle.fc_search.proofs.WalkLemmas.{key_of_mate}

@@ -24,8 +24,8 @@ use Rattle.fc_best_first.specs.Kept.{IsSound}
 use Rattle.fc_best_first.specs.Store.{Store, Stands}
 use Rattle.fc_best_first.proofs.KeptLemmas.{same_entry}
 use Rattle.fc_classes.specs.Classes.{classes}
-use Rattle.fc_classes.specs.Key.{spelled}
-use Rattle.fc_classes.proofs.KeyLemmas.{key_spells}
+use Rattle.fc_canonical.specs.Spelled.{spelled}
+use Rattle.fc_canonical.proofs.SpelledLemmas.{key_spells}
 use Rattle.fc_classes.proofs.PathLemmas.{run_on}
 use Rattle.fc_search.specs.Walk.{IsStart, IsWay, IsAtClass, LeadsWithin}
 

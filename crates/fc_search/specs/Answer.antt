@@ -11,7 +11,7 @@ use Rattle.fc_home.specs.Settles.{Settles}
 use Rattle.fc_bound.specs.Bound.{bound}
 use Rattle.fc_bound.specs.Table.{IsClosed, IsClosedBelow}
 use Rattle.fc_classes.specs.Classes.{as_boards}
-use Rattle.fc_classes.specs.Key.{spelled}
+use Rattle.fc_canonical.specs.Spelled.{spelled}
 use Rattle.fc_search.specs.declared.answers.Answer.{Answer}
 use Rattle.fc_search.specs.declared.answers.Answer.TheVariants.{Shortest, CannotWin as cannot_win, GaveUp}
 use Rattle.fc_search.specs.Table.{AreClasses}

@@ -8,7 +8,7 @@ use Rattle.fc_search.specs.declared.answers.Row.{Row}
 use Rattle.fc_moves.specs.GameRules.{GameRules}
 use Rattle.fc_bound.specs.Bound.{bound}
 use Rattle.fc_best_first.specs.Store.{Store}
-use Rattle.fc_classes.specs.Key.{IsKeyIn, spelled}
+use Rattle.fc_canonical.specs.Spelled.{IsKeyIn, spelled}
 
 -- pairs of a key and a cost in moves from the start, under a home rule
 pub record Listing : Type 0 where

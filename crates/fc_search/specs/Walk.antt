@@ -9,7 +9,7 @@ use Rattle.fc_best_first.specs.declared.books.Mark.{Mark}
 use Rattle.fc_best_first.specs.Store.{Store, Stands}
 use Rattle.fc_canonical.specs.Class.{SameClass}
 use Rattle.fc_classes.specs.Classes.{SettlesTo}
-use Rattle.fc_classes.specs.Key.{spelled}
+use Rattle.fc_canonical.specs.Spelled.{spelled}
 
 -- the class with this number is its own parent: it starts
 abbrev pub IsStart : Store (List ℕ) → ℕ → Type 0

@@ -24,9 +24,9 @@ use Rattle.fc_bound.proofs.HeldLemmas.{class_bound}
 use Rattle.fc_best_first.specs.declared.spaces.Child.{Child}
 use Rattle.fc_best_first.specs.Turn.{AreChildren}
 use Rattle.fc_classes.specs.Classes.{SettlesTo, classes}
-use Rattle.fc_classes.specs.Key.{IsKeyIn, spelled}
-use Rattle.fc_classes.proofs.KeyLemmas.{key_spells}
-use Rattle.fc_classes.proofs.OrderLemmas.{has_key}
+use Rattle.fc_canonical.specs.Spelled.{IsKeyIn, spelled}
+use Rattle.fc_canonical.proofs.SpelledLemmas.{key_spells}
+use Rattle.fc_canonical.proofs.SortLemmas.{has_key}
 use Rattle.fc_space.specs.Children.{HaveChildren, IsChildOf, IsSettled, AreAllowed, moved, child_by, children_by}
 
 -- a child's bound is that of its key

@@ -4,7 +4,7 @@ use Rattle.std.specs.List.{starts_with}
 use Rattle.std.specs.Cmp.{unsigned_Decides}
 use Rattle.std.specs.Cmp.Lexicographic.{pointwise_decides}
 use Rattle.fc_position.specs.Position.{IsWon}
-use Rattle.fc_classes.specs.Key.{spelled}
+use Rattle.fc_canonical.specs.Spelled.{spelled}
 
 -- every card home
 abbrev all_home : List ℕ

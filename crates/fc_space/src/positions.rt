@@ -8,7 +8,7 @@ ghost use Rattle.fc_canonical.specs.Moved.{MayMove};
 ghost use Rattle.fc_home.specs.Settles.{NoneGoesHome};
 ghost use Rattle.fc_bound.specs.Bound.{bound as bound_of};
 ghost use Rattle.fc_classes.specs.Classes.{classes};
-ghost use Rattle.fc_classes.specs.Key.{IsKeyIn, spelled};
+ghost use Rattle.fc_canonical.specs.Spelled.{IsKeyIn, spelled};
 ghost use Rattle.fc_classes.proofs.TableLemmas.{lawful};
 ghost use Rattle.fc_space.specs.Children.{IsSettled, IsChildOf, OthersStay, Spells, children_by};
 

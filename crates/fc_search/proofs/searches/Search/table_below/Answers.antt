@@ -3,7 +3,7 @@ use Rattle.std.specs.List.Sorted.{IsPermutation}
 use Rattle.fc_best_first.specs.Graph.{Reached}
 use Rattle.fc_bound.specs.Bound.{bound}
 use Rattle.fc_classes.specs.Classes.{classes}
-use Rattle.fc_classes.specs.Key.{spelled}
+use Rattle.fc_canonical.specs.Spelled.{spelled}
 use Rattle.fc_search.specs.declared.answers.Row.{Row}
 use Rattle.fc_search.specs.Table.{inside, costs_of, pairs_of, HaveKeysOnce}
 use Rattle.fc_search.proofs.RowLemmas.{listed, passed_over, inside_few, stored_once, inside_once, looked, stored_long}

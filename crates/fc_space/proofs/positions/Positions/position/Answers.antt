@@ -1,7 +1,7 @@
 use Rattle.std.proofs.Common.{[], sym, ◌∙◌}
 use Rattle.std.proofs.lemmas.List.{append-nil}
 use Rattle.fc_canonical.specs.Key.{board_bytes}
-use Rattle.fc_classes.specs.Key.{spelled}
+use Rattle.fc_canonical.specs.Spelled.{spelled}
 use Rattle.fc_space.proofs.positions.Positions.position.Goals as goal
 
 pub position_of-requires : goal.position_of-requires

@@ -6,7 +6,7 @@ use Rattle.fc_canonical.specs.Order.{IsCanonical}
 use Rattle.fc_home.specs.Settles.{NoneGoesHome}
 use Rattle.fc_best_first.specs.Turn.{AreChildren}
 use Rattle.fc_classes.specs.Classes.{classes}
-use Rattle.fc_classes.specs.Key.{spelled}
+use Rattle.fc_canonical.specs.Spelled.{spelled}
 use Rattle.fc_classes.proofs.PathLemmas.{reached_of_positions}
 use Rattle.fc_space.specs.Children.{AreAllowed, child_by, children_by}
 use Rattle.fc_space.proofs.ChildLemmas.{have_children, children_all}

@@ -4,7 +4,7 @@ use Rattle.fc_moves.specs.GameRules.{IsPositionOf}
 use Rattle.fc_canonical.specs.Key.{board_bytes}
 use Rattle.fc_canonical.specs.Order.{IsCanonical}
 use Rattle.fc_home.specs.Settles.{NoneGoesHome}
-use Rattle.fc_classes.specs.Key.{spelled}
+use Rattle.fc_canonical.specs.Spelled.{spelled}
 use Rattle.fc_classes.proofs.PathLemmas.{reached_of_positions}
 use Rattle.fc_space.proofs.StayLemmas.{none_goes}
 use Rattle.fc_space.proofs.positions.PositionsSpaceClassKey.walk.Goals as goal

@@ -1,5 +1,5 @@
 -- Keys read back.
-use Rattle.std.proofs.Common.{◌≡◌, ℕ, Option, Some, None, List, [], ◌∷◌, ◌++◌, length, map, take, drop, refl, sym, ◌∙◌, ap, subst, append_assoc, arith}
+use Rattle.std.proofs.Common.{◌≡◌, ℕ, ◌+◌, Option, Some, None, List, [], ◌∷◌, ◌++◌, length, map, take, drop, refl, sym, ◌∙◌, ap, subst, append_assoc, arith}
 use Rattle.std.specs.Prelude.{All}
 use Rattle.std.specs.List.{flat_map}
 use Rattle.std.proofs.lemmas.List.{take_at, drop_at, length-map, append-nil}
@@ -12,10 +12,10 @@ use Rattle.fc_canonical.specs.Class.{SameClass}
 use Rattle.fc_canonical.specs.Key.{column_bytes, board_bytes, BeginsWithKey}
 use Rattle.fc_canonical.specs.Order.{IsCanonical, cell_byte}
 use Rattle.fc_canonical.specs.Parts.{IsSmall}
-use Rattle.fc_canonical.proofs.KeyLemmas.{small_cells, same_board, key_front, key_begins_once}
-use Rattle.fc_bound.proofs.FitLemmas.{canonical_fits}
-use Rattle.fc_classes.specs.Key.{IsKeyIn, spelled, spelled_cell, spelled_columns}
-use Rattle.fc_classes.specs.Laws.{KeysSpellPositions}
+use Rattle.fc_canonical.proofs.KeyLemmas.{small_cells, same_board, key_front, same_fronts, columns_once}
+use Rattle.fc_canonical.proofs.FitLemmas.{canonical_fits}
+use Rattle.fc_canonical.specs.Spelled.{IsKeyIn, spelled, spelled_cell, spelled_columns}
+use Rattle.fc_canonical.specs.Laws.{KeysSpellPositions, KeysBeginThemselves, FrontKeysSpellTheirBoard, ExtentsAreOne}
 
 -- each part is read back
 cell_back : (x : Option ℕ) → IsSmall x → spelled_cell (cell_byte x) ≡ x
@@ -79,17 +79,23 @@ key_spells g b key p k =
     )
 
 -- a key of the game is the key at its own front
-pub key_begins : (g : GameRules) (key : List ℕ) → IsKeyIn g key
-    → BeginsWithKey key (spelled key) (length (board_bytes (spelled key)))
+pub key_begins : KeysBeginThemselves
 key_begins g key k = record {
   position = k.position.position;
   ordered = k.ordered;
   rest = [];
   parts = k.bytes ∙ sym (append-nil (board_bytes (spelled key)));
-  size = refl;
+  size = ap length k.bytes;
 }
 
--- what is read at the front of a key of the game is the position that it spells
-pub key_read : (g : GameRules) (key : List ℕ) (b : Board) (n : ℕ) → IsKeyIn g key → BeginsWithKey key b n → b ≡ spelled key
-key_read g key b n k read =
-    (key_begins_once key b (spelled key) n (length (board_bytes (spelled key))) read (key_begins g key k)).0
+-- bytes that begin with a key spell its board
+pub front_spells : FrontKeysSpellTheirBoard
+front_spells bytes b n x = ap spelled x.parts ∙ spelled_front b x.rest x.position
+
+-- the extent by the length bytes is one
+pub extent_once : ExtentsAreOne
+extent_once bytes m n x y =
+    let head = same_fronts x.front y.front (flat_map column_bytes x.columns ++ x.rest) (flat_map column_bytes y.columns ++ y.rest)
+    (x.eight ∙ sym y.eight) (sym x.parts ∙ y.parts) in
+    let tail = columns_once x.columns y.columns x.rest y.rest head.1 (x.count ∙ sym y.count) in
+    x.size ∙ ap (λ l. 8 + length (flat_map column_bytes l)) tail.0 ∙ sym y.size

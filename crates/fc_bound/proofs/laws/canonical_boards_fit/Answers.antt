@@ -1,5 +1,0 @@
-use Rattle.fc_bound.proofs.FitLemmas.{canonical_fits}
-use Rattle.fc_bound.proofs.laws.canonical_boards_fit.Goals as goal
-
-pub returns : goal.returns
-returns c = canonical_fits
