@@ -7,7 +7,7 @@ use std::test::Fail;
 
 #[test]
 fn all_cards_in_one_column_that_goes_home_from_its_end(rt: HostRuntime) -> Result<(), Fail> {
-    assert_eq!(rt; bound(&board(ONE_COLUMN)?), 52);
+    assert!(rt; bound(&board(ONE_COLUMN)?) == 52);
     Ok(())
 }
 
@@ -24,7 +24,7 @@ fn boards_worked_out_by_hand(rt: HostRuntime) -> Result<(), Fail> {
         ("Foundations: H-K C-K D-K S-Q\nFreecells: KS\n", 1),
     ];
     for (text, least) in cases {
-        assert_eq!(rt; bound(&board(text)?), least, "{text}");
+        assert!(rt; bound(&board(text)?) == least, "{text}");
     }
     Ok(())
 }
@@ -50,20 +50,20 @@ fn cards_above_lower_ones_of_their_suit(rt: HostRuntime) -> Result<(), Fail> {
         (Place::Home, false),
     ];
     for (place, held) in places {
-        assert_eq!(rt; is_held_back(&position, place), held);
+        assert!(rt; is_held_back(&position, place) == held);
     }
     Ok(())
 }
 
 #[test]
 fn six_cards_above_lower_ones(rt: HostRuntime) -> Result<(), Fail> {
-    assert_eq!(rt; bound(&board(THIRTY_MOVES)?), 30);
+    assert!(rt; bound(&board(THIRTY_MOVES)?) == 30);
     Ok(())
 }
 
 // Another program counted twelve cards above lower ones.
 #[test]
 fn a_deal(rt: HostRuntime) -> Result<(), Fail> {
-    assert_eq!(rt; bound(&board(DEAL_ONE)?), 64);
+    assert!(rt; bound(&board(DEAL_ONE)?) == 64);
     Ok(())
 }

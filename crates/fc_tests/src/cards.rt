@@ -13,16 +13,16 @@ fn numbers_cards(rt: HostRuntime) -> Result<(), Fail> {
     ];
     for (rank, suit, index) in cases {
         let card = Card::new(rank, suit);
-        assert_eq!(rt; card.map(|card| card.index()), index);
+        assert!(rt; card.map(|card| card.index()) == index);
         if let Some(card) = card {
-            assert_eq!(rt; (card.rank(), card.suit()), (rank, suit));
-            assert_eq!(rt; Card::from_index(card.index()), Some(card));
+            assert!(rt; (card.rank(), card.suit()) == (rank, suit));
+            assert!(rt; Card::from_index(card.index()) == Some(card));
         }
     }
     let jack = Card::from_index(41).ok_or("a jack")?;
     let least = Card::from_index(0).ok_or("a card")?;
     assert!(rt; jack.is_red() && least < jack && least == Card::default());
-    assert_eq!(rt; Card::from_index(52), None);
+    assert!(rt; Card::from_index(52) == None);
     Ok(())
 }
 
@@ -43,11 +43,11 @@ fn reads_texts(rt: HostRuntime) {
         (b" JD", None),
     ];
     for (text, index) in texts {
-        assert_eq!(rt; Card::read(text).map(|card| card.index()), index);
+        assert!(rt; Card::read(text).map(|card| card.index()) == index);
     }
     for index in 0..52 {
         if let Some(card) = Card::from_index(index) {
-            assert_eq!(rt; Card::read(&card.text()), Some(card));
+            assert!(rt; Card::read(&card.text()) == Some(card));
         }
     }
 }
@@ -56,15 +56,15 @@ fn reads_texts(rt: HostRuntime) {
 fn reads_ranks_and_suits(rt: HostRuntime) {
     let ranks: [(&[u8], Option<u8>); 2] = [(b"q", Some(12)), (b"0", None)];
     for (text, rank) in ranks {
-        assert_eq!(rt; read_rank(text), rank);
+        assert!(rt; read_rank(text) == rank);
     }
-    assert_eq!(rt; rank_letter(10), b'T');
+    assert!(rt; rank_letter(10) == b'T');
     for (letter, suit) in [(b's', Some(Suit::S)), (b'x', None)] {
-        assert_eq!(rt; Suit::read(letter), suit);
+        assert!(rt; Suit::read(letter) == suit);
     }
     for (index, suit) in Suit::ALL.iter().enumerate() {
-        assert_eq!(rt; suit.index() as usize, index);
-        assert_eq!(rt; Suit::read(suit.letter()), Some(*suit));
+        assert!(rt; suit.index() as usize == index);
+        assert!(rt; Suit::read(suit.letter()) == Some(*suit));
     }
-    assert_eq!(rt; Place::default(), Place::Home);
+    assert!(rt; Place::default() == Place::Home);
 }

@@ -16,11 +16,11 @@ fn draws_the_first_numbers(rt: HostRuntime) {
     for (number, numbers) in cases {
         let mut draws = Draws::new(number);
         for drawn in numbers {
-            assert_eq!(rt; draws.next(), *drawn);
+            assert!(rt; draws.next() == *drawn);
         }
-        assert_ne!(rt; draws, Draws::new(number));
+        assert!(rt; draws != Draws::new(number));
     }
-    assert_eq!(rt; Draws::new(7), Draws::new(7));
+    assert!(rt; Draws::new(7) == Draws::new(7));
 }
 
 #[test]
@@ -36,7 +36,7 @@ fn prints_deals(rt: HostRuntime) -> Result<(), Fail> {
         7S 6C 7D 4D 8S 9D\n";
     for (number, text) in [(1, DEAL_ONE), (24, deal_24)] {
         let position = deal(number).ok_or("a deal")?;
-        assert_eq!(rt; deal_text(&position).as_str(), text);
+        assert!(rt; deal_text(&position).as_str() == text);
     }
     Ok(())
 }
@@ -44,7 +44,7 @@ fn prints_deals(rt: HostRuntime) -> Result<(), Fail> {
 #[test]
 fn prints_empty_columns(rt: HostRuntime) -> Result<(), Fail> {
     let won = read_board(b"Foundations: H-K C-K D-K S-K\n", 0)?;
-    assert_eq!(rt; deal_text(&won).as_str(), "\n\n\n\n\n\n\n\n");
+    assert!(rt; deal_text(&won).as_str() == "\n\n\n\n\n\n\n\n");
     Ok(())
 }
 
@@ -53,11 +53,11 @@ fn begins_and_ends_columns(rt: HostRuntime) -> Result<(), Fail> {
     let game = deal(617).ok_or("deal 617")?;
     let firsts: [&[u8]; 8] = [b"7D", b"AD", b"5C", b"3S", b"5S", b"8C", b"2D", b"AH"];
     for (i, text) in firsts.iter().enumerate() {
-        assert_eq!(rt; game.column(i as u8).first().copied(), Card::read(text));
+        assert!(rt; game.column(i as u8).first().copied() == Card::read(text));
     }
     let lasts: [&[u8]; 4] = [b"JD", b"KS", b"KC", b"4H"];
     for (i, text) in lasts.iter().enumerate() {
-        assert_eq!(rt; game.column(i as u8).last().copied(), Card::read(text));
+        assert!(rt; game.column(i as u8).last().copied() == Card::read(text));
     }
     Ok(())
 }
@@ -68,7 +68,7 @@ fn deals_beyond_the_classic_numbers(rt: HostRuntime) -> Result<(), Fail> {
     for (number, texts) in firsts {
         let game = deal(number).ok_or("a deal")?;
         for (i, text) in texts.iter().enumerate() {
-            assert_eq!(rt; game.column(i as u8).first().copied(), Card::read(text));
+            assert!(rt; game.column(i as u8).first().copied() == Card::read(text));
         }
     }
     for number in [0, 1_000_001] {

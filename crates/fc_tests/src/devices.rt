@@ -50,22 +50,22 @@ fn writes_whole_pieces_or_fails(rt: HostRuntime) {
         let mut sink = Failing::new(ToArray::<8>::new(), calls);
         assert!(rt; !sink.failed());
         for _ in 0..2 {
-            assert_eq!(rt; write_all(&mut sink, b"abc"), Err(Failed), "{calls}");
+            assert!(rt; write_all(&mut sink, b"abc") == Err(Failed), "{calls}");
             assert!(rt; sink.failed());
-            assert_eq!(rt; sink.device.held(), &b"abc"[..calls as usize]);
+            assert!(rt; sink.device.held() == &b"abc"[..calls as usize]);
         }
     }
     let mut sink = Failing::new(ToArray::<8>::new(), 3);
-    assert_eq!(rt; write_all(&mut sink, b"abc"), Ok(()));
-    assert_eq!(rt; sink.device.held(), b"abc".as_slice());
+    assert!(rt; write_all(&mut sink, b"abc") == Ok(()));
+    assert!(rt; sink.device.held() == b"abc".as_slice());
     assert!(rt; !sink.failed());
 }
 
 // The pieces are answered so, one after the other, and the sink has failed from the first fault on.
 fn check_writes<K: Sink>(rt: &impl Abort, sink: &mut K, cases: &[(&[u8], Result<usize, Failed>)]) {
     for (piece, answer) in cases {
-        assert_eq!(rt; sink.write(piece), *answer);
-        assert_eq!(rt; sink.failed(), answer.is_err());
+        assert!(rt; sink.write(piece) == *answer);
+        assert!(rt; sink.failed() == answer.is_err());
     }
 }
 
@@ -80,7 +80,7 @@ fn fills_an_array(rt: HostRuntime) {
     ];
     let mut array = ToArray::<4>::new();
     check_writes(&rt, &mut array, &cases);
-    assert_eq!(rt; array.held(), b"abcd".as_slice());
+    assert!(rt; array.held() == b"abcd".as_slice());
 }
 
 #[test]
@@ -91,14 +91,17 @@ fn reads_into_room_or_fails(rt: HostRuntime) {
         let mut source = Failing::new(FromSlice::new(text), calls);
         assert!(rt; !source.failed());
         for _ in 0..2 {
-            assert_eq!(rt; read_up_to(&mut source, &mut room), Err(Failed), "{calls}");
+            assert!(rt;
+                read_up_to(&mut source, &mut room) == Err(Failed),
+                "{calls}"
+            );
             assert!(rt; source.failed());
-            assert_eq!(rt; source.device.left(), &text[calls as usize..]);
+            assert!(rt; source.device.left() == &text[calls as usize..]);
         }
     }
     let mut source = Failing::new(FromSlice::new(text), 4);
-    assert_eq!(rt; read_up_to(&mut source, &mut room), Ok(3));
-    assert_eq!(rt; room, *b"abc\0");
+    assert!(rt; read_up_to(&mut source, &mut room) == Ok(3));
+    assert!(rt; room == *b"abc\0");
     assert!(rt; !source.failed());
 }
 
@@ -113,12 +116,12 @@ fn tells_whether_all_came(rt: HostRuntime) {
     for (text, count, left) in texts {
         let mut source = FromSlice::new(text);
         let mut room = [0; 4];
-        assert_eq!(rt; read_up_to(&mut source, &mut room), Ok(count));
-        assert_eq!(rt; source.left(), left);
+        assert!(rt; read_up_to(&mut source, &mut room) == Ok(count));
+        assert!(rt; source.left() == left);
     }
     let mut source = FromSlice::new(b"abc");
-    assert_eq!(rt; source.read(&mut []), Ok(0));
-    assert_eq!(rt; source.left(), b"abc".as_slice());
+    assert!(rt; source.read(&mut []) == Ok(0));
+    assert!(rt; source.left() == b"abc".as_slice());
     assert!(rt; !source.failed());
 }
 
@@ -140,11 +143,11 @@ fn reads_into_memory(rt: HostRuntime) -> Result<(), Fail> {
         match read_to_vec(rt.alloc(), &mut source, limit) {
             Ok(bytes) => assert!(rt; is_whole && bytes == text, "{limit}"),
             Err(fault) => {
-                assert_eq!(rt; fault, ReadFault::TooLong, "{limit}");
+                assert!(rt; fault == ReadFault::TooLong, "{limit}");
                 assert!(rt; !is_whole, "{limit}");
             }
         }
-        assert_eq!(rt; source.left().len(), left, "{limit}");
+        assert!(rt; source.left().len() == left, "{limit}");
     }
     let mut nothing = FromSlice::new(b"");
     assert!(rt; read_to_vec(rt.alloc(), &mut nothing, 0)?.is_empty());
@@ -157,17 +160,14 @@ fn tells_a_fault_from_a_long_text(rt: HostRuntime) -> Result<(), Fail> {
         let mut source = Failing::new(FromSlice::new(b"abc"), calls);
         for _ in 0..2 {
             let fault = read_to_vec(rt.alloc(), &mut source, 3).err();
-            assert_eq!(rt; fault, Some(ReadFault::Failed), "{calls}");
+            assert!(rt; fault == Some(ReadFault::Failed), "{calls}");
         }
     }
     let mut whole = Failing::new(FromSlice::new(b"abc"), 4);
-    assert_eq!(rt;
-        read_to_vec(rt.alloc(), &mut whole, 3)?.as_slice(),
-        b"abc".as_slice()
-    );
+    assert!(rt; read_to_vec(rt.alloc(), &mut whole, 3)?.as_slice() == b"abc".as_slice());
     let mut long = Failing::new(FromSlice::new(b"abc"), 3);
     let fault = read_to_vec(rt.alloc(), &mut long, 2).err();
-    assert_eq!(rt; fault, Some(ReadFault::TooLong));
+    assert!(rt; fault == Some(ReadFault::TooLong));
     assert!(rt; !long.failed());
     Ok(())
 }
@@ -176,19 +176,19 @@ fn tells_a_fault_from_a_long_text(rt: HostRuntime) -> Result<(), Fail> {
 fn reads_a_reader(rt: HostRuntime) -> Result<(), Fail> {
     let mut room = [0; 4];
     let mut whole = FromReader::new(b"abc".as_slice());
-    assert_eq!(rt; read_up_to(&mut whole, &mut room), Ok(3));
-    assert_eq!(rt; room, *b"abc\0");
+    assert!(rt; read_up_to(&mut whole, &mut room) == Ok(3));
+    assert!(rt; room == *b"abc\0");
     assert!(rt; !whole.failed());
 
     let mut endless = FromReader::new(io::repeat(b'x'));
-    assert_eq!(rt; read_up_to(&mut endless, &mut room), Ok(4));
+    assert!(rt; read_up_to(&mut endless, &mut room) == Ok(4));
     let fault = read_to_vec(rt.alloc(), &mut endless, 5_000).err();
-    assert_eq!(rt; fault, Some(ReadFault::TooLong));
+    assert!(rt; fault == Some(ReadFault::TooLong));
 
     let mut hiccup = FromReader::new(Hiccup { calls: 0 });
     for answer in [Ok(1), Err(Failed), Err(Failed)] {
-        assert_eq!(rt; hiccup.read(&mut room), answer);
-        assert_eq!(rt; hiccup.failed(), answer.is_err());
+        assert!(rt; hiccup.read(&mut room) == answer);
+        assert!(rt; hiccup.failed() == answer.is_err());
     }
     Ok(())
 }
@@ -197,9 +197,9 @@ fn reads_a_reader(rt: HostRuntime) -> Result<(), Fail> {
 fn writes_a_writer(rt: HostRuntime) -> Result<(), Fail> {
     let mut bytes = Vec::new(rt.alloc());
     let mut whole = ToWriter::new(&mut bytes);
-    assert_eq!(rt; write_all(&mut whole, b"abc"), Ok(()));
+    assert!(rt; write_all(&mut whole, b"abc") == Ok(()));
     assert!(rt; !whole.failed());
-    assert_eq!(rt; bytes.as_slice(), b"abc".as_slice());
+    assert!(rt; bytes.as_slice() == b"abc".as_slice());
 
     let mut room = [0; 2];
     let cases: [(&[u8], Result<usize, Failed>); 3] = [

@@ -9,10 +9,10 @@ use std::test::Fail;
 fn put<F: Frontier>(rt: &impl Abort, queue: &mut F, f: u32, node: u32) -> Result<(), Fail> {
     let before = queue.len();
     if queue.push(f, node).is_err() {
-        assert_eq!(rt; queue.len(), before, "after a refused push");
+        assert!(rt; queue.len() == before, "after a refused push");
         queue.push(f, node)?;
     }
-    assert_eq!(rt; queue.len(), before.saturating_add(1), "after a push");
+    assert!(rt; queue.len() == before.saturating_add(1), "after a push");
     Ok(())
 }
 
@@ -31,12 +31,12 @@ fn filled<F: Frontier + Drop>(
 // A pair of least f comes first, the two of greater f in either order, and then nothing.
 fn least_comes_first<F: Frontier + Drop>(rt: &impl Abort, alloc: Global) -> Result<(), Fail> {
     let mut queue: F = filled(rt, alloc, &[(5, 1), (4, 2), (5, 3)])?;
-    assert_eq!(rt; queue.pop_least(), Some((4, 2)));
+    assert!(rt; queue.pop_least() == Some((4, 2)));
     let pair = queue.pop_least().ok_or("a second pair")?;
     let other = queue.pop_least().ok_or("a third pair")?;
     assert!(rt; (pair, other) == ((5, 1), (5, 3)) || (pair, other) == ((5, 3), (5, 1)));
-    assert_eq!(rt; queue.pop_least(), None);
-    assert_eq!(rt; queue.len(), 0);
+    assert!(rt; queue.pop_least() == None);
+    assert!(rt; queue.len() == 0);
     Ok(())
 }
 
@@ -49,10 +49,10 @@ fn a_pair_of_least_f_comes_first(rt: HostRuntime) -> Result<(), Fail> {
 // The pairs come in this order, and then nothing, twice.
 fn comes_in_order<F: Frontier>(rt: &impl Abort, queue: &mut F, order: &[(u32, u32)]) {
     for pair in order {
-        assert_eq!(rt; queue.pop_least(), Some(*pair));
+        assert!(rt; queue.pop_least() == Some(*pair));
     }
-    assert_eq!(rt; queue.pop_least(), None);
-    assert_eq!(rt; queue.pop_least(), None);
+    assert!(rt; queue.pop_least() == None);
+    assert!(rt; queue.pop_least() == None);
 }
 
 // The greatest f that has a stack, the least that has none, the greatest of all and the least of all.
@@ -86,8 +86,8 @@ fn newest_comes_first<F: Frontier + Drop>(rt: &impl Abort, alloc: Global) -> Res
         (1999, 6),
     ];
     let mut queue: F = filled(rt, alloc, &pairs)?;
-    assert_eq!(rt; queue.pop_least(), Some((69, 4)));
-    assert_eq!(rt; queue.pop_least(), Some((70, 2)));
+    assert!(rt; queue.pop_least() == Some((69, 4)));
+    assert!(rt; queue.pop_least() == Some((70, 2)));
     put(rt, &mut queue, 68, 7)?;
     put(rt, &mut queue, 70, 8)?;
     comes_in_order(
@@ -117,9 +117,9 @@ fn of_equal_f_the_newest_comes_first(rt: HostRuntime) -> Result<(), Fail> {
 #[test]
 fn a_new_queue_is_empty(rt: HostRuntime) {
     let mut list = ListFrontier::new(rt.alloc());
-    assert_eq!(rt; list.len(), 0);
-    assert_eq!(rt; list.pop_least(), None);
+    assert!(rt; list.len() == 0);
+    assert!(rt; list.pop_least() == None);
     let mut buckets = BucketFrontier::new(rt.alloc());
-    assert_eq!(rt; buckets.len(), 0);
-    assert_eq!(rt; buckets.pop_least(), None);
+    assert!(rt; buckets.len() == 0);
+    assert!(rt; buckets.pop_least() == None);
 }

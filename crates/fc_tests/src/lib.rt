@@ -1,18 +1,13 @@
-//! Tests of the public calls of all crates.
+//! Tests of the public calls of the crates below the search, and the boards that all tests share.
 #![tactic(auto)]
 
-#[cfg(test)]
-mod best_first;
-#[cfg(test)]
-mod boards;
+pub mod boards;
 #[cfg(test)]
 mod bounds;
 #[cfg(test)]
 mod canonical;
 #[cfg(test)]
 mod cards;
-#[cfg(test)]
-mod classes;
 #[cfg(test)]
 mod deals;
 #[cfg(test)]
@@ -26,18 +21,8 @@ mod home;
 #[cfg(test)]
 mod moves;
 #[cfg(test)]
-mod plain;
-#[cfg(test)]
 mod positions;
 #[cfg(test)]
-mod random;
-#[cfg(test)]
 mod replays;
-#[cfg(test)]
-mod runs;
-#[cfg(test)]
-mod searches;
-#[cfg(test)]
-mod spaces;
 #[cfg(test)]
 mod texts;

@@ -65,10 +65,10 @@ fn shift(position: &mut Position, from: Place, to: Place) -> Result<(), Fail> {
 #[test]
 fn tells_parts(rt: HostRuntime) -> Result<(), Fail> {
     let position = board(TWO_KINGS)?;
-    assert_eq!(rt; position.column(0), cards(b"QS KH")?.as_slice());
-    assert_eq!(rt; position.column(7).len(), 0);
-    assert_eq!(rt; position.cell(3), None);
-    assert_eq!(rt; (position.home(Suit::D), position.home(Suit::H)), (13, 11));
+    assert!(rt; position.column(0) == cards(b"QS KH")?.as_slice());
+    assert!(rt; position.column(7).len() == 0);
+    assert!(rt; position.cell(3) == None);
+    assert!(rt; (position.home(Suit::D), position.home(Suit::H)) == (13, 11));
     assert!(rt; !position.is_won() && position.fits(0));
     let places: [(Place, &[u8]); 5] = [
         (Place::Column(1), b"KS"),
@@ -78,7 +78,7 @@ fn tells_parts(rt: HostRuntime) -> Result<(), Fail> {
         (Place::Home, b""),
     ];
     for (place, text) in places {
-        assert_eq!(rt; position.playable(place), Card::read(text));
+        assert!(rt; position.playable(place) == Card::read(text));
     }
     Ok(())
 }
@@ -90,10 +90,10 @@ fn takes_known_parts(rt: HostRuntime) -> Result<(), Fail> {
     let position = Position::of_parts(columns, [None; 4], [13, 13, 11, 11]);
     assert!(rt; position.equals(&tested) && position.equals(&board(TWO_KINGS)?));
     for (i, text) in [(0, b"KH"), (1, b"KS")] {
-        assert_eq!(rt; position.playable(Place::Column(i)), Card::read(text));
+        assert!(rt; position.playable(Place::Column(i)) == Card::read(text));
     }
-    assert_eq!(rt; position.cell(0), None);
-    assert_eq!(rt; (position.home(Suit::C), position.home(Suit::S)), (13, 11));
+    assert!(rt; position.cell(0) == None);
+    assert!(rt; (position.home(Suit::C), position.home(Suit::S)) == (13, 11));
     Ok(())
 }
 
@@ -104,7 +104,7 @@ fn moves_cards(rt: HostRuntime) -> Result<(), Fail> {
     assert!(rt; before.equals(&position));
     shift(&mut position, Place::Column(0), Place::Cell(2))?;
     assert!(rt; !before.equals(&position));
-    assert_eq!(rt; position.cell(2), Card::read(b"KH"));
+    assert!(rt; position.cell(2) == Card::read(b"KH"));
     assert!(rt; position.fits(3) && !position.fits(2));
     let steps = [
         (Place::Column(0), Place::Home, 12, 11),
@@ -115,13 +115,10 @@ fn moves_cards(rt: HostRuntime) -> Result<(), Fail> {
     ];
     for (from, to, spades, hearts) in steps {
         shift(&mut position, from, to)?;
-        assert_eq!(rt;
-            (position.home(Suit::S), position.home(Suit::H)),
-            (spades, hearts)
-        );
+        assert!(rt; (position.home(Suit::S), position.home(Suit::H)) == (spades, hearts));
     }
     assert!(rt; position.is_won());
-    assert_eq!(rt; before.playable(Place::Column(0)), Card::read(b"KH"));
+    assert!(rt; before.playable(Place::Column(0)) == Card::read(b"KH"));
     Ok(())
 }
 
@@ -138,7 +135,7 @@ fn exchanges_places(rt: HostRuntime) -> Result<(), Fail> {
         (Place::Cell(0), b""),
     ];
     for (place, text) in places {
-        assert_eq!(rt; position.playable(place), Card::read(text));
+        assert!(rt; position.playable(place) == Card::read(text));
     }
     Ok(())
 }
@@ -164,10 +161,10 @@ fn names_the_first_fault(rt: HostRuntime) -> Result<(), Fail> {
         }
         match Position::from_parts(Default::default(), [cell, None, None, None], homes) {
             Ok(position) => {
-                assert_eq!(rt; fault, None);
-                assert_eq!(rt; position.is_won(), cell.is_none());
+                assert!(rt; fault == None);
+                assert!(rt; position.is_won() == cell.is_none());
             }
-            Err(found) => assert_eq!(rt; Some(found), fault),
+            Err(found) => assert!(rt; Some(found) == fault),
         }
     }
     Ok(())
@@ -181,15 +178,15 @@ fn tallies_cards(rt: HostRuntime) -> Result<(), Fail> {
     tally.add_homes(&[1, 13, 13, 13]);
     tally.add_column(&[two]);
     tally.add_cells(&[None, Card::read(b"3C")]);
-    assert_eq!(rt; tally.fault(), Some(PartsFault::Missing(card(b"4C")?)));
+    assert!(rt; tally.fault() == Some(PartsFault::Missing(card(b"4C")?)));
     let clubs = board("Foundations: H-K C-3 D-K S-K\n4C 5C 6C 7C 8C\n9C TC JC QC KC\n")?;
     tally.add_columns(&columns(&clubs)?);
-    assert_eq!(rt; tally.fault(), None);
+    assert!(rt; tally.fault() == None);
     for _ in 0..300 {
         tally.add(two);
     }
-    assert_eq!(rt; tally.fault(), Some(PartsFault::Repeated(two)));
+    assert!(rt; tally.fault() == Some(PartsFault::Repeated(two)));
     tally.add(ace);
-    assert_eq!(rt; tally.fault(), Some(PartsFault::Repeated(ace)));
+    assert!(rt; tally.fault() == Some(PartsFault::Repeated(ace)));
     Ok(())
 }

@@ -17,6 +17,6 @@ fn check_printed(rt: &impl Abort, cells: u8, text: &str, printed: &str) -> Resul
     requires game { cells ≤ 4 }
 {
     let position = read_board(text.as_bytes(), cells)?;
-    assert_eq!(rt; print_board(&position, cells).as_str(), printed, "{text}");
+    assert!(rt; print_board(&position, cells).as_str() == printed, "{text}");
     Ok(())
 }

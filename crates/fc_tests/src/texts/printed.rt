@@ -213,6 +213,6 @@ fn reads_exchanged_columns(rt: HostRuntime) -> Result<(), Fail> {
     let mut position = read_board(text, 0)?;
     position.swap_columns(0, 1);
     let four = read_board(boards::TWO_KINGS.as_bytes(), 0)?;
-    assert_eq!(rt; print_board(&position, 0), print_board(&four, 0));
+    assert!(rt; print_board(&position, 0) == print_board(&four, 0));
     Ok(())
 }

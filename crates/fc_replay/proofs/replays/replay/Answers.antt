@@ -11,7 +11,7 @@ use Rattle.fc_replay.proofs.replays.replay.Goals as goal
 
 pub loop-token-init : goal.loop-token-init
 loop-token-init g c =
-    so_none _ _ _ _ _ _ _ (ap (λ i. i.rest.now) c.into_iter-token-iterator.ensures.into_iter_gives ∙ c.new-token-items.ensures) c.copy-board.ensures.value
+    so_none _ _ _ _ _ _ _ (ap (λ i. i.rest.now) c.into_iter-token-iterator.ensures.into_iter_gives ∙ c.new-token-items.ensures.rest) c.copy-board.ensures.value
     record {
       position = subst IsPosition (sym c.copy-board.ensures.value) c.copy-board.ensures.whole;
       fits = subst (Fits (g.G.Game.game c.args.game.now).cells) (sym c.copy-board.ensures.value) c.requires.fits;

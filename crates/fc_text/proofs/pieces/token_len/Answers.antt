@@ -5,7 +5,7 @@ use Rattle.fc_text.proofs.pieces.token_len.Goals as goal
 pub returns-then-is_gap-clause-value : goal.returns-then-is_gap-clause-value
 returns-then-is_gap-clause-value g c =
     sym (position_or_len_is g.G.Gaps.gap c.args.text.now c.loop-i.i 0 (omega arith) c.loop-i.invariant
-    (λ _. sym c.is_gap.ensures ∙ c.if-is_gap.true))
+    (λ _. sym c.is_gap.ensures.value ∙ c.if-is_gap.true))
 
 pub returns-clause-value : goal.returns-clause-value
 returns-clause-value g c =

@@ -5,7 +5,7 @@ use Rattle.fc_text.proofs.readers.read_column.Goals as goal
 pub loop-token-init : goal.loop-token-init
 loop-token-init c =
     column_none c.args.piece.now c.into_iter-token-iterator.result.rest.now c.new-column.result.items c.args.tally.now
-    (ap (λ i. i.rest.now) c.into_iter-token-iterator.ensures.into_iter_gives ∙ c.new-token-items.ensures) c.new-column.ensures c.requires.tally
+    (ap (λ i. i.rest.now) c.into_iter-token-iterator.ensures.into_iter_gives ∙ c.new-token-items.ensures.rest) c.new-column.ensures c.requires.tally
 
 pub loop-token-preserved : goal.loop-token-preserved
 loop-token-preserved c =

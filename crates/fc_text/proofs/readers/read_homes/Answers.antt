@@ -6,7 +6,7 @@ use Rattle.fc_text.proofs.readers.read_homes.Goals as goal
 pub loop-token-init : goal.loop-token-init
 loop-token-init c =
     homes_none c.args.piece.now c.into_iter-token-iterator.result.rest.now _ _
-    (ap (λ i. i.rest.now) c.into_iter-token-iterator.ensures.into_iter_gives ∙ c.new-token-items.ensures) refl refl
+    (ap (λ i. i.rest.now) c.into_iter-token-iterator.ensures.into_iter_gives ∙ c.new-token-items.ensures.rest) refl refl
 
 pub returns-then-named-index-clause-fault : goal.returns-then-named-index-clause-fault
 returns-then-named-index-clause-fault c =

@@ -1,6 +1,5 @@
 //! The program's search against the plain one, on random small boards.
 
-use crate::boards::{bakers_game, free_cell};
 use crate::plain::{self, Found};
 use arrayvec::ArrayVec;
 use fc_cards::{Card, Suit};
@@ -8,6 +7,7 @@ use fc_frontier::{BucketFrontier, Frontier, ListFrontier};
 use fc_moves::{Game, Kings};
 use fc_position::Position;
 use fc_search::{Answer, Search};
+use fc_tests::boards::{bakers_game, free_cell};
 use std::alloc::Global;
 use std::process::Abort;
 use std::test::Fail;

@@ -1,15 +1,15 @@
 //! Runs of the program: what they print, their statuses and their faults, over devices that fail too.
 
-use crate::boards::{
-    ALL_HOME, DEAL_ONE, LOCKED, ONE_KING, QUEEN_UNDER_KING, Rules, THREE_SPADES, TWO_KINGS,
-    bakers_game, free_cell,
-};
 use fc_cards::Card;
 use fc_io::testing::Failing;
 use fc_io::{FromReader, FromSlice, ToArray};
 use fc_moves::{Game, Kings, allows, apply, read_move};
 use fc_replay::ReplayFault;
 use fc_runs::{Input, Output, ProgramFault, run_deal, run_replay, run_solve};
+use fc_tests::boards::{
+    ALL_HOME, DEAL_ONE, LOCKED, ONE_KING, QUEEN_UNDER_KING, Rules, THREE_SPADES, TWO_KINGS,
+    bakers_game, free_cell,
+};
 use fc_text::{BoardFault, read_board};
 use std::alloc::Global;
 use std::io;

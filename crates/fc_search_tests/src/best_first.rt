@@ -2,7 +2,7 @@
 
 ghost use Rattle.std.specs.Prelude.{◌≡◌, ℕ, [], ◌+◌, ◌-◌, ◌≤◌, ◌++◌, option_to_list};
 ghost use Rattle.fc_best_first.specs.Turn.{AreChildren};
-ghost use Rattle.fc_tests.specs.Sums.{IsChildOf, number_exact, sums, sums_lawful};
+ghost use Rattle.fc_search_tests.specs.Sums.{IsChildOf, number_exact, sums, sums_lawful};
 
 use fc_best_first::{
     Book, Child, ExactKey, Mark, Offered, Search, SearchFault, Space, Status, Step,

@@ -1,7 +1,7 @@
 //! Keys of classes.
 
-use crate::boards::{TWO_KINGS, TWO_KINGS_TURNED};
 use fc_classes::ClassKey;
+use fc_tests::boards::{TWO_KINGS, TWO_KINGS_TURNED};
 use fc_text::read_board;
 use std::test::Fail;
 

@@ -3,7 +3,7 @@ use Rattle.std.proofs.Common.{◌≡◌, ℕ, ◌+◌, ◌-◌, ◌≤◌, suc, 
 use Rattle.std.specs.Prelude.{Contains, option_to_list}
 use Rattle.std.proofs.lemmas.List.Elements.{Contains-append_cases, Contains-append_left, Contains-append_right}
 use Rattle.fc_best_first.specs.declared.spaces.Child.{Child}
-use Rattle.fc_tests.specs.Sums.{IsChildOf, sums}
+use Rattle.fc_search_tests.specs.Sums.{IsChildOf, sums}
 use Rattle.fc_best_first.specs.Turn.{AreChildren}
 
 one_of : (o : Option (Child ℕ)) (child : Child ℕ) → Contains (option_to_list o) child → o ≡ Some child

@@ -1,0 +1,17 @@
+//! Tests of the public calls of the search and of the runs, with a plain search to compare with.
+#![tactic(auto)]
+
+#[cfg(test)]
+mod best_first;
+#[cfg(test)]
+mod classes;
+#[cfg(test)]
+mod plain;
+#[cfg(test)]
+mod random;
+#[cfg(test)]
+mod runs;
+#[cfg(test)]
+mod searches;
+#[cfg(test)]
+mod spaces;
