@@ -125,4 +125,3 @@ pub fn every_board_settles()
 pub fn no_empty_table_is_closed()
     ensures { NoEmptyTableIsClosed }
 {}
-
