@@ -1,10 +1,5 @@
 pub mod AboveLemmas
 pub mod CountLemmas
-pub mod EveryLemmas
 pub mod HeldLemmas
-pub mod LookLemmas
 pub mod MovedLemmas
-pub mod RowLemmas
-pub mod TableLemmas
 pub mod TellLemmas
-pub mod WitnessLemmas

@@ -1,3 +1,2 @@
 pub mod Bound
 pub mod Laws
-pub mod Table

@@ -50,12 +50,16 @@ pub record IsListed (g : GameRules) (b : Board) (m : Move) : Type 0 where
   pub first : IsFirstEmpty b m.to
   pub stays : Stays b m.from m.to → IsLoneBelow g b (place_number m.from) → ⊥
 
+-- the moves stand by rising number: by source, and of one source by destination
+abbrev pub AreInOrder : List Move → Type 0
+AreInOrder moves = (i j : ℕ) (d : Move) → i < j → j < length moves
+    → move_number (slice_index_or moves i d) < move_number (slice_index_or moves j d)
+
 -- of the moves to be listed, the list has exactly those with numbers below n, by rising number
 pub record ListsBelow (g : GameRules) (b : Board) (n : ℕ) (moves : List Move) : Type 0 where
   pub listed : (m : Move) → Contains moves m → IsListed g b m × (move_number m < n)
   pub complete : (m : Move) → IsListed g b m → move_number m < n → Contains moves m
-  pub rising : (i j : ℕ) (d : Move) → i < j → j < length moves
-      → move_number (slice_index_or moves i d) < move_number (slice_index_or moves j d)
+  pub rising : AreInOrder moves
 
 -- the first empty column of eight, if there is one
 abbrev pub IsFirstColumn : Board → Option ℕ → Type 0

@@ -4,7 +4,7 @@ ghost use Rattle.fc_cards.specs.declared.places.Place.TheVariants.{Column, Cell}
 ghost use Rattle.fc_position.specs.Board.{playable, column};
 ghost use Rattle.fc_position.specs.Position.{IsPosition};
 ghost use Rattle.fc_moves.specs.Step.{place_number};
-ghost use Rattle.fc_canonical.specs.Distinct.{ListsClasses, ListsBelow, IsListed, IsLone, IsLoneBelow, IsLaterLone, GoesTo, IsFirstColumn, IsFirstCell, IsOpening, IsCellOf};
+ghost use Rattle.fc_canonical.specs.Distinct.{ListsClasses, ListsBelow, IsListed, IsLone, IsLoneBelow, IsLaterLone, GoesTo, IsFirstColumn, IsFirstCell, IsOpening, IsCellOf, AreInOrder};
 
 use arrayvec::ArrayVec;
 use fc_cards::{Card, Place};
@@ -15,6 +15,7 @@ use fc_position::Position;
 /// the first by source and then by destination, in which order they are listed. It makes no position.
 pub fn distinct_moves<G: Game>(game: &G, position: &Position) -> ArrayVec<Move, 132>
     ensures classes { ListsClasses (G.game game.now) position.now result.items }
+    ensures order { AreInOrder result.items }
 {
     // What a call tells of the position, each of the 52 cards in one place, is needed below.
     let _home = position.playable(Place::Home);

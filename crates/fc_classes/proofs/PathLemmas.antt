@@ -32,14 +32,14 @@ settled_key g rule z count x p (q, settles, key) =
     let mate = class_settle g rule q (spelled x) q 0 k.1 (settled_stays g rule z q count settles) in
     (k.0, subst (Settles g rule (spelled x) 0) (settles_none g rule (spelled x) mate.0 mate.1) mate.1)
 
-reached_spells : (edges : ℕ) (g : GameRules) (rule : ℕ) (p : Board) (x : List ℕ) (cost : ℕ) → IsPositionOf g p
-    → ReachedBy edges (classes g rule p) x cost → IsKeyIn g x × Settles g rule (spelled x) 0 (spelled x)
-reached_spells zero g rule p x cost pp h = settled_key g rule p cost x pp h
-reached_spells (suc edges) g rule p x cost pp (w, d, c, h, (kw, (m, z, count, step, to, paid)), e) =
+reached_spells : (edges : ℕ) (low : Board → ℕ) (g : GameRules) (rule : ℕ) (p : Board) (x : List ℕ) (cost : ℕ) → IsPositionOf g p
+    → ReachedBy edges (classes low g rule p) x cost → IsKeyIn g x × Settles g rule (spelled x) 0 (spelled x)
+reached_spells zero low g rule p x cost pp h = settled_key g rule p cost x pp h
+reached_spells (suc edges) low g rule p x cost pp (w, d, c, h, (kw, (m, z, count, step, to, paid)), e) =
     settled_key g rule z count x (step_keeps g (spelled w) z m kw.position step) to
 
 pub reached_of_positions : ReachedKeysAreOfPositions
-reached_of_positions g rule p x cost pp h = reached_spells h.0 g rule p x cost pp h.1
+reached_of_positions low g rule p x cost pp h = reached_spells h.0 low g rule p x cost pp h.1
 
 -- runs are joined
 pub run_on : (g : GameRules) (b c d : Board) (ms ns : List Move) → Run g b ms c → Run g c ns d → Run g b (ms ++ ns) d
@@ -56,13 +56,13 @@ run_mate g b c x (m ∷ ms) p q s (mid, step, rest) =
     let long : length (n.0 ∷ later.0) ≡ length (m ∷ ms) = omega (arith, later.2) in
     (n.0 ∷ later.0, later.1, long, (n.1, n.2, later.3), later.4)
 
-reached_run : (edges : ℕ) (g : GameRules) (rule : ℕ) (p : Board) (x : List ℕ) (cost : ℕ) → IsPositionOf g p
-    → ReachedBy edges (classes g rule p) x cost
+reached_run : (edges : ℕ) (low : Board → ℕ) (g : GameRules) (rule : ℕ) (p : Board) (x : List ℕ) (cost : ℕ) → IsPositionOf g p
+    → ReachedBy edges (classes low g rule p) x cost
     → (ms : List Move) × (b : Board) × (length ms ≡ cost) × Run g p ms b × SameClass b (spelled x)
-reached_run zero g rule p x cost pp (q, (ms, long, by), key) =
+reached_run zero low g rule p x cost pp (q, (ms, long, by), key) =
     (ms, q, long, settles_run g rule p q ms by, (key_spells g q x (settles_keep g rule p q cost pp (ms, long, by)) key).1)
-reached_run (suc edges) g rule p x cost pp (w, d, c, h, (kw, (m, z, count, step, (q, (ns, long, by), key), paid)), e) =
-    let before = reached_run edges g rule p w d pp h in
+reached_run (suc edges) low g rule p x cost pp (w, d, c, h, (kw, (m, z, count, step, (q, (ns, long, by), key), paid)), e) =
+    let before = reached_run edges low g rule p w d pp h in
     let pz = step_keeps g (spelled w) z m kw.position step in
     let pb = run_keeps g p before.1 before.0 pp before.3 in
     let run : Run g (spelled w) (m ∷ ns) q = (z, step, settles_run g rule z q ns by) in
@@ -78,13 +78,13 @@ reached_run (suc edges) g rule p x cost pp (w, d, c, h, (kw, (m, z, count, step,
     )
 
 pub reached_run_to : ReachedKeysAreRunTo
-reached_run_to g rule p x cost pp h = reached_run h.0 g rule p x cost pp h.1
+reached_run_to low g rule p x cost pp h = reached_run h.0 low g rule p x cost pp h.1
 
 -- so a list of as many moves as a won key is reached at wins
-pub reached_wins : (g : GameRules) (rule : ℕ) (p : Board) (x : List ℕ) (cost : ℕ) → IsPositionOf g p
-    → Reached (classes g rule p) x cost → IsWon (spelled x) → WinsIn g p cost
-reached_wins g rule p x cost pp h won =
-    let run = reached_run_to g rule p x cost pp h in
+pub reached_wins : (low : Board → ℕ) (g : GameRules) (rule : ℕ) (p : Board) (x : List ℕ) (cost : ℕ) → IsPositionOf g p
+    → Reached (classes low g rule p) x cost → IsWon (spelled x) → WinsIn g p cost
+reached_wins low g rule p x cost pp h won =
+    let run = reached_run_to low g rule p x cost pp h in
     (run.0, run.2, (run.1, run.3, run.4.homes ∙ won))
 
 -- settling has at most 52 moves

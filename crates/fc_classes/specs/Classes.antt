@@ -1,5 +1,5 @@
 -- The classes of the positions of a game as a graph: settled positions, known by their keys.
-use Rattle.std.specs.Prelude.{◌≡◌, ℕ, ◌+◌, List, map}
+use Rattle.std.specs.Prelude.{◌≡◌, ℕ, ◌+◌, List}
 use Rattle.fc_position.specs.Board.{Board}
 use Rattle.fc_position.specs.Position.{IsWon}
 use Rattle.fc_moves.specs.declared.steps.Move.{Move}
@@ -8,8 +8,6 @@ use Rattle.fc_moves.specs.Step.{Step}
 use Rattle.fc_canonical.specs.Key.{IsKeyOf}
 use Rattle.fc_canonical.specs.Laws.{WinsIn}
 use Rattle.fc_home.specs.Settles.{Settles}
-use Rattle.fc_bound.specs.Bound.{bound}
-use Rattle.fc_bound.specs.Table.{Table}
 use Rattle.fc_best_first.specs.Graph.{Graph}
 use Rattle.fc_canonical.specs.Spelled.{IsKeyIn, spelled}
 
@@ -22,16 +20,12 @@ abbrev pub LeadsTo : GameRules → ℕ → List ℕ → ℕ → List ℕ → Typ
 LeadsTo g rule x cost y = IsKeyIn g x
     × ((m : Move) × (z : Board) × (count : ℕ) × Step g (spelled x) m z × SettlesTo g rule z count y × (cost ≡ 1 + count))
 
--- the question how few moves win from the position, as a graph
-abbrev pub classes : GameRules → ℕ → Board → Graph (List ℕ)
-classes g rule p = record {
+-- the question how few moves win from the position, as a graph, with a lower bound of the moves from a position
+abbrev pub classes : (Board → ℕ) → GameRules → ℕ → Board → Graph (List ℕ)
+classes low g rule p = record {
   starts = λ x cost. SettlesTo g rule p cost x;
   edge = LeadsTo g rule;
-  bound = λ x. bound (spelled x);
+  bound = λ x. low (spelled x);
   won = λ x. IsWon (spelled x);
   wins = WinsIn g p;
 }
-
--- the boards that the keys of a table spell, at the same costs
-abbrev pub as_boards : List (List ℕ × ℕ) → Table
-as_boards table = map (λ e. (spelled e.0, e.1)) table

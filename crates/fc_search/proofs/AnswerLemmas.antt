@@ -14,15 +14,16 @@ use Rattle.fc_moves.specs.MoveText.{HasText}
 use Rattle.fc_moves.specs.Run.{Run, Wins}
 use Rattle.fc_moves.proofs.StepLemmas.{step_keeps, allowed_has_text}
 use Rattle.fc_bound.specs.Bound.{bound}
-use Rattle.fc_bound.specs.Table as boards
-use Rattle.fc_bound.proofs.RowLemmas.{rows_inside, inside_all, costs_free}
+use Rattle.fc_tables.specs.Table as boards
+use Rattle.fc_tables.proofs.RowLemmas.{rows_inside, inside_all, costs_free}
 use Rattle.fc_best_first.specs.declared.books.Mark.{Mark}
 use Rattle.fc_best_first.specs.declared.turns.Status.TheVariants as status
 use Rattle.fc_best_first.specs.Shown.{IsFound, IsExhausted, Shows}
 use Rattle.fc_best_first.specs.Store.{Store, Stands}
 use Rattle.fc_best_first.proofs.KeptLemmas.{same_entry, stands_within}
 use Rattle.fc_best_first.proofs.SearchLemmas.{closed_inside}
-use Rattle.fc_classes.specs.Classes.{classes, as_boards}
+use Rattle.fc_classes.specs.Classes.{classes}
+use Rattle.fc_tables.specs.Table.{as_boards}
 use Rattle.fc_canonical.specs.Spelled.{spelled}
 use Rattle.fc_classes.proofs.PathLemmas.{reached_of_positions}
 use Rattle.fc_classes.proofs.TableLemmas.{board_listed, key_listed, closed_board}
@@ -31,6 +32,7 @@ use Rattle.fc_search.specs.Search.{Answers}
 use Rattle.fc_search.specs.Table.{Listing, inside, at_no_cost, costs_of}
 use Rattle.fc_search.specs.Walk.{IsAtClass}
 use Rattle.fc_search.proofs.NeedLemmas.{needs_more, needs_reach}
+use Rattle.fc_tables.proofs.BoundLemmas.{bound_lower}
 
 -- each move of a run from a position of the game has a text
 run_texts : (g : GameRules) (b c : Board) (ms : List Move) → IsPositionOf g b → Run g b ms c → All HasText ms
@@ -71,13 +73,13 @@ listed_inside n table e there below =
 
 module _ (g : GameRules) (rule : ℕ) (p : Board) (budget : ℕ) (s : Store (List ℕ)) (pp : IsPositionOf g p) where
   -- the answer of a search that found no way to win
-  pub cannot_win_answers : (table : Listing) → IsExhausted (classes g rule p) budget s
-      → Shows (classes g rule p) budget s status.CannotWin → table.rule ≡ rule
+  pub cannot_win_answers : (table : Listing) → IsExhausted (classes bound g rule p) budget s
+      → Shows (classes bound g rule p) budget s status.CannotWin → table.rule ≡ rule
       → IsPermutation (at_no_cost (costs_of s)) table.rows → Answers g rule p budget (CannotWin table)
   cannot_win_answers table (sound, done) none ruled moved =
-      let closed = λ (n : ℕ). closed_inside (classes g rule p) budget s n sound (λ i x m at lt. done i x m at) in
+      let closed = λ (n : ℕ). closed_inside (classes bound g rule p) budget s n sound (λ i x m at lt. done i x m at) in
       let back = IsPermutation-sym (at_no_cost (costs_of s)) table.rows moved in
-      let all = inside_all g rule p (as_boards (costs_of s)) (λ n. closed_board g rule p n (costs_of s) pp (closed n)) in
+      let all = inside_all bound g rule p (as_boards (costs_of s)) (λ n. closed_board bound g rule p n (costs_of s) bound_lower pp (closed n)) in
       let free = λ (e : List ℕ × ℕ) (there : Contains table.rows e).
       free_listed (costs_of s) e (Contains-permutation table.rows (at_no_cost (costs_of s)) e back there) in
       let own = costs_free g rule p (as_boards table.rows) (as_boards (costs_of s)) all
@@ -99,7 +101,7 @@ module _ (g : GameRules) (rule : ℕ) (p : Board) (budget : ℕ) (s : Store (Lis
         backed = (
           subst (λ r. boards.IsClosed g r p (as_boards table.rows)) (sym ruled) own,
           λ e there. let at = (free e there).0 in
-              (reached_of_positions g rule p e.0 at.0 pp ((closed 0).reached e.0 at.0 at.1)).0,
+              (reached_of_positions bound g rule p e.0 at.0 pp ((closed 0).reached e.0 at.0 at.1)).0,
           λ e there. (free e there).1,
         );
         ruled = ruled;
@@ -108,8 +110,8 @@ module _ (g : GameRules) (rule : ℕ) (p : Board) (budget : ℕ) (s : Store (Lis
       }
 
   -- a list to the won class has as many moves as it costs, and is a shortest one
-  pub won_length : (number : ℕ) (ms : List Move) (b : Board) → IsFound (classes g rule p) budget s number
-      → Shows (classes g rule p) budget s (status.Shortest number) → IsAtClass g s p number ms b
+  pub won_length : (number : ℕ) (ms : List Move) (b : Board) → IsFound (classes bound g rule p) budget s number
+      → Shows (classes bound g rule p) budget s (status.Shortest number) → IsAtClass g s p number ms b
       → (x : List ℕ) × (mark : Mark) × Stands s number x mark × (length ms ≡ mark.cost) × Wins g p ms
       × ((others : List Move) → Wins g p others → length ms ≤ length others)
   won_length number ms b found (x, mark, at, won, reached, answer, least) (y, mine, there, run, same, le) =
@@ -129,7 +131,7 @@ module _ (g : GameRules) (rule : ℕ) (p : Board) (budget : ℕ) (s : Store (Lis
 
   -- the answer of a search that found a shortest list
   pub shortest_answers : (number : ℕ) (ms : List Move) (b : Board) (table : Listing) → budget ≤ 4000000
-      → IsFound (classes g rule p) budget s number → Shows (classes g rule p) budget s (status.Shortest number)
+      → IsFound (classes bound g rule p) budget s number → Shows (classes bound g rule p) budget s (status.Shortest number)
       → IsAtClass g s p number ms b → table.rule ≡ rule → IsPermutation (inside (length ms) (costs_of s)) table.rows
       → Answers g rule p budget (Shortest ms table)
   shortest_answers number ms b table few (sound, (w, wmark, wat, wwon, done)) shows walked ruled moved =
@@ -137,12 +139,12 @@ module _ (g : GameRules) (rule : ℕ) (p : Board) (budget : ℕ) (s : Store (Lis
       let won = won_length number ms b (sound, (w, wmark, wat, wwon, done)) shows walked in
       let one = same_entry s number won.0 w won.1 wmark won.2 wat in
       let cost : n ≡ wmark.cost = won.3 ∙ ap (λ m. m.cost) one.1 in
-      let closed = closed_inside (classes g rule p) budget s n sound
+      let closed = closed_inside (classes bound g rule p) budget s n sound
       (λ i y m at lt. done i y m at (omega (arith, lt, cost))) in
       let back = IsPermutation-sym (inside n (costs_of s)) table.rows moved in
       let within = λ (e : List ℕ × ℕ) (there : Contains table.rows e).
       inside_listed n (costs_of s) e (Contains-permutation table.rows (inside n (costs_of s)) e back there) in
-      let own = rows_inside g rule p n (as_boards table.rows) (as_boards (costs_of s)) (closed_board g rule p n (costs_of s) pp closed)
+      let own = rows_inside bound g rule p n (as_boards table.rows) (as_boards (costs_of s)) bound_lower (closed_board bound g rule p n (costs_of s) bound_lower pp closed)
       (λ e. (
         λ there. let key = key_listed table.rows e there in
             let at = within (key.0, key.1) key.2 in
@@ -162,9 +164,9 @@ module _ (g : GameRules) (rule : ℕ) (p : Board) (budget : ℕ) (s : Store (Lis
       let run = walked.3 in record {
         right = record { wins = won.4; least = won.5 };
         backed = (
-          subst (λ r. boards.IsClosedBelow g r p n (as_boards table.rows)) (sym ruled) own,
+          subst (λ r. boards.IsClosedBelow bound g r p n (as_boards table.rows)) (sym ruled) own,
           λ e there. let at = within e there in
-              (reached_of_positions g rule p e.0 e.1 pp (closed.reached e.0 e.1 at.0)).0,
+              (reached_of_positions bound g rule p e.0 e.1 pp (closed.reached e.0 e.1 at.0)).0,
           λ e there. (within e there).1,
         );
         ruled = ruled;
@@ -173,7 +175,7 @@ module _ (g : GameRules) (rule : ℕ) (p : Board) (budget : ℕ) (s : Store (Lis
       }
 
   -- the answer of a search that gave up
-  pub gave_up_answers : (y : List ℕ) (number told : ℕ) → Shows (classes g rule p) budget s (status.GaveUp y number)
+  pub gave_up_answers : (y : List ℕ) (number told : ℕ) → Shows (classes bound g rule p) budget s (status.GaveUp y number)
       → told ≡ budget → Answers g rule p budget (GaveUp told)
   gave_up_answers y number told (keys, are) same =
       let more = needs_more g rule p budget keys pp are in record {

@@ -23,6 +23,7 @@ use Rattle.fc_canonical.specs.Spelled.{spelled}
 use Rattle.fc_classes.proofs.PathLemmas.{reached_of_positions, reached_run_to, settles_none, run_on}
 use Rattle.fc_search.specs.Answer.{IsNeeded, NeedsMore}
 use Rattle.fc_search.proofs.WalkLemmas.{key_of_mate}
+use Rattle.fc_bound.specs.Bound.{bound}
 
 -- a position of the game whose key had to be stored
 record Needed (g : GameRules) (rule : ℕ) (p : Board) (x : List ℕ) : Type 0 where
@@ -32,7 +33,7 @@ record Needed (g : GameRules) (rule : ℕ) (p : Board) (x : List ℕ) : Type 0 w
   position : IsPositionOf g board
 
 -- each key that came by needed work is that of a board that was needed
-board_of : (g : GameRules) (rule : ℕ) (p : Board) (y : List ℕ) → IsPositionOf g p → kept.IsNeeded (classes g rule p) y
+board_of : (g : GameRules) (rule : ℕ) (p : Board) (y : List ℕ) → IsPositionOf g p → kept.IsNeeded (classes bound g rule p) y
     → Needed g rule p y
 board_of g rule p y pp (inl (d, (q, settles, key))) = record {
   board = q;
@@ -41,14 +42,14 @@ board_of g rule p y pp (inl (d, (q, settles, key))) = record {
   position = settles_keep g rule p q d pp settles;
 }
 board_of g rule p y pp (inr (x, d, c, reached, (kw, (m, z, count, step, (q, settles, key), paid)), least)) =
-    let before = reached_run_to g rule p x d pp reached in
+    let before = reached_run_to bound g rule p x d pp reached in
     let b = before.1 in
     let same = before.4 in
     let back = class-sym b (spelled x) same in
     let pb = run_keeps g p b before.0 pp before.3 in
     let there = class_step g (spelled x) b z m kw.position pb back step in
     let settled = class_settle g rule z there.1 q count there.3 settles in
-    let still = class_settle g rule (spelled x) b (spelled x) 0 back (reached_of_positions g rule p x d pp reached).1 in
+    let still = class_settle g rule (spelled x) b (spelled x) 0 back (reached_of_positions bound g rule p x d pp reached).1 in
     let stays = subst (Settles g rule b 0) (settles_none g rule b still.0 still.1) still.1 in
     let alike = class_bound b (spelled x) same in record {
       board = settled.0;
@@ -79,7 +80,7 @@ record Boards (g : GameRules) (rule : ℕ) (p : Board) (keys : List (List ℕ)) 
 
 boards_of : (g : GameRules) (rule : ℕ) (p : Board) (keys : List (List ℕ)) → IsPositionOf g p
     → ((i j : ℕ) (x : List ℕ) → slice_get keys i ≡ Some x → slice_get keys j ≡ Some x → i ≡ j)
-    → ((i : ℕ) (x : List ℕ) → slice_get keys i ≡ Some x → kept.IsNeeded (classes g rule p) x) → Boards g rule p keys
+    → ((i : ℕ) (x : List ℕ) → slice_get keys i ≡ Some x → kept.IsNeeded (classes bound g rule p) x) → Boards g rule p keys
 boards_of g rule p [] pp once needed = record {
   boards = [];
   count = refl;
@@ -114,7 +115,7 @@ boards_of g rule p (x ∷ keys) pp once needed =
 
 -- so where different keys came by needed work, so many classes had to be stored
 pub needs_more : (g : GameRules) (rule : ℕ) (p : Board) (budget : ℕ) (keys : List (List ℕ)) → IsPositionOf g p
-    → AreNeeded (classes g rule p) (budget + 1) keys → NeedsMore g rule p budget
+    → AreNeeded (classes bound g rule p) (budget + 1) keys → NeedsMore g rule p budget
 needs_more g rule p budget keys pp are =
     let bs = boards_of g rule p keys pp are.once are.needed in record {
       boards = bs.boards;

@@ -28,6 +28,7 @@ use Rattle.fc_canonical.specs.Spelled.{spelled}
 use Rattle.fc_canonical.proofs.SpelledLemmas.{key_spells}
 use Rattle.fc_classes.proofs.PathLemmas.{run_on}
 use Rattle.fc_search.specs.Walk.{IsStart, IsWay, IsAtClass, LeadsWithin}
+use Rattle.fc_bound.specs.Bound.{bound}
 
 -- a move that leads to a key leads to one key, by one number of moves
 pub leads_once : (g : GameRules) (rule : ℕ) (b z q : Board) (key : List ℕ) (m : Move) (most : ℕ) (settling : List Move)
@@ -55,7 +56,7 @@ key_of_mate b c k same key = record {
 
 -- from the board that a walk came to, a step leads on to the next class within what is left of its cost
 pub leads_on : (g : GameRules) (rule : ℕ) (p : Board) (budget : ℕ) (s : Store (List ℕ)) → IsPositionOf g p
-    → IsSound (classes g rule p) budget s → (number next : ℕ) (made : List Move) (b : Board) (x : List ℕ) (mark : Mark)
+    → IsSound (classes bound g rule p) budget s → (number next : ℕ) (made : List Move) (b : Board) (x : List ℕ) (mark : Mark)
     → IsAtClass g s p number made b → Stands s next x mark → mark.parent ≡ number → (number ≡ next → ⊥)
     → (length made ≤ mark.cost) × ((m : Move) × LeadsWithin g rule b x (mark.cost - length made) m)
 leads_on g rule p budget s pp sound number next made b x mark (y, mine, there, run, same, le) at parent other =
@@ -92,7 +93,7 @@ walked_on g rule p budget s pp number next made more b c x mark (y, mine, there,
 
 -- a walk begins at a class that starts, where the start settles
 pub walk_begins : (g : GameRules) (rule : ℕ) (p : Board) (budget : ℕ) (s : Store (List ℕ)) → IsPositionOf g p
-    → IsSound (classes g rule p) budget s → (number : ℕ) (settling : List Move) (q : Board) → IsStart s number
+    → IsSound (classes bound g rule p) budget s → (number : ℕ) (settling : List Move) (q : Board) → IsStart s number
     → SettlesBy g rule p settling q → IsPosition q → IsAtClass g s p number settling q
 walk_begins g rule p budget s pp sound number settling q (x, mark, at, own) by pq =
     ⊎_elim
@@ -110,7 +111,7 @@ walk_begins g rule p budget s pp sound number settling q (x, mark, at, own) by p
     (sound.comes number x mark at)
 
 -- a class's parent costs less than it does
-pub parent_less : (g : GameRules) (rule : ℕ) (p : Board) (budget : ℕ) (s : Store (List ℕ)) → IsSound (classes g rule p) budget s
+pub parent_less : (g : GameRules) (rule : ℕ) (p : Board) (budget : ℕ) (s : Store (List ℕ)) → IsSound (classes bound g rule p) budget s
     → (number parent : ℕ) (x : List ℕ) (mark : Mark) → Stands s number x mark → mark.parent ≡ parent → (parent ≡ number → ⊥)
     → (w : List ℕ) × (was : Mark) × Stands s parent w was × (was.cost < mark.cost)
 parent_less g rule p budget s sound number parent x mark at by other =

@@ -9,8 +9,7 @@ use Rattle.fc_moves.specs.Step.{Step}
 use Rattle.fc_canonical.specs.Class.{SameClass}
 use Rattle.fc_home.specs.Settles.{Settles}
 use Rattle.fc_bound.specs.Bound.{bound}
-use Rattle.fc_bound.specs.Table.{IsClosed, IsClosedBelow}
-use Rattle.fc_classes.specs.Classes.{as_boards}
+use Rattle.fc_tables.specs.Table.{IsClosed, IsClosedBelow, as_boards}
 use Rattle.fc_canonical.specs.Spelled.{spelled}
 use Rattle.fc_search.specs.declared.answers.Answer.{Answer}
 use Rattle.fc_search.specs.declared.answers.Answer.TheVariants.{Shortest, CannotWin as cannot_win, GaveUp}
@@ -26,7 +25,7 @@ IsRight g b budget (GaveUp told) = (told ≡ budget) × ReachesMore g b budget
 -- the answer is backed: the table, under its own rule, is closed below the length of the list, and lists only classes of
 -- the game whose cost and bound are below it; or the table is closed, and lists classes of the game, each at no cost
 abbrev pub IsBacked : GameRules → Board → Answer → Type 0
-IsBacked g b (Shortest moves table) = IsClosedBelow g table.rule b (length moves) (as_boards table.rows)
+IsBacked g b (Shortest moves table) = IsClosedBelow bound g table.rule b (length moves) (as_boards table.rows)
     × AreClasses g table.rows
     × ((e : List ℕ × ℕ) → Contains table.rows e → e.1 + bound (spelled e.0) < length moves)
 IsBacked g b (cannot_win table) = IsClosed g table.rule b (as_boards table.rows) × AreClasses g table.rows

@@ -13,6 +13,7 @@ use Rattle.fc_classes.specs.Classes.{classes}
 use Rattle.fc_search.specs.declared.answers.Answer.{Answer}
 use Rattle.fc_search.specs.declared.answers.Answer.TheVariants as answer
 use Rattle.fc_search.specs.Answer.{IsRight, IsBacked, IsByRule, IsEarned, CanBeWritten}
+use Rattle.fc_bound.specs.Bound.{bound}
 
 -- a question: by how few moves of the game a list wins from the start, searched under a home rule
 pub record Question (G : Type 0) : Type 0 where
@@ -53,8 +54,8 @@ IsUnanswered done told = told ≡ fault.Memory
 -- the answer is that of a search that began, and ran to its end within the budget
 pub record IsRunToEnd (g : GameRules) (rule : ℕ) (b : Board) (budget : ℕ) (answer : Answer) : Type 0 where
   pub first : Store (List ℕ)
-  pub begins : Begins (classes g rule b) first
+  pub begins : Begins (classes bound g rule b) first
   pub last : Store (List ℕ)
   pub status : Status (List ℕ)
-  pub runs : Runs (classes g rule b) budget Running first last status
+  pub runs : Runs (classes bound g rule b) budget Running first last status
   pub answered : IsOfStatus last budget status answer

@@ -7,6 +7,7 @@ ghost use Rattle.fc_best_first.specs.Store.{Stands};
 ghost use Rattle.fc_best_first.specs.Turn.{work_left};
 ghost use Rattle.fc_classes.specs.Classes.{classes};
 ghost use Rattle.fc_search.specs.Search.{Answers, IsOfStatus, IsUnanswered, IsRunToEnd};
+ghost use Rattle.fc_bound.specs.Bound.{bound};
 
 use crate::answers::Answer;
 use fc_best_first as best_first;
@@ -60,7 +61,7 @@ impl<F: Frontier + Drop, G: Game + Drop> Search<F, G> {
         ensures start { IfOk result (λ search. search.question.start ≡ position.now) }
         ensures budget { IfOk result (λ search. search.budget ≡ budget) }
         ensures status { IfOk result (λ search. search.status ≡ Status.Running) }
-        ensures begins { IfOk result (λ search. Begins (classes (G.game game.now) rule position.now) search.store) }
+        ensures begins { IfOk result (λ search. Begins (classes bound (G.game game.now) rule position.now) search.store) }
         ensures range { OnOk result ((1 ≤ budget) × (budget ≤ 4000000)) }
         ensures fault { IfErr result (λ f. ((f ≡ SearchFault.Budget) × ((budget < 1) ⊎ (4000000 < budget))) ⊎ ((f ≡ SearchFault.Memory) × (1 ≤ budget) × (budget ≤ 4000000))) }
     {
@@ -77,7 +78,7 @@ impl<F: Frontier + Drop, G: Game + Drop> Search<F, G> {
     pub fn turn(&mut self) -> Result<Step, SearchFault>
         ensures question { self.new.question ≡ self.old.question }
         ensures budget { self.new.budget ≡ self.old.budget }
-        ensures turns { Turns (classes (G.game self.old.question.game) self.old.question.rule self.old.question.start) self.old.budget self.old.status self.old.store self.new.store self.new.status result }
+        ensures turns { Turns (classes bound (G.game self.old.question.game) self.old.question.rule self.old.question.start) self.old.budget self.old.status self.old.store self.new.store self.new.status result }
         ensures falls { result ≡ Ok Step.Running → work_left self.old.budget self.new.store < work_left self.old.budget self.old.store }
     {
         self.search.turn()
@@ -90,7 +91,7 @@ impl<F: Frontier + Drop, G: Game + Drop> Search<F, G> {
     pub fn run(&mut self) -> Result<(), SearchFault>
         ensures question { self.new.question ≡ self.old.question }
         ensures budget { self.new.budget ≡ self.old.budget }
-        ensures runs { Runs (classes (G.game self.old.question.game) self.old.question.rule self.old.question.start) self.old.budget self.old.status self.old.store self.new.store self.new.status }
+        ensures runs { Runs (classes bound (G.game self.old.question.game) self.old.question.rule self.old.question.start) self.old.budget self.old.status self.old.store self.new.store self.new.status }
         ensures done { OnOk result (reply_of self.new.status ≡ Ok Step.Done) }
         ensures stopped { OnErr result (self.new.status ≡ Status.Stopped) }
         ensures fault { IfErr result (λ f. ((f ≡ SearchFault.Memory) × (self.old.status ≡ Status.Running)) ⊎ ((f ≡ SearchFault.Stopped) × (self.old.status ≡ Status.Stopped))) }
@@ -131,8 +132,8 @@ impl<F: Frontier + Drop, G: Game + Drop> Search<F, G> {
 
     // The answer where the class with this number is won.
     fn shortest(&self, number: u32) -> Result<Answer, AllocError>
-        requires held { Holds (classes (G.game self.now.question.game) self.now.question.rule self.now.question.start) self.now.budget self.now.store self.now.status }
-        requires shown { Shows (classes (G.game self.now.question.game) self.now.question.rule self.now.question.start) self.now.budget self.now.store self.now.status }
+        requires held { Holds (classes bound (G.game self.now.question.game) self.now.question.rule self.now.question.start) self.now.budget self.now.store self.now.status }
+        requires shown { Shows (classes bound (G.game self.now.question.game) self.now.question.rule self.now.question.start) self.now.budget self.now.store self.now.status }
         requires most { self.now.budget ≤ 4000000 }
         requires fits { IsPositionOf (G.game self.now.question.game) self.now.question.start }
         requires done { self.now.status ≡ Status.Shortest number }
@@ -146,8 +147,8 @@ impl<F: Frontier + Drop, G: Game + Drop> Search<F, G> {
 
     // The answer where no list wins.
     fn cannot_win(&self) -> Result<Answer, AllocError>
-        requires held { Holds (classes (G.game self.now.question.game) self.now.question.rule self.now.question.start) self.now.budget self.now.store self.now.status }
-        requires shown { Shows (classes (G.game self.now.question.game) self.now.question.rule self.now.question.start) self.now.budget self.now.store self.now.status }
+        requires held { Holds (classes bound (G.game self.now.question.game) self.now.question.rule self.now.question.start) self.now.budget self.now.store self.now.status }
+        requires shown { Shows (classes bound (G.game self.now.question.game) self.now.question.rule self.now.question.start) self.now.budget self.now.store self.now.status }
         requires most { self.now.budget ≤ 4000000 }
         requires fits { IsPositionOf (G.game self.now.question.game) self.now.question.start }
         requires done { self.now.status ≡ Status.CannotWin }

@@ -5,6 +5,7 @@ ghost use Rattle.std.specs.List.Sorted.{IsPermutation};
 ghost use Rattle.fc_best_first.specs.Kept.{IsSound};
 ghost use Rattle.fc_classes.specs.Classes.{classes};
 ghost use Rattle.fc_search.specs.Table.{inside, at_no_cost, costs_of};
+ghost use Rattle.fc_bound.specs.Bound.{bound};
 
 use crate::answers::{Row, Table};
 use crate::searches::Search;
@@ -16,7 +17,7 @@ use std::alloc::AllocError;
 impl<F: Frontier + Drop, G: Game + Drop> Search<F, G> {
     // The stored classes whose cost and bound are below n.
     pub(crate) fn table_below(&self, n: usize) -> Result<Table, AllocError>
-        requires sound { IsSound (classes (G.game self.now.question.game) self.now.question.rule self.now.question.start) self.now.budget self.now.store }
+        requires sound { IsSound (classes bound (G.game self.now.question.game) self.now.question.rule self.now.question.start) self.now.budget self.now.store }
         requires most { self.now.budget ≤ 4000000 }
         ensures rule { IfOk result (λ table. table.rule ≡ self.now.question.rule) }
         ensures rows { IfOk result (λ table. IsPermutation (inside n (costs_of self.now.store)) table.rows) }
@@ -37,7 +38,7 @@ impl<F: Frontier + Drop, G: Game + Drop> Search<F, G> {
 
     // The stored classes, each at no cost.
     pub(crate) fn table_of_all(&self) -> Result<Table, AllocError>
-        requires sound { IsSound (classes (G.game self.now.question.game) self.now.question.rule self.now.question.start) self.now.budget self.now.store }
+        requires sound { IsSound (classes bound (G.game self.now.question.game) self.now.question.rule self.now.question.start) self.now.budget self.now.store }
         requires most { self.now.budget ≤ 4000000 }
         ensures rule { IfOk result (λ table. table.rule ≡ self.now.question.rule) }
         ensures rows { IfOk result (λ table. IsPermutation (at_no_cost (costs_of self.now.store)) table.rows) }

@@ -13,6 +13,7 @@ ghost use Rattle.fc_best_first.specs.Store.{Stands};
 ghost use Rattle.fc_canonical.specs.Key.{IsKeyOf};
 ghost use Rattle.fc_classes.specs.Classes.{classes};
 ghost use Rattle.fc_search.specs.Walk.{IsStart, IsWay, IsAtClass, LeadsWithin};
+ghost use Rattle.fc_bound.specs.Bound.{bound};
 
 use crate::answers::MoveList;
 use crate::searches::Search;
@@ -27,7 +28,7 @@ use std::alloc::AllocError;
 impl<F: Frontier + Drop, G: Game + Drop> Search<F, G> {
     // Moves that lead to the class with this number, no more than it costs.
     pub(crate) fn moves_to(&self, number: u32) -> Result<MoveList, AllocError>
-        requires sound { IsSound (classes (G.game self.now.question.game) self.now.question.rule self.now.question.start) self.now.budget self.now.store }
+        requires sound { IsSound (classes bound (G.game self.now.question.game) self.now.question.rule self.now.question.start) self.now.budget self.now.store }
         requires within { number < length self.now.store.stored }
         ensures there { IfOk result (λ made. (b : Board) × IsAtClass (G.game self.now.question.game) self.now.store self.now.question.start number made b) }
     {
@@ -46,7 +47,7 @@ impl<F: Frontier + Drop, G: Game + Drop> Search<F, G> {
 
     // The number of a class that starts, and of those on the way from there to the class with this number, which is first.
     fn way_to(&self, number: u32) -> Result<(u32, Vec<u32>), AllocError>
-        requires sound { IsSound (classes (G.game self.now.question.game) self.now.question.rule self.now.question.start) self.now.budget self.now.store }
+        requires sound { IsSound (classes bound (G.game self.now.question.game) self.now.question.rule self.now.question.start) self.now.budget self.now.store }
         requires within { number < length self.now.store.stored }
         ensures way { IfOk result (λ r. IsStart self.now.store r.0 × IsWay self.now.store r.0 (reverse r.1.items) number) }
     {

@@ -19,7 +19,7 @@ use Rattle.fc_home.proofs.MateLemmas.{class_settle}
 use Rattle.fc_home.proofs.SettleLemmas.{settles_keep}
 use Rattle.fc_home.proofs.WayLemmas.{settles_once}
 use Rattle.fc_bound.specs.Bound.{bound}
-use Rattle.fc_bound.proofs.EveryLemmas.{every_settles}
+use Rattle.fc_tables.proofs.EveryLemmas.{every_settles}
 use Rattle.fc_bound.proofs.HeldLemmas.{class_bound}
 use Rattle.fc_best_first.specs.declared.spaces.Child.{Child}
 use Rattle.fc_best_first.specs.Turn.{AreChildren}
@@ -114,7 +114,7 @@ next_child g rule b moves rest m child p e is =
 -- the children by moves of which one leads to each class are the ends of the edges
 pub children_all : (g : GameRules) (rule : ℕ) (p : Board) (x : List ℕ) (moves : List Move) (children : List (Child (List ℕ)))
     → IsKeyIn g x → ListsClasses g (spelled x) moves → HaveChildren g rule (spelled x) moves (length moves) children
-    → AreChildren (classes g rule p) x (reverse children)
+    → AreChildren (classes bound g rule p) x (reverse children)
 children_all g rule p x moves children valid lists have = record {
   edges = λ child there.
       let in_list = Contains-permutation (reverse children) children child

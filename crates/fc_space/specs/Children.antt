@@ -10,7 +10,7 @@ use Rattle.fc_canonical.specs.Order.{IsCanonical}
 use Rattle.fc_home.specs.HomeRule.{GoesHome}
 use Rattle.fc_home.specs.Settles.{Settles}
 use Rattle.fc_bound.specs.Bound.{bound}
-use Rattle.fc_bound.proofs.EveryLemmas.{every_settles}
+use Rattle.fc_tables.proofs.EveryLemmas.{every_settles}
 use Rattle.fc_canonical.proofs.SortLemmas.{has_key}
 use Rattle.fc_best_first.specs.declared.spaces.Child.{Child}
 

@@ -11,6 +11,7 @@ ghost use Rattle.fc_classes.specs.Classes.{classes};
 ghost use Rattle.fc_canonical.specs.Spelled.{IsKeyIn, spelled};
 ghost use Rattle.fc_classes.proofs.TableLemmas.{lawful};
 ghost use Rattle.fc_space.specs.Children.{IsSettled, IsChildOf, OthersStay, Spells, children_by};
+ghost use Rattle.fc_tables.proofs.BoundLemmas.{bound_lower};
 
 use arrayvec::ArrayVec;
 use fc_best_first::{Child, Space};
@@ -216,7 +217,7 @@ fn child_by<G: Game>(
 }
 
 impl<G: Game + Drop> Space<ClassKey> for Positions<G> {
-    ghost graph = { λ s. classes (G.game s.game) s.rule s.start };
+    ghost graph = { λ s. classes bound_of (G.game s.game) s.rule s.start };
 
     type Walk = Children<G>;
 
@@ -270,5 +271,5 @@ impl<G: Game + Drop> Space<ClassKey> for Positions<G> {
         ))
     }
 
-    ghost lawful = { λ s. lawful (G.game s.game) s.rule s.start s.fits };
+    ghost lawful = { λ s. lawful bound_of (G.game s.game) s.rule s.start bound_lower s.fits };
 }

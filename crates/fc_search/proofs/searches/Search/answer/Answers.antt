@@ -8,15 +8,16 @@ use Rattle.fc_search.specs.Search.{Answers}
 use Rattle.fc_search.proofs.AnswerLemmas.{gave_up_answers}
 use Rattle.fc_search.proofs.searches.Search.answer.Goals as goal
 use Rattle.fc_search.proofs.searches.Search.answer.Goals.{in-Shortest, in-CannotWin, in-GaveUp}
+use Rattle.fc_bound.specs.Bound.{bound}
 
 pub shortest-answer-requires-clause-shown : goal.shortest-answer-requires-clause-shown
 shortest-answer-requires-clause-shown g c =
-    subst (λ s. Shows (classes (g.G.Game.game s.question.game) s.question.rule s.question.start) s.budget s.store s.status)
+    subst (λ s. Shows (classes bound (g.G.Game.game s.question.game) s.question.rule s.question.start) s.budget s.store s.status)
     c.self.view_is c.status.ensures.shows
 
 pub cannot_win-answer-requires-clause-shown : goal.cannot_win-answer-requires-clause-shown
 cannot_win-answer-requires-clause-shown g c =
-    subst (λ s. Shows (classes (g.G.Game.game s.question.game) s.question.rule s.question.start) s.budget s.store s.status)
+    subst (λ s. Shows (classes bound (g.G.Game.game s.question.game) s.question.rule s.question.start) s.budget s.store s.status)
     c.self.view_is c.status.ensures.shows
 
 pub returns-in-Ok-clause-answers : goal.returns-in-Ok-clause-answers
@@ -32,7 +33,7 @@ returns-in-Ok-clause-answers g c =
       | in-GaveUp w ↦
           let inner = c.self.inside.search in
           let stands : inner.status ≡ GaveUp w.in-GaveUp.field-0 w.in-GaveUp.field-1 = sym c.status.ensures.value ∙ w.in-GaveUp.is in
-          let shows = subst (Shows (classes (g.G.Game.game inner.space.game) inner.space.rule inner.space.start) inner.budget inner.store)
+          let shows = subst (Shows (classes bound (g.G.Game.game inner.space.game) inner.space.rule inner.space.start) inner.budget inner.store)
           stands c.status.ensures.shows in
           let answers = gave_up_answers (g.G.Game.game inner.space.game) inner.space.rule inner.space.start inner.budget inner.store
           inner.space.fits w.in-GaveUp.field-0 w.in-GaveUp.field-1 w.budget.result shows w.budget.ensures.value in

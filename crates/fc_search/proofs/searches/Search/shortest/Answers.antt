@@ -7,11 +7,12 @@ use Rattle.fc_search.specs.Search.{IsOfStatus}
 use Rattle.fc_search.specs.Table.{inside, costs_of}
 use Rattle.fc_search.proofs.AnswerLemmas.{shortest_answers, won_length}
 use Rattle.fc_search.proofs.searches.Search.shortest.Goals as goal
+use Rattle.fc_bound.specs.Bound.{bound}
 
 pub returns-clause-answers : goal.returns-clause-answers
 returns-clause-answers g c =
     let q = c.args.self.now.question in
-    let graph = classes (g.G.Game.game q.game) q.rule q.start in
+    let graph = classes bound (g.G.Game.game q.game) q.rule q.start in
     let budget = c.args.self.now.budget in
     let store = c.args.self.now.store in
     let moves = c.in_ok-moves.moves in
@@ -25,7 +26,7 @@ returns-clause-answers g c =
 pub returns-clause-kind : goal.returns-clause-kind
 returns-clause-kind g c =
     let q = c.args.self.now.question in
-    let graph = classes (g.G.Game.game q.game) q.rule q.start in
+    let graph = classes bound (g.G.Game.game q.game) q.rule q.start in
     let budget = c.args.self.now.budget in
     let store = c.args.self.now.store in
     let moves = c.in_ok-moves.moves in

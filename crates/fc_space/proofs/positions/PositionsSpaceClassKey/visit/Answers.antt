@@ -12,17 +12,18 @@ use Rattle.fc_space.specs.Children.{AreAllowed, child_by, children_by}
 use Rattle.fc_space.proofs.ChildLemmas.{have_children, children_all}
 use Rattle.fc_space.proofs.StayLemmas.{none_goes}
 use Rattle.fc_space.proofs.positions.PositionsSpaceClassKey.visit.Goals as goal
+use Rattle.fc_bound.specs.Bound.{bound}
 
 pub position-walk-inside-requires : goal.position-walk-inside-requires
 position-walk-inside-requires g c = record {
-  key = (reached_of_positions (g.G.Game.game c.args.self.now.game) c.args.self.now.rule c.args.self.now.start c.args.key.now
+  key = (reached_of_positions bound (g.G.Game.game c.args.self.now.game) c.args.self.now.rule c.args.self.now.start c.args.key.now
       c.requires.reached.0 c.args.self.now.fits c.requires.reached.1).0;
 }
 
 pub invariant_of-walk : goal.invariant_of-walk
 invariant_of-walk g c =
     let own = c.args.self.now in
-    let reached = reached_of_positions (g.G.Game.game own.game) own.rule own.start c.args.key.now
+    let reached = reached_of_positions bound (g.G.Game.game own.game) own.rule own.start c.args.key.now
     c.requires.reached.0 own.fits c.requires.reached.1 in
     let valid = reached.0 in
     let settled = subst (NoneGoesHome own.rule (g.G.Game.game own.game)) (sym c.position-walk-inside.ensures.value)
@@ -46,11 +47,11 @@ returns-clause-children g c =
     let rules = g.G.Game.game own.game in
     let x = c.args.key.now in
     let moves = c.distinct_moves-walk-inside.result.items in
-    let valid = (reached_of_positions rules own.rule own.start x c.requires.reached.0 own.fits c.requires.reached.1).0 in
+    let valid = (reached_of_positions bound rules own.rule own.start x c.requires.reached.0 own.fits c.requires.reached.1).0 in
     let lists = subst (λ b. ListsClasses rules b moves) c.position-walk-inside.ensures.value c.distinct_moves-walk-inside.ensures.classes in
     let have = have_children rules own.rule (spelled x) moves lists.allowed in
     let all = children_all rules own.rule own.start x moves (map (child_by rules own.rule (spelled x)) moves) valid lists have in
-    subst (λ r. AreChildren (classes rules own.rule own.start) x (children_by r own.rule c.position-walk-inside.result moves))
+    subst (λ r. AreChildren (classes bound rules own.rule own.start) x (children_by r own.rule c.position-walk-inside.result moves))
     (sym c.copy.ensures.value)
-    (subst (λ b. AreChildren (classes rules own.rule own.start) x (children_by rules own.rule b moves))
+    (subst (λ b. AreChildren (classes bound rules own.rule own.start) x (children_by rules own.rule b moves))
     (sym c.position-walk-inside.ensures.value) all)

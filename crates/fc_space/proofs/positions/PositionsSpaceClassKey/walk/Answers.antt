@@ -8,10 +8,11 @@ use Rattle.fc_canonical.specs.Spelled.{spelled}
 use Rattle.fc_classes.proofs.PathLemmas.{reached_of_positions}
 use Rattle.fc_space.proofs.StayLemmas.{none_goes}
 use Rattle.fc_space.proofs.positions.PositionsSpaceClassKey.walk.Goals as goal
+use Rattle.fc_bound.specs.Bound.{bound}
 
 pub position-position-requires : goal.position-position-requires
 position-position-requires g c = record {
-  key = (reached_of_positions (g.G.Game.game c.args.self.now.game) c.args.self.now.rule c.args.self.now.start c.start-first.result.key
+  key = (reached_of_positions bound (g.G.Game.game c.args.self.now.game) c.args.self.now.rule c.args.self.now.start c.start-first.result.key
       c.start-first.result.cost c.args.self.now.fits (0, c.start-first.ensures.starts)).0;
 }
 
@@ -20,7 +21,7 @@ invariant_of-result g c =
     let own = c.args.self.now in
     let rules = g.G.Game.game own.game in
     let key = c.start-first.result.key in
-    let reached = reached_of_positions rules own.rule own.start key c.start-first.result.cost own.fits (0, c.start-first.ensures.starts) in
+    let reached = reached_of_positions bound rules own.rule own.start key c.start-first.result.cost own.fits (0, c.start-first.ensures.starts) in
     let valid = reached.0 in
     let same = sym c.position-position.ensures.value in
     let settled = subst (NoneGoesHome own.rule rules) same (none_goes own.rule rules (spelled key) reached.1) in

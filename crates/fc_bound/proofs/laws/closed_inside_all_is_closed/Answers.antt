@@ -1,5 +1,0 @@
-use Rattle.fc_bound.proofs.RowLemmas.{inside_all}
-use Rattle.fc_bound.proofs.laws.closed_inside_all_is_closed.Goals as goal
-
-pub returns : goal.returns
-returns c = inside_all

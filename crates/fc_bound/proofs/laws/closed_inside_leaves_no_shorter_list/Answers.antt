@@ -1,5 +1,0 @@
-use Rattle.fc_bound.proofs.TableLemmas.{inside_long}
-use Rattle.fc_bound.proofs.laws.closed_inside_leaves_no_shorter_list.Goals as goal
-
-pub returns : goal.returns
-returns c = inside_long

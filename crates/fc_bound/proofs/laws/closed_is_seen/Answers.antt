@@ -1,5 +1,0 @@
-use Rattle.fc_bound.proofs.LookLemmas.{seen_closed}
-use Rattle.fc_bound.proofs.laws.closed_is_seen.Goals as goal
-
-pub returns : goal.returns
-returns c = seen_closed

@@ -1,5 +1,0 @@
-use Rattle.fc_bound.proofs.TableLemmas.{closed_never}
-use Rattle.fc_bound.proofs.laws.closed_leaves_no_list.Goals as goal
-
-pub returns : goal.returns
-returns c = closed_never

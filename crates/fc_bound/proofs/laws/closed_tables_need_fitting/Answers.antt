@@ -1,5 +1,0 @@
-use Rattle.fc_bound.proofs.WitnessLemmas.{need_fitting}
-use Rattle.fc_bound.proofs.laws.closed_tables_need_fitting.Goals as goal
-
-pub returns : goal.returns
-returns c = need_fitting

@@ -1,5 +1,0 @@
-use Rattle.fc_bound.proofs.WitnessLemmas.{need_positions}
-use Rattle.fc_bound.proofs.laws.closed_tables_need_positions.Goals as goal
-
-pub returns : goal.returns
-returns c = need_positions

@@ -1,5 +1,0 @@
-use Rattle.fc_bound.proofs.WitnessLemmas.{need_settling}
-use Rattle.fc_bound.proofs.laws.closed_tables_need_settling.Goals as goal
-
-pub returns : goal.returns
-returns c = need_settling

@@ -1,5 +1,0 @@
-use Rattle.fc_bound.proofs.RowLemmas.{empty_open}
-use Rattle.fc_bound.proofs.laws.no_empty_table_is_closed.Goals as goal
-
-pub returns : goal.returns
-returns c = empty_open

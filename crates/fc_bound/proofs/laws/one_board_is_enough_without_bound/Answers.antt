@@ -1,5 +1,0 @@
-use Rattle.fc_bound.proofs.LookLemmas.{one_enough_listed}
-use Rattle.fc_bound.proofs.laws.one_board_is_enough_without_bound.Goals as goal
-
-pub returns : goal.returns
-returns c = one_enough_listed

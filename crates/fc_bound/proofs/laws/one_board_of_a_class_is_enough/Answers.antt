@@ -1,5 +1,0 @@
-use Rattle.fc_bound.proofs.LookLemmas.{one_enough}
-use Rattle.fc_bound.proofs.laws.one_board_of_a_class_is_enough.Goals as goal
-
-pub returns : goal.returns
-returns c = one_enough

@@ -1,5 +1,0 @@
-use Rattle.fc_bound.proofs.RowLemmas.{rows_inside}
-use Rattle.fc_bound.proofs.laws.rows_inside_are_closed_below.Goals as goal
-
-pub returns : goal.returns
-returns c = rows_inside
