@@ -6,17 +6,18 @@ ghost use Rattle.fc_best_first.specs.Shown.{Holds, Shows};
 ghost use Rattle.fc_best_first.specs.Store.{Stands};
 ghost use Rattle.fc_best_first.specs.Turn.{work_left};
 ghost use Rattle.fc_classes.specs.Classes.{classes};
-ghost use Rattle.fc_search.specs.Search.{Answers, IsOfStatus, IsUnanswered, IsRunToEnd};
+ghost use Rattle.fc_answers.specs.Verdict.{verdict_of};
+ghost use Rattle.fc_search.specs.Search.{Answers, IsVerdict, IsOfStatus, IsUnanswered, IsRunToEnd};
 ghost use Rattle.fc_bound.specs.Bound.{bound};
 
-use crate::answers::Answer;
+use crate::positions::Positions;
+use fc_answers::{Answer, MoveList, Verdict};
 use fc_best_first as best_first;
 use fc_best_first::{Mark, SearchFault, Status, Step};
 use fc_classes::ClassKey;
 use fc_frontier::{BucketFrontier, Frontier};
 use fc_moves::Game;
 use fc_position::Position;
-use fc_space::Positions;
 use std::alloc::{AllocError, Global};
 use std::marker::Model;
 
@@ -106,7 +107,7 @@ impl<F: Frontier + Drop, G: Game + Drop> Search<F, G> {
     /// refused.
     pub fn answer(&self) -> Result<Answer, SearchFault>
         ensures answers { IfOk result (Answers (G.game self.now.question.game) self.now.question.rule self.now.question.start self.now.budget) }
-        ensures kind { IfOk result (IsOfStatus self.now.store self.now.budget self.now.status) }
+        ensures kind { IfOk result (λ answer. IsOfStatus self.now.store self.now.budget self.now.status (verdict_of answer)) }
         ensures fault { IfErr result (IsUnanswered self.now.status) }
     {
         let answer = match self.search.status() {
@@ -122,12 +123,47 @@ impl<F: Frontier + Drop, G: Game + Drop> Search<F, G> {
         }
     }
 
+    /// The verdict of a search that is done: its answer without a table, which it doesn't make. It never changes the search.
+    ///
+    /// # Errors
+    /// Those of `answer`.
+    pub fn verdict(&self) -> Result<Verdict, SearchFault>
+        ensures told { IfOk result (IsVerdict (G.game self.now.question.game) self.now.question.rule self.now.question.start self.now.budget) }
+        ensures kind { IfOk result (IsOfStatus self.now.store self.now.budget self.now.status) }
+        ensures fault { IfErr result (IsUnanswered self.now.status) }
+    {
+        match self.search.status() {
+            Status::Running => Err(SearchFault::NotDone),
+            Status::Stopped => Err(SearchFault::Stopped),
+            Status::Shortest(number) => match self.shortest_list(*number) {
+                Ok(moves) => Ok(Verdict::Shortest(moves)),
+                Err(_) => Err(SearchFault::Memory),
+            },
+            Status::CannotWin => Ok(Verdict::CannotWin),
+            Status::GaveUp(_, _) => Ok(Verdict::GaveUp(self.search.budget())),
+        }
+    }
+
     // The key of the class with this number, and its mark.
     pub(crate) fn at(&self, number: u32) -> (&ClassKey, Mark)
         requires within { number < length self.now.store.stored }
         ensures stands { Stands self.now.store number result.0.now result.1 }
     {
         self.search.entry(number).unwrap()
+    }
+
+    // A shortest list, where the class with this number is won.
+    fn shortest_list(&self, number: u32) -> Result<MoveList, AllocError>
+        requires held { Holds (classes bound (G.game self.now.question.game) self.now.question.rule self.now.question.start) self.now.budget self.now.store self.now.status }
+        requires shown { Shows (classes bound (G.game self.now.question.game) self.now.question.rule self.now.question.start) self.now.budget self.now.store self.now.status }
+        requires most { self.now.budget ≤ 4000000 }
+        requires fits { IsPositionOf (G.game self.now.question.game) self.now.question.start }
+        requires done { self.now.status ≡ Status.Shortest number }
+        ensures told { IfOk result (λ moves. IsVerdict (G.game self.now.question.game) self.now.question.rule self.now.question.start self.now.budget (Verdict.Shortest moves)) }
+        ensures kind { IfOk result (λ moves. IsOfStatus self.now.store self.now.budget self.now.status (Verdict.Shortest moves)) }
+    {
+        let moves = self.moves_to(number)?;
+        Ok(moves)
     }
 
     // The answer where the class with this number is won.
@@ -138,9 +174,9 @@ impl<F: Frontier + Drop, G: Game + Drop> Search<F, G> {
         requires fits { IsPositionOf (G.game self.now.question.game) self.now.question.start }
         requires done { self.now.status ≡ Status.Shortest number }
         ensures answers { IfOk result (Answers (G.game self.now.question.game) self.now.question.rule self.now.question.start self.now.budget) }
-        ensures kind { IfOk result (IsOfStatus self.now.store self.now.budget self.now.status) }
+        ensures kind { IfOk result (λ answer. IsOfStatus self.now.store self.now.budget self.now.status (verdict_of answer)) }
     {
-        let moves = self.moves_to(number)?;
+        let moves = self.shortest_list(number)?;
         let table = self.table_below(moves.len())?;
         Ok(Answer::Shortest(moves, table))
     }
@@ -153,7 +189,7 @@ impl<F: Frontier + Drop, G: Game + Drop> Search<F, G> {
         requires fits { IsPositionOf (G.game self.now.question.game) self.now.question.start }
         requires done { self.now.status ≡ Status.CannotWin }
         ensures answers { IfOk result (Answers (G.game self.now.question.game) self.now.question.rule self.now.question.start self.now.budget) }
-        ensures kind { IfOk result (IsOfStatus self.now.store self.now.budget self.now.status) }
+        ensures kind { IfOk result (λ answer. IsOfStatus self.now.store self.now.budget self.now.status (verdict_of answer)) }
     {
         Ok(Answer::CannotWin(self.table_of_all()?))
     }
@@ -174,11 +210,34 @@ pub fn solve<G: Game + Drop>(
     requires rule { rule ≤ 2 }
     requires fits { Fits (G.game game.now).cells position.now }
     ensures answers { IfOk result (Answers (G.game game.now) rule position.now budget) }
-    ensures ran { IfOk result (IsRunToEnd (G.game game.now) rule position.now budget) }
+    ensures ran { IfOk result (λ answer. IsRunToEnd (G.game game.now) rule position.now budget (verdict_of answer)) }
     ensures range { OnOk result ((1 ≤ budget) × (budget ≤ 4000000)) }
     ensures fault { IfErr result (λ f. ((f ≡ SearchFault.Budget) × ((budget < 1) ⊎ (4000000 < budget))) ⊎ ((f ≡ SearchFault.Memory) × (1 ≤ budget) × (budget ≤ 4000000))) }
 {
     let mut search: Search<BucketFrontier, G> = Search::new(alloc, game, rule, position, budget)?;
     search.run()?;
     search.answer()
+}
+
+/// The verdict of such a search, as `solve` gives its answer, with no table made.
+///
+/// # Errors
+/// `Budget` outside that range, before any memory is asked for; `Memory` where a growth was refused.
+pub fn decide<G: Game + Drop>(
+    alloc: Global,
+    game: &G,
+    rule: u8,
+    position: &Position,
+    budget: u32,
+) -> Result<Verdict, SearchFault>
+    requires rule { rule ≤ 2 }
+    requires fits { Fits (G.game game.now).cells position.now }
+    ensures told { IfOk result (IsVerdict (G.game game.now) rule position.now budget) }
+    ensures ran { IfOk result (IsRunToEnd (G.game game.now) rule position.now budget) }
+    ensures range { OnOk result ((1 ≤ budget) × (budget ≤ 4000000)) }
+    ensures fault { IfErr result (λ f. ((f ≡ SearchFault.Budget) × ((budget < 1) ⊎ (4000000 < budget))) ⊎ ((f ≡ SearchFault.Memory) × (1 ≤ budget) × (budget ≤ 4000000))) }
+{
+    let mut open: Search<BucketFrontier, G> = Search::new(alloc, game, rule, position, budget)?;
+    open.run()?;
+    open.verdict()
 }

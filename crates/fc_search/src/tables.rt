@@ -1,14 +1,15 @@
 //! The table that backs the answer of a search that is done.
 
-ghost use Rattle.std.specs.Prelude.{◌≡◌, ◌≤◌, IfOk};
+ghost use Rattle.std.specs.Prelude.{◌≡◌, ◌≤◌, length, IfOk};
 ghost use Rattle.std.specs.List.Sorted.{IsPermutation};
 ghost use Rattle.fc_best_first.specs.Kept.{IsSound};
 ghost use Rattle.fc_classes.specs.Classes.{classes};
-ghost use Rattle.fc_search.specs.Table.{inside, at_no_cost, costs_of};
+ghost use Rattle.fc_answers.specs.Table.{IsRising, inside, at_no_cost};
+ghost use Rattle.fc_search.specs.Stored.{costs_of};
 ghost use Rattle.fc_bound.specs.Bound.{bound};
 
-use crate::answers::{Row, Table};
 use crate::searches::Search;
+use fc_answers::{Row, Table};
 use fc_best_first::Space;
 use fc_frontier::Frontier;
 use fc_moves::Game;
@@ -20,7 +21,10 @@ impl<F: Frontier + Drop, G: Game + Drop> Search<F, G> {
         requires sound { IsSound (classes bound (G.game self.now.question.game) self.now.question.rule self.now.question.start) self.now.budget self.now.store }
         requires most { self.now.budget ≤ 4000000 }
         ensures rule { IfOk result (λ table. table.rule ≡ self.now.question.rule) }
+        ensures known { IfOk result (λ table. table.rule ≤ 2) }
+        ensures few { IfOk result (λ table. length table.rows ≤ 4000000) }
         ensures rows { IfOk result (λ table. IsPermutation (inside n (costs_of self.now.store)) table.rows) }
+        ensures rising { IfOk result (λ table. IsRising table.rows) }
     {
         let mut rows = Vec::new(self.alloc);
         for number in 0..self.search.len() as u32 {
@@ -41,7 +45,10 @@ impl<F: Frontier + Drop, G: Game + Drop> Search<F, G> {
         requires sound { IsSound (classes bound (G.game self.now.question.game) self.now.question.rule self.now.question.start) self.now.budget self.now.store }
         requires most { self.now.budget ≤ 4000000 }
         ensures rule { IfOk result (λ table. table.rule ≡ self.now.question.rule) }
+        ensures known { IfOk result (λ table. table.rule ≤ 2) }
+        ensures few { IfOk result (λ table. length table.rows ≤ 4000000) }
         ensures rows { IfOk result (λ table. IsPermutation (at_no_cost (costs_of self.now.store)) table.rows) }
+        ensures rising { IfOk result (λ table. IsRising table.rows) }
     {
         let mut rows = Vec::new(self.alloc);
         for number in 0..self.search.len() as u32 {

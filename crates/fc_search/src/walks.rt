@@ -15,14 +15,14 @@ ghost use Rattle.fc_classes.specs.Classes.{classes};
 ghost use Rattle.fc_search.specs.Walk.{IsStart, IsWay, IsAtClass, LeadsWithin};
 ghost use Rattle.fc_bound.specs.Bound.{bound};
 
-use crate::answers::MoveList;
+use crate::positions::Positions;
 use crate::searches::Search;
+use fc_answers::MoveList;
 use fc_classes::ClassKey;
 use fc_frontier::Frontier;
 use fc_home::settle;
 use fc_moves::{Game, Move, apply, moves};
 use fc_position::Position;
-use fc_space::Positions;
 use std::alloc::AllocError;
 
 impl<F: Frontier + Drop, G: Game + Drop> Search<F, G> {

@@ -4,9 +4,11 @@ use Rattle.fc_best_first.specs.Graph.{Reached}
 use Rattle.fc_bound.specs.Bound.{bound}
 use Rattle.fc_classes.specs.Classes.{classes}
 use Rattle.fc_canonical.specs.Spelled.{spelled}
-use Rattle.fc_search.specs.declared.answers.Row.{Row}
-use Rattle.fc_search.specs.Table.{inside, costs_of, pairs_of, HaveKeysOnce}
-use Rattle.fc_search.proofs.RowLemmas.{listed, passed_over, inside_few, stored_once, inside_once, looked, stored_long}
+use Rattle.fc_answers.specs.declared.tables.Row.{Row}
+use Rattle.fc_answers.specs.Table.{inside, pairs_of, HaveKeysOnce}
+use Rattle.fc_search.specs.Stored.{costs_of}
+use Rattle.fc_answers.proofs.RowLemmas.{inside_few, inside_once}
+use Rattle.fc_search.proofs.RowLemmas.{listed, passed_over, stored_once, looked, stored_long}
 use Rattle.fc_search.proofs.searches.Search.table_below.Goals as goal
 use Rattle.fc_search.proofs.searches.Search.table_below.Goals.{then-mark-from+in_ok-push, else-mark-from}
 
