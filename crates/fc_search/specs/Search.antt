@@ -1,5 +1,5 @@
 -- A search of a position's classes as a whole: how it begins, runs and is answered.
-use Rattle.std.specs.Prelude.{◌≡◌, ℕ, List, length}
+use Rattle.std.specs.Prelude.{◌≡◌, ℕ, ◌<◌, ◌≤◌, ◌⊎◌, List, length}
 use Rattle.fc_position.specs.Board.{Board}
 use Rattle.fc_moves.specs.GameRules.{GameRules}
 use Rattle.fc_best_first.specs.declared.books.Mark.{Mark}
@@ -7,6 +7,7 @@ use Rattle.fc_best_first.specs.declared.turns.Status.{Status}
 use Rattle.fc_best_first.specs.declared.turns.Status.TheVariants.{Running, Shortest, CannotWin, GaveUp, Stopped}
 use Rattle.fc_best_first.specs.declared.searches.SearchFault.{SearchFault}
 use Rattle.fc_best_first.specs.declared.searches.SearchFault.TheVariants as fault
+use Rattle.fc_best_first.specs.Graph.{Graph}
 use Rattle.fc_best_first.specs.Search.{Begins, Runs}
 use Rattle.fc_best_first.specs.Store.{Store, Stands}
 use Rattle.fc_classes.specs.Classes.{classes}
@@ -19,14 +20,18 @@ use Rattle.fc_search.specs.Need.{IsEarned}
 use Rattle.fc_bound.specs.Bound.{bound}
 
 -- a question: by how few moves of the game a list wins from the start, searched under a home rule
-pub record Question (G : Type 0) : Type 0 where
-  pub game : G
+pub record Question : Type 0 where
+  pub game : GameRules
   pub rule : ℕ
   pub start : Board
 
+-- the graph of classes that a question is searched in
+abbrev pub classes_of : Question → Graph (List ℕ)
+classes_of q = classes bound q.game q.rule q.start
+
 -- where a search stands: its question, its budget, what it stores and has open, and its status
-pub record State (G : Type 0) : Type 0 where
-  pub question : Question G
+pub record State : Type 0 where
+  pub question : Question
   pub budget : ℕ
   pub store : Store (List ℕ)
   pub status : Status (List ℕ)
@@ -51,6 +56,13 @@ pub record Answers (g : GameRules) (rule : ℕ) (b : Board) (budget : ℕ) (answ
   pub told : IsVerdict g rule b budget (verdict_of answer)
   pub backed : IsBacked g b answer
   pub ruled : IsByRule rule answer
+
+-- why a search isn't begun: the budget is out of range; or it is in range, and a growth was refused
+abbrev pub IsRefused : ℕ → SearchFault → Type 0
+IsRefused budget fault.Budget = (budget < 1) ⊎ (4000000 < budget)
+IsRefused budget fault.Memory = (1 ≤ budget) × (budget ≤ 4000000)
+IsRefused budget fault.Stopped = ⊥
+IsRefused budget fault.NotDone = ⊥
 
 -- why a search isn't answered: it is still running, it was stopped, or it is done and a growth was refused
 abbrev pub IsUnanswered : Status (List ℕ) → SearchFault → Type 0

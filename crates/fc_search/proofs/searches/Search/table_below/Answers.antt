@@ -17,7 +17,7 @@ bound-bound-requires g c =
     let key = c.at.result.0.now in
     let cost = c.at.result.1.cost in
     let reached = c.requires.sound.reached c.loop-number.number key c.at.result.1 c.at.ensures.stands in
-    let inner = subst (λ s. Reached (classes bound (g.G.Game.game s.question.game) s.question.rule s.question.start) key cost)
+    let inner = subst (λ s. Reached (classes bound s.question.game s.question.rule s.question.start) key cost)
     (sym c.self.view_is) reached in
     record {
       reached = (
@@ -68,7 +68,7 @@ sorted-requires-clause-once g c =
     let same = c.loop-number.invariant ∙ ap (inside c.args.n) (looked store c.loop-number.number past) in
     subst HaveKeysOnce (sym same)
     (inside_once c.args.n (costs_of store)
-    (stored_once (classes bound (g.G.Game.game c.args.self.now.question.game) c.args.self.now.question.rule c.args.self.now.question.start)
+    (stored_once (classes bound c.args.self.now.question.game c.args.self.now.question.rule c.args.self.now.question.start)
     c.args.self.now.budget store c.requires.sound))
 
 pub returns-clause-rows : goal.returns-clause-rows

@@ -38,7 +38,7 @@ sorted-requires-clause-once g c =
     let same = c.loop-number.invariant ∙ ap at_no_cost (looked store c.loop-number.number past) in
     subst HaveKeysOnce (sym same)
     (no_cost_once (costs_of store)
-    (stored_once (classes bound (g.G.Game.game c.args.self.now.question.game) c.args.self.now.question.rule c.args.self.now.question.start)
+    (stored_once (classes bound c.args.self.now.question.game c.args.self.now.question.rule c.args.self.now.question.start)
     c.args.self.now.budget store c.requires.sound))
 
 pub returns-clause-rows : goal.returns-clause-rows

@@ -15,7 +15,7 @@ returns-in-CannotWin-clause-told g c =
     let stands : inner.status ≡ status.CannotWin = sym c.status.ensures.value ∙ c.in-CannotWin.is in
     let told = cannot_win_verdict (g.G.Game.game inner.space.game) inner.space.rule inner.space.start inner.budget inner.store
     inner.space.fits (subst (Shows graph inner.budget inner.store) stands c.status.ensures.shows) in
-    subst (λ s. IsVerdict (g.G.Game.game s.question.game) s.question.rule s.question.start s.budget verdict.CannotWin)
+    subst (λ s. IsVerdict s.question.game s.question.rule s.question.start s.budget verdict.CannotWin)
     c.self.view_is told
 
 pub returns-in-GaveUp-clause-told : goal.returns-in-GaveUp-clause-told
@@ -26,10 +26,10 @@ returns-in-GaveUp-clause-told g c =
     let told = gave_up_verdict (g.G.Game.game inner.space.game) inner.space.rule inner.space.start inner.budget inner.store
     inner.space.fits c.in-GaveUp.field-0 c.in-GaveUp.field-1 c.budget.result
     (subst (Shows graph inner.budget inner.store) stands c.status.ensures.shows) c.budget.ensures.value in
-    subst (λ s. IsVerdict (g.G.Game.game s.question.game) s.question.rule s.question.start s.budget (verdict.GaveUp c.budget.result))
+    subst (λ s. IsVerdict s.question.game s.question.rule s.question.start s.budget (verdict.GaveUp c.budget.result))
     c.self.view_is told
 
 pub shortest_list-requires-clause-shown : goal.shortest_list-requires-clause-shown
 shortest_list-requires-clause-shown g c =
-    subst (λ s. Shows (classes bound (g.G.Game.game s.question.game) s.question.rule s.question.start) s.budget s.store s.status)
+    subst (λ s. Shows (classes bound s.question.game s.question.rule s.question.start) s.budget s.store s.status)
     c.self.view_is c.status.ensures.shows
