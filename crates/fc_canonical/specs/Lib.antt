@@ -1,6 +1,7 @@
 pub mod Class
 pub mod Distinct
 pub mod Key
+pub mod KeyOrder
 pub mod Laws
 pub mod Moved
 pub mod Order

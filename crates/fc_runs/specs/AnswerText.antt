@@ -3,8 +3,8 @@ use Rattle.std.specs.Prelude.{ℕ, List, ◌++◌, length, map, codes, decimal}
 use Rattle.std.specs.List.{join_with_byte}
 use Rattle.fc_moves.specs.declared.steps.Move.{Move}
 use Rattle.fc_moves.specs.MoveText.{move_text}
-use Rattle.fc_search.specs.declared.answers.Answer.{Answer}
-use Rattle.fc_search.specs.declared.answers.Answer.TheVariants.{Shortest, CannotWin, GaveUp}
+use Rattle.fc_answers.specs.declared.answers.Verdict.{Verdict}
+use Rattle.fc_answers.specs.declared.answers.Verdict.TheVariants.{Shortest, CannotWin, GaveUp}
 
 -- the texts of moves, with a blank between two
 abbrev pub list_text : List Move → List ℕ
@@ -19,13 +19,13 @@ abbrev pub gave_up_text : ℕ → List ℕ
 gave_up_text budget = codes "gave up " ++ decimal budget ++ codes "\n"
 
 -- what is printed
-abbrev pub answer_text : Answer → List ℕ
-answer_text (Shortest moves table) = shortest_text moves
-answer_text (CannotWin table) = codes "can't be won\n"
+abbrev pub answer_text : Verdict → List ℕ
+answer_text (Shortest moves) = shortest_text moves
+answer_text CannotWin = codes "can't be won\n"
 answer_text (GaveUp budget) = gave_up_text budget
 
 -- the exit status that goes with it
-abbrev pub status_of : Answer → ℕ
-status_of (Shortest moves table) = 0
-status_of (CannotWin table) = 1
+abbrev pub status_of : Verdict → ℕ
+status_of (Shortest moves) = 0
+status_of CannotWin = 1
 status_of (GaveUp budget) = 2

@@ -12,8 +12,8 @@ use Rattle.fc_replay.specs.declared.faults.ReplayFault.{ReplayFault}
 use Rattle.fc_replay.specs.declared.faults.ReplayFault.TheVariants.{BadMove, NotAllowed, Write as unwritten}
 use Rattle.fc_replay.specs.Played.{Replays}
 use Rattle.fc_replay.specs.Token.{move_tokens}
-use Rattle.fc_search.specs.declared.answers.Answer.{Answer}
-use Rattle.fc_search.specs.Search.{Answers, IsRunToEnd}
+use Rattle.fc_answers.specs.declared.answers.Verdict.{Verdict}
+use Rattle.fc_search.specs.Search.{IsVerdict, IsRunToEnd}
 use Rattle.fc_runs.specs.declared.faults.Input.TheVariants.{Board as of_board, Moves as of_moves}
 use Rattle.fc_runs.specs.declared.faults.Output.TheVariants.{Answer as of_answer}
 use Rattle.fc_runs.specs.declared.faults.ProgramFault.{ProgramFault}
@@ -50,29 +50,28 @@ pub record GivesFault (n : ℕ) (source : Device) (fault : BoardFault) : Type 0 
   pub given : GivesText source text
   pub here : IsBoardFault n text fault
 
--- solving was answered: the budget is one, the source gave the text of a position, and the sink took the text of an
--- answer that is right for it and backed, of a search by the home rule that ran to its end within the budget, and whose
--- status is told
+-- solving was answered: the budget is one, the source gave the text of a position, and the sink took the text of a
+-- verdict that is right for it, of a search by the home rule that ran to its end within the budget, and whose status is told
 pub record IsSolved (g : GameRules) (rule : ℕ) (budget : ℕ) (source sink : Device) (status : ℕ) : Type 0 where
   pub budgeted : IsBudget budget
   pub start : Board
   pub given : GivesBoard g.cells source start
-  pub answer : Answer
-  pub answers : Answers g rule start budget answer
-  pub ran : IsRunToEnd g rule start budget answer
-  pub written : Takes sink.old sink.new (answer_text answer)
+  pub verdict : Verdict
+  pub right : IsVerdict g rule start budget verdict
+  pub ran : IsRunToEnd g rule start budget verdict
+  pub written : Takes sink.old sink.new (answer_text verdict)
   pub sound : IsTrue sink.failed → ⊥
-  pub told : status ≡ status_of answer
+  pub told : status ≡ status_of verdict
 
--- the sink failed while it was given the text of an answer that is right for the position that the source gave, of a
+-- the sink failed while it was given the text of a verdict that is right for the position that the source gave, of a
 -- search that ran to its end within the budget
 pub record IsUnwritten (g : GameRules) (rule : ℕ) (budget : ℕ) (source sink : Device) : Type 0 where
   pub start : Board
   pub given : GivesBoard g.cells source start
-  pub answer : Answer
-  pub answers : Answers g rule start budget answer
-  pub ran : IsRunToEnd g rule start budget answer
-  pub front : TakesFront sink.old sink.new (answer_text answer)
+  pub verdict : Verdict
+  pub right : IsVerdict g rule start budget verdict
+  pub ran : IsRunToEnd g rule start budget verdict
+  pub front : TakesFront sink.old sink.new (answer_text verdict)
   pub failed : IsTrue sink.failed
 
 -- why solving was not answered, each fault only where those before it have no cause; before the last one nothing was

@@ -1,38 +1,38 @@
-//! How an answer is printed, and the exit status that goes with it.
+//! How a verdict is printed, and the exit status that goes with it.
 
 ghost use Rattle.std.specs.Prelude.{◌≡◌, ◌++◌, IfOk, OnOk, All};
 ghost use Rattle.fc_moves.specs.MoveText.{HasText};
-ghost use Rattle.fc_search.specs.Answer.{CanBeWritten};
+ghost use Rattle.fc_answers.specs.Verdict.{CanBeWritten};
 ghost use Rattle.fc_runs.specs.AnswerText.{answer_text, list_text, shortest_text, gave_up_text, status_of};
 
 use fc_moves::{Move, move_text};
-use fc_search::Answer;
+use fc_search::Verdict;
 use itoa::Buffer;
 use std::alloc::{AllocError, Global};
 
-/// The lines that tell an answer: `shortest N` and the moves, `can't be won`, or `gave up B`.
+/// The lines that tell a verdict: `shortest N` and the moves, `can't be won`, or `gave up B`.
 ///
 /// # Errors
 /// A growth of memory was refused.
-pub fn answer_text(alloc: Global, answer: &Answer) -> Result<Vec<u8>, AllocError>
-    requires texts { CanBeWritten answer.now }
-    ensures text { IfOk result (λ t. t.items ≡ answer_text answer.now) }
+pub fn answer_text(alloc: Global, verdict: &Verdict) -> Result<Vec<u8>, AllocError>
+    requires texts { CanBeWritten verdict.now }
+    ensures text { IfOk result (λ t. t.items ≡ answer_text verdict.now) }
 {
-    match answer {
-        Answer::Shortest(moves, _) => shortest_text(alloc, moves.as_slice()),
-        Answer::CannotWin(_) => Vec::from_slice(alloc, b"can't be won\n"),
-        Answer::GaveUp(budget) => gave_up_text(alloc, *budget),
+    match verdict {
+        Verdict::Shortest(moves) => shortest_text(alloc, moves.as_slice()),
+        Verdict::CannotWin => Vec::from_slice(alloc, b"can't be won\n"),
+        Verdict::GaveUp(budget) => gave_up_text(alloc, *budget),
     }
 }
 
-/// The exit status that tells an answer: 0 for moves, 1 where no list wins, 2 on giving up.
-pub fn status_of(answer: &Answer) -> u8
-    ensures value { result ≡ status_of answer.now }
+/// The exit status that tells a verdict: 0 for moves, 1 where no list wins, 2 on giving up.
+pub fn status_of(verdict: &Verdict) -> u8
+    ensures value { result ≡ status_of verdict.now }
 {
-    match answer {
-        Answer::Shortest(_, _) => 0,
-        Answer::CannotWin(_) => 1,
-        Answer::GaveUp(_) => 2,
+    match verdict {
+        Verdict::Shortest(_) => 0,
+        Verdict::CannotWin => 1,
+        Verdict::GaveUp(_) => 2,
     }
 }
 

@@ -12,7 +12,7 @@ use fc_io::{ReadFault, Sink, Source, read_to_vec, read_up_to, write_all};
 use fc_moves::Game;
 use fc_position::Position;
 use fc_replay::{ReplayFault, replay};
-use fc_search::{MOST_BUDGET, solve};
+use fc_search::{MOST_BUDGET, decide};
 use fc_text::read_board;
 use std::alloc::Global;
 
@@ -50,12 +50,12 @@ pub fn run_solve<G: Game + Drop, S: Source, K: Sink>(
         return Err(ProgramFault::Budget);
     }
     let start = read_position(board, game.cells())?;
-    let Ok(answer) = solve(alloc, game, rule, &start, budget) else {
+    let Ok(verdict) = decide(alloc, game, rule, &start, budget) else {
         return Err(ProgramFault::Memory);
     };
-    let text = answer_text(alloc, &answer)?;
+    let text = answer_text(alloc, &verdict)?;
     match write_all(out, text.as_slice()) {
-        Ok(()) => Ok(status_of(&answer)),
+        Ok(()) => Ok(status_of(&verdict)),
         Err(_) => Err(ProgramFault::Write(Output::Answer)),
     }
 }

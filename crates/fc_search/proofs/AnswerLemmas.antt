@@ -1,14 +1,11 @@
--- What a search that is done holds makes its answer right, and its table backs it.
-use Rattle.std.proofs.Common.{◌≡◌, ℕ, zero, suc, ◌+◌, ◌<◌, ◌≤◌, true, List, [], ◌∷◌, length, refl, sym, ◌∙◌, ap, subst, arith}
-use Rattle.std.specs.Prelude.{All, Contains, nat_lt}
+-- What a search that is done holds makes its verdict right, and its table backs it.
+use Rattle.std.proofs.Common.{◌≡◌, ℕ, zero, suc, ◌+◌, ◌<◌, ◌≤◌, List, [], ◌∷◌, length, refl, sym, ◌∙◌, ap, subst, arith}
+use Rattle.std.specs.Prelude.{All, Contains}
 use Rattle.std.specs.List.Sorted.{IsPermutation}
-use Rattle.std.proofs.lemmas.Bool.Decides.{nat_tests}
-use Rattle.std.proofs.lemmas.List.Elements.{Contains-append_right}
 use Rattle.std.proofs.lemmas.List.Sorted.{IsPermutation-sym, Contains-permutation}
 use Rattle.fc_position.specs.Board.{Board}
 use Rattle.fc_position.specs.Position.{IsWon}
 use Rattle.fc_moves.specs.declared.steps.Move.{Move}
-use Rattle.fc_moves.specs.GameLaws.{Contains-filter, Contains-from_filter}
 use Rattle.fc_moves.specs.GameRules.{GameRules, IsPositionOf}
 use Rattle.fc_moves.specs.MoveText.{HasText}
 use Rattle.fc_moves.specs.Run.{Run, Wins}
@@ -27,9 +24,12 @@ use Rattle.fc_tables.specs.Table.{as_boards}
 use Rattle.fc_canonical.specs.Spelled.{spelled}
 use Rattle.fc_classes.proofs.PathLemmas.{reached_of_positions}
 use Rattle.fc_classes.proofs.TableLemmas.{board_listed, key_listed, closed_board}
-use Rattle.fc_search.specs.declared.answers.Answer.TheVariants.{Shortest, CannotWin, GaveUp}
-use Rattle.fc_search.specs.Search.{Answers}
-use Rattle.fc_search.specs.Table.{Listing, inside, at_no_cost, costs_of}
+use Rattle.fc_answers.specs.declared.answers.Verdict.TheVariants.{Shortest, CannotWin, GaveUp}
+use Rattle.fc_search.specs.Search.{IsVerdict}
+use Rattle.fc_answers.specs.Answer.{IsBackedBelow, IsBackedWhole}
+use Rattle.fc_answers.specs.Table.{Listing, IsRising, inside, at_no_cost}
+use Rattle.fc_answers.proofs.RowLemmas.{free_listed, freely_listed, inside_listed, listed_inside}
+use Rattle.fc_search.specs.Stored.{costs_of}
 use Rattle.fc_search.specs.Walk.{IsAtClass}
 use Rattle.fc_search.proofs.NeedLemmas.{needs_more, needs_reach}
 use Rattle.fc_tables.proofs.BoundLemmas.{bound_lower}
@@ -41,42 +41,12 @@ run_texts g b c (m ∷ ms) p (mid, step, rest) zero d lt = allowed_has_text g b 
 run_texts g b c (m ∷ ms) p (mid, step, rest) (suc k) d lt =
     run_texts g mid c ms (step_keeps g b mid m p step) rest k d (omega (arith, lt))
 
--- a pair that is listed at no cost is listed at some cost
-free_listed : (table : List (List ℕ × ℕ)) (e : List ℕ × ℕ) → Contains (at_no_cost table) e
-    → ((cost : ℕ) × Contains table (e.0, cost)) × (e.1 ≡ 0)
-free_listed [] e (k, lt, same) = absurd (omega (arith, lt))
-free_listed (f ∷ table) e (zero, lt, same) =
-    ((f.1, subst (λ x. Contains (f ∷ table) (x, f.1)) (ap (λ p. p.0) same) (0, omega arith, refl)), sym (ap (λ p. p.1) same))
-free_listed (f ∷ table) e (suc k, lt, same) =
-    let rest = free_listed table e (k, omega (arith, lt), same) in
-    ((rest.0.0, Contains-append_right (f ∷ []) table (e.0, rest.0.0) rest.0.1), rest.1)
-
-listed_free : (table : List (List ℕ × ℕ)) (x : List ℕ) (cost : ℕ) → Contains table (x, cost) → Contains (at_no_cost table) (x, 0)
-listed_free [] x cost (k, lt, same) = absurd (omega (arith, lt))
-listed_free (f ∷ table) x cost (zero, lt, same) = (0, omega arith, ap (λ p. (p.0, 0)) same)
-listed_free (f ∷ table) x cost (suc k, lt, same) =
-    Contains-append_right ((f.0, 0) ∷ []) (at_no_cost table) (x, 0) (listed_free table x cost (k, omega (arith, lt), same))
-
--- what is inside n is listed, and its cost and bound are below n
-inside_listed : (n : ℕ) (table : List (List ℕ × ℕ)) (e : List ℕ × ℕ) → Contains (inside n table) e
-    → Contains table e × (e.1 + bound (spelled e.0) < n)
-inside_listed n table e there =
-    let kept = Contains-from_filter (λ f. nat_lt (f.1 + bound (spelled f.0)) n) table e there in
-    let test : nat_lt (e.1 + bound (spelled e.0)) n ≡ true = kept.1 in
-    (kept.0, grind (arith, nat_tests))
-
-listed_inside : (n : ℕ) (table : List (List ℕ × ℕ)) (e : List ℕ × ℕ) → Contains table e → e.1 + bound (spelled e.0) < n
-    → Contains (inside n table) e
-listed_inside n table e there below =
-    let test : nat_lt (e.1 + bound (spelled e.0)) n ≡ true = grind (arith, nat_tests) in
-    Contains-filter (λ f. nat_lt (f.1 + bound (spelled f.0)) n) table e there test
-
 module _ (g : GameRules) (rule : ℕ) (p : Board) (budget : ℕ) (s : Store (List ℕ)) (pp : IsPositionOf g p) where
-  -- the answer of a search that found no way to win
-  pub cannot_win_answers : (table : Listing) → IsExhausted (classes bound g rule p) budget s
-      → Shows (classes bound g rule p) budget s status.CannotWin → table.rule ≡ rule
-      → IsPermutation (at_no_cost (costs_of s)) table.rows → Answers g rule p budget (CannotWin table)
-  cannot_win_answers table (sound, done) none ruled moved =
+  -- the table of a search that found no way to win shows that there is none
+  pub backed_whole : (table : Listing) → IsExhausted (classes bound g rule p) budget s → table.rule ≡ rule → table.rule ≤ 2
+      → length table.rows ≤ 4000000 → IsRising table.rows → IsPermutation (at_no_cost (costs_of s)) table.rows
+      → IsBackedWhole g p table
+  backed_whole table (sound, done) ruled known few rising moved =
       let closed = λ (n : ℕ). closed_inside (classes bound g rule p) budget s n sound (λ i x m at lt. done i x m at) in
       let back = IsPermutation-sym (at_no_cost (costs_of s)) table.rows moved in
       let all = inside_all bound g rule p (as_boards (costs_of s)) (λ n. closed_board bound g rule p n (costs_of s) bound_lower pp (closed n)) in
@@ -94,19 +64,18 @@ module _ (g : GameRules) (rule : ℕ) (p : Board) (budget : ℕ) (s : Store (Lis
           0,
           subst (λ b. Contains (as_boards table.rows) (b, 0)) (sym (ap (λ e. e.0) key.3))
               (board_listed table.rows key.0 0 (Contains-permutation (at_no_cost (costs_of s)) table.rows (key.0, 0) moved
-              (listed_free (costs_of s) key.0 key.1 key.2))),
+              (freely_listed (costs_of s) key.0 key.1 key.2))),
         ),
       )) in record {
-        right = λ ms wins. none (length ms) (ms, refl, wins);
-        backed = (
-          subst (λ r. boards.IsClosed g r p (as_boards table.rows)) (sym ruled) own,
-          λ e there. let at = (free e there).0 in
-              (reached_of_positions bound g rule p e.0 at.0 pp ((closed 0).reached e.0 at.0 at.1)).0,
-          λ e there. (free e there).1,
-        );
-        ruled = ruled;
-        earned = tt;
-        written = tt;
+        listed = record {
+          known = known;
+          few = few;
+          rising = rising;
+          classes = λ e there. let at = (free e there).0 in
+              (reached_of_positions bound g rule p e.0 at.0 pp ((closed 0).reached e.0 at.0 at.1)).0;
+        };
+        closed = subst (λ r. boards.IsClosed g r p (as_boards table.rows)) (sym ruled) own;
+        free = λ e there. (free e there).1;
       }
 
   -- a list to the won class has as many moves as it costs, and is a shortest one
@@ -129,16 +98,31 @@ module _ (g : GameRules) (rule : ℕ) (p : Board) (budget : ℕ) (s : Store (Lis
         λ others w. let far = least (length others) (others, refl, w) in omega (arith, far, long),
       )
 
-  -- the answer of a search that found a shortest list
-  pub shortest_answers : (number : ℕ) (ms : List Move) (b : Board) (table : Listing) → budget ≤ 4000000
+  -- the verdict of a search that found a shortest list
+  pub shortest_verdict : (number : ℕ) (ms : List Move) (b : Board) → budget ≤ 4000000
       → IsFound (classes bound g rule p) budget s number → Shows (classes bound g rule p) budget s (status.Shortest number)
-      → IsAtClass g s p number ms b → table.rule ≡ rule → IsPermutation (inside (length ms) (costs_of s)) table.rows
-      → Answers g rule p budget (Shortest ms table)
-  shortest_answers number ms b table few (sound, (w, wmark, wat, wwon, done)) shows walked ruled moved =
+      → IsAtClass g s p number ms b → IsVerdict g rule p budget (Shortest ms)
+  shortest_verdict number ms b few (sound, found) shows walked =
+      let won = won_length number ms b (sound, found) shows walked in
+      let low = sound.low number won.0 won.1 won.2 in
+      let inside_store = stands_within s number won.0 won.1 won.2 in
+      let room = sound.room in
+      let run = walked.3 in
+      let cost = won.3 in record {
+        right = record { wins = won.4; least = won.5 };
+        earned = tt;
+        written = (run_texts g p b ms pp run, omega (arith, low, inside_store, room, few, cost));
+      }
+
+  -- the table of a search that found a shortest list shows that none is shorter
+  pub backed_below : (number : ℕ) (ms : List Move) (table : Listing) → IsFound (classes bound g rule p) budget s number
+      → (x : List ℕ) (mark : Mark) → Stands s number x mark → length ms ≡ mark.cost → table.rule ≡ rule → table.rule ≤ 2
+      → length table.rows ≤ 4000000 → IsRising table.rows → IsPermutation (inside (length ms) (costs_of s)) table.rows
+      → IsBackedBelow g p (length ms) table
+  backed_below number ms table (sound, (w, wmark, wat, wwon, done)) x mark at long ruled known few rising moved =
       let n = length ms in
-      let won = won_length number ms b (sound, (w, wmark, wat, wwon, done)) shows walked in
-      let one = same_entry s number won.0 w won.1 wmark won.2 wat in
-      let cost : n ≡ wmark.cost = won.3 ∙ ap (λ m. m.cost) one.1 in
+      let one = same_entry s number x w mark wmark at wat in
+      let cost : n ≡ wmark.cost = long ∙ ap (λ m. m.cost) one.1 in
       let closed = closed_inside (classes bound g rule p) budget s n sound
       (λ i y m at lt. done i y m at (omega (arith, lt, cost))) in
       let back = IsPermutation-sym (inside n (costs_of s)) table.rows moved in
@@ -157,31 +141,32 @@ module _ (g : GameRules) (rule : ℕ) (p : Board) (budget : ℕ) (s : Store (Lis
             subst (Contains (as_boards table.rows)) (sym same)
             (board_listed table.rows key.0 key.1 (Contains-permutation (inside n (costs_of s)) table.rows (key.0, key.1) moved
             (listed_inside n (costs_of s) (key.0, key.1) key.2 (subst (λ f. f.1 + bound f.0 < n) same below)))),
-      )) in
-      let low = sound.low number w wmark wat in
-      let inside_store = stands_within s number w wmark wat in
-      let room = sound.room in
-      let run = walked.3 in record {
-        right = record { wins = won.4; least = won.5 };
-        backed = (
-          subst (λ r. boards.IsClosedBelow bound g r p n (as_boards table.rows)) (sym ruled) own,
-          λ e there. let at = within e there in
-              (reached_of_positions bound g rule p e.0 e.1 pp (closed.reached e.0 e.1 at.0)).0,
-          λ e there. (within e there).1,
-        );
-        ruled = ruled;
-        earned = tt;
-        written = (run_texts g p b ms pp run, omega (arith, low, inside_store, room, few, cost));
+      )) in record {
+        listed = record {
+          known = known;
+          few = few;
+          rising = rising;
+          classes = λ e there. let at = within e there in
+              (reached_of_positions bound g rule p e.0 e.1 pp (closed.reached e.0 e.1 at.0)).0;
+        };
+        closed = subst (λ r. boards.IsClosedBelow bound g r p n (as_boards table.rows)) (sym ruled) own;
+        below = λ e there. (within e there).1;
       }
 
-  -- the answer of a search that gave up
-  pub gave_up_answers : (y : List ℕ) (number told : ℕ) → Shows (classes bound g rule p) budget s (status.GaveUp y number)
-      → told ≡ budget → Answers g rule p budget (GaveUp told)
-  gave_up_answers y number told (keys, are) same =
+  -- the verdict of a search that found no way to win
+  pub cannot_win_verdict : Shows (classes bound g rule p) budget s status.CannotWin → IsVerdict g rule p budget CannotWin
+  cannot_win_verdict none = record {
+    right = λ ms wins. none (length ms) (ms, refl, wins);
+    earned = tt;
+    written = tt;
+  }
+
+  -- the verdict of a search that gave up
+  pub gave_up_verdict : (y : List ℕ) (number told : ℕ) → Shows (classes bound g rule p) budget s (status.GaveUp y number)
+      → told ≡ budget → IsVerdict g rule p budget (GaveUp told)
+  gave_up_verdict y number told (keys, are) same =
       let more = needs_more g rule p budget keys pp are in record {
         right = (same, needs_reach g rule p budget more);
-        backed = tt;
-        ruled = tt;
         earned = more;
         written = tt;
       }

@@ -21,7 +21,7 @@ use Rattle.fc_best_first.specs.Shown.{AreNeeded}
 use Rattle.fc_classes.specs.Classes.{classes}
 use Rattle.fc_canonical.specs.Spelled.{spelled}
 use Rattle.fc_classes.proofs.PathLemmas.{reached_of_positions, reached_run_to, settles_none, run_on}
-use Rattle.fc_search.specs.Answer.{IsNeeded, NeedsMore}
+use Rattle.fc_search.specs.Need.{IsNeeded, NeedsMore}
 use Rattle.fc_search.proofs.WalkLemmas.{key_of_mate}
 use Rattle.fc_bound.specs.Bound.{bound}
 
@@ -37,7 +37,7 @@ board_of : (g : GameRules) (rule : ℕ) (p : Board) (y : List ℕ) → IsPositio
     → Needed g rule p y
 board_of g rule p y pp (inl (d, (q, settles, key))) = record {
   board = q;
-  needed = inl (d, settles);
+  needed = inl (record { count = d; settles = settles });
   key = key;
   position = settles_keep g rule p q d pp settles;
 }
@@ -53,18 +53,18 @@ board_of g rule p y pp (inr (x, d, c, reached, (kw, (m, z, count, step, (q, sett
     let stays = subst (Settles g rule b 0) (settles_none g rule b still.0 still.1) still.1 in
     let alike = class_bound b (spelled x) same in record {
       board = settled.0;
-      needed = inr (
-        before.0,
-        b,
-        there.0,
-        there.1,
-        count,
-        before.3,
-        stays,
-        there.2,
-        settled.1,
-        λ wins w. let most = least (length wins) (wins, refl, w) in let long = before.2 in omega (arith, most, long, alike),
-      );
+      needed = inr (record {
+        moves = before.0;
+        parent = b;
+        led = before.3;
+        settled = stays;
+        step = there.0;
+        child = there.1;
+        stepped = there.2;
+        count = count;
+        settles = settled.1;
+        least = λ wins w. let most = least (length wins) (wins, refl, w) in let long = before.2 in omega (arith, most, long, alike);
+      });
       key = key_of_mate settled.0 q y (class-sym q settled.0 settled.2) key;
       position = settles_keep g rule there.1 settled.0 count (step_keeps g b there.1 there.0 pb there.2) settled.1;
     }
@@ -126,9 +126,14 @@ needs_more g rule p budget keys pp are =
 
 -- a board that is needed can be reached
 needed_reached : (g : GameRules) (rule : ℕ) (p z : Board) → IsNeeded g rule p z → CanReach g p z
-needed_reached g rule p z (inl (count, (ms, long, by))) = (ms, settles_run g rule p z ms by)
-needed_reached g rule p z (inr (ms, x, m, y, count, run, settled, step, (ns, long, by), least)) =
-    (ms ++ m ∷ ns, run_on g p x z ms (m ∷ ns) run (y, step, settles_run g rule y z ns by))
+needed_reached g rule p z (inl first) =
+    let by = first.settles in
+    (by.0, settles_run g rule p z by.0 by.2)
+needed_reached g rule p z (inr next) =
+    let by = next.settles in (
+      next.moves ++ next.step ∷ by.0,
+      run_on g p next.parent z next.moves (next.step ∷ by.0) next.led (next.child, next.stepped, settles_run g rule next.child z by.0 by.2),
+    )
 
 -- so more positions than the budget can be reached
 pub needs_reach : (g : GameRules) (rule : ℕ) (p : Board) (budget : ℕ) → NeedsMore g rule p budget → ReachesMore g p budget

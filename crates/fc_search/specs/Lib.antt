@@ -1,4 +1,5 @@
-pub mod Answer
+pub mod Children
+pub mod Need
 pub mod Search
-pub mod Table
+pub mod Stored
 pub mod Walk

@@ -1,5 +1,5 @@
 -- A search of a position's classes as a whole: how it begins, runs and is answered.
-use Rattle.std.specs.Prelude.{◌≡◌, ℕ, List, length}
+use Rattle.std.specs.Prelude.{◌≡◌, ℕ, ◌<◌, ◌≤◌, ◌⊎◌, List, length}
 use Rattle.fc_position.specs.Board.{Board}
 use Rattle.fc_moves.specs.GameRules.{GameRules}
 use Rattle.fc_best_first.specs.declared.books.Mark.{Mark}
@@ -7,43 +7,62 @@ use Rattle.fc_best_first.specs.declared.turns.Status.{Status}
 use Rattle.fc_best_first.specs.declared.turns.Status.TheVariants.{Running, Shortest, CannotWin, GaveUp, Stopped}
 use Rattle.fc_best_first.specs.declared.searches.SearchFault.{SearchFault}
 use Rattle.fc_best_first.specs.declared.searches.SearchFault.TheVariants as fault
+use Rattle.fc_best_first.specs.Graph.{Graph}
 use Rattle.fc_best_first.specs.Search.{Begins, Runs}
 use Rattle.fc_best_first.specs.Store.{Store, Stands}
 use Rattle.fc_classes.specs.Classes.{classes}
-use Rattle.fc_search.specs.declared.answers.Answer.{Answer}
-use Rattle.fc_search.specs.declared.answers.Answer.TheVariants as answer
-use Rattle.fc_search.specs.Answer.{IsRight, IsBacked, IsByRule, IsEarned, CanBeWritten}
+use Rattle.fc_answers.specs.declared.answers.Answer.{Answer}
+use Rattle.fc_answers.specs.declared.answers.Verdict.{Verdict}
+use Rattle.fc_answers.specs.declared.answers.Verdict.TheVariants as verdict
+use Rattle.fc_answers.specs.Answer.{IsBacked, IsByRule}
+use Rattle.fc_answers.specs.Verdict.{verdict_of, IsRight, CanBeWritten}
+use Rattle.fc_search.specs.Need.{IsEarned}
 use Rattle.fc_bound.specs.Bound.{bound}
 
 -- a question: by how few moves of the game a list wins from the start, searched under a home rule
-pub record Question (G : Type 0) : Type 0 where
-  pub game : G
+pub record Question : Type 0 where
+  pub game : GameRules
   pub rule : ℕ
   pub start : Board
 
+-- the graph of classes that a question is searched in
+abbrev pub classes_of : Question → Graph (List ℕ)
+classes_of q = classes bound q.game q.rule q.start
+
 -- where a search stands: its question, its budget, what it stores and has open, and its status
-pub record State (G : Type 0) : Type 0 where
-  pub question : Question G
+pub record State : Type 0 where
+  pub question : Question
   pub budget : ℕ
   pub store : Store (List ℕ)
   pub status : Status (List ℕ)
 
--- the answer is of the kind of the status that a search ends with: as many moves as the won class costs, that no list
+-- the verdict is of the kind of the status that a search ends with: as many moves as the won class costs, that no list
 -- wins, or the budget
-abbrev pub IsOfStatus : Store (List ℕ) → ℕ → Status (List ℕ) → Answer → Type 0
-IsOfStatus s budget (Shortest number) (answer.Shortest moves table) =
+abbrev pub IsOfStatus : Store (List ℕ) → ℕ → Status (List ℕ) → Verdict → Type 0
+IsOfStatus s budget (Shortest number) (verdict.Shortest moves) =
     (x : List ℕ) × (mark : Mark) × Stands s number x mark × (length moves ≡ mark.cost)
-IsOfStatus s budget CannotWin (answer.CannotWin table) = Unit {0}
-IsOfStatus s budget (GaveUp y number) (answer.GaveUp told) = told ≡ budget
-IsOfStatus s budget status answer = ⊥
+IsOfStatus s budget CannotWin verdict.CannotWin = Unit {0}
+IsOfStatus s budget (GaveUp y number) (verdict.GaveUp told) = told ≡ budget
+IsOfStatus s budget status verdict = ⊥
 
--- all that an answer of a search for the board is: right, backed, by its rule, earned, and such as can be written
+-- all that a verdict of a search for the board is: right, earned, and such as can be written
+pub record IsVerdict (g : GameRules) (rule : ℕ) (b : Board) (budget : ℕ) (verdict : Verdict) : Type 0 where
+  pub right : IsRight g b budget verdict
+  pub earned : IsEarned g rule b budget verdict
+  pub written : CanBeWritten verdict
+
+-- all that an answer of a search for the board is: a verdict that is right, backed by a table of the search's rule
 pub record Answers (g : GameRules) (rule : ℕ) (b : Board) (budget : ℕ) (answer : Answer) : Type 0 where
-  pub right : IsRight g b budget answer
+  pub told : IsVerdict g rule b budget (verdict_of answer)
   pub backed : IsBacked g b answer
   pub ruled : IsByRule rule answer
-  pub earned : IsEarned g rule b budget answer
-  pub written : CanBeWritten answer
+
+-- why a search isn't begun: the budget is out of range; or it is in range, and a growth was refused
+abbrev pub IsRefused : ℕ → SearchFault → Type 0
+IsRefused budget fault.Budget = (budget < 1) ⊎ (4000000 < budget)
+IsRefused budget fault.Memory = (1 ≤ budget) × (budget ≤ 4000000)
+IsRefused budget fault.Stopped = ⊥
+IsRefused budget fault.NotDone = ⊥
 
 -- why a search isn't answered: it is still running, it was stopped, or it is done and a growth was refused
 abbrev pub IsUnanswered : Status (List ℕ) → SearchFault → Type 0
@@ -51,11 +70,11 @@ IsUnanswered Running told = told ≡ fault.NotDone
 IsUnanswered Stopped told = told ≡ fault.Stopped
 IsUnanswered done told = told ≡ fault.Memory
 
--- the answer is that of a search that began, and ran to its end within the budget
-pub record IsRunToEnd (g : GameRules) (rule : ℕ) (b : Board) (budget : ℕ) (answer : Answer) : Type 0 where
+-- the verdict is that of a search that began, and ran to its end within the budget
+pub record IsRunToEnd (g : GameRules) (rule : ℕ) (b : Board) (budget : ℕ) (verdict : Verdict) : Type 0 where
   pub first : Store (List ℕ)
   pub begins : Begins (classes bound g rule b) first
   pub last : Store (List ℕ)
   pub status : Status (List ℕ)
   pub runs : Runs (classes bound g rule b) budget Running first last status
-  pub answered : IsOfStatus last budget status answer
+  pub answered : IsOfStatus last budget status verdict

@@ -4,11 +4,12 @@
 //! game, and the search over its queue.
 #![tactic(auto)]
 
-pub use answers::{Answer, MoveList, Table};
+pub use fc_answers::{Answer, MoveList, Row, Table, Verdict};
 pub use fc_best_first::{MOST_BUDGET, SearchFault, Step};
-pub use searches::{Search, solve};
+pub use positions::{Children, Positions};
+pub use searches::{Search, decide, solve};
 
-mod answers;
+mod positions;
 mod searches;
 mod tables;
 mod walks;

@@ -5,18 +5,17 @@ ghost use Rattle.fc_best_first.specs.Search.{Begins, Turns, Runs, reply_of};
 ghost use Rattle.fc_best_first.specs.Shown.{Holds, Shows};
 ghost use Rattle.fc_best_first.specs.Store.{Stands};
 ghost use Rattle.fc_best_first.specs.Turn.{work_left};
-ghost use Rattle.fc_classes.specs.Classes.{classes};
-ghost use Rattle.fc_search.specs.Search.{Answers, IsOfStatus, IsUnanswered, IsRunToEnd};
-ghost use Rattle.fc_bound.specs.Bound.{bound};
+ghost use Rattle.fc_answers.specs.Verdict.{verdict_of};
+ghost use Rattle.fc_search.specs.Search.{classes_of, Answers, IsVerdict, IsOfStatus, IsRefused, IsUnanswered, IsRunToEnd};
 
-use crate::answers::Answer;
+use crate::positions::Positions;
+use fc_answers::{Answer, MoveList, Verdict};
 use fc_best_first as best_first;
 use fc_best_first::{Mark, SearchFault, Status, Step};
 use fc_classes::ClassKey;
 use fc_frontier::{BucketFrontier, Frontier};
 use fc_moves::Game;
 use fc_position::Position;
-use fc_space::Positions;
 use std::alloc::{AllocError, Global};
 use std::marker::Model;
 
@@ -31,10 +30,10 @@ pub struct Search<F: Frontier + Drop, G: Game + Drop> {
 impl<F: Frontier + Drop, G: Game + Drop> Model for Search<F, G> {
     ghost use Rattle.fc_search.specs.Search.{State};
 
-    ghost Value = { State G };
+    ghost Value = { State };
 
     ghost view = { λ s. record {
-      question = record { game = s.search.space.game; rule = s.search.space.rule; start = s.search.space.start };
+      question = record { game = G.game s.search.space.game; rule = s.search.space.rule; start = s.search.space.start };
       budget = s.search.budget;
       store = s.search.store;
       status = s.search.status;
@@ -56,14 +55,14 @@ impl<F: Frontier + Drop, G: Game + Drop> Search<F, G> {
     ) -> Result<Self, SearchFault>
         requires rule { rule ≤ 2 }
         requires fits { Fits (G.game game.now).cells position.now }
-        ensures game { IfOk result (λ search. G.game search.question.game ≡ G.game game.now) }
+        ensures game { IfOk result (λ search. search.question.game ≡ G.game game.now) }
         ensures rule { IfOk result (λ search. search.question.rule ≡ rule) }
         ensures start { IfOk result (λ search. search.question.start ≡ position.now) }
         ensures budget { IfOk result (λ search. search.budget ≡ budget) }
         ensures status { IfOk result (λ search. search.status ≡ Status.Running) }
-        ensures begins { IfOk result (λ search. Begins (classes bound (G.game game.now) rule position.now) search.store) }
+        ensures begins { IfOk result (λ search. Begins (classes_of search.question) search.store) }
         ensures range { OnOk result ((1 ≤ budget) × (budget ≤ 4000000)) }
-        ensures fault { IfErr result (λ f. ((f ≡ SearchFault.Budget) × ((budget < 1) ⊎ (4000000 < budget))) ⊎ ((f ≡ SearchFault.Memory) × (1 ≤ budget) × (budget ≤ 4000000))) }
+        ensures fault { IfErr result (IsRefused budget) }
     {
         let space = Positions::new(game.copy(), rule, position.copy());
         let search = best_first::Search::new(alloc, space, budget)?;
@@ -78,7 +77,7 @@ impl<F: Frontier + Drop, G: Game + Drop> Search<F, G> {
     pub fn turn(&mut self) -> Result<Step, SearchFault>
         ensures question { self.new.question ≡ self.old.question }
         ensures budget { self.new.budget ≡ self.old.budget }
-        ensures turns { Turns (classes bound (G.game self.old.question.game) self.old.question.rule self.old.question.start) self.old.budget self.old.status self.old.store self.new.store self.new.status result }
+        ensures turns { Turns (classes_of self.old.question) self.old.budget self.old.status self.old.store self.new.store self.new.status result }
         ensures falls { result ≡ Ok Step.Running → work_left self.old.budget self.new.store < work_left self.old.budget self.old.store }
     {
         self.search.turn()
@@ -91,7 +90,7 @@ impl<F: Frontier + Drop, G: Game + Drop> Search<F, G> {
     pub fn run(&mut self) -> Result<(), SearchFault>
         ensures question { self.new.question ≡ self.old.question }
         ensures budget { self.new.budget ≡ self.old.budget }
-        ensures runs { Runs (classes bound (G.game self.old.question.game) self.old.question.rule self.old.question.start) self.old.budget self.old.status self.old.store self.new.store self.new.status }
+        ensures runs { Runs (classes_of self.old.question) self.old.budget self.old.status self.old.store self.new.store self.new.status }
         ensures done { OnOk result (reply_of self.new.status ≡ Ok Step.Done) }
         ensures stopped { OnErr result (self.new.status ≡ Status.Stopped) }
         ensures fault { IfErr result (λ f. ((f ≡ SearchFault.Memory) × (self.old.status ≡ Status.Running)) ⊎ ((f ≡ SearchFault.Stopped) × (self.old.status ≡ Status.Stopped))) }
@@ -105,8 +104,8 @@ impl<F: Frontier + Drop, G: Game + Drop> Search<F, G> {
     /// `Stopped` after a want of memory stopped the search; `NotDone` before it is done; `Memory` where a growth was
     /// refused.
     pub fn answer(&self) -> Result<Answer, SearchFault>
-        ensures answers { IfOk result (Answers (G.game self.now.question.game) self.now.question.rule self.now.question.start self.now.budget) }
-        ensures kind { IfOk result (IsOfStatus self.now.store self.now.budget self.now.status) }
+        ensures answers { IfOk result (Answers self.now.question.game self.now.question.rule self.now.question.start self.now.budget) }
+        ensures kind { IfOk result (λ answer. IsOfStatus self.now.store self.now.budget self.now.status (verdict_of answer)) }
         ensures fault { IfErr result (IsUnanswered self.now.status) }
     {
         let answer = match self.search.status() {
@@ -122,6 +121,27 @@ impl<F: Frontier + Drop, G: Game + Drop> Search<F, G> {
         }
     }
 
+    /// The verdict of a search that is done: its answer without a table, which it doesn't make. It never changes the search.
+    ///
+    /// # Errors
+    /// Those of `answer`.
+    pub fn verdict(&self) -> Result<Verdict, SearchFault>
+        ensures told { IfOk result (IsVerdict self.now.question.game self.now.question.rule self.now.question.start self.now.budget) }
+        ensures kind { IfOk result (IsOfStatus self.now.store self.now.budget self.now.status) }
+        ensures fault { IfErr result (IsUnanswered self.now.status) }
+    {
+        match self.search.status() {
+            Status::Running => Err(SearchFault::NotDone),
+            Status::Stopped => Err(SearchFault::Stopped),
+            Status::Shortest(number) => match self.shortest_list(*number) {
+                Ok(moves) => Ok(Verdict::Shortest(moves)),
+                Err(_) => Err(SearchFault::Memory),
+            },
+            Status::CannotWin => Ok(Verdict::CannotWin),
+            Status::GaveUp(_, _) => Ok(Verdict::GaveUp(self.search.budget())),
+        }
+    }
+
     // The key of the class with this number, and its mark.
     pub(crate) fn at(&self, number: u32) -> (&ClassKey, Mark)
         requires within { number < length self.now.store.stored }
@@ -130,30 +150,44 @@ impl<F: Frontier + Drop, G: Game + Drop> Search<F, G> {
         self.search.entry(number).unwrap()
     }
 
-    // The answer where the class with this number is won.
-    fn shortest(&self, number: u32) -> Result<Answer, AllocError>
-        requires held { Holds (classes bound (G.game self.now.question.game) self.now.question.rule self.now.question.start) self.now.budget self.now.store self.now.status }
-        requires shown { Shows (classes bound (G.game self.now.question.game) self.now.question.rule self.now.question.start) self.now.budget self.now.store self.now.status }
+    // A shortest list, where the class with this number is won.
+    fn shortest_list(&self, number: u32) -> Result<MoveList, AllocError>
+        requires held { Holds (classes_of self.now.question) self.now.budget self.now.store self.now.status }
+        requires shown { Shows (classes_of self.now.question) self.now.budget self.now.store self.now.status }
         requires most { self.now.budget ≤ 4000000 }
-        requires fits { IsPositionOf (G.game self.now.question.game) self.now.question.start }
+        requires fits { IsPositionOf self.now.question.game self.now.question.start }
         requires done { self.now.status ≡ Status.Shortest number }
-        ensures answers { IfOk result (Answers (G.game self.now.question.game) self.now.question.rule self.now.question.start self.now.budget) }
-        ensures kind { IfOk result (IsOfStatus self.now.store self.now.budget self.now.status) }
+        ensures told { IfOk result (λ moves. IsVerdict self.now.question.game self.now.question.rule self.now.question.start self.now.budget (Verdict.Shortest moves)) }
+        ensures kind { IfOk result (λ moves. IsOfStatus self.now.store self.now.budget self.now.status (Verdict.Shortest moves)) }
     {
         let moves = self.moves_to(number)?;
+        Ok(moves)
+    }
+
+    // The answer where the class with this number is won.
+    fn shortest(&self, number: u32) -> Result<Answer, AllocError>
+        requires held { Holds (classes_of self.now.question) self.now.budget self.now.store self.now.status }
+        requires shown { Shows (classes_of self.now.question) self.now.budget self.now.store self.now.status }
+        requires most { self.now.budget ≤ 4000000 }
+        requires fits { IsPositionOf self.now.question.game self.now.question.start }
+        requires done { self.now.status ≡ Status.Shortest number }
+        ensures answers { IfOk result (Answers self.now.question.game self.now.question.rule self.now.question.start self.now.budget) }
+        ensures kind { IfOk result (λ answer. IsOfStatus self.now.store self.now.budget self.now.status (verdict_of answer)) }
+    {
+        let moves = self.shortest_list(number)?;
         let table = self.table_below(moves.len())?;
         Ok(Answer::Shortest(moves, table))
     }
 
     // The answer where no list wins.
     fn cannot_win(&self) -> Result<Answer, AllocError>
-        requires held { Holds (classes bound (G.game self.now.question.game) self.now.question.rule self.now.question.start) self.now.budget self.now.store self.now.status }
-        requires shown { Shows (classes bound (G.game self.now.question.game) self.now.question.rule self.now.question.start) self.now.budget self.now.store self.now.status }
+        requires held { Holds (classes_of self.now.question) self.now.budget self.now.store self.now.status }
+        requires shown { Shows (classes_of self.now.question) self.now.budget self.now.store self.now.status }
         requires most { self.now.budget ≤ 4000000 }
-        requires fits { IsPositionOf (G.game self.now.question.game) self.now.question.start }
+        requires fits { IsPositionOf self.now.question.game self.now.question.start }
         requires done { self.now.status ≡ Status.CannotWin }
-        ensures answers { IfOk result (Answers (G.game self.now.question.game) self.now.question.rule self.now.question.start self.now.budget) }
-        ensures kind { IfOk result (IsOfStatus self.now.store self.now.budget self.now.status) }
+        ensures answers { IfOk result (Answers self.now.question.game self.now.question.rule self.now.question.start self.now.budget) }
+        ensures kind { IfOk result (λ answer. IsOfStatus self.now.store self.now.budget self.now.status (verdict_of answer)) }
     {
         Ok(Answer::CannotWin(self.table_of_all()?))
     }
@@ -174,11 +208,34 @@ pub fn solve<G: Game + Drop>(
     requires rule { rule ≤ 2 }
     requires fits { Fits (G.game game.now).cells position.now }
     ensures answers { IfOk result (Answers (G.game game.now) rule position.now budget) }
-    ensures ran { IfOk result (IsRunToEnd (G.game game.now) rule position.now budget) }
+    ensures ran { IfOk result (λ answer. IsRunToEnd (G.game game.now) rule position.now budget (verdict_of answer)) }
     ensures range { OnOk result ((1 ≤ budget) × (budget ≤ 4000000)) }
-    ensures fault { IfErr result (λ f. ((f ≡ SearchFault.Budget) × ((budget < 1) ⊎ (4000000 < budget))) ⊎ ((f ≡ SearchFault.Memory) × (1 ≤ budget) × (budget ≤ 4000000))) }
+    ensures fault { IfErr result (IsRefused budget) }
 {
     let mut search: Search<BucketFrontier, G> = Search::new(alloc, game, rule, position, budget)?;
     search.run()?;
     search.answer()
+}
+
+/// The verdict of such a search, as `solve` gives its answer, with no table made.
+///
+/// # Errors
+/// `Budget` outside that range, before any memory is asked for; `Memory` where a growth was refused.
+pub fn decide<G: Game + Drop>(
+    alloc: Global,
+    game: &G,
+    rule: u8,
+    position: &Position,
+    budget: u32,
+) -> Result<Verdict, SearchFault>
+    requires rule { rule ≤ 2 }
+    requires fits { Fits (G.game game.now).cells position.now }
+    ensures told { IfOk result (IsVerdict (G.game game.now) rule position.now budget) }
+    ensures ran { IfOk result (IsRunToEnd (G.game game.now) rule position.now budget) }
+    ensures range { OnOk result ((1 ≤ budget) × (budget ≤ 4000000)) }
+    ensures fault { IfErr result (IsRefused budget) }
+{
+    let mut open: Search<BucketFrontier, G> = Search::new(alloc, game, rule, position, budget)?;
+    open.run()?;
+    open.verdict()
 }

@@ -1,14 +1,14 @@
 //! The table that backs the answer of a search that is done.
 
-ghost use Rattle.std.specs.Prelude.{◌≡◌, ◌≤◌, IfOk};
+ghost use Rattle.std.specs.Prelude.{◌≡◌, ◌≤◌, length, IfOk};
 ghost use Rattle.std.specs.List.Sorted.{IsPermutation};
 ghost use Rattle.fc_best_first.specs.Kept.{IsSound};
-ghost use Rattle.fc_classes.specs.Classes.{classes};
-ghost use Rattle.fc_search.specs.Table.{inside, at_no_cost, costs_of};
-ghost use Rattle.fc_bound.specs.Bound.{bound};
+ghost use Rattle.fc_answers.specs.Table.{IsRising, inside, at_no_cost};
+ghost use Rattle.fc_search.specs.Search.{classes_of};
+ghost use Rattle.fc_search.specs.Stored.{costs_of};
 
-use crate::answers::{Row, Table};
 use crate::searches::Search;
+use fc_answers::{Row, Table};
 use fc_best_first::Space;
 use fc_frontier::Frontier;
 use fc_moves::Game;
@@ -17,10 +17,13 @@ use std::alloc::AllocError;
 impl<F: Frontier + Drop, G: Game + Drop> Search<F, G> {
     // The stored classes whose cost and bound are below n.
     pub(crate) fn table_below(&self, n: usize) -> Result<Table, AllocError>
-        requires sound { IsSound (classes bound (G.game self.now.question.game) self.now.question.rule self.now.question.start) self.now.budget self.now.store }
+        requires sound { IsSound (classes_of self.now.question) self.now.budget self.now.store }
         requires most { self.now.budget ≤ 4000000 }
         ensures rule { IfOk result (λ table. table.rule ≡ self.now.question.rule) }
+        ensures known { IfOk result (λ table. table.rule ≤ 2) }
+        ensures few { IfOk result (λ table. length table.rows ≤ 4000000) }
         ensures rows { IfOk result (λ table. IsPermutation (inside n (costs_of self.now.store)) table.rows) }
+        ensures rising { IfOk result (λ table. IsRising table.rows) }
     {
         let mut rows = Vec::new(self.alloc);
         for number in 0..self.search.len() as u32 {
@@ -38,10 +41,13 @@ impl<F: Frontier + Drop, G: Game + Drop> Search<F, G> {
 
     // The stored classes, each at no cost.
     pub(crate) fn table_of_all(&self) -> Result<Table, AllocError>
-        requires sound { IsSound (classes bound (G.game self.now.question.game) self.now.question.rule self.now.question.start) self.now.budget self.now.store }
+        requires sound { IsSound (classes_of self.now.question) self.now.budget self.now.store }
         requires most { self.now.budget ≤ 4000000 }
         ensures rule { IfOk result (λ table. table.rule ≡ self.now.question.rule) }
+        ensures known { IfOk result (λ table. table.rule ≤ 2) }
+        ensures few { IfOk result (λ table. length table.rows ≤ 4000000) }
         ensures rows { IfOk result (λ table. IsPermutation (at_no_cost (costs_of self.now.store)) table.rows) }
+        ensures rising { IfOk result (λ table. IsRising table.rows) }
     {
         let mut rows = Vec::new(self.alloc);
         for number in 0..self.search.len() as u32 {

@@ -11,26 +11,25 @@ ghost use Rattle.fc_best_first.specs.declared.books.Mark.{Mark};
 ghost use Rattle.fc_best_first.specs.Kept.{IsSound};
 ghost use Rattle.fc_best_first.specs.Store.{Stands};
 ghost use Rattle.fc_canonical.specs.Key.{IsKeyOf};
-ghost use Rattle.fc_classes.specs.Classes.{classes};
+ghost use Rattle.fc_search.specs.Search.{classes_of};
 ghost use Rattle.fc_search.specs.Walk.{IsStart, IsWay, IsAtClass, LeadsWithin};
-ghost use Rattle.fc_bound.specs.Bound.{bound};
 
-use crate::answers::MoveList;
+use crate::positions::Positions;
 use crate::searches::Search;
+use fc_answers::MoveList;
 use fc_classes::ClassKey;
 use fc_frontier::Frontier;
 use fc_home::settle;
 use fc_moves::{Game, Move, apply, moves};
 use fc_position::Position;
-use fc_space::Positions;
 use std::alloc::AllocError;
 
 impl<F: Frontier + Drop, G: Game + Drop> Search<F, G> {
     // Moves that lead to the class with this number, no more than it costs.
     pub(crate) fn moves_to(&self, number: u32) -> Result<MoveList, AllocError>
-        requires sound { IsSound (classes bound (G.game self.now.question.game) self.now.question.rule self.now.question.start) self.now.budget self.now.store }
+        requires sound { IsSound (classes_of self.now.question) self.now.budget self.now.store }
         requires within { number < length self.now.store.stored }
-        ensures there { IfOk result (λ made. (b : Board) × IsAtClass (G.game self.now.question.game) self.now.store self.now.question.start number made b) }
+        ensures there { IfOk result (λ made. (b : Board) × IsAtClass self.now.question.game self.now.store self.now.question.start number made b) }
     {
         let space = self.search.space();
         let (_start, mut way) = self.way_to(number)?;
@@ -47,7 +46,7 @@ impl<F: Frontier + Drop, G: Game + Drop> Search<F, G> {
 
     // The number of a class that starts, and of those on the way from there to the class with this number, which is first.
     fn way_to(&self, number: u32) -> Result<(u32, Vec<u32>), AllocError>
-        requires sound { IsSound (classes bound (G.game self.now.question.game) self.now.question.rule self.now.question.start) self.now.budget self.now.store }
+        requires sound { IsSound (classes_of self.now.question) self.now.budget self.now.store }
         requires within { number < length self.now.store.stored }
         ensures way { IfOk result (λ r. IsStart self.now.store r.0 × IsWay self.now.store r.0 (reverse r.1.items) number) }
     {

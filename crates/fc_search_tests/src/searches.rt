@@ -4,7 +4,7 @@ use fc_cards::Place;
 use fc_frontier::{BucketFrontier, Frontier, ListFrontier};
 use fc_moves::{FreeCell, Game, Kings, Move, allows, apply};
 use fc_position::Position;
-use fc_search::{Answer, MOST_BUDGET, MoveList, Search, SearchFault, Step, Table, solve};
+use fc_search::{Answer, MOST_BUDGET, MoveList, Search, SearchFault, Step, Table, Verdict, solve};
 use fc_tests::boards::{
     ALL_HOME, CLASSES_495, FREE_KING, LOCKED, ONE_COLUMN, ONE_KING, QUEEN_UNDER_KING, Rules,
     THIRTY_MOVES, THREE_KINGS, THREE_SPADES, TWO_KINGS, bakers_game, free_cell,
@@ -452,6 +452,10 @@ fn four_cards_by_turns<F: Frontier + Drop>(rt: &impl Abort, alloc: Global) -> Re
     let board = read_board(TWO_KINGS.as_bytes(), game.cells())?;
     let mut search: Search<F, FreeCell> = Search::new(alloc, &game, 1, &board, 100)?;
     assert!(rt; take_turns(&mut search)? > 1, "turns that answered Running");
+    assert!(rt;
+        matches!(search.verdict()?, Verdict::Shortest(list) if list.len() == 5),
+        "five moves"
+    );
     assert!(rt;
         search.turn() == Ok(Step::Done) && search.run() == Ok(()),
         "one more, and all"

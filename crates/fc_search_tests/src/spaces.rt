@@ -4,7 +4,7 @@ use fc_best_first::{Search, Status};
 use fc_classes::ClassKey;
 use fc_frontier::{BucketFrontier, Frontier, ListFrontier};
 use fc_moves::{FreeCell, Game, Kings};
-use fc_space::Positions;
+use fc_search::Positions;
 use fc_tests::boards::{
     ALL_HOME, CLASSES_495, FREE_KING, LOCKED, ONE_COLUMN, QUEEN_UNDER_KING, Rules, THIRTY_MOVES,
     THREE_KINGS, THREE_SPADES, TWO_KINGS, TWO_KINGS_TURNED, bakers_game, free_cell,

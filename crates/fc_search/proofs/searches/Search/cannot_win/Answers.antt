@@ -1,21 +1,25 @@
 use Rattle.std.proofs.Common.{subst}
 use Rattle.fc_best_first.specs.Shown.{Holds, Shows}
 use Rattle.fc_classes.specs.Classes.{classes}
-use Rattle.fc_search.proofs.AnswerLemmas.{cannot_win_answers}
+use Rattle.fc_search.proofs.AnswerLemmas.{backed_whole, cannot_win_verdict}
 use Rattle.fc_search.proofs.searches.Search.cannot_win.Goals as goal
 use Rattle.fc_bound.specs.Bound.{bound}
 
 pub table_of_all-requires-clause-sound : goal.table_of_all-requires-clause-sound
 table_of_all-requires-clause-sound g c =
     let q = c.args.self.now.question in
-    (subst (Holds (classes bound (g.G.Game.game q.game) q.rule q.start) c.args.self.now.budget c.args.self.now.store) c.requires.done c.requires.held).0
+    (subst (Holds (classes bound q.game q.rule q.start) c.args.self.now.budget c.args.self.now.store) c.requires.done c.requires.held).0
 
 pub returns-clause-answers : goal.returns-clause-answers
 returns-clause-answers g c =
     let q = c.args.self.now.question in
-    let graph = classes bound (g.G.Game.game q.game) q.rule q.start in
+    let graph = classes bound q.game q.rule q.start in
     let budget = c.args.self.now.budget in
     let store = c.args.self.now.store in
-    cannot_win_answers (g.G.Game.game q.game) q.rule q.start budget store c.requires.fits c.in_ok-table_of_all.field-0
-    (subst (Holds graph budget store) c.requires.done c.requires.held) (subst (Shows graph budget store) c.requires.done c.requires.shown)
-    c.in_ok-table_of_all.ensures.rule c.in_ok-table_of_all.ensures.rows
+    let made = c.in_ok-table_of_all.ensures in record {
+      told = cannot_win_verdict q.game q.rule q.start budget store c.requires.fits
+          (subst (Shows graph budget store) c.requires.done c.requires.shown);
+      backed = backed_whole q.game q.rule q.start budget store c.requires.fits c.in_ok-table_of_all.field-0
+          (subst (Holds graph budget store) c.requires.done c.requires.held) made.rule made.known made.few made.rising made.rows;
+      ruled = made.rule;
+    }

@@ -4,9 +4,11 @@ use Rattle.fc_best_first.specs.Graph.{Reached}
 use Rattle.fc_bound.specs.Bound.{bound}
 use Rattle.fc_classes.specs.Classes.{classes}
 use Rattle.fc_canonical.specs.Spelled.{spelled}
-use Rattle.fc_search.specs.declared.answers.Row.{Row}
-use Rattle.fc_search.specs.Table.{inside, costs_of, pairs_of, HaveKeysOnce}
-use Rattle.fc_search.proofs.RowLemmas.{listed, passed_over, inside_few, stored_once, inside_once, looked, stored_long}
+use Rattle.fc_answers.specs.declared.tables.Row.{Row}
+use Rattle.fc_answers.specs.Table.{inside, pairs_of, HaveKeysOnce}
+use Rattle.fc_search.specs.Stored.{costs_of}
+use Rattle.fc_answers.proofs.RowLemmas.{inside_few, inside_once}
+use Rattle.fc_search.proofs.RowLemmas.{listed, passed_over, stored_once, looked, stored_long}
 use Rattle.fc_search.proofs.searches.Search.table_below.Goals as goal
 use Rattle.fc_search.proofs.searches.Search.table_below.Goals.{then-mark-from+in_ok-push, else-mark-from}
 
@@ -15,7 +17,7 @@ bound-bound-requires g c =
     let key = c.at.result.0.now in
     let cost = c.at.result.1.cost in
     let reached = c.requires.sound.reached c.loop-number.number key c.at.result.1 c.at.ensures.stands in
-    let inner = subst (λ s. Reached (classes bound (g.G.Game.game s.question.game) s.question.rule s.question.start) key cost)
+    let inner = subst (λ s. Reached (classes bound s.question.game s.question.rule s.question.start) key cost)
     (sym c.self.view_is) reached in
     record {
       reached = (
@@ -66,7 +68,7 @@ sorted-requires-clause-once g c =
     let same = c.loop-number.invariant ∙ ap (inside c.args.n) (looked store c.loop-number.number past) in
     subst HaveKeysOnce (sym same)
     (inside_once c.args.n (costs_of store)
-    (stored_once (classes bound (g.G.Game.game c.args.self.now.question.game) c.args.self.now.question.rule c.args.self.now.question.start)
+    (stored_once (classes bound c.args.self.now.question.game c.args.self.now.question.rule c.args.self.now.question.start)
     c.args.self.now.budget store c.requires.sound))
 
 pub returns-clause-rows : goal.returns-clause-rows

@@ -1,5 +1,6 @@
 use Rattle.std.proofs.Common.{◌≡◌, take}
-use Rattle.fc_search.specs.Table.{inside, costs_of, pairs_of}
+use Rattle.fc_answers.specs.Table.{inside, pairs_of}
+use Rattle.fc_search.specs.Stored.{costs_of}
 use Rattle.fc_search.proofs.searches.Search.table_below.Given as goal
 
 -- the rows so far are those of the first stored keys that are inside n

@@ -1,9 +1,11 @@
 use Rattle.std.proofs.Common.{◌≤◌, length, refl, sym, ◌∙◌, ap, subst, arith}
 use Rattle.std.specs.List.Sorted.{IsPermutation}
 use Rattle.fc_classes.specs.Classes.{classes}
-use Rattle.fc_search.specs.declared.answers.Row.{Row}
-use Rattle.fc_search.specs.Table.{at_no_cost, costs_of, pairs_of, HaveKeysOnce}
-use Rattle.fc_search.proofs.RowLemmas.{listed_free, all_few, stored_once, no_cost_once, looked, stored_long}
+use Rattle.fc_answers.specs.declared.tables.Row.{Row}
+use Rattle.fc_answers.specs.Table.{at_no_cost, pairs_of, HaveKeysOnce}
+use Rattle.fc_search.specs.Stored.{costs_of}
+use Rattle.fc_answers.proofs.RowLemmas.{all_few, no_cost_once}
+use Rattle.fc_search.proofs.RowLemmas.{listed_free, stored_once, looked, stored_long}
 use Rattle.fc_search.proofs.searches.Search.table_of_all.Goals as goal
 use Rattle.fc_bound.specs.Bound.{bound}
 
@@ -36,7 +38,7 @@ sorted-requires-clause-once g c =
     let same = c.loop-number.invariant ∙ ap at_no_cost (looked store c.loop-number.number past) in
     subst HaveKeysOnce (sym same)
     (no_cost_once (costs_of store)
-    (stored_once (classes bound (g.G.Game.game c.args.self.now.question.game) c.args.self.now.question.rule c.args.self.now.question.start)
+    (stored_once (classes bound c.args.self.now.question.game c.args.self.now.question.rule c.args.self.now.question.start)
     c.args.self.now.budget store c.requires.sound))
 
 pub returns-clause-rows : goal.returns-clause-rows

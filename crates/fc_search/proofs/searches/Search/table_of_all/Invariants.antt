@@ -1,5 +1,6 @@
 use Rattle.std.proofs.Common.{◌≡◌, take}
-use Rattle.fc_search.specs.Table.{at_no_cost, costs_of, pairs_of}
+use Rattle.fc_answers.specs.Table.{at_no_cost, pairs_of}
+use Rattle.fc_search.specs.Stored.{costs_of}
 use Rattle.fc_search.proofs.searches.Search.table_of_all.Given as goal
 
 -- the rows so far are the first stored keys, each at no cost

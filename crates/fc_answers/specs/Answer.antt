@@ -1,0 +1,36 @@
+-- What backs an answer.
+use Rattle.std.specs.Prelude.{◌≡◌, ℕ, ◌+◌, ◌<◌, List, length, Contains}
+use Rattle.fc_position.specs.Board.{Board}
+use Rattle.fc_moves.specs.GameRules.{GameRules}
+use Rattle.fc_bound.specs.Bound.{bound}
+use Rattle.fc_tables.specs.Table.{IsClosed, IsClosedBelow, as_boards}
+use Rattle.fc_canonical.specs.Spelled.{spelled}
+use Rattle.fc_answers.specs.declared.answers.Answer.{Answer}
+use Rattle.fc_answers.specs.declared.answers.Answer.TheVariants.{Shortest, CannotWin, GaveUp}
+use Rattle.fc_answers.specs.Table.{Listing, IsTable}
+
+-- the table shows that no list of fewer than n moves wins from the board: it is one of the game, closed below n under its
+-- own rule, and each cost and bound is below n
+pub record IsBackedBelow (g : GameRules) (b : Board) (n : ℕ) (table : Listing) : Type 0 where
+  pub listed : IsTable g table
+  pub closed : IsClosedBelow bound g table.rule b n (as_boards table.rows)
+  pub below : (e : List ℕ × ℕ) → Contains table.rows e → e.1 + bound (spelled e.0) < n
+
+-- the table shows that no list wins from the board: it is one of the game, closed under its own rule, and lists each class
+-- at no cost
+pub record IsBackedWhole (g : GameRules) (b : Board) (table : Listing) : Type 0 where
+  pub listed : IsTable g table
+  pub closed : IsClosed g table.rule b (as_boards table.rows)
+  pub free : (e : List ℕ × ℕ) → Contains table.rows e → e.1 ≡ 0
+
+-- the answer is backed: its table shows that no list is shorter, or that there is none
+abbrev pub IsBacked : GameRules → Board → Answer → Type 0
+IsBacked g b (Shortest moves table) = IsBackedBelow g b (length moves) table
+IsBacked g b (CannotWin table) = IsBackedWhole g b table
+IsBacked g b (GaveUp told) = Unit {0}
+
+-- what an answer lists was searched by this home rule
+abbrev pub IsByRule : ℕ → Answer → Type 0
+IsByRule rule (Shortest moves table) = table.rule ≡ rule
+IsByRule rule (CannotWin table) = table.rule ≡ rule
+IsByRule rule (GaveUp told) = Unit {0}

@@ -1,0 +1,45 @@
+-- Tables of answers: rows of a key's bytes and a cost.
+use Rattle.std.specs.Prelude.{◌≢◌, ℕ, ◌+◌, ◌<◌, ◌≤◌, List, length, AllPairs, Contains, slice_index_or, map, nat_lt}
+use Rattle.std.specs.List.{filter}
+use Rattle.fc_moves.specs.GameRules.{GameRules}
+use Rattle.fc_canonical.specs.KeyOrder.{IsBefore}
+use Rattle.fc_canonical.specs.Spelled.{IsKeyIn, spelled}
+use Rattle.fc_bound.specs.Bound.{bound}
+use Rattle.fc_answers.specs.declared.tables.Row.{Row}
+
+-- rows, each a key and a cost in moves from the start, under a home rule
+pub record Listing : Type 0 where
+  pub rule : ℕ
+  pub rows : List (List ℕ × ℕ)
+
+-- each row's key comes before the next one's
+abbrev pub IsRising : List (List ℕ × ℕ) → Type 0
+IsRising rows = (k : ℕ) (d : List ℕ × ℕ) → k + 1 < length rows
+    → IsBefore (slice_index_or rows k d).0 (slice_index_or rows (k + 1) d).0
+
+-- each row's key is that of a canonical position of the game
+abbrev pub AreClasses : GameRules → List (List ℕ × ℕ) → Type 0
+AreClasses g rows = (e : List ℕ × ℕ) → Contains rows e → IsKeyIn g e.0
+
+-- a table of the game: it is under a home rule, has at most 4,000,000 rows, which rise, and lists classes of the game alone
+pub record IsTable (g : GameRules) (table : Listing) : Type 0 where
+  pub known : table.rule ≤ 2
+  pub few : length table.rows ≤ 4000000
+  pub rising : IsRising table.rows
+  pub classes : AreClasses g table.rows
+
+-- no two rows have one key
+abbrev pub HaveKeysOnce : List (List ℕ × ℕ) → Type 0
+HaveKeysOnce rows = AllPairs (λ x y. x.0 ≢ y.0) rows
+
+-- the rows whose cost and bound are below n
+abbrev pub inside : ℕ → List (List ℕ × ℕ) → List (List ℕ × ℕ)
+inside n rows = filter (λ e. nat_lt (e.1 + bound (spelled e.0)) n) rows
+
+-- the same keys, each at no cost
+abbrev pub at_no_cost : List (List ℕ × ℕ) → List (List ℕ × ℕ)
+at_no_cost rows = map (λ e. (e.0, 0)) rows
+
+-- the rows of a table as pairs of a key's bytes and a cost
+abbrev pub pairs_of : List Row → List (List ℕ × ℕ)
+pairs_of rows = map (λ r. (r.key.items, r.cost)) rows

@@ -1,0 +1,29 @@
+-- What is told of a position and a budget, and when that is right.
+use Rattle.std.specs.Prelude.{◌≡◌, ℕ, ◌*◌, ◌≤◌, length, All}
+use Rattle.fc_position.specs.Board.{Board}
+use Rattle.fc_moves.specs.GameRules.{GameRules}
+use Rattle.fc_moves.specs.MoveText.{HasText}
+use Rattle.fc_moves.specs.Run.{IsShortest, CannotWin, ReachesMore}
+use Rattle.fc_answers.specs.declared.answers.Answer.{Answer}
+use Rattle.fc_answers.specs.declared.answers.Answer.TheVariants as answer
+use Rattle.fc_answers.specs.declared.answers.Verdict.{Verdict}
+use Rattle.fc_answers.specs.declared.answers.Verdict.TheVariants.{Shortest, CannotWin as cannot_win, GaveUp}
+
+-- the verdict of an answer: all but its table
+abbrev pub verdict_of : Answer → Verdict
+verdict_of (answer.Shortest moves table) = Shortest moves
+verdict_of (answer.CannotWin table) = cannot_win
+verdict_of (answer.GaveUp told) = GaveUp told
+
+-- the verdict is right for a board and a budget: the moves win and none win in fewer, or no moves win, or the budget is
+-- told and more positions than that can be reached
+abbrev pub IsRight : GameRules → Board → ℕ → Verdict → Type 0
+IsRight g b budget (Shortest moves) = IsShortest g b moves
+IsRight g b budget cannot_win = CannotWin g b
+IsRight g b budget (GaveUp told) = (told ≡ budget) × ReachesMore g b budget
+
+-- the moves of a list can be written: each has a text, and they are at most 53 for each class that could be stored
+abbrev pub CanBeWritten : Verdict → Type 0
+CanBeWritten (Shortest moves) = All HasText moves × (length moves ≤ 53 * 4000000)
+CanBeWritten cannot_win = Unit {0}
+CanBeWritten (GaveUp told) = Unit {0}

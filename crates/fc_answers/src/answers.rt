@@ -1,0 +1,80 @@
+ghost use Rattle.std.specs.Prelude.{◌≡◌, ◌<◌, ◌↔◌, [], length, Some, slice_get, IsTrue};
+
+use crate::tables::Table;
+use fc_moves::Move;
+use std::marker::Model;
+
+/// What is answered of a position and a budget.
+#[derive(Drop)]
+pub enum Answer {
+    /// Moves that win, no list of moves that wins being shorter, and the classes that show it.
+    Shortest(MoveList, Table),
+    /// No list of moves wins; the classes show it.
+    CannotWin(Table),
+    /// More positions than the budget, which is told, can be reached.
+    GaveUp(u32),
+}
+
+/// An answer without its table.
+#[derive(Drop)]
+pub enum Verdict {
+    /// Moves that win, no list of moves that wins being shorter.
+    Shortest(MoveList),
+    /// No list of moves wins.
+    CannotWin,
+    /// More positions than the budget, which is told, can be reached.
+    GaveUp(u32),
+}
+
+/// A list of moves.
+#[derive(Drop)]
+pub struct MoveList {
+    moves: Vec<Move>,
+}
+
+impl Model for MoveList {
+    ghost use Rattle.std.specs.Prelude.{List};
+    ghost use Rattle.fc_moves.specs.declared.steps.Move.{Move};
+
+    ghost Value = { List Move };
+
+    ghost view = { λ s. s.moves.items };
+}
+
+impl MoveList {
+    /// These moves.
+    pub fn new(moves: Vec<Move>) -> Self
+        ensures value { result ≡ moves.items }
+    {
+        MoveList { moves }
+    }
+
+    /// The moves.
+    pub fn as_slice(&self) -> &[Move]
+        ensures value { result.now ≡ self.now }
+    {
+        self.moves.as_slice()
+    }
+
+    /// How many moves there are.
+    pub fn len(&self) -> usize
+        ensures value { result ≡ length self.now }
+    {
+        self.moves.len()
+    }
+
+    /// Whether there is no move.
+    pub fn is_empty(&self) -> bool
+        ensures value { IsTrue result ↔ (self.now ≡ []) }
+    {
+        self.moves.is_empty()
+    }
+
+    /// The move with this number, from 0 to below `len`.
+    pub fn get(&self, i: usize) -> Move
+        requires within { i < length self.now }
+        ensures value { slice_get self.now i ≡ Some result }
+    {
+        self.moves[i]
+    }
+}

@@ -1,0 +1,10 @@
+//! What is answered of a position: a shortest list of moves, that no list wins, or that a search gave up, with the table of
+//! classes that backs it. Nothing here searches.
+#![tactic(auto)]
+
+pub use answers::{Answer, MoveList, Verdict};
+pub use tables::{Row, Table};
+
+mod answers;
+pub mod laws;
+mod tables;

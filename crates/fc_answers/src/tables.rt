@@ -1,0 +1,88 @@
+ghost use Rattle.std.specs.Prelude.{◌≡◌, ◌<◌, ◌≤◌, ◌↔◌, ℕ, List, [], length, Some, slice_get, IsTrue};
+ghost use Rattle.std.specs.List.Sorted.{IsPermutation};
+ghost use Rattle.fc_answers.specs.Table.{HaveKeysOnce, IsRising, pairs_of};
+
+use fc_canonical::Key;
+use std::marker::Model;
+
+/// A class, by its key, and a cost in moves from the start.
+#[derive(PartialEq, Eq, PartialOrd, Ord, Drop)]
+pub struct Row {
+    pub key: Key,
+    pub cost: u32,
+}
+
+/// Classes, each with a cost in moves from the start, under a home rule: at most 4,000,000 rows of a key and a cost, each
+/// key before the next, byte by byte.
+#[derive(Drop)]
+pub struct Table {
+    rule: u8,
+    rows: Vec<Row>,
+}
+
+impl Model for Table {
+    ghost use Rattle.std.specs.Prelude.{◌≤◌, length};
+    ghost use Rattle.fc_answers.specs.Table.{Listing, IsRising, pairs_of};
+
+    ghost Value = { Listing };
+
+    ghost view = { λ s. record { rule = s.rule; rows = pairs_of s.rows.items } };
+
+    ghost invariant = { λ s. (s.rule ≤ 2) × (length s.rows.items ≤ 4000000) × IsRising (pairs_of s.rows.items) };
+}
+
+impl Table {
+    /// The table of these rows, in order, under a home rule of at most 2. No two rows may have one key.
+    pub fn sorted(rule: u8, rows: Vec<Row>) -> Self
+        requires known { rule ≤ 2 }
+        requires few { length rows.items ≤ 4000000 }
+        requires once { HaveKeysOnce (pairs_of rows.items) }
+        ensures rule { result.rule ≡ rule }
+        ensures rows { IsPermutation (pairs_of rows.items) result.rows }
+        ensures rising { IsRising result.rows }
+    {
+        let mut rows = rows;
+        rows.sort_unstable();
+        Table { rule, rows }
+    }
+
+    /// The home rule that the classes were searched by, 0 to 2.
+    pub fn rule(&self) -> u8
+        ensures value { result ≡ self.now.rule }
+        ensures known { result ≤ 2 }
+    {
+        self.rule
+    }
+
+    /// How many classes are listed, at most 4,000,000.
+    pub fn len(&self) -> usize
+        ensures value { result ≡ length self.now.rows }
+        ensures most { result ≤ 4000000 }
+        ensures rising { IsRising self.now.rows }
+    {
+        self.rows.len()
+    }
+
+    /// Whether no class is listed.
+    pub fn is_empty(&self) -> bool
+        ensures value { IsTrue result ↔ (self.now.rows ≡ []) }
+    {
+        self.rows.is_empty()
+    }
+
+    /// The key of the class with this number, from 0 to below `len`.
+    pub fn key(&self, i: usize) -> &Key
+        requires within { i < length self.now.rows }
+        ensures value { (cost : ℕ) × (slice_get self.now.rows i ≡ Some (result.now.items, cost)) }
+    {
+        &self.rows[i].key
+    }
+
+    /// The cost of the class with this number, from 0 to below `len`.
+    pub fn cost(&self, i: usize) -> u32
+        requires within { i < length self.now.rows }
+        ensures value { (key : List ℕ) × (slice_get self.now.rows i ≡ Some (key, result)) }
+    {
+        self.rows[i].cost
+    }
+}

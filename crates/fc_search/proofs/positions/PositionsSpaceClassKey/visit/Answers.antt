@@ -1,0 +1,57 @@
+use Rattle.std.proofs.Common.{map, sym, subst, ap, ◌∙◌}
+use Rattle.fc_moves.specs.GameRules.{IsPositionOf}
+use Rattle.fc_canonical.specs.Distinct.{ListsClasses}
+use Rattle.fc_canonical.specs.Key.{board_bytes}
+use Rattle.fc_canonical.specs.Order.{IsCanonical}
+use Rattle.fc_home.specs.Settles.{NoneGoesHome}
+use Rattle.fc_best_first.specs.Turn.{AreChildren}
+use Rattle.fc_classes.specs.Classes.{classes}
+use Rattle.fc_canonical.specs.Spelled.{spelled}
+use Rattle.fc_classes.proofs.PathLemmas.{reached_of_positions}
+use Rattle.fc_search.specs.Children.{AreAllowed, child_by, children_by}
+use Rattle.fc_search.proofs.ChildLemmas.{have_children, children_all}
+use Rattle.fc_search.proofs.StayLemmas.{none_goes}
+use Rattle.fc_search.proofs.positions.PositionsSpaceClassKey.visit.Goals as goal
+use Rattle.fc_bound.specs.Bound.{bound}
+
+pub position-walk-inside-requires : goal.position-walk-inside-requires
+position-walk-inside-requires g c = record {
+  key = (reached_of_positions bound (g.G.Game.game c.args.self.now.game) c.args.self.now.rule c.args.self.now.start c.args.key.now
+      c.requires.reached.0 c.args.self.now.fits c.requires.reached.1).0;
+}
+
+pub invariant_of-walk : goal.invariant_of-walk
+invariant_of-walk g c =
+    let own = c.args.self.now in
+    let reached = reached_of_positions bound (g.G.Game.game own.game) own.rule own.start c.args.key.now
+    c.requires.reached.0 own.fits c.requires.reached.1 in
+    let valid = reached.0 in
+    let settled = subst (NoneGoesHome own.rule (g.G.Game.game own.game)) (sym c.position-walk-inside.ensures.value)
+    (none_goes own.rule (g.G.Game.game own.game) (spelled c.args.key.now) reached.1) in
+    let position = subst (IsPositionOf (g.G.Game.game own.game)) (sym c.position-walk-inside.ensures.value) valid.position in (
+      own.known,
+      subst (λ r. IsPositionOf r c.position-walk-inside.result) (sym c.copy.ensures.value) position,
+      subst (λ r. AreAllowed r c.position-walk-inside.result c.distinct_moves-walk-inside.result.items) (sym c.copy.ensures.value)
+          c.distinct_moves-walk-inside.ensures.classes.allowed,
+      c.bound-walk-inside.ensures.value,
+      subst (λ r. NoneGoesHome own.rule r c.position-walk-inside.result) (sym c.copy.ensures.value) settled,
+      (
+        subst IsCanonical (sym c.position-walk-inside.ensures.value) valid.ordered,
+        c.copy-walk-inside.ensures.value ∙ valid.bytes ∙ ap board_bytes (sym c.position-walk-inside.ensures.value),
+      ),
+    )
+
+pub returns-clause-children : goal.returns-clause-children
+returns-clause-children g c =
+    let own = c.args.self.now in
+    let rules = g.G.Game.game own.game in
+    let x = c.args.key.now in
+    let moves = c.distinct_moves-walk-inside.result.items in
+    let valid = (reached_of_positions bound rules own.rule own.start x c.requires.reached.0 own.fits c.requires.reached.1).0 in
+    let lists = subst (λ b. ListsClasses rules b moves) c.position-walk-inside.ensures.value c.distinct_moves-walk-inside.ensures.classes in
+    let have = have_children rules own.rule (spelled x) moves lists.allowed in
+    let all = children_all rules own.rule own.start x moves (map (child_by rules own.rule (spelled x)) moves) valid lists have in
+    subst (λ r. AreChildren (classes bound rules own.rule own.start) x (children_by r own.rule c.position-walk-inside.result moves))
+    (sym c.copy.ensures.value)
+    (subst (λ b. AreChildren (classes bound rules own.rule own.start) x (children_by rules own.rule b moves))
+    (sym c.position-walk-inside.ensures.value) all)

@@ -1,0 +1,35 @@
+use Rattle.std.proofs.Common.{sym, subst, ap, ◌∙◌, arith}
+use Rattle.std.specs.Prelude.{Contains}
+use Rattle.fc_moves.specs.GameRules.{IsPositionOf}
+use Rattle.fc_canonical.specs.Key.{board_bytes}
+use Rattle.fc_canonical.specs.Order.{IsCanonical}
+use Rattle.fc_home.specs.Settles.{NoneGoesHome}
+use Rattle.fc_canonical.specs.Spelled.{spelled}
+use Rattle.fc_classes.proofs.PathLemmas.{reached_of_positions}
+use Rattle.fc_search.proofs.StayLemmas.{none_goes}
+use Rattle.fc_search.proofs.positions.PositionsSpaceClassKey.walk.Goals as goal
+use Rattle.fc_bound.specs.Bound.{bound}
+
+pub position-position-requires : goal.position-position-requires
+position-position-requires g c = record {
+  key = (reached_of_positions bound (g.G.Game.game c.args.self.now.game) c.args.self.now.rule c.args.self.now.start c.start-first.result.key
+      c.start-first.result.cost c.args.self.now.fits (0, c.start-first.ensures.starts)).0;
+}
+
+pub invariant_of-result : goal.invariant_of-result
+invariant_of-result g c =
+    let own = c.args.self.now in
+    let rules = g.G.Game.game own.game in
+    let key = c.start-first.result.key in
+    let reached = reached_of_positions bound rules own.rule own.start key c.start-first.result.cost own.fits (0, c.start-first.ensures.starts) in
+    let valid = reached.0 in
+    let same = sym c.position-position.ensures.value in
+    let settled = subst (NoneGoesHome own.rule rules) same (none_goes own.rule rules (spelled key) reached.1) in
+    let position = subst (IsPositionOf rules) same valid.position in (
+      own.known,
+      subst (λ r. IsPositionOf r c.position-position.result) (sym c.copy.ensures.value) position,
+      λ m there. absurd (let none = subst (λ l. Contains l m) c.new.ensures there in omega (arith, none.1)),
+      c.bound-low.ensures.value,
+      subst (λ r. NoneGoesHome own.rule r c.position-position.result) (sym c.copy.ensures.value) settled,
+      (subst IsCanonical same valid.ordered, valid.bytes ∙ ap board_bytes same),
+    )

@@ -1,0 +1,275 @@
+ghost use Rattle.std.specs.Prelude.{◌≡◌, ◌≤◌, ℕ, IfSome, Some};
+ghost use Rattle.fc_position.specs.Board.{playable, lifted, placed};
+ghost use Rattle.fc_position.specs.Position.{Fits, IsPosition};
+ghost use Rattle.fc_moves.specs.GameRules.{IsPositionOf};
+ghost use Rattle.fc_moves.specs.Step.{Allows};
+ghost use Rattle.fc_canonical.specs.Key.{IsKeyOf};
+ghost use Rattle.fc_canonical.specs.Moved.{MayMove};
+ghost use Rattle.fc_home.specs.Settles.{NoneGoesHome};
+ghost use Rattle.fc_bound.specs.Bound.{bound as bound_of};
+ghost use Rattle.fc_classes.specs.Classes.{classes};
+ghost use Rattle.fc_canonical.specs.Spelled.{IsKeyIn, spelled};
+ghost use Rattle.fc_classes.proofs.TableLemmas.{lawful};
+ghost use Rattle.fc_search.specs.Children.{IsSettled, IsChildOf, OthersStay, Spells, children_by};
+ghost use Rattle.fc_tables.proofs.BoundLemmas.{bound_lower};
+
+use arrayvec::ArrayVec;
+use fc_best_first::{Child, Space};
+use fc_bound::{bound, is_held_back};
+use fc_canonical::{distinct_moves, position_of};
+use fc_cards::Place;
+use fc_classes::ClassKey;
+use fc_home::{goes_home_from, settle};
+use fc_moves::{Game, Move, apply};
+use fc_position::Position;
+use std::marker::Model;
+
+/// The question how few moves of a game win from a position that fits it, searched by classes of positions that are
+/// settled by a home rule, at most 2.
+#[derive(Drop)]
+pub struct Positions<G: Game + Drop> {
+    pub game: G,
+    pub rule: u8,
+    pub start: Position,
+    pub ghost known: { rule ≤ 2 },
+    pub ghost fits: { IsPositionOf (G.game game) start },
+}
+
+/// The children of a class that are left: its position, with its key and its bound, and the moves that lead to them, the
+/// next one last.
+#[derive(Drop)]
+pub struct Children<G: Game + Drop> {
+    game: G,
+    rule: u8,
+    position: Position,
+    key: ClassKey,
+    bound: u8,
+    left: ArrayVec<Move, 132>,
+}
+
+impl<G: Game + Drop> Model for Children<G> {
+    ghost use Rattle.std.specs.Prelude.{◌≡◌, ◌≤◌};
+    ghost use Rattle.fc_moves.specs.GameRules.{IsPositionOf};
+    ghost use Rattle.fc_home.specs.Settles.{NoneGoesHome};
+    ghost use Rattle.fc_bound.specs.Bound.{bound as bound_of};
+    ghost use Rattle.fc_search.specs.Children.{AreAllowed, Left, Spells};
+
+    ghost Value = { Left G };
+
+    ghost view = { λ s. record { game = s.game; rule = s.rule; position = s.position; moves = s.left.items } };
+
+    ghost invariant = { λ s. (s.rule ≤ 2) × IsPositionOf (G.game s.game) s.position × AreAllowed (G.game s.game) s.position s.left.items
+        × (s.bound ≡ bound_of s.position) × NoneGoesHome s.rule (G.game s.game) s.position × Spells s.key s.position };
+}
+
+impl<G: Game + Drop> Positions<G> {
+    /// The question for a position that fits the game.
+    pub fn new(game: G, rule: u8, start: Position) -> Self
+        requires rule { rule ≤ 2 }
+        requires fits { Fits (G.game game).cells start }
+        ensures game { result.game ≡ game }
+        ensures rule { result.rule ≡ rule }
+        ensures start { result.start ≡ start }
+    {
+        Positions { game, rule, start }
+    }
+
+    // The position that a key of the game spells.
+    #[inline]
+    fn position(&self, key: &ClassKey) -> Position
+        requires key { IsKeyIn (G.game self.now.game) key.now }
+        ensures value { result ≡ spelled key.now }
+        ensures whole { IsPosition result }
+    {
+        position_of(key.bytes())
+    }
+}
+
+// The class that the position settles to by the rule, where so many moves led to the position.
+fn settled<G: Game>(game: &G, rule: u8, position: Position, moves: u8) -> Child<ClassKey>
+    requires known { rule ≤ 2 }
+    requires few { moves ≤ 1 }
+    ensures settled { IsSettled (G.game game.now) rule position moves result }
+{
+    let mut position = position;
+    let settling = settle(game, &mut position, rule);
+    Child {
+        key: ClassKey::of(&position),
+        cost: moves + settling.len() as u8,
+        bound: bound(&position),
+    }
+}
+
+// The class of the position to which a card that was moved from this place led, where no card goes home by the rule
+// after it: only the card that lay below it can.
+fn settled_already<G: Game>(
+    game: &G,
+    rule: u8,
+    position: &Position,
+    from: Place,
+    bound: u8,
+    key: Option<ClassKey>,
+) -> Option<Child<ClassKey>>
+    requires known { rule ≤ 2 }
+    requires bound { bound ≡ bound_of position.now }
+    requires key { IfSome key (IsKeyOf position.now) }
+    requires others { OthersStay rule (G.game game.now) position.now from }
+    ensures settled { IfSome result (IsSettled (G.game game.now) rule position.now 1) }
+{
+    if goes_home_from(game, position, rule, from) {
+        return None;
+    }
+    Some(Child {
+        key: key_or_new(key, position),
+        cost: 1,
+        bound,
+    })
+}
+
+// The key of the position, where there is none yet written anew.
+#[inline]
+fn key_or_new(key: Option<ClassKey>, position: &Position) -> ClassKey
+    requires key { IfSome key (IsKeyOf position.now) }
+    ensures value { IsKeyOf position.now result }
+{
+    match key {
+        Some(key) => key,
+        None => ClassKey::of(position),
+    }
+}
+
+// The key of where a move leads that takes no card home, made from the key of the position, if it can be.
+#[inline]
+fn key_after(key: &ClassKey, position: &Position, m: Move) -> Option<ClassKey>
+    requires whole { IsPosition position.now }
+    requires key { Spells key.now position.now }
+    requires may { (u : ℕ) × MayMove position.now u m.from m.to }
+    ensures value { IfSome result (λ k. (u : ℕ) → playable position.now m.from ≡ Some u → IsKeyOf (placed (lifted position.now m.from) u m.to) k) }
+{
+    let card = position.playable(m.from)?;
+    key.moved(position, card, m.from, m.to)
+}
+
+// The child to which a move leads, made by moving the card forth and back; `None` where cards go home, which can't be
+// taken back. The position is as it was.
+fn child_by_shift<G: Game>(
+    game: &G,
+    rule: u8,
+    position: &mut Position,
+    key: &ClassKey,
+    bound: u8,
+    m: Move,
+) -> Option<Child<ClassKey>>
+    requires known { rule ≤ 2 }
+    requires bound { bound ≡ bound_of position.old }
+    requires settled { NoneGoesHome rule (G.game game.now) position.old }
+    requires whole { IsPosition position.old }
+    requires key { Spells key.now position.old }
+    requires allowed { Allows (G.game game.now) position.old m }
+    ensures child { IfSome result (IsChildOf (G.game game.now) rule position.old m) }
+    ensures same { position.new ≡ position.old }
+{
+    if m.to == Place::Home {
+        return None;
+    }
+    let key = key_after(key, position, m);
+    let before = is_held_back(position, m.from) as u8;
+    apply(game, position, m);
+    let after = is_held_back(position, m.to) as u8;
+    let child = settled_already(game, rule, position, m.from, bound + after - before, key);
+    position.shift(m.to, m.from);
+    child
+}
+
+// The child to which a move leads, made on a copy of the position.
+fn child_by_copy<G: Game>(game: &G, rule: u8, position: &Position, m: Move) -> Child<ClassKey>
+    requires known { rule ≤ 2 }
+    requires allowed { Allows (G.game game.now) position.now m }
+    ensures child { IsChildOf (G.game game.now) rule position.now m result }
+{
+    let mut next = position.copy();
+    apply(game, &mut next, m);
+    settled(game, rule, next, 1)
+}
+
+// The child to which a move leads. The position is as it was.
+fn child_by<G: Game>(
+    game: &G,
+    rule: u8,
+    position: &mut Position,
+    key: &ClassKey,
+    bound: u8,
+    m: Move,
+) -> Child<ClassKey>
+    requires known { rule ≤ 2 }
+    requires bound { bound ≡ bound_of position.old }
+    requires settled { NoneGoesHome rule (G.game game.now) position.old }
+    requires whole { IsPosition position.old }
+    requires key { Spells key.now position.old }
+    requires allowed { Allows (G.game game.now) position.old m }
+    ensures child { IsChildOf (G.game game.now) rule position.old m result }
+    ensures same { position.new ≡ position.old }
+{
+    match child_by_shift(game, rule, position, key, bound, m) {
+        Some(child) => child,
+        None => child_by_copy(game, rule, position, m),
+    }
+}
+
+impl<G: Game + Drop> Space<ClassKey> for Positions<G> {
+    ghost graph = { λ s. classes bound_of (G.game s.game) s.rule s.start };
+
+    type Walk = Children<G>;
+
+    ghost rest = { λ w. children_by (G.game w.game) w.rule w.position w.moves };
+
+    fn start(&self) -> Child<ClassKey> {
+        settled(&self.game, self.rule, self.start.copy(), 0)
+    }
+
+    fn is_won(&self, key: &ClassKey) -> bool {
+        key.bytes().starts_with(&[13; 4])
+    }
+
+    fn bound(&self, key: &ClassKey) -> u8 {
+        bound(&self.position(key))
+    }
+
+    fn walk(&self) -> Children<G> {
+        let first = self.start();
+        let position = self.position(&first.key);
+        let low = bound(&position);
+        Children {
+            game: self.game.copy(),
+            rule: self.rule,
+            position,
+            key: first.key,
+            bound: low,
+            left: ArrayVec::new(),
+        }
+    }
+
+    fn visit(&self, key: &ClassKey, walk: &mut Children<G>) -> u8 {
+        walk.game = self.game.copy();
+        walk.rule = self.rule;
+        walk.position = self.position(key);
+        walk.key = key.copy();
+        walk.bound = bound(&walk.position);
+        walk.left = distinct_moves(&self.game, &walk.position);
+        walk.bound
+    }
+
+    fn next(&self, walk: &mut Children<G>) -> Option<Child<ClassKey>> {
+        let m = walk.left.pop()?;
+        Some(child_by(
+            &walk.game,
+            walk.rule,
+            &mut walk.position,
+            &walk.key,
+            walk.bound,
+            m,
+        ))
+    }
+
+    ghost lawful = { λ s. lawful bound_of (G.game s.game) s.rule s.start bound_lower s.fits };
+}
