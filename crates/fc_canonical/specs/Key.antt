@@ -25,6 +25,10 @@ pub record IsKeyOf (b : Board) (key : List ℕ) : Type 0 where
 abbrev pub padded : List ℕ → List ℕ
 padded key = key ++ replicate (68 - length key) 0
 
+-- the bytes are the key of the board's class, and zeros up to 68 bytes
+abbrev pub IsPaddedKeyOf : Board → List ℕ → Type 0
+IsPaddedKeyOf b bytes = (key : List ℕ) × IsKeyOf b key × (bytes ≡ padded key)
+
 -- the first n bytes are eight bytes and then eight columns by their length bytes, whatever the other bytes are
 pub record HasExtent (bytes : List ℕ) (n : ℕ) : Type 0 where
   pub front : List ℕ

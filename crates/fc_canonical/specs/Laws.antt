@@ -1,5 +1,5 @@
 -- What the laws of this crate state.
-use Rattle.std.specs.Prelude.{◌≡◌, ℕ, ◌≤◌, ◌↔◌, length, List}
+use Rattle.std.specs.Prelude.{◌≡◌, ℕ, ◌≤◌, ◌↔◌, length, take, List}
 use Rattle.fc_position.specs.Board.{Board}
 use Rattle.fc_position.specs.Position.{IsPosition, Fits}
 use Rattle.fc_moves.specs.declared.steps.Move.{Move}
@@ -73,6 +73,10 @@ CanonicalBoardsFitByCount = (n : ℕ) (b : Board) → IsPosition b → IsCanonic
 -- the extent by the length bytes is one, whatever the other bytes are
 abbrev pub ExtentsAreOne : Type 0
 ExtentsAreOne = (bytes : List ℕ) (m n : ℕ) → HasExtent bytes m → HasExtent bytes n → m ≡ n
+
+-- a front of bytes has their extent where it is long enough to hold it, and else none
+abbrev pub FrontsHaveTheirExtent : Type 0
+FrontsHaveTheirExtent = (bytes : List ℕ) (k m n : ℕ) → HasExtent bytes n → HasExtent (take k bytes) m ↔ ((m ≡ n) × (n ≤ k))
 
 -- a key has at most 68 bytes
 abbrev pub KeysAreShort : Type 0
