@@ -7,7 +7,7 @@ use Rattle.fc_moves.specs.GameRules.{GameRules, IsPositionOf}
 use Rattle.fc_moves.specs.Run.{Wins}
 use Rattle.fc_moves.specs.Step.{Step}
 use Rattle.fc_canonical.specs.Class.{SameClass}
-use Rattle.fc_canonical.specs.Key.{IsKeyOf, HasExtent, BeginsWithKey}
+use Rattle.fc_canonical.specs.Key.{longest_key, IsKeyOf, HasExtent, BeginsWithKey}
 use Rattle.fc_canonical.specs.Order.{IsCanonical, full_cells}
 use Rattle.fc_canonical.specs.Spelled.{IsKeyIn, spelled}
 
@@ -80,7 +80,7 @@ FrontsHaveTheirExtent = (bytes : List ℕ) (k m n : ℕ) → HasExtent bytes n �
 
 -- a key has at most 68 bytes
 abbrev pub KeysAreShort : Type 0
-KeysAreShort = (b : Board) (key : List ℕ) → IsPosition b → IsKeyOf b key → length key ≤ 68
+KeysAreShort = (b : Board) (key : List ℕ) → IsPosition b → IsKeyOf b key → length key ≤ longest_key
 
 -- a key of the game is the key at its own front
 abbrev pub KeysBeginThemselves : Type 0
