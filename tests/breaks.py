@@ -10,8 +10,9 @@ no function's own text.
 A wave is one check of a copy of the crate with many edits: a check goes on after a function that it refuses, and takes the
 callers of that function over its contract. The first edit of a function changes it in place, each further one a copy of it that
 stands beside it under a name of its own, with the same contract and proof, and one more copy without an edit must be proved. A
-trait's methods have no copies: their further edits go to further waves. An edit is refused where a goal of a function that it
-changes stays open; that the function calls one that isn't proved does not count. What a wave does not settle is tried alone.
+trait's methods and functions that call themselves have no copies: their further edits go to further waves. An edit is refused
+where a goal of a function that it changes stays open; that the function calls one that isn't proved does not count. What a wave
+does not settle is tried alone.
 --alone tries each edit by itself. --follow LOG tries a crate's edits as soon as the `rt ci` that writes LOG says that the crate is
 proved, over the libraries that it builds; else those that have changed are built first. The last line is 'N passed, M failed'.
 """
@@ -32,14 +33,15 @@ from kit import crates_of_gate, rt, rtlib
 
 @dataclass
 class Function:
-    """A function of a source file: the end of the name that a check gives it, and the span of its text."""
+    """A function of a source file: the end of the name that a check gives it, the span of its text, and whether a copy of it can
+    stand beside it with its proof: a trait's method can't, nor a function that calls itself."""
 
     path: str
     module: str
     name: str
     begin: int
     end: int
-    is_of_trait: bool
+    can_be_copied: bool
 
     def has(self, at):
         return self.begin <= at < self.end
@@ -57,7 +59,7 @@ class Edit:
 
     def is_of_copy(self):
         """Whether it can change a copy of a function in the function's place."""
-        return len(self.within) == 1 and not self.within[0].is_of_trait
+        return len(self.within) == 1 and self.within[0].can_be_copied
 
 
 class BadEdit(Exception):
@@ -106,7 +108,9 @@ def functions_of(path, text):
         elif head:
             begun = (at, head[1], "::".join([*(owner if head[1] else module), head[2]]))
         elif begun and line.rstrip() == begun[1] + "}":
-            found.append(Function(path, "::".join(module), begun[2], begun[0], at + len(line), bool(begun[1]) and of_trait))
+            itself = rf"(\bself\.|\bSelf::|(?<![\w.:])){begun[2].rpartition('::')[2]}\("
+            is_plain = not re.search(itself, text[begun[0] : at].partition("(")[2]) and not (begun[1] and of_trait)
+            found.append(Function(path, "::".join(module), begun[2], begun[0], at + len(line), is_plain))
             begun = None
         at += len(line)
     return found
