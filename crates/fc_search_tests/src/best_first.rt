@@ -96,7 +96,7 @@ impl Space<Sum> for Sums {
         u32::from(self.goal).saturating_sub(key.value) as u8
     }
 
-    fn walk(&self) -> Addends {
+    fn walk(&self, _key: &Sum) -> Addends {
         Addends {
             two: None,
             four: None,
