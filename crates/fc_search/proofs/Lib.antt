@@ -1,9 +1,9 @@
 mod AnswerLemmas
-pub mod BackLemmas
-pub mod ChildLemmas
+mod BackLemmas
+mod ChildLemmas
 mod NeedLemmas
 mod RowLemmas
-pub mod ShiftLemmas
-pub mod StayLemmas
+mod ShiftLemmas
+mod StayLemmas
 mod WalkLemmas
-pub mod WonLemmas
+mod WonLemmas

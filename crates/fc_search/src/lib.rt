@@ -4,7 +4,7 @@
 //! game, and the search over its queue.
 #![tactic(auto)]
 
-pub use fc_answers::{Answer, MoveList, Row, Table, Verdict};
+pub use fc_answers::{Answer, MoveList, Table, Verdict};
 pub use fc_best_first::{MOST_BUDGET, SearchFault, Step};
 pub use positions::{Children, Positions};
 pub use searches::{Search, decide, solve};
