@@ -7,9 +7,12 @@ An edit is a file as `rt must-fail` reads it: a line 'file: src/lib.rt', then pa
 old TEXT standing once in that file. A line 'fn: MODULE::NAME' names the function that must be refused, where the edit changes
 no function's own text.
 
-A wave is one check of a copy of the crate with as many edits as change different functions: a check goes on after a function
-that it refuses, and takes the callers of that function over its contract. An edit is refused where a goal of a function that
-it changes stays open; that the function calls one that isn't proved does not count. What a wave does not settle is tried alone.
+A wave is one check of a copy of the crate with many edits: a check goes on after a function that it refuses, and takes the
+callers of that function over its contract. The first edit of a function changes it in place, each further one a copy of it that
+stands beside it under a name of its own, with the same contract and proof, and one more copy without an edit must be proved. A
+trait's methods and functions that call themselves have no copies: their further edits go to further waves. An edit is refused
+where a goal of a function that it changes stays open; that the function calls one that isn't proved does not count. What a wave
+does not settle is tried alone.
 --alone tries each edit by itself. --follow LOG tries a crate's edits as soon as the `rt ci` that writes LOG says that the crate is
 proved, over the libraries that it builds; else those that have changed are built first. The last line is 'N passed, M failed'.
 """
@@ -29,12 +32,34 @@ from kit import crates_of_gate, rt, rtlib
 
 
 @dataclass
+class Function:
+    """A function of a source file: the end of the name that a check gives it, the span of its text, and whether a copy of it can
+    stand beside it with its proof: a trait's method can't, nor a function that calls itself."""
+
+    path: str
+    module: str
+    name: str
+    begin: int
+    end: int
+    can_be_copied: bool
+
+    def has(self, at):
+        return self.begin <= at < self.end
+
+
+@dataclass
 class Edit:
-    """A wrong edit of a crate: its changes of texts, and the functions that must be refused."""
+    """A wrong edit of a crate: its changes of texts, the names of the functions that must be refused, and the functions whose own
+    text it changes (none where it names them)."""
 
     name: str
     changes: list
     functions: set = field(default_factory=set)
+    within: list = field(default_factory=list)
+
+    def is_of_copy(self):
+        """Whether it can change a copy of a function in the function's place."""
+        return len(self.within) == 1 and self.within[0].can_be_copied
 
 
 class BadEdit(Exception):
@@ -72,17 +97,20 @@ def owner_of(head):
 
 
 def functions_of(path, text):
-    """Each function of a formatted source file, by the end of the name that a check gives it, with the span of its text."""
+    """Each function of a formatted source file."""
     module = [] if path in ("src/lib.rt", "src/main.rt") else re.sub(r"(/mod)?\.rt$", "", path)[4:].split("/")
-    found, at, owner, begun = [], 0, [], None
+    found, at, owner, of_trait, begun = [], 0, [], False, None
     for line in text.splitlines(True):
         head = re.match(r"( *)(?:pub(?:\([^)]*\))? +|const +|final +|unsafe +)*fn +(\w+)", line)
         if re.match(r"(pub +)?(impl|trait)\b", line):
-            owner = [owner_of(text[at : text.find("{", at)])]
+            said = text[at : text.find("{", at)]
+            owner, of_trait = [owner_of(said)], " for " in said or not said.startswith("impl")
         elif head:
             begun = (at, head[1], "::".join([*(owner if head[1] else module), head[2]]))
         elif begun and line.rstrip() == begun[1] + "}":
-            found.append((begun[2], begun[0], at + len(line)))
+            itself = rf"(\bself\.|\bSelf::|(?<![\w.:])){begun[2].rpartition('::')[2]}\("
+            is_plain = not re.search(itself, text[begun[0] : at].partition("(")[2]) and not (begun[1] and of_trait)
+            found.append(Function(path, "::".join(module), begun[2], begun[0], at + len(line), is_plain))
             begun = None
         at += len(line)
     return found
@@ -105,9 +133,7 @@ def applied(folder, changes):
     """The texts of the files that the changes make, by their path, or None where an old text does not stand once."""
     texts = {}
     for path, old, new in changes:
-        if path not in texts:
-            with open(f"{folder}/{path}", encoding="utf-8") as it:
-                texts[path] = it.read()
+        texts[path] = texts.get(path) or read(f"{folder}/{path}")
         if texts[path].count(old) != 1:
             return None
         texts[path] = texts[path].replace(old, new)
@@ -124,32 +150,85 @@ def read_edit(crate, name):
     edit = Edit(name, changes_of(text), {*re.findall(r"(?m)^fn: (\S+)", text)})
     if edit.functions:
         return edit
-    texts = {}
+    texts, found = {}, {}
     for path, old, new in edit.changes:
-        if path not in texts:
-            with open(f"{crate.folder}/{path}", encoding="utf-8") as it:
-                texts[path] = it.read()
+        texts[path] = texts.get(path) or read(f"{crate.folder}/{path}")
         at = texts[path].find(old)
-        inside = [it for it in functions_of(path, texts[path]) if it[1] <= at < it[2]] if path.startswith("src/") else []
+        inside = [it for it in functions_of(path, texts[path]) if it.has(at)] if path.startswith("src/") else []
         if not inside:
             raise BadEdit("it changes no function's text: name the function by a line 'fn: MODULE::NAME'")
-        edit.functions.add(max(inside, key=lambda it: it[1])[0])
+        function = max(inside, key=lambda it: it.begin)
+        found[path, function.name] = function
         texts[path] = texts[path].replace(old, new)
+    edit.within = [*found.values()]
+    edit.functions = {it.name for it in edit.within}
     return edit
 
 
+def parted(wave):
+    """The edits of a wave that change a function in place, and those that change a copy of it."""
+    in_place, copies, taken = [], [], set()
+    for edit in wave:
+        (copies if edit.functions & taken else in_place).append(edit)
+        taken |= edit.functions
+    return in_place, copies
+
+
 def in_waves(crate, edits):
-    """Puts each edit into the first wave whose edits change other functions, and with which each old text stands once."""
+    """Puts each edit into the first wave where it changes another function than the others, and where each old text stands once,
+    or where it can change a copy."""
     waves = []
     for edit in edits:
         for wave in waves:
-            is_apart = not any(edit.functions & other.functions for other in wave)
-            if is_apart and applied(crate.folder, [it for other in [*wave, edit] for it in other.changes]):
+            in_place, copies = parted([*wave, edit])
+            copied = {it for other in copies for it in other.functions}
+            # (what changes more than a function's text would change its copies too)
+            is_fit = all(it.is_of_copy() for it in copies) and all(it.within for it in in_place if it.functions & copied)
+            if is_fit and applied(crate.folder, [it for other in in_place for it in other.changes]):
                 wave.append(edit)
                 break
         else:
             waves.append([edit])
     return waves
+
+
+def read(path):
+    with open(path, encoding="utf-8") as it:
+        return it.read()
+
+
+def add_copy(crate, texts, function, changes, number):
+    """Adds a copy of a function to the texts, behind it, with its proof and these changes of its own text. Returns its name."""
+    path = function.path
+    code = read(f"{crate.folder}/{path}")
+    code = next(code[it.begin : it.end] for it in functions_of(path, code) if it.name == function.name)
+    for _, old, new in changes:
+        code = code.replace(old, new)
+    last = function.name.rpartition("::")[2]
+    code = re.sub(rf"\bfn +{last}\b", f"fn {last}_copy{number}", code, count=1)
+    text = texts.get(path) or read(f"{crate.folder}/{path}")
+    end = next(it.end for it in functions_of(path, text) if it.name == function.name)
+    texts[path] = f"{text[:end]}\n{code}{text[end:]}"
+    # (a method's name has no module, a function's has)
+    whole = function.name if function.name.startswith(f"{function.module}::") else f"{function.module}::{function.name}"
+    names = [it for it in whole.split("::") if it]
+    at = f"{crate.folder}/proofs/{'/'.join(names)}"
+    own = rf"(Rattle\.{crate.name}\.(?:proofs|specs\.contracts)\.{re.escape('.'.join(names))})(?![\w-])"
+    for file in os.listdir(at) if os.path.isdir(at) else []:
+        texts[f"proofs/{'/'.join(names)}_copy{number}/{file}"] = re.sub(own, rf"\1_copy{number}", read(f"{at}/{file}"))
+    return f"{function.name}_copy{number}"
+
+
+def put_together(crate, wave):
+    """The texts of a wave, for each edit the names of the functions that must be refused, and the names of copies without an edit."""
+    in_place, copies = parted(wave)
+    texts = applied(crate.folder, [it for edit in in_place for it in edit.changes])
+    functions = {edit.name: edit.functions for edit in in_place}
+    copied = {it.name: it for edit in copies for it in edit.within}
+    as_they_are = {add_copy(crate, texts, it, [], 0) for it in copied.values()}
+    for number, edit in enumerate(copies, 1):
+        functions[edit.name] = {add_copy(crate, texts, edit.within[0], edit.changes, number)}
+    return texts, functions, as_they_are
 
 
 def check(crate, texts, functions, kept):
@@ -160,6 +239,7 @@ def check(crate, texts, functions, kept):
             if os.path.isdir(f"{crate.folder}/{part}"):
                 shutil.copytree(f"{crate.folder}/{part}", f"{room}/{part}")
         for path, text in texts.items():
+            os.makedirs(os.path.dirname(f"{room}/{path}"), exist_ok=True)
             with open(f"{room}/{path}", "w", encoding="utf-8") as it:
                 it.write(text)
         only = [word for name in sorted(functions) for word in ("--only", name)]
@@ -200,10 +280,9 @@ def is_of(name, function):
 
 def try_wave(crate, wave, kept):
     """Tries edits together. Returns what is wrong with each (None: it is refused), or why the check judged none, and its seconds."""
-    texts = applied(crate.folder, [it for edit in wave for it in edit.changes])
-    functions = {it for edit in wave for it in edit.functions}
-    status, lines, seconds = check(crate, texts, functions, kept)
-    bad = next((it for it in lines if rt.unread(it, texts)), None)
+    texts, functions, as_they_are = put_together(crate, wave)
+    status, lines, seconds = check(crate, texts, as_they_are.union(*functions.values()), kept)
+    bad = next((it for it in lines if rt.unread(it, {path for edit in wave for path, _, _ in edit.changes})), None)
     if bad:
         return None, f"the prover cannot read an edited text: {bad[:200]}", seconds
     said = judged(crate, lines)
@@ -211,7 +290,7 @@ def try_wave(crate, wave, kept):
         return None, f"the check judged nothing (status {status}): {' / '.join(lines[:4])[:400]}", seconds
     wrong, edited = {}, set()
     for edit in wave:
-        names = {function: [it for it in said if is_of(it, function)] for function in edit.functions}
+        names = {function: [it for it in said if is_of(it, function)] for function in functions[edit.name]}
         own = [it for found in names.values() for it in found]
         edited.update(own)
         lost = [function for function, found in names.items() if not found]

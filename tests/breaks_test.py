@@ -7,6 +7,7 @@ import contextlib
 import io
 import os
 import re
+import shutil
 import sys
 import tempfile
 
@@ -70,18 +71,22 @@ OWNERS = {
     "pub trait Frontier: Drop ": "Frontier",
 }
 
-# An edit's text, and what is wrong with it (None: it is refused).
+# An edit's text, and what is wrong with it (None: it is refused). The second edit of a function changes a copy of it.
 EDITS = {
     "larger_harmless": ("file: src/lib.rt\nold: if a < b { b }\nnew: if a <= b { b }\n", "NOT REFUSED: Small::larger is proved"),
     "larger_the_first": ("file: src/lib.rt\nold: { b } else { a }\nnew: { a } else { a }\n", None),
     "limit_of_no_function": ("file: src/lib.rt\nold: LIMIT: u8 = 10\nnew: LIMIT: u8 = 11\n", "changes no function's text"),
     "limited_says_nothing": ("file: src/lib.rt\nold: if a < LIMIT\nnew: if LIMIT < a\n", "NOT REFUSED: limited is proved"),
     "sum_by_its_statement": ("fn: sum\nfile: specs/Sums.antt\nold: sum_of a b = a + b\nnew: sum_of a b = a + a\n", None),
-    "sum_misspelt": ("file: src/lib.rt\nold: a as u16 + b as u16\nnew: a as u16 + c as u16\n", "cannot find value `c`"),
-    "sum_one_more": ("file: src/lib.rt\nold: a as u16 + b as u16\nnew: a as u16 + b as u16 + 1\n", None),
     "sum_stands_nowhere": ("file: src/lib.rt\nold: a - b\nnew: a + b\n", "0 times, and not once"),
     # In its wave the function that it calls is refused, which must not count.
     "twice_harmless": ("file: src/lib.rt\nold: sum(a, a)\nnew: sum(a, 0) + sum(0, a)\n", "NOT REFUSED: twice is"),
+}
+
+# Edits of the same crate, of which one doesn't compile.
+MISSPELT = {
+    "sum_misspelt": ("file: src/lib.rt\nold: a as u16 + b as u16\nnew: a as u16 + c as u16\n", "cannot find value `c`"),
+    "sum_one_more": ("file: src/lib.rt\nold: a as u16 + b as u16\nnew: a as u16 + b as u16 + 1\n", None),
 }
 
 
@@ -89,13 +94,22 @@ def make_sample():
     """Writes the repository of the sample into the current folder."""
     os.makedirs("crates/sample/src")
     os.makedirs("crates/sample/specs")
-    os.makedirs("crates/sample/breaks")
     files = {"crates.txt": "sample:\n", "crates/sample/src/lib.rt": CODE}
     files.update({f"crates/sample/specs/{name}.antt": text for name, text in SPECS.items()})
-    files.update({f"crates/sample/breaks/{name}.edit": text for name, (text, _) in EDITS.items()})
     for path, text in files.items():
         with open(path, "w", encoding="utf-8") as it:
             it.write(text)
+
+
+def tried(crate, edits):
+    """How many of these edits of the sample were refused, and what was wrong with the others."""
+    shutil.rmtree("crates/sample/breaks", ignore_errors=True)
+    os.makedirs("crates/sample/breaks")
+    for name, (text, _) in edits.items():
+        with open(f"crates/sample/breaks/{name}.edit", "w", encoding="utf-8") as it:
+            it.write(text)
+    with contextlib.redirect_stdout(io.StringIO()):
+        return breaks.try_crate(crate, False)
 
 
 def main():
@@ -111,17 +125,17 @@ def main():
         os.chdir(room)
         make_sample()
         (crate,) = crates_of_gate()
-        names = [it[0] for it in breaks.functions_of("src/lib.rt", CODE)]
+        names = [it.name for it in breaks.functions_of("src/lib.rt", CODE)]
         expect("functions are found", names == ["Small::larger", "sum", "twice", "limited"])
         for head, name in OWNERS.items():
             expect(head, breaks.owner_of(head) == name)
-        with contextlib.redirect_stdout(io.StringIO()):
-            passed, wrong = breaks.try_crate(crate, False)
-        for name, (_, want) in EDITS.items():
-            expect(name, re.search(want, wrong.get(f"{name}.edit", "")) if want else f"{name}.edit" not in wrong)
-        expect("the refused ones are counted", passed == sum(want is None for _, want in EDITS.values()))
+        for edits in (EDITS, MISSPELT):
+            passed, wrong = tried(crate, edits)
+            for name, (_, want) in edits.items():
+                expect(name, re.search(want, wrong.get(f"{name}.edit", "")) if want else f"{name}.edit" not in wrong)
+            expect("the refused ones are counted", passed == sum(want is None for _, want in edits.values()))
         os.chdir("/")
-    count = len(EDITS) + len(OWNERS) + 2
+    count = len(EDITS) + len(MISSPELT) + len(OWNERS) + 3
     print(f"{count - failed} passed, {failed} failed")
     return 1 if failed else 0
 

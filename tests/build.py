@@ -56,6 +56,8 @@ def main(name):
     if not program or not program.is_program:
         print(f"build: crates.txt names no program {name}", file=sys.stderr)
         return 2
+    # One job a check, and as many checks as processors and memory allow: with more jobs a check takes up to twice the time of them.
+    os.environ.setdefault("RT_JOBS", str(max(1, min(rt.processors(), rt.free() // 3_000_000_000))))
     crates = [*program.below(), program]
     progress = Progress(name, len(crates))
     tasks = {}

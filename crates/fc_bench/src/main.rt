@@ -6,55 +6,34 @@ use arrayvec::ArrayVec;
 use fc_bound::bound;
 use fc_canonical::{Key, canonical, distinct_moves, key};
 use fc_cards::{Card, Place, Suit};
+use fc_deal::deal;
 use fc_frontier::{BucketFrontier, Frontier};
 use fc_home::settle;
 use fc_moves::{FreeCell, Game, Move, allows, apply, moves};
 use fc_position::Position;
+use fc_text::read_board;
 use std::alloc::Global;
 use std::rt::Clock;
 use std::time::Instant;
 use std::{array, env, io};
 
-/// The columns of deal 1, the deepest card first.
-const DEAL: [&[u8]; 8] = [
-    b"JD KD 2S 4C 3S 6D 6S",
-    b"2D KC KS 5C TD 8S 9C",
-    b"9H 9S 9D TS 4S 8D 2H",
-    b"JC 5S QD QH TH QS 6H",
-    b"5D AD JS 4H 8H 6C",
-    b"7H QC AS AC 2C 3D",
-    b"7C KH AH 4D JH 8C",
-    b"5H 3H 3C 7S 7D TC",
-];
+/// All 52 cards in one column, the kings deepest.
+const ONE_COLUMN: &[u8] = b"\
+    KS KH KD KC QS QH QD QC JS JH JD JC TS TH TD TC 9S 9H 9D 9C 8S 8H 8D 8C 7S 7H 7D 7C 6S 6H 6D 6C 5S \
+    5H 5D 5C 4S 4H 4D 4C 3S 3H 3D 3C 2S 2H 2D 2C AS AH AD AC\n";
+
+/// All 52 cards in a column for each suit, the kings deepest.
+const FOUR_COLUMNS: &[u8] = b"\
+    KS QS JS TS 9S 8S 7S 6S 5S 4S 3S 2S AS\n\
+    KH QH JH TH 9H 8H 7H 6H 5H 4H 3H 2H AH\n\
+    KD QD JD TD 9D 8D 7D 6D 5D 4D 3D 2D AD\n\
+    KC QC JC TC 9C 8C 7C 6C 5C 4C 3C 2C AC\n";
 
 /// How many places a copy goes round, so that no copy can be left out.
 const SLOTS: usize = 8;
 
 /// As many bytes as a position has.
 const BYTES: usize = size_of::<Position>();
-
-/// The start of deal 1.
-fn start() -> Option<Position> {
-    let mut columns: [ArrayVec<Card, 52>; 8] = Default::default();
-    for (column, text) in columns.iter_mut().zip(&DEAL) {
-        for word in text.chunks(3) {
-            let card = Card::read(word.get(..2)?)?;
-            column.try_push(card).ok()?;
-        }
-    }
-    Position::from_parts(columns, [None; 4], [0; 4]).ok()
-}
-
-/// All 52 cards in so many columns, 1 to 4, the kings deepest: in one, or by suit, the clubs in the last.
-fn piled(count: u8) -> Option<Position> {
-    let mut columns: [ArrayVec<Card, 52>; 8] = Default::default();
-    for number in 0..52 {
-        let card = Card::from_index(51 - number)?;
-        let place = (3 - card.suit().index()).checked_rem(count)?;
-        columns.get_mut(place as usize)?.try_push(card).ok()?;
-    }
-    Position::from_parts(columns, [None; 4], [0; 4]).ok()
-}
 
 /// Copies bytes round a ring of buffers, and gives a byte of the last.
 fn copy_bytes(rounds: u32) -> usize {
@@ -405,7 +384,7 @@ fn bench_search_parts(
         settle_positions(position, rounds, |board| plain_settle(game, board).len())
     })?;
     report(rt, "settle, plainly", calls, settled, bytes, calls)?;
-    if let (Some(pile), Some(suits)) = (piled(1), piled(4)) {
+    if let (Ok(pile), Ok(suits)) = (read_board(ONE_COLUMN, 4), read_board(FOUR_COLUMNS, 4)) {
         bench_settle(rt, "one column", &pile, game, rounds / 16, bytes, calls)?;
         bench_settle(rt, "four columns", &suits, game, rounds / 16, bytes, calls)?;
     }
@@ -447,7 +426,7 @@ fn main(rt: HostRuntime) -> io::Result<()> {
         .next()
         .and_then(|word| word.parse::<u32>().ok())
         .unwrap_or(0);
-    match (start(), FreeCell::new(4)) {
+    match (deal(1), FreeCell::new(4)) {
         (Some(position), Some(game)) => bench(&rt, &position, &game, rounds),
         _ => println!(rt; "no deal"),
     }

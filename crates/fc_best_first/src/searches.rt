@@ -77,10 +77,10 @@ impl<K: ExactKey, F: Frontier + Drop, S: Space<K> + Drop> Search<K, F, S> {
         let f = cost + u32::from(start.bound);
         let mut book = Book::new(alloc);
         let mark = Mark { cost, parent: 0 };
+        let walk = space.walk(&start.key);
         let Ok(_offered) = book.offer(budget, start.key, mark, f) else {
             return Err(SearchFault::Memory);
         };
-        let walk = space.walk();
         Ok(Search {
             space,
             budget,

@@ -39,8 +39,9 @@ pub trait Space<K> {
         requires reached { (d : ℕ) × Reached (graph self.now) key.now d }
         ensures value { result ≡ (graph self.now).bound key.now };
 
-    /// A walk with no child left.
-    fn walk(&self) -> Self::Walk
+    /// A walk with no child left, which begins at a key that was reached.
+    fn walk(&self, key: &K) -> Self::Walk
+        requires reached { (d : ℕ) × Reached (graph self.now) key.now d }
         ensures none { rest result ≡ [] };
 
     /// The lower bound of a key that was reached. Its children take the place of those that were left.

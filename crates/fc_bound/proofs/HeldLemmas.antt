@@ -19,9 +19,9 @@ use Rattle.fc_moves.specs.GameRules.{GameRules, all_cards}
 use Rattle.fc_moves.specs.Step.{Step, Takes}
 use Rattle.fc_moves.proofs.StepLemmas.{receives-takes}
 use Rattle.fc_bound.specs.Bound.{bound, is_away, is_held_back, is_above_lower, stands_in}
-use Rattle.fc_bound.specs.Laws.{StepsLowerTheBoundByOne, StepsMoveTheBoundByTheirCard, WinsNeedTheBound, ClassMatesHaveOneBound}
+use Rattle.fc_bound.specs.Laws.{StepsLowerTheBoundByOne, StepsMoveTheBoundByTheirCard, WinsNeedTheBound, ClassMatesHaveOneBound, BoundsAreSmall}
 use Rattle.fc_bound.proofs.AboveLemmas.{above-one, above-other, not_true, stands-counted}
-use Rattle.fc_bound.proofs.CountLemmas.{count-same, count-but_one, count-of_two, count-none}
+use Rattle.fc_bound.proofs.CountLemmas.{count-most, count-same, count-but_one, count-of_two, count-none}
 
 -- what passes somewhere in a list
 pub record Found (test : List ℕ → Bool) (columns : List (List ℕ)) : Type 0 where
@@ -207,6 +207,11 @@ wins_need g b (m ∷ ms) p (c, (mid, step, rest), won) =
     let one = step_lowers g b mid m p step in
     let later = wins_need g mid ms (step_position g b mid m p step) (c, rest, won) in
     omega arith
+
+-- no card is counted more than twice
+pub bound_small : BoundsAreSmall
+unfolding bound
+bound_small b = omega (arith, count-most (is_away b), count-most (is_held_back b))
 
 -- boards of one class have one bound
 pub class_bound : ClassMatesHaveOneBound

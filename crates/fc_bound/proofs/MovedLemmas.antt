@@ -1,6 +1,6 @@
 -- What a move to a column or a cell changes in the bound: whether the card that moves is held back.
-use Rattle.std.proofs.Common.{◌≡◌, ◌≢◌, ℕ, ◌<◌, zero, suc, Bool, false, cond, List, [], ◌∷◌, ◌++◌, Option, Some, None, length, get_or, refl, sym, ◌∙◌, ap, subst, arith}
-use Rattle.std.specs.Prelude.{◌==◌, ◌||◌, MatchOption}
+use Rattle.std.proofs.Common.{◌≡◌, ◌≢◌, ℕ, ◌<◌, zero, suc, Bool, false, cond, List, [], ◌∷◌, ◌++◌, Some, None, length, get_or, refl, sym, ◌∙◌, ap, arith}
+use Rattle.std.specs.Prelude.{◌==◌, ◌||◌, ◌↔◌, IsTrue, true}
 use Rattle.std.specs.List.{list_any}
 use Rattle.std.proofs.lemmas.Bool.Decides.{nat_tests}
 use Rattle.std.proofs.lemmas.List.Sums.{get_or-le-sum_by}
@@ -10,7 +10,7 @@ use Rattle.fc_position.specs.Board.{Board, column, cell, playable, last_of, fron
 use Rattle.fc_position.specs.Position.{IsPosition}
 use Rattle.fc_position.proofs.BoardLemmas.{front_last, last_counted, places_most, column_there, cell_there}
 use Rattle.fc_canonical.proofs.KeyLemmas.{two_of_sum}
-use Rattle.fc_bound.specs.Bound.{is_held_back, is_above_lower, is_lower}
+use Rattle.fc_bound.specs.Bound.{is_held_back, is_above_lower, is_lower, PlayableIsHeldBack}
 use Rattle.fc_bound.proofs.AboveLemmas.{above-one, above-top, stands-counted, not_true, or-false}
 
 -- a list that passes nowhere passes not
@@ -75,22 +75,34 @@ held-cell b i u p held =
 
 -- what is told of the playable card of a column that has one
 pub told_column : (b : Board) (from : Place) (i u : ℕ) (r : Bool) → IsPosition b → from ≡ Column i → playable b from ≡ Some u
-    → r ≡ list_any (is_lower u) (column b i) → MatchOption (playable b from) (r ≡ false) (λ v. r ≡ is_held_back b v)
+    → r ≡ list_any (is_lower u) (column b i) → IsTrue r ↔ PlayableIsHeldBack b from
 told_column b from i u r p at there told =
     let here : playable b (Column i) ≡ Some u = ap (playable b) (sym at) ∙ there in
-    subst (λ o. MatchOption o (r ≡ false) (λ v. r ≡ is_held_back b v)) (sym there) (told ∙ sym (held-last b i u p here))
+    let same : r ≡ is_held_back b u = told ∙ sym (held-last b i u p here) in (
+      λ held. (u, there, sym same ∙ held),
+      λ (v, also, held). let one : u ≡ v = let e = there in let f = also in cc in
+          same ∙ ap (is_held_back b) one ∙ held,
+    )
 
 -- what is told of every other place
 pub told_other : (b : Board) (from : Place) → IsPosition b → ((i u : ℕ) → from ≡ Column i → playable b from ≡ Some u → ⊥)
-    → MatchOption (playable b from) (◌≡◌ {A = Bool} false false) (λ v. false ≡ is_held_back b v)
-told_other b (Column i) p other = go (last_of (column b i)) refl
-  where
-    go : (o : Option ℕ) → last_of (column b i) ≡ o → MatchOption o (◌≡◌ {A = Bool} false false) (λ v. false ≡ is_held_back b v)
-    go None e = refl
-    go (Some u) e = absurd (other i u refl e)
-told_other b (Cell i) p other = go (cell b i) refl
-  where
-    go : (o : Option ℕ) → cell b i ≡ o → MatchOption o (◌≡◌ {A = Bool} false false) (λ v. false ≡ is_held_back b v)
-    go None e = refl
-    go (Some u) e = sym (held-cell b i u p e)
-told_other b Home p other = refl
+    → IsTrue false ↔ PlayableIsHeldBack b from
+told_other b (Column i) p other = (λ no. absurd (cc no), λ (v, there, held). absurd (other i v refl there))
+told_other b (Cell i) p other = (λ no. absurd (cc no), λ (v, there, held). sym (held-cell b i v p there) ∙ held)
+told_other b Home p other = (λ no. absurd (cc no), λ (v, there, held). absurd (cc there))
+
+-- tests that pass alike are the same
+same_tests : (r t : Bool) → (IsTrue r → IsTrue t) → (IsTrue t → IsTrue r) → r ≡ t
+same_tests true t to back = sym (to refl)
+same_tests false true to back = back refl
+same_tests false false to back = refl
+
+-- what is told of a place is told of its card
+pub told_card : (b : Board) (from : Place) (u : ℕ) (r : Bool) → playable b from ≡ Some u → (IsTrue r ↔ PlayableIsHeldBack b from)
+    → r ≡ is_held_back b u
+told_card b from u r there told =
+    same_tests r (is_held_back b u)
+    (λ held. let (v, also, back) = told.0 held in
+    let one : v ≡ u = let e = there in let f = also in cc in
+    sym (ap (is_held_back b) one) ∙ back)
+    (λ held. told.1 (u, there, held))

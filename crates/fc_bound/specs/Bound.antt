@@ -1,8 +1,9 @@
 -- How many moves a board needs at least.
-use Rattle.std.specs.Prelude.{◌≡◌, ℕ, ◌+◌, ◌<◌, ◌==◌, ◌&&◌, ◌||◌, Bool, false, nat_lt, List, [], ◌∷◌, Some, slice_get, slice_index_or, count_by}
+use Rattle.std.specs.Prelude.{◌≡◌, ℕ, ◌+◌, ◌<◌, ◌==◌, ◌&&◌, ◌||◌, Bool, false, nat_lt, List, [], ◌∷◌, Some, slice_get, slice_index_or, count_by, IsTrue}
 use Rattle.std.specs.List.{list_any}
 use Rattle.fc_cards.specs.Card.{rank, suit}
-use Rattle.fc_position.specs.Board.{Board, home}
+use Rattle.fc_cards.specs.declared.places.Place.{Place}
+use Rattle.fc_position.specs.Board.{Board, home, playable}
 use Rattle.fc_moves.specs.GameRules.{all_cards}
 
 -- the card is not home
@@ -26,7 +27,11 @@ is_above_lower c (d ∷ above) = (is_lower c d && stands_in above c) || is_above
 abbrev pub is_held_back : Board → ℕ → Bool
 is_held_back b c = list_any (is_above_lower c) b.columns
 
--- the same as two places of one column, of which the deeper one has the lower card
+-- the card that may be taken from the place is such a card
+abbrev pub PlayableIsHeldBack : Board → Place → Type 0
+PlayableIsHeldBack b from = (c : ℕ) × (playable b from ≡ Some c) × IsTrue (is_held_back b c)
+
+-- to be held back, said of two places of one column, of which the deeper one has the lower card
 pub record StandsAboveLower (b : Board) (c : ℕ) : Type 0 where
   pub column : ℕ
   pub place : ℕ

@@ -32,3 +32,7 @@ WinsNeedTheBound = (g : GameRules) (b : Board) (ms : List Move) → IsPosition b
 -- boards of one class have one bound
 abbrev pub ClassMatesHaveOneBound : Type 0
 ClassMatesHaveOneBound = (b c : Board) → SameClass b c → bound b ≡ bound c
+
+-- the bound of a board is at most 104: each of the 52 cards is counted twice at most
+abbrev pub BoundsAreSmall : Type 0
+BoundsAreSmall = (b : Board) → bound b ≤ 104

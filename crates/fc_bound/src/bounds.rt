@@ -1,9 +1,9 @@
-ghost use Rattle.std.specs.Prelude.{◌≡◌, ℕ, ◌≤◌, false, count_by, MatchOption};
+ghost use Rattle.std.specs.Prelude.{◌≡◌, ℕ, ◌≤◌, ◌↔◌, IsTrue, count_by};
 ghost use Rattle.std.specs.List.{list_any};
-ghost use Rattle.fc_position.specs.Board.{count_in_column, playable};
+ghost use Rattle.fc_position.specs.Board.{count_in_column};
 ghost use Rattle.fc_position.specs.Position.{IsPosition};
 ghost use Rattle.fc_moves.specs.GameRules.{all_cards};
-ghost use Rattle.fc_bound.specs.Bound.{bound, is_above_lower, is_away, is_held_back, is_lower};
+ghost use Rattle.fc_bound.specs.Bound.{bound, is_above_lower, is_away, is_lower, PlayableIsHeldBack};
 
 use fc_cards::{Card, Place, Suit};
 use fc_position::Position;
@@ -48,7 +48,7 @@ fn has_lower(cards: &[Card], card: Card) -> bool
 /// Whether the playable card of a place stands above a lower card of its own suit in its column; not where there is no
 /// card. Whether it does, before and after, is all that a move to a column or a cell changes in the bound.
 pub fn is_held_back(position: &Position, from: Place) -> bool
-    ensures value { MatchOption (playable position.now from) (result ≡ false) (λ u. result ≡ is_held_back position.now u) }
+    ensures value { IsTrue result ↔ PlayableIsHeldBack position.now from }
     ensures whole { IsPosition position.now }
 {
     match (from, position.playable(from)) {

@@ -1,6 +1,6 @@
-//! Laws of the bound and of closed tables, each the contract of a function that does nothing.
+//! Laws of the bound, each the contract of a function that does nothing.
 
-ghost use Rattle.fc_bound.specs.Laws.{TestsTellTheCards, StepsLowerTheBoundByOne, StepsMoveTheBoundByTheirCard, WinsNeedTheBound, ClassMatesHaveOneBound};
+ghost use Rattle.fc_bound.specs.Laws.{TestsTellTheCards, StepsLowerTheBoundByOne, StepsMoveTheBoundByTheirCard, WinsNeedTheBound, ClassMatesHaveOneBound, BoundsAreSmall};
 
 /// The bound counts exactly the cards that are not home, and the cards that stand above a lower card of their own suit
 /// in their column.
@@ -23,7 +23,12 @@ pub fn wins_need_the_bound()
     ensures { WinsNeedTheBound }
 {}
 
-/// Positions of one class have one bound.
+/// Boards of one class have one bound.
 pub fn class_mates_have_one_bound()
     ensures { ClassMatesHaveOneBound }
+{}
+
+/// The bound is at most 104, so a byte holds it.
+pub fn bounds_are_small()
+    ensures { BoundsAreSmall }
 {}

@@ -7,8 +7,6 @@ use Rattle.fc_cards.specs.declared.places.Place.TheVariants.{Cell}
 use Rattle.fc_position.specs.Board.{Board, cell}
 use Rattle.fc_position.specs.Position.{IsPosition}
 use Rattle.fc_position.proofs.BoardLemmas.{cell_there, playable_below}
-use Rattle.fc_moves.specs.GameRules.{GameRules, IsPositionOf}
-use Rattle.fc_canonical.specs.Class.{SameClass}
 use Rattle.fc_canonical.specs.Order.{IsCanonical, cell_byte}
 use Rattle.fc_canonical.proofs.ClassLemmas.{class_positions}
 use Rattle.fc_canonical.proofs.Rearrange.{one_full, full_most}

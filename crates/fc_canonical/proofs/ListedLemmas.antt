@@ -12,8 +12,9 @@ use Rattle.fc_moves.specs.GameLaws.{Contains-cases, Contains-first, Contains-lat
 use Rattle.fc_moves.specs.GameRules.{GameRules, Opens}
 use Rattle.fc_moves.specs.Step.{Allows, Joins, Takes, MayLand, place_number, move_number}
 use Rattle.fc_moves.proofs.StepLemmas.{allowed_has_text, move_same, place_most, source_most}
-use Rattle.fc_canonical.specs.Distinct.{Stays, IsFirstEmpty, IsLone, IsListed, ListsBelow, ListsClasses}
-use Rattle.fc_canonical.proofs.ClassLemmas.{class-sym}
+use Rattle.fc_canonical.specs.Class.{SameClass}
+use Rattle.fc_canonical.specs.Distinct.{Stays, IsFirstEmpty, IsLone, IsListed, ListsBelow, ListsClasses, AreFirst}
+use Rattle.fc_canonical.proofs.ClassLemmas.{class-sym, class-trans}
 use Rattle.fc_canonical.proofs.DistinctLemmas.{IsSameKind, IsAlike, only_card, alike_class}
 
 -- of two numbers of which a fact holds first, each is the other
@@ -153,9 +154,10 @@ listed_once g b m n one two alike =
     (stayer g b n.from n.to t.card t.playable t.takes stay) stays stay) alike in
     move_same m n both.0 (kind_once g b m.to n.to s.card t.card s.takes t.takes one.first two.first both.1)
 
--- a listed move that is alike to a move from the one place to the other
+-- a listed move that is alike to a move from the one place to the other, and has no higher number
 abbrev Mate : GameRules → Board → Place → Place → Type 0
 Mate g b from to = (n : Move) × IsListed g b n × IsAlike b n (record { from = from; to = to })
+    × (move_number n ≤ place_number from * 13 + place_number to)
 
 -- the mate of a move to an empty column, of which k is the first
 mate_opens : (g : GameRules) (b : Board) (from : Place) (u j k : ℕ) → playable b from ≡ Some u → j < length b.columns
@@ -174,6 +176,7 @@ mate_opens g b (Column i) u j k there inside le opens empty first none =
         stays = λ _ (n, below, other). h.3 n below other;
       },
       inr ((ap length h.2.1, first), (ap length lone.1, empty)),
+      omega (arith, h.1, le),
     ))
     (λ other. (
       record { from = Column i; to = Column k },
@@ -183,6 +186,7 @@ mate_opens g b (Column i) u j k there inside le opens empty first none =
         stays = λ stays _. other (u, only_card (column b i) u there stays.0, opens);
       },
       inl (refl, inr (first, empty)),
+      omega (arith, le),
     ))
     (lone_or_not g (column b i))
 mate_opens g b (Cell i) u j k there inside le opens empty first none = (
@@ -193,6 +197,7 @@ mate_opens g b (Cell i) u j k there inside le opens empty first none = (
     stays = λ stays _. absurd stays;
   },
   inl (refl, inr (first, empty)),
+  omega (arith, le),
 )
 mate_opens g b Home u j k there inside le opens empty first none = absurd (cc there)
 
@@ -224,6 +229,7 @@ mate g b from (Column j) u there joins takes =
             (λ k e empty. let same : j ≡ k = cc e in held (ap (column b) same ∙ empty)) stays;
       },
       inl (refl, inl refl),
+      omega arith,
     ))
     (empty_or_not (column b j))
 mate g b from (Cell j) u there joins takes =
@@ -236,6 +242,7 @@ mate g b from (Cell j) u there joins takes =
         stays = λ stays _. moves_on g b from (Cell k.0) u there taken (λ n e _. absurd (cc e)) stays;
       },
       inl (refl, tt),
+      omega (arith, k.1),
     )
 mate g b from Home u there joins takes = (
   record { from = from; to = Home },
@@ -245,6 +252,7 @@ mate g b from Home u there joins takes = (
     stays = λ stays _. moves_on g b from Home u there takes (λ n e _. absurd (cc e)) stays;
   },
   inl (refl, tt),
+  omega arith,
 )
 
 -- a list of all the moves to be listed leads to each class once
@@ -270,3 +278,13 @@ lists_all g b ms p lists = record {
       ((alike_class g b (get_or ms i d) (get_or ms j d) x y p s t).1 same) in
       absurd (omega (arith, lists.rising i j d lt inside, ap move_number e));
 }
+
+-- and to each by the first move that leads to it
+pub lists_first : (g : GameRules) (b : Board) (ms : List Move) → IsPosition b → ListsBelow g b (12 * 13) ms → AreFirst g b ms
+lists_first g b ms p lists m n x y found one two same =
+    let k = mate g b n.from n.to two.card two.playable two.joins two.takes in
+    let (z, step) = k.1.allowed in
+    let mates : SameClass z y = (alike_class g b k.0 n z y p step two).0 k.2 in
+    let alike = (alike_class g b m k.0 x z p one step).1 (class-trans x y z same (class-sym z y mates)) in
+    let e = listed_once g b m k.0 (lists.listed m found).0 k.1 alike in
+    omega (arith, ap move_number e, k.3)

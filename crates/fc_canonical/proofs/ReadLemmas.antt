@@ -67,11 +67,6 @@ no_extent bytes rest n f below none size x =
     let next = front_next (drop 8 bytes) rest n x.columns x.rest (λ _. Unit {0}) f (omega (arith, x.count)) at (λ k d inside. tt) in
     none next.0 next.1 next.2
 
--- fewer than eight bytes have no extent
-pub short_no_extent : (bytes : List ℕ) → length bytes < 8 → (size : ℕ) → HasExtent bytes size → ⊥
-short_no_extent bytes short size x =
-    omega (arith, ap length x.parts, length-append x.front (flat_map column_bytes x.columns ++ x.rest), x.eight)
-
 -- eight columns after eight bytes are an extent
 pub extent_of : (bytes rest : List ℕ) (n : ℕ) → 8 ≤ length bytes → FrontColumns (drop 8 bytes) rest n → n ≡ 8
     → HasExtent bytes (length bytes - length rest)

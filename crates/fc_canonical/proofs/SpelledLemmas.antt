@@ -1,21 +1,22 @@
 -- Keys read back.
-use Rattle.std.proofs.Common.{◌≡◌, ℕ, ◌+◌, Option, Some, None, List, [], ◌∷◌, ◌++◌, length, map, take, drop, refl, sym, ◌∙◌, ap, subst, append_assoc, arith}
+use Rattle.std.proofs.Common.{◌≡◌, ℕ, ◌+◌, ◌-◌, ◌≤◌, Option, Some, None, List, [], ◌∷◌, ◌++◌, length, map, take, drop, refl, sym, ◌∙◌, ap, subst, append_assoc, arith}
 use Rattle.std.specs.Prelude.{All}
 use Rattle.std.specs.List.{flat_map}
-use Rattle.std.proofs.lemmas.List.{take_at, drop_at, length-map, append-nil}
+use Rattle.std.proofs.lemmas.List.{take_at, drop_at, length-append, length-map, length-take, append-nil, take-append-drop}
+use Rattle.std.proofs.Math.Seq.{take-append-add}
 use Rattle.std.proofs.lemmas.List.Elements.{All-head, All-tail}
 use Rattle.std.proofs.lemmas.Bool.Decides.{nat_tests}
 use Rattle.fc_position.specs.Board.{Board}
 use Rattle.fc_position.specs.Position.{IsPosition}
-use Rattle.fc_moves.specs.GameRules.{GameRules, IsPositionOf}
+use Rattle.fc_moves.specs.GameRules.{IsPositionOf}
 use Rattle.fc_canonical.specs.Class.{SameClass}
-use Rattle.fc_canonical.specs.Key.{column_bytes, board_bytes, BeginsWithKey}
+use Rattle.fc_canonical.specs.Key.{column_bytes, board_bytes, HasExtent}
 use Rattle.fc_canonical.specs.Order.{IsCanonical, cell_byte}
 use Rattle.fc_canonical.specs.Parts.{IsSmall}
 use Rattle.fc_canonical.proofs.KeyLemmas.{small_cells, same_board, key_front, same_fronts, columns_once}
 use Rattle.fc_canonical.proofs.FitLemmas.{canonical_fits}
-use Rattle.fc_canonical.specs.Spelled.{IsKeyIn, spelled, spelled_cell, spelled_columns}
-use Rattle.fc_canonical.specs.Laws.{KeysSpellPositions, KeysBeginThemselves, FrontKeysSpellTheirBoard, ExtentsAreOne}
+use Rattle.fc_canonical.specs.Spelled.{spelled, spelled_cell, spelled_columns}
+use Rattle.fc_canonical.specs.Laws.{KeysSpellPositions, KeysBeginThemselves, FrontKeysSpellTheirBoard, ExtentsAreOne, FrontsHaveTheirExtent}
 
 -- each part is read back
 cell_back : (x : Option ℕ) → IsSmall x → spelled_cell (cell_byte x) ≡ x
@@ -99,3 +100,53 @@ extent_once bytes m n x y =
     (x.eight ∙ sym y.eight) (sym x.parts ∙ y.parts) in
     let tail = columns_once x.columns y.columns x.rest y.rest head.1 (x.count ∙ sym y.count) in
     x.size ∙ ap (λ l. 8 + length (flat_map column_bytes l)) tail.0 ∙ sym y.size
+
+-- an extent lies within the bytes, and stays where more bytes follow
+extent_inside : (bytes : List ℕ) (n : ℕ) → HasExtent bytes n → n ≤ length bytes
+extent_inside bytes n x = omega (
+  arith,
+  x.size,
+  x.eight,
+  ap length x.parts,
+  length-append x.front (flat_map column_bytes x.columns ++ x.rest),
+  length-append (flat_map column_bytes x.columns) x.rest,
+)
+
+extent_stays : (bytes : List ℕ) (k m : ℕ) → HasExtent (take k bytes) m → HasExtent bytes m
+extent_stays bytes k m x = record {
+  front = x.front;
+  columns = x.columns;
+  rest = x.rest ++ drop k bytes;
+  eight = x.eight;
+  count = x.count;
+  parts = sym (take-append-drop k bytes) ∙ ap (λ l. l ++ drop k bytes) x.parts
+      ∙ append_assoc x.front (flat_map column_bytes x.columns ++ x.rest) (drop k bytes)
+      ∙ ap (λ l. x.front ++ l) (append_assoc (flat_map column_bytes x.columns) x.rest (drop k bytes));
+  size = x.size;
+}
+
+-- and where fewer do, if they are enough
+extent_held : (bytes : List ℕ) (k m n : ℕ) → HasExtent bytes n → m ≡ n → n ≤ k → HasExtent (take k bytes) m
+extent_held bytes k m n x same long =
+    let columns = flat_map column_bytes x.columns in
+    let size : k ≡ length (x.front ++ columns) + (k - n) =
+    omega (arith, x.size, x.eight, length-append x.front columns, long) in
+    record {
+      front = x.front;
+      columns = x.columns;
+      rest = take (k - n) x.rest;
+      eight = x.eight;
+      count = x.count;
+      parts = ap (take k) (x.parts ∙ sym (append_assoc x.front columns x.rest))
+          ∙ ap (λ j. take j ((x.front ++ columns) ++ x.rest)) size ∙ take-append-add (x.front ++ columns) x.rest (k - n)
+          ∙ append_assoc x.front columns (take (k - n) x.rest);
+      size = same ∙ x.size;
+    }
+
+pub front_extent : FrontsHaveTheirExtent
+front_extent bytes k m n x = (
+  λ y.
+      let same = extent_once bytes m n (extent_stays bytes k m y) x in
+      (same, omega (arith, same, extent_inside (take k bytes) m y, length-take k bytes)),
+  λ (same, long). extent_held bytes k m n x same long,
+)

@@ -1,5 +1,5 @@
 -- Which moves from a position lead to boards of one class, and which of them is listed.
-use Rattle.std.specs.Prelude.{◌≡◌, ◌<◌, ◌⊎◌, ◌↔◌, ℕ, Option, Some, None, length, List, [], ◌∷◌, Contains, slice_index_or}
+use Rattle.std.specs.Prelude.{◌≡◌, ◌<◌, ◌≤◌, ◌⊎◌, ◌↔◌, ℕ, Option, Some, None, length, List, [], ◌∷◌, Contains, slice_index_or}
 use Rattle.fc_cards.specs.declared.places.Place.{Place}
 use Rattle.fc_cards.specs.declared.places.Place.TheVariants.{Column, Cell, Home}
 use Rattle.fc_position.specs.Board.{Board, column, cell, last_of}
@@ -54,6 +54,11 @@ pub record IsListed (g : GameRules) (b : Board) (m : Move) : Type 0 where
 abbrev pub AreInOrder : List Move → Type 0
 AreInOrder moves = (i j : ℕ) (d : Move) → i < j → j < length moves
     → move_number (slice_index_or moves i d) < move_number (slice_index_or moves j d)
+
+-- of the moves that lead to one class, each listed one has the least number
+abbrev pub AreFirst : GameRules → Board → List Move → Type 0
+AreFirst g b moves = (m n : Move) (x y : Board) → Contains moves m → Step g b m x → Step g b n y → SameClass x y
+    → move_number m ≤ move_number n
 
 -- of the moves to be listed, the list has exactly those with numbers below n, by rising number
 pub record ListsBelow (g : GameRules) (b : Board) (n : ℕ) (moves : List Move) : Type 0 where

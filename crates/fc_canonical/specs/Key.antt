@@ -14,6 +14,10 @@ column_bytes cards = length cards ∷ cards
 abbrev pub board_bytes : Board → List ℕ
 board_bytes b = b.homes ++ map cell_byte b.cells ++ flat_map column_bytes b.columns
 
+-- the bytes of the board, canonical or not, stand at the front, whatever follows
+abbrev pub BeginsWithBoard : List ℕ → Board → Type 0
+BeginsWithBoard bytes b = (rest : List ℕ) × (bytes ≡ board_bytes b ++ rest)
+
 -- the bytes spell the canonical board of the board's class
 pub record IsKeyOf (b : Board) (key : List ℕ) : Type 0 where
   pub canonical : Board
@@ -21,9 +25,17 @@ pub record IsKeyOf (b : Board) (key : List ℕ) : Type 0 where
   pub ordered : IsCanonical canonical
   pub bytes : key ≡ board_bytes canonical
 
--- zeros follow the key up to 68 bytes
+-- how many bytes the longest keys have: four counts, four cells, the lengths of eight columns, and 52 cards
+abbrev pub longest_key : ℕ
+longest_key = 68
+
+-- zeros follow the key up to the length of the longest keys
 abbrev pub padded : List ℕ → List ℕ
-padded key = key ++ replicate (68 - length key) 0
+padded key = key ++ replicate (longest_key - length key) 0
+
+-- the bytes are the key of the board's class, and zeros up to the length of the longest keys
+abbrev pub IsPaddedKeyOf : Board → List ℕ → Type 0
+IsPaddedKeyOf b bytes = (key : List ℕ) × IsKeyOf b key × (bytes ≡ padded key)
 
 -- the first n bytes are eight bytes and then eight columns by their length bytes, whatever the other bytes are
 pub record HasExtent (bytes : List ℕ) (n : ℕ) : Type 0 where

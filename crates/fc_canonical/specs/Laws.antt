@@ -1,5 +1,5 @@
 -- What the laws of this crate state.
-use Rattle.std.specs.Prelude.{◌≡◌, ℕ, ◌≤◌, ◌↔◌, length, List}
+use Rattle.std.specs.Prelude.{◌≡◌, ℕ, ◌≤◌, ◌↔◌, length, take, List}
 use Rattle.fc_position.specs.Board.{Board}
 use Rattle.fc_position.specs.Position.{IsPosition, Fits}
 use Rattle.fc_moves.specs.declared.steps.Move.{Move}
@@ -7,7 +7,7 @@ use Rattle.fc_moves.specs.GameRules.{GameRules, IsPositionOf}
 use Rattle.fc_moves.specs.Run.{Wins}
 use Rattle.fc_moves.specs.Step.{Step}
 use Rattle.fc_canonical.specs.Class.{SameClass}
-use Rattle.fc_canonical.specs.Key.{IsKeyOf, HasExtent, BeginsWithKey}
+use Rattle.fc_canonical.specs.Key.{longest_key, IsKeyOf, HasExtent, BeginsWithKey}
 use Rattle.fc_canonical.specs.Order.{IsCanonical, full_cells}
 use Rattle.fc_canonical.specs.Spelled.{IsKeyIn, spelled}
 
@@ -74,9 +74,13 @@ CanonicalBoardsFitByCount = (n : ℕ) (b : Board) → IsPosition b → IsCanonic
 abbrev pub ExtentsAreOne : Type 0
 ExtentsAreOne = (bytes : List ℕ) (m n : ℕ) → HasExtent bytes m → HasExtent bytes n → m ≡ n
 
+-- a front of bytes has their extent where it is long enough to hold it, and else none
+abbrev pub FrontsHaveTheirExtent : Type 0
+FrontsHaveTheirExtent = (bytes : List ℕ) (k m n : ℕ) → HasExtent bytes n → HasExtent (take k bytes) m ↔ ((m ≡ n) × (n ≤ k))
+
 -- a key has at most 68 bytes
 abbrev pub KeysAreShort : Type 0
-KeysAreShort = (b : Board) (key : List ℕ) → IsPosition b → IsKeyOf b key → length key ≤ 68
+KeysAreShort = (b : Board) (key : List ℕ) → IsPosition b → IsKeyOf b key → length key ≤ longest_key
 
 -- a key of the game is the key at its own front
 abbrev pub KeysBeginThemselves : Type 0

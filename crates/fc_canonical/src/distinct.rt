@@ -4,7 +4,7 @@ ghost use Rattle.fc_cards.specs.declared.places.Place.TheVariants.{Column, Cell}
 ghost use Rattle.fc_position.specs.Board.{playable, column};
 ghost use Rattle.fc_position.specs.Position.{IsPosition};
 ghost use Rattle.fc_moves.specs.Step.{place_number};
-ghost use Rattle.fc_canonical.specs.Distinct.{ListsClasses, ListsBelow, IsListed, IsLone, IsLoneBelow, IsLaterLone, GoesTo, IsFirstColumn, IsFirstCell, IsOpening, IsCellOf, AreInOrder};
+ghost use Rattle.fc_canonical.specs.Distinct.{ListsClasses, ListsBelow, IsListed, IsLone, IsLoneBelow, IsLaterLone, GoesTo, IsFirstColumn, IsFirstCell, IsOpening, IsCellOf, AreFirst, AreInOrder};
 
 use arrayvec::ArrayVec;
 use fc_cards::{Card, Place};
@@ -12,9 +12,10 @@ use fc_moves::{Game, Move};
 use fc_position::Position;
 
 /// Allowed moves, of which no two lead to positions of one class, and to each class to which an allowed move leads one:
-/// the first by source and then by destination, in which order they are listed. It makes no position.
+/// the first by source and then by destination, in which order they are listed.
 pub fn distinct_moves<G: Game>(game: &G, position: &Position) -> ArrayVec<Move, 132>
     ensures classes { ListsClasses (G.game game.now) position.now result.items }
+    ensures first { AreFirst (G.game game.now) position.now result.items }
     ensures order { AreInOrder result.items }
 {
     // What a call tells of the position, each of the 52 cards in one place, is needed below.

@@ -3,7 +3,7 @@ ghost use Rattle.std.specs.List.{flat_map};
 ghost use Rattle.std.specs.List.Sorted.{IsPermutation};
 ghost use Rattle.fc_position.specs.Board.{column};
 ghost use Rattle.fc_position.specs.Position.{IsPosition};
-ghost use Rattle.fc_canonical.specs.Key.{column_bytes, padded, IsKeyOf};
+ghost use Rattle.fc_canonical.specs.Key.{column_bytes, padded, IsKeyOf, IsPaddedKeyOf};
 
 use crate::orders::{cell_bytes, column_numbers};
 use arrayvec::ArrayVec;
@@ -15,7 +15,7 @@ use fc_position::Position;
 /// deepest first, those that hold cards by rising deepest card and then the empty ones.
 pub type Key = ArrayVec<u8, 68>;
 
-/// The key of the position's class. It makes no position.
+/// The key of the position's class.
 pub fn key(position: &Position) -> Key
     ensures value { IsKeyOf position.now result.items }
     ensures whole { IsPosition position.now }
@@ -26,9 +26,9 @@ pub fn key(position: &Position) -> Key
     key
 }
 
-/// The key of the position's class, and zeros after it up to 68 bytes. It makes no position.
+/// The key of the position's class, and zeros after it up to 68 bytes.
 pub fn padded_key(position: &Position) -> [u8; 68]
-    ensures value { (key : List ℕ) × IsKeyOf position.now key × (result ≡ padded key) }
+    ensures value { IsPaddedKeyOf position.now result }
     ensures whole { IsPosition position.now }
 {
     let (bytes, _) = written(position);

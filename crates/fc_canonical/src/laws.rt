@@ -1,6 +1,6 @@
 //! Laws of the definitions, each the contract of a function that does nothing.
 
-ghost use Rattle.fc_canonical.specs.Laws.{ClassesAreEquivalences, ClassMatesArePositions, ClassMatesStepAlike, ClassMatesWinAlike, ClassesHaveOneCanonicalBoard, KeysTellClasses, BytesBeginWithOneKey, KeysHaveExtents, ExtentsAreOne, KeysAreShort, PositionsHaveKeys, KeysSpellPositions, KeysBeginThemselves, FrontKeysSpellTheirBoard, CanonicalBoardsFit, CanonicalBoardsFitByCount};
+ghost use Rattle.fc_canonical.specs.Laws.{ClassesAreEquivalences, ClassMatesArePositions, ClassMatesStepAlike, ClassMatesWinAlike, ClassesHaveOneCanonicalBoard, KeysTellClasses, BytesBeginWithOneKey, KeysHaveExtents, ExtentsAreOne, FrontsHaveTheirExtent, KeysAreShort, PositionsHaveKeys, KeysSpellPositions, KeysBeginThemselves, FrontKeysSpellTheirBoard, CanonicalBoardsFit, CanonicalBoardsFitByCount};
 
 /// A board is of its own class, and to be of one class may be turned round and joined.
 pub fn classes_are_equivalences()
@@ -66,6 +66,11 @@ pub fn canonical_boards_fit_by_count()
 /// The extent of a key by its length bytes is one, whatever the other bytes are.
 pub fn extents_are_one()
     ensures { ExtentsAreOne }
+{}
+
+/// A front of bytes that have an extent has that one where it is long enough to hold it, and else none.
+pub fn fronts_have_their_extent()
+    ensures { FrontsHaveTheirExtent }
 {}
 
 /// A key has at most 68 bytes.

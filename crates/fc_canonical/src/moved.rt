@@ -1,10 +1,10 @@
-ghost use Rattle.std.specs.Prelude.{◌≡◌, ℕ, ◌+◌, ◌-◌, ◌≤◌, ◌<◌, ◌⊎◌, IfSome, IfNone, IsTrue, false, Some, length, map, take, drop, set, List, [], ◌∷◌, ◌++◌};
+ghost use Rattle.std.specs.Prelude.{◌≡◌, ℕ, ◌+◌, ◌-◌, ◌≤◌, ◌<◌, ◌⊎◌, ◌↔◌, IfSome, IsNone, IsTrue, false, Some, length, map, take, drop, set, List, [], ◌∷◌, ◌++◌};
 ghost use Rattle.std.specs.List.{flat_map};
 ghost use Rattle.std.specs.List.Sorted.{IsPermutation, IsNonDecreasing, IsNonDecreasingBy};
 ghost use Rattle.fc_cards.specs.declared.places.Place.TheVariants.{Cell};
 ghost use Rattle.fc_position.specs.Board.{Board, lifted, placed, playable};
 ghost use Rattle.fc_position.specs.Position.{IsPosition};
-ghost use Rattle.fc_canonical.specs.Key.{board_bytes, column_bytes, padded, IsKeyOf};
+ghost use Rattle.fc_canonical.specs.Key.{board_bytes, column_bytes, padded, IsPaddedKeyOf};
 ghost use Rattle.fc_canonical.specs.Moved.{MayMove, IsAlone, IsEmptyColumn, moved, SpellWith, Shortens, Lengthens};
 ghost use Rattle.fc_canonical.specs.Order.{IsCanonical, column_order, cell_byte};
 
@@ -14,7 +14,7 @@ use fc_position::Position;
 
 /// The key of the position to which a card is moved from a canonical one, and zeros after it, made from the key of that
 /// one. `None` where the columns may stand in another order then: the card is its column's only one, or goes to an
-/// empty column.
+/// empty column; else there is one.
 pub fn moved_key(
     before: &[u8; 68],
     position: &Position,
@@ -26,8 +26,8 @@ pub fn moved_key(
     requires ordered { IsCanonical position.now }
     requires key { before.now ≡ padded (board_bytes position.now) }
     requires may { MayMove position.now card from to }
-    ensures none { IfNone result (IsAlone position.now from ⊎ IsEmptyColumn position.now to) }
-    ensures value { IfSome result (λ bytes. (key : List ℕ) × IsKeyOf (moved position.now card from to) key × (bytes ≡ padded key)) }
+    ensures none { IsNone result ↔ (IsAlone position.now from ⊎ IsEmptyColumn position.now to) }
+    ensures value { IfSome result (IsPaddedKeyOf (moved position.now card from to)) }
 {
     let mut bytes = *before;
     if !take_out(before, &mut bytes, position, from) {
@@ -50,7 +50,7 @@ fn take_out(before: &[u8; 68], bytes: &mut [u8; 68], position: &Position, from: 
     requires card { (u : ℕ) × playable position.now from ≡ Some u }
     ensures spelled { IsTrue result → SpellWith position.now (lifted position.now from).columns bytes.new }
     ensures ordered { IsTrue result → IsNonDecreasingBy column_order (lifted position.now from).columns }
-    ensures refused { result ≡ false → IsAlone position.now from }
+    ensures refused { result ≡ false ↔ IsAlone position.now from }
 {
     match from {
         Place::Column(i) => {
@@ -75,7 +75,7 @@ fn put_in(bytes: &mut [u8; 68], position: &Position, card: Card, from: Place, to
     requires may { MayMove position.now card from to }
     ensures spelled { IsTrue result → SpellWith position.now (moved position.now card from to).columns bytes.new }
     ensures ordered { IsTrue result → IsNonDecreasingBy column_order (moved position.now card from to).columns }
-    ensures refused { result ≡ false → IsEmptyColumn position.now to }
+    ensures refused { result ≡ false ↔ IsEmptyColumn position.now to }
 {
     match to {
         Place::Column(j) => {

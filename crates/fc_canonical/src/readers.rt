@@ -4,7 +4,7 @@ ghost use Rattle.arrayvec.specs.ArrayVec.{array_vec_len};
 ghost use Rattle.fc_position.specs.Board.{Board};
 ghost use Rattle.fc_position.specs.Position.{IsPosition};
 ghost use Rattle.fc_position.specs.Tally.{AllCards};
-ghost use Rattle.fc_canonical.specs.Key.{column_bytes, board_bytes, HasExtent, BeginsWithKey};
+ghost use Rattle.fc_canonical.specs.Key.{column_bytes, board_bytes, HasExtent, BeginsWithBoard, BeginsWithKey};
 ghost use Rattle.fc_canonical.specs.Order.{cell_byte};
 ghost use Rattle.fc_canonical.specs.Parts.{IsSmall, IsHolding};
 
@@ -42,12 +42,12 @@ pub fn read_key(bytes: &[u8]) -> Option<(Position, usize)>
     }
 }
 
-/// The position whose bytes stand at the front, in the form of a key, whatever follows. That they stand there is known:
-/// nothing is tested.
+/// The position whose bytes stand at the front, in the form of a key, whatever follows. That some position's stand there
+/// is known: nothing is tested.
 #[inline]
 pub fn position_of(bytes: &[u8]) -> Position
-    requires spelled { (b : Board) × (rest : List ℕ) × IsPosition b × (bytes.now ≡ board_bytes b ++ rest) }
-    ensures value { (b : Board) (rest : List ℕ) → IsPosition b → bytes.now ≡ board_bytes b ++ rest → result ≡ b }
+    requires spelled { (b : Board) × IsPosition b × BeginsWithBoard bytes.now b }
+    ensures value { (b : Board) → IsPosition b → BeginsWithBoard bytes.now b → result ≡ b }
     ensures whole { IsPosition result }
 {
     let counts = read_counts(bytes).unwrap();

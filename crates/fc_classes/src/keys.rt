@@ -1,4 +1,4 @@
-ghost use Rattle.std.specs.Prelude.{◌≡◌, ◌≤◌, ◌⊎◌, IfSome, IfNone, length};
+ghost use Rattle.std.specs.Prelude.{◌≡◌, ◌≤◌, ◌⊎◌, ◌↔◌, IfSome, IsNone, length};
 ghost use Rattle.fc_position.specs.Position.{IsPosition};
 ghost use Rattle.fc_canonical.specs.Key.{board_bytes, IsKeyOf};
 ghost use Rattle.fc_canonical.specs.Moved.{MayMove, IsAlone, IsEmptyColumn, moved};
@@ -82,14 +82,15 @@ impl ClassKey {
     }
 
     /// The key of the class to which a card is moved from the position that this key spells. `None` where the columns
-    /// may stand in another order then: the card is its column's only one, or goes to an empty column.
+    /// may stand in another order then: the card is its column's only one, or goes to an empty column; else there is
+    /// one.
     #[inline]
     pub fn moved(&self, position: &Position, card: Card, from: Place, to: Place) -> Option<ClassKey>
         requires whole { IsPosition position.now }
         requires ordered { IsCanonical position.now }
         requires key { self.now ≡ board_bytes position.now }
         requires may { MayMove position.now card from to }
-        ensures none { IfNone result (IsAlone position.now from ⊎ IsEmptyColumn position.now to) }
+        ensures none { IsNone result ↔ (IsAlone position.now from ⊎ IsEmptyColumn position.now to) }
         ensures value { IfSome result (IsKeyOf (moved position.now card from to)) }
     {
         let bytes = moved_key(&self.bytes, position, card, from, to)?;

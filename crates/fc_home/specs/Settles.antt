@@ -13,6 +13,10 @@ pub record IsFirstHome (rule : ℕ) (g : GameRules) (b : Board) (from : Place) (
   pub goes : GoesHome rule g b.homes c
   pub least : (other : Place) (d : ℕ) → playable b other ≡ Some d → GoesHome rule g b.homes d → c ≤ d
 
+-- the card that may be taken from the place goes home by the rule
+abbrev pub PlayableGoesHome : ℕ → GameRules → Board → Place → Type 0
+PlayableGoesHome rule g b from = (c : ℕ) × (playable b from ≡ Some c) × GoesHome rule g b.homes c
+
 -- no playable card goes home by the rule
 abbrev pub NoneGoesHome : ℕ → GameRules → Board → Type 0
 NoneGoesHome rule g b = (from : Place) (c : ℕ) → playable b from ≡ Some c → GoesHome rule g b.homes c → ⊥

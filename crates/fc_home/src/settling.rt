@@ -8,7 +8,7 @@ ghost use Rattle.fc_moves.specs.Step.{place_number};
 ghost use Rattle.fc_home.specs.HomeRule.{GoesHome};
 ghost use Rattle.fc_home.specs.Known.{IsKnown};
 ghost use Rattle.fc_home.specs.Nexts.{HasNexts, IsLeastBelow, IsEarlier};
-ghost use Rattle.fc_home.specs.Settles.{IsFirstHome, NoneGoesHome, SettlesBy, Settles};
+ghost use Rattle.fc_home.specs.Settles.{IsFirstHome, PlayableGoesHome, NoneGoesHome, SettlesBy, Settles};
 
 use crate::known::Known;
 use crate::rules::{goes_home, is_next};
@@ -35,11 +35,11 @@ pub fn forced<G: Game>(game: &G, position: &Position) -> Option<Card>
     Some(goer.card)
 }
 
-/// Whether the playable card of a place, if there is one, goes home by a home rule, at most 2.
+/// Whether the place has a playable card and it goes home by a home rule, at most 2.
 #[inline]
 pub fn goes_home_from<G: Game>(game: &G, position: &Position, rule: u8, from: Place) -> bool
     requires rule { rule ≤ 2 }
-    ensures value { IsTrue result ↔ ((c : ℕ) × (playable position.now from ≡ Some c) × GoesHome rule (G.game game.now) position.now.homes c) }
+    ensures value { IsTrue result ↔ PlayableGoesHome rule (G.game game.now) position.now from }
     ensures whole { IsPosition position.now }
 {
     match position.playable(from) {

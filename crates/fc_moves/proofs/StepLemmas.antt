@@ -10,8 +10,9 @@ use Rattle.fc_position.specs.Position.{IsPosition, Fits}
 use Rattle.fc_position.proofs.BoardLemmas.{column_there, cell_there, position-moved}
 use Rattle.fc_moves.specs.declared.steps.Move.{Move}
 use Rattle.fc_moves.specs.GameRules.{GameRules}
-use Rattle.fc_moves.specs.Laws.{StepsKeepPositions, RunsKeepPositions, AllowedMovesHaveTexts}
+use Rattle.fc_moves.specs.Laws.{StepsKeepPositions, RunsKeepPositions, ListsLeadToOneBoard, AllowedMovesHaveTexts}
 use Rattle.fc_moves.specs.MoveText.{IsThere, IsSource, HasText}
+use Rattle.fc_moves.specs.Run.{Run}
 use Rattle.fc_moves.specs.Step.{Allows, Joins, Step, Takes, place_number, move_number}
 
 -- a move of a playable card to a place that joins and takes it is allowed, and no other
@@ -126,6 +127,12 @@ pub step_once : (g : GameRules) (b : Board) (m : Move) (x y : Board) → Step g 
 step_once g b m x y p q =
     let same : p.card ≡ q.card = let e = p.playable in let f = q.playable in cc in
     p.after ∙ ap (λ u. placed (lifted b m.from) u m.to) same ∙ sym q.after
+
+-- and so does a list of moves
+pub run_once : ListsLeadToOneBoard
+run_once g b c d [] p q = p ∙ sym q
+run_once g b c d (m ∷ ms) (x, one, p) (y, two, q) =
+    run_once g y c d ms (subst (λ z. Run g z ms c) (step_once g b m x y one two) p) q
 
 -- a step from a position leads to a position, and so does a run
 pub step_keeps : StepsKeepPositions

@@ -24,6 +24,14 @@ RunsKeepPositions = (g : GameRules) (b c : Board) (ms : List Move) → IsPositio
 abbrev pub AllowedMovesHaveTexts : Type 0
 AllowedMovesHaveTexts = (g : GameRules) (b : Board) (m : Move) → IsPosition b → Allows g b m → HasText m
 
+-- a move leads from a board to one board at most
+abbrev pub MovesLeadToOneBoard : Type 0
+MovesLeadToOneBoard = (g : GameRules) (b c d : Board) (m : Move) → Step g b m c → Step g b m d → c ≡ d
+
+-- a list of moves leads from a board to one board at most
+abbrev pub ListsLeadToOneBoard : Type 0
+ListsLeadToOneBoard = (g : GameRules) (b c d : Board) (ms : List Move) → Run g b ms c → Run g b ms d → c ≡ d
+
 -- no text is of two moves
 abbrev pub TextsTellMovesApart : Type 0
 TextsTellMovesApart = (m n : Move) → HasText m → HasText n → move_text m ≡ move_text n → m ≡ n

@@ -61,6 +61,10 @@ placed b u (Column i) = record b { columns = slice_set b.columns i (column b i +
 placed b u (Cell i) = record b { cells = slice_set b.cells i (Some u) }
 placed b u Home = record b { homes = slice_set b.homes (suit u) (rank u) }
 
+-- the new board is the old one with the playable card of the one place put at the other
+abbrev pub Shifted : Board → Place → Place → Board → Type 0
+Shifted old from to new = (u : ℕ) → playable old from ≡ Some u → new ≡ placed (lifted old from) u to
+
 -- the place can take the card u: a column that is there, a cell that is there and empty, or home where u is next
 abbrev pub Receives : Board → ℕ → Place → Type 0
 Receives b u (Column i) = i < length b.columns

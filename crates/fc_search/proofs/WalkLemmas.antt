@@ -1,6 +1,6 @@
 -- The way from the start to a stored class.
 use Rattle.std.proofs.Common.{◌≡◌, ℕ, ◌+◌, ◌-◌, ◌<◌, ◌≤◌, List, [], ◌∷◌, ◌++◌, length, reverse, refl, sym, ◌∙◌, ap, subst, ⊎_elim, arith}
-use Rattle.std.specs.Prelude.{Option, Some, None, MatchOption}
+use Rattle.std.specs.Prelude.{Option, Some, None, MatchOption, false, is_some}
 use Rattle.std.specs.Option.{IsSome}
 use Rattle.std.proofs.lemmas.List.{length-append, reverse-append}
 use Rattle.fc_position.specs.Board.{Board}
@@ -125,6 +125,11 @@ parent_less g rule p budget s sound number parent x mark at by other =
 pub found : {X : Type 0} (o : Option X) (P : X → Type 0) (N : Type 0) → MatchOption o N P → (N → ⊥) → IsSome o
 found None P N none never = absurd (never none)
 found (Some x) P N some never = refl
+
+-- what isn't there is absent
+pub not_there : {X : Type 0} (o : Option X) (P : X → Type 0) (N : Type 0) → MatchOption o N P → false ≡ is_some o → N
+not_there None P N none lacks = none
+not_there (Some x) P N some lacks = absurd cc
 
 -- the next class on a way, and what is left of it
 pub next_on : (s : Store (List ℕ)) (at next target : ℕ) (way rest : List ℕ) → way ≡ rest ++ next ∷ []

@@ -5,11 +5,14 @@ use Rattle.fc_moves.specs.declared.steps.Move.{Move}
 use Rattle.fc_moves.specs.GameRules.{GameRules}
 use Rattle.fc_moves.specs.Run.{Run}
 use Rattle.fc_moves.specs.Step.{Step}
+use Rattle.fc_home.specs.Settles.{SettlesBy}
 use Rattle.fc_best_first.specs.declared.books.Mark.{Mark}
 use Rattle.fc_best_first.specs.Store.{Store, Stands}
 use Rattle.fc_canonical.specs.Class.{SameClass}
+use Rattle.fc_canonical.specs.Key.{IsKeyOf}
 use Rattle.fc_classes.specs.Classes.{SettlesTo}
 use Rattle.fc_canonical.specs.Spelled.{spelled}
+use Rattle.fc_search.specs.declared.walks.WayOn.{WayOn}
 
 -- the class with this number is its own parent: it starts
 abbrev pub IsStart : Store (List ℕ) → ℕ → Type 0
@@ -35,3 +38,8 @@ StepsTo g rule b key m count = (z : Board) × Step g b m z × SettlesTo g rule z
 -- a step from the board, with the home moves that follow it, leads to the key by at most so many moves
 abbrev pub LeadsWithin : GameRules → ℕ → Board → List ℕ → ℕ → Move → Type 0
 LeadsWithin g rule b key most m = (count : ℕ) × StepsTo g rule b key m count × (1 + count ≤ most)
+
+-- the way is a step from the board and the home moves that follow it, to a board with the key, at most so many moves
+abbrev pub LeadsOn : GameRules → ℕ → Board → List ℕ → ℕ → WayOn → Type 0
+LeadsOn g rule b key most way = (z : Board) × Step g b way.m z × SettlesBy g rule z way.settling.items way.position
+    × IsKeyOf way.position key × (1 + length way.settling.items ≤ most)

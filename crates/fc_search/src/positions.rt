@@ -235,16 +235,15 @@ impl<G: Game + Drop> Space<ClassKey> for Positions<G> {
         bound(&self.position(key))
     }
 
-    fn walk(&self) -> Children<G> {
-        let first = self.start();
-        let position = self.position(&first.key);
-        let low = bound(&position);
+    fn walk(&self, key: &ClassKey) -> Children<G> {
+        let position = self.position(key);
+        let bound = bound(&position);
         Children {
             game: self.game.copy(),
             rule: self.rule,
             position,
-            key: first.key,
-            bound: low,
+            key: key.copy(),
+            bound,
             left: ArrayVec::new(),
         }
     }

@@ -12,10 +12,11 @@ ghost use Rattle.fc_best_first.specs.Kept.{IsSound};
 ghost use Rattle.fc_best_first.specs.Store.{Stands};
 ghost use Rattle.fc_canonical.specs.Key.{IsKeyOf};
 ghost use Rattle.fc_search.specs.Search.{classes_of};
-ghost use Rattle.fc_search.specs.Walk.{IsStart, IsWay, IsAtClass, LeadsWithin};
+ghost use Rattle.fc_search.specs.Walk.{IsStart, IsWay, IsAtClass, LeadsWithin, LeadsOn};
 
 use crate::positions::Positions;
 use crate::searches::Search;
+use arrayvec::ArrayVec;
 use fc_answers::MoveList;
 use fc_classes::ClassKey;
 use fc_frontier::Frontier;
@@ -73,6 +74,14 @@ impl<F: Frontier + Drop, G: Game + Drop> Search<F, G> {
     }
 }
 
+// A move, the home moves that follow it, and where they lead.
+#[derive(Drop)]
+struct WayOn {
+    m: Move,
+    settling: ArrayVec<Move, 52>,
+    position: Position,
+}
+
 // Makes a step and the home moves that follow it, at most so many moves, to the class of the key, and notes them.
 fn follow<G: Game + Drop>(
     space: &Positions<G>,
@@ -81,51 +90,61 @@ fn follow<G: Game + Drop>(
     most: usize,
     made: &mut Vec<Move>,
 ) -> Result<(), AllocError>
-    requires fits { Fits (G.game space.now.game).cells position.old }
+    requires fits { IsPositionOf (G.game space.now.game) position.old }
     requires leads { (m : Move) × LeadsWithin (G.game space.now.game) space.now.rule position.old key.now most m }
     ensures led { OnOk result ((more : List Move) × (made.new.items ≡ made.old.items ++ more) × Run (G.game space.now.game) position.old more position.new × (length more ≤ most)) }
     ensures there { OnOk result (IsKeyOf position.new key.now) }
     ensures fits { OnOk result (IsPositionOf (G.game space.now.game) position.new) }
 {
-    let m = step_to(space, position, key, most).unwrap();
-    apply(&space.game, position, m);
-    made.push(m)?;
-    let settling = settle(&space.game, position, space.rule);
-    made.extend_from_slice(settling.as_slice())?;
+    let way = way_on(space, position, key, most).unwrap();
+    made.push(way.m)?;
+    made.extend_from_slice(way.settling.as_slice())?;
+    *position = way.position;
     Ok(())
 }
 
-// The first move that leads to the class of the key, with the home moves that follow it, by at most so many moves.
-fn step_to<G: Game + Drop>(
+// The way by the first move that leads to the class of the key, with the home moves that follow it, by at most so many
+// moves.
+fn way_on<G: Game + Drop>(
     space: &Positions<G>,
     position: &Position,
     key: &ClassKey,
     most: usize,
-) -> Option<Move>
+) -> Option<WayOn>
     ensures first { MatchOption result ((m : Move) → LeadsWithin (G.game space.now.game) space.now.rule position.now key.now most m → ⊥)
-        (LeadsWithin (G.game space.now.game) space.now.rule position.now key.now most) }
+        (LeadsOn (G.game space.now.game) space.now.rule position.now key.now most) }
 {
     for m in moves(&space.game, position).as_slice() {
-        if leads_within(space, position, *m, key, most) {
-            return Some(*m);
+        let way = way_by(space, position, *m, key, most);
+        if way.is_some() {
+            return way;
         }
     }
     None
 }
 
-// Whether an allowed move leads to the class of the key, with the home moves that follow it, by at most so many moves.
-fn leads_within<G: Game + Drop>(
+// The way by an allowed move, if it leads to the class of the key, with the home moves that follow it, by at most so many
+// moves.
+fn way_by<G: Game + Drop>(
     space: &Positions<G>,
     position: &Position,
     m: Move,
     key: &ClassKey,
     most: usize,
-) -> bool
+) -> Option<WayOn>
     requires allowed { Allows (G.game space.now.game) position.now m }
-    ensures value { IsTrue result ↔ LeadsWithin (G.game space.now.game) space.now.rule position.now key.now most m }
+    ensures value { MatchOption result (LeadsWithin (G.game space.now.game) space.now.rule position.now key.now most m → ⊥)
+        (LeadsOn (G.game space.now.game) space.now.rule position.now key.now most) }
 {
     let mut next = position.copy();
     apply(&space.game, &mut next, m);
     let settling = settle(&space.game, &mut next, space.rule);
-    settling.len() < most && ClassKey::of(&next) == *key
+    if settling.len() < most && ClassKey::of(&next) == *key {
+        return Some(WayOn {
+            m,
+            settling,
+            position: next,
+        });
+    }
+    None
 }

@@ -1,9 +1,11 @@
 //! The search over a question of the tests' own: to reach a sum by adding 2, 4 and 6.
 
-ghost use Rattle.std.specs.Prelude.{◌≡◌, ℕ, [], ◌+◌, ◌-◌, ◌≤◌, ◌++◌, option_to_list};
+ghost use Rattle.std.specs.Prelude.{◌≡◌, ℕ, [], length, ◌+◌, ◌-◌, ◌≤◌, ◌++◌, option_to_list};
+ghost use Rattle.fc_best_first.specs.Store.{Offers};
 ghost use Rattle.fc_best_first.specs.Turn.{AreChildren};
 ghost use Rattle.fc_search_tests.specs.Sums.{IsChildOf, number_exact, sums, sums_lawful};
 
+use crate::given::sure;
 use fc_best_first::{
     Book, Child, ExactKey, Mark, Offered, Search, SearchFault, Space, Status, Step,
 };
@@ -11,7 +13,6 @@ use fc_frontier::{BucketFrontier, Frontier, ListFrontier};
 use std::alloc::Global;
 use std::marker::Model;
 use std::process::Abort;
-use std::test::Fail;
 
 // A sum that was reached.
 #[derive(Clone, Copy, PartialEq, Eq, Hash)]
@@ -96,7 +97,7 @@ impl Space<Sum> for Sums {
         u32::from(self.goal).saturating_sub(key.value) as u8
     }
 
-    fn walk(&self) -> Addends {
+    fn walk(&self, _key: &Sum) -> Addends {
         Addends {
             two: None,
             four: None,
@@ -144,80 +145,82 @@ struct Row {
 
 fn end_of<F: Frontier + Drop>(search: &Search<Sum, F, Sums>) -> End {
     match search.status() {
-        Status::Shortest(number) => search
-            .entry(*number)
-            .map_or(End::Other, |e| End::Cost(e.1.cost)),
+        Status::Shortest(number) => match search.entry(*number) {
+            Some((_, mark)) => End::Cost(mark.cost),
+            None => End::Other,
+        },
         Status::CannotWin => End::CannotWin,
         Status::GaveUp(key, parent) => End::GaveUp(key.value, *parent),
         _ => End::Other,
     }
 }
 
-// A search for the goal, after all its turns, and how many of them answered `Running`.
-fn by_turns<F: Frontier + Drop>(
-    alloc: Global,
-    row: &Row,
-) -> Result<(Search<Sum, F, Sums>, u32), Fail> {
+// A search for the goal that has begun.
+fn begun<F: Frontier + Drop>(rt: &impl Abort, alloc: Global, row: &Row) -> Search<Sum, F, Sums> {
     let goal = row.goal;
-    let mut search: Search<Sum, F, Sums> = Search::new(alloc, Sums { goal }, row.budget)?;
+    sure(rt, Search::new(alloc, Sums { goal }, row.budget))
+}
+
+// Takes all turns of a search; how many of them answered `Running`.
+fn take_turns<F: Frontier + Drop>(rt: &impl Abort, search: &mut Search<Sum, F, Sums>) -> u32 {
     for turns in 0..1000u32 {
-        if search.turn()? == Step::Done {
-            return Ok((search, turns));
+        if sure(rt, search.turn()) == Step::Done {
+            return turns;
         }
     }
-    Err("a search that ends".into())
+    rt.panic("a search that doesn't end")
 }
 
 // The search has stored what the row tells, the sum 0 first.
-fn stores<F: Frontier + Drop>(
-    rt: &impl Abort,
-    search: &Search<Sum, F, Sums>,
-    row: &Row,
-) -> Result<(), Fail> {
+fn stores<F: Frontier + Drop>(rt: &impl Abort, search: &Search<Sum, F, Sums>, row: &Row) {
     if let Some(count) = row.stored {
-        assert!(rt;
-            search.len() == count as usize && search.entry(count).is_none(),
-            "sums stored"
-        );
+        assert!(rt; search.len() == count as usize, "sums stored");
+        assert!(rt; search.entry(count).is_none(), "sums stored");
     }
-    let zero = Sum { value: 0 };
-    let start = Mark { cost: 0, parent: 0 };
-    let first = search.entry(0).ok_or("the sum 0")?;
-    assert!(rt; *first.0 == zero && first.1 == start, "the sum 0");
+    let (first, mark) = search.entry(0).expect(rt, "the sum 0");
     assert!(rt;
-        search.budget() == row.budget && search.space().goal == row.goal,
-        "what was asked"
+        first.value == 0 && mark.cost == 0 && mark.parent == 0,
+        "the sum 0"
     );
-    Ok(())
+    assert!(rt; search.budget() == row.budget, "the budget");
+    assert!(rt; search.space().goal == row.goal, "the goal");
 }
 
-// Searches with this queue, by turns and in one run, and then once more, which changes nothing.
-fn ends<F: Frontier + Drop>(rt: &impl Abort, alloc: Global, row: &Row) -> Result<(), Fail> {
-    let (mut search, turns) = by_turns::<F>(alloc, row)?;
+// Searches with this queue by turns, and once more, which changes nothing.
+fn ends_by_turns<F: Frontier + Drop>(rt: &impl Abort, alloc: Global, row: &Row) {
+    let mut search: Search<Sum, F, Sums> = begun(rt, alloc, row);
+    let turns = take_turns(rt, &mut search);
+    let (least, most) = row.turns;
     assert!(rt;
-        row.turns.0 <= turns && turns <= row.turns.1,
+        least <= turns && turns <= most,
         "turns that answered Running"
     );
-    assert!(rt;
-        search.turn() == Ok(Step::Done) && end_of(&search) == row.end,
-        "a turn more"
-    );
-    stores(rt, &search, row)?;
-    let goal = row.goal;
-    let mut whole: Search<Sum, F, Sums> = Search::new(alloc, Sums { goal }, row.budget)?;
+    assert!(rt; search.turn() == Ok(Step::Done), "a turn more");
+    assert!(rt; end_of(&search) == row.end, "a turn more");
+    stores(rt, &search, row);
+}
+
+// Searches with this queue in one run, and once more, which changes nothing.
+fn ends_in_a_run<F: Frontier + Drop>(rt: &impl Abort, alloc: Global, row: &Row) {
+    let mut whole: Search<Sum, F, Sums> = begun(rt, alloc, row);
     for _ in 0..2 {
-        assert!(rt; whole.run() == Ok(()) && end_of(&whole) == row.end, "a run");
+        assert!(rt; whole.run() == Ok(()), "a run");
+        assert!(rt; end_of(&whole) == row.end, "a run");
     }
-    Ok(())
+}
+
+// Searches with this queue end as the row tells.
+fn ends<F: Frontier + Drop>(rt: &impl Abort, alloc: Global, row: &Row) {
+    ends_by_turns::<F>(rt, alloc, row);
+    ends_in_a_run::<F>(rt, alloc, row);
 }
 
 // Searches end as the rows tell, with either queue.
-fn all_end(rt: &impl Abort, alloc: Global, rows: &[Row]) -> Result<(), Fail> {
+fn all_end(rt: &impl Abort, alloc: Global, rows: &[Row]) {
     for row in rows {
-        ends::<ListFrontier>(rt, alloc, row)?;
-        ends::<BucketFrontier>(rt, alloc, row)?;
+        ends::<ListFrontier>(rt, alloc, row);
+        ends::<BucketFrontier>(rt, alloc, row);
     }
-    Ok(())
 }
 
 // 6 is 2 and 4 at a cost of 7; one addend alone costs 9, and it is the first way that is met.
@@ -239,8 +242,8 @@ static SIX: [Row; 2] = [
 ];
 
 #[test]
-fn a_cheaper_way_that_is_met_later_counts(rt: HostRuntime) -> Result<(), Fail> {
-    all_end(&rt, rt.alloc(), SIX.as_slice())
+fn a_cheaper_way_that_is_met_later_counts(rt: HostRuntime) {
+    all_end(&rt, rt.alloc(), SIX.as_slice());
 }
 
 // 20 is five times 4 at a cost of 20, and 22 is 2 more at a cost of 23.
@@ -269,8 +272,8 @@ static GREATER: [Row; 3] = [
 ];
 
 #[test]
-fn the_least_cost_is_found(rt: HostRuntime) -> Result<(), Fail> {
-    all_end(&rt, rt.alloc(), GREATER.as_slice())
+fn the_least_cost_is_found(rt: HostRuntime) {
+    all_end(&rt, rt.alloc(), GREATER.as_slice());
 }
 
 // No odd sum can be reached: the sums 0, 2, 4, 6 and 8 are stored, and that is all.
@@ -283,8 +286,8 @@ static NINE: [Row; 1] = [Row {
 }];
 
 #[test]
-fn an_odd_sum_cannot_be_reached(rt: HostRuntime) -> Result<(), Fail> {
-    all_end(&rt, rt.alloc(), NINE.as_slice())
+fn an_odd_sum_cannot_be_reached(rt: HostRuntime) {
+    all_end(&rt, rt.alloc(), NINE.as_slice());
 }
 
 // With room for three sums the third child of 0, the sum 6, finds no place.
@@ -297,8 +300,8 @@ static TOO_FEW: [Row; 1] = [Row {
 }];
 
 #[test]
-fn a_search_gives_up_at_its_budget(rt: HostRuntime) -> Result<(), Fail> {
-    all_end(&rt, rt.alloc(), TOO_FEW.as_slice())
+fn a_search_gives_up_at_its_budget(rt: HostRuntime) {
+    all_end(&rt, rt.alloc(), TOO_FEW.as_slice());
 }
 
 // 12 is three times 4, at a cost of 12.
@@ -311,75 +314,74 @@ static TWELVE: [Row; 1] = [Row {
 }];
 
 #[test]
-fn a_search_runs_to_its_end(rt: HostRuntime) -> Result<(), Fail> {
-    all_end(&rt, rt.alloc(), TWELVE.as_slice())
+fn a_search_runs_to_its_end(rt: HostRuntime) {
+    all_end(&rt, rt.alloc(), TWELVE.as_slice());
+}
+
+// Whether a search with this budget runs, or its fault.
+fn check_budget(rt: &impl Abort, alloc: Global, budget: u32, wanted: Result<bool, SearchFault>) {
+    let space = Sums { goal: 1 };
+    let search: Result<Search<Sum, ListFrontier, Sums>, SearchFault> = Search::new(
+        alloc, space, budget,
+    );
+    let is_running = search.map(|s| matches!(s.status(), Status::Running));
+    assert!(rt; is_running == wanted, "at a budget of {budget}");
 }
 
 #[test]
 fn a_budget_is_one_to_four_million(rt: HostRuntime) {
-    let budgets = [
-        (0, Err(SearchFault::Budget)),
-        (4_000_000, Ok(true)),
-        (4_000_001, Err(SearchFault::Budget)),
-    ];
-    for (budget, wanted) in budgets {
-        let search: Result<Search<Sum, ListFrontier, Sums>, SearchFault> = Search::new(
-            rt.alloc(),
-            Sums { goal: 1 },
-            budget,
-        );
-        let is_running = search.map(|s| matches!(s.status(), Status::Running));
-        assert!(rt; is_running == wanted, "at a budget of {budget}");
-    }
+    check_budget(&rt, rt.alloc(), 0, Err(SearchFault::Budget));
+    check_budget(&rt, rt.alloc(), 4_000_000, Ok(true));
+    check_budget(&rt, rt.alloc(), 4_000_001, Err(SearchFault::Budget));
 }
 
-// A key is added, met at no less and at less with this budget, and one more finds no place.
-fn offer_two<F: Frontier + Drop>(
+// What became of a sum that was offered to a book.
+fn offered<F: Frontier + Drop>(
     rt: &impl Abort,
     book: &mut Book<Sum, F>,
     budget: u32,
-) -> Result<(), Fail>
+    value: u32,
+    mark: Mark,
+    f: u32,
+) -> Offered<Sum>
+    requires room { length book.old.stored ≤ budget }
+    ensures offers { Offers budget book.old book.new value mark f result }
+{
+    sure(rt, book.offer(budget, Sum { value }, mark, f))
+}
+
+// A key is added, met at no less and at less with this budget, and one more finds no place.
+fn offer_two<F: Frontier + Drop>(rt: &impl Abort, book: &mut Book<Sum, F>, budget: u32)
     requires some { 1 ≤ budget }
     requires empty { book.old.stored ≡ [] }
 {
-    let forty = Sum { value: 40 };
-    let other = Sum { value: 41 };
     let dear = Mark { cost: 9, parent: 3 };
     let cheap = Mark { cost: 7, parent: 5 };
-    assert!(rt; matches!(book.offer(1, forty, dear, 11)?, Offered::Added));
-    assert!(rt; matches!(book.offer(budget, forty, dear, 11)?, Offered::Known));
-    assert!(rt; matches!(book.offer(budget, forty, cheap, 9)?, Offered::Lowered));
-    assert!(rt;
-        matches!(
-            book.offer(1, other, cheap, 9)?,
-            Offered::Full(Sum { value: 41 })
-        )
-    );
-    Ok(())
+    assert!(rt; matches!(offered(rt, book, 1, 40, dear, 11), Offered::Added));
+    assert!(rt; matches!(offered(rt, book, budget, 40, dear, 11), Offered::Known));
+    assert!(rt; matches!(offered(rt, book, budget, 40, cheap, 9), Offered::Lowered));
+    let last = offered(rt, book, 1, 41, cheap, 9);
+    assert!(rt; matches!(last, Offered::Full(Sum { value: 41 })));
 }
 
 // The first key alone is stored, at less; the two pairs are open, the lesser first.
-fn one_place<F: Frontier + Drop>(rt: &impl Abort, alloc: Global, budget: u32) -> Result<(), Fail>
+fn one_place<F: Frontier + Drop>(rt: &impl Abort, alloc: Global, budget: u32)
     requires { 1 ≤ budget }
 {
     let mut book: Book<Sum, F> = Book::new(alloc);
-    offer_two(rt, &mut book, budget)?;
-    let forty = Sum { value: 40 };
-    let cheap = Mark { cost: 7, parent: 5 };
-    let stored = book.entry(0).ok_or("the key 40")?;
-    assert!(rt; *stored.0 == forty && stored.1 == cheap);
+    offer_two(rt, &mut book, budget);
+    let (key, mark) = book.entry(0).expect(rt, "the key 40");
+    assert!(rt; key.value == 40 && mark.cost == 7 && mark.parent == 5);
     assert!(rt; book.len() == 1 && book.entry(1).is_none());
-    for pair in [Some((9, 0)), Some((11, 0)), None] {
-        assert!(rt; book.take() == pair);
-    }
-    Ok(())
+    assert!(rt; book.take() == Some((9, 0)));
+    assert!(rt; book.take() == Some((11, 0)));
+    assert!(rt; book.take() == None);
 }
 
 #[test]
-fn a_book_with_one_place(rt: HostRuntime) -> Result<(), Fail> {
+fn a_book_with_one_place(rt: HostRuntime) {
     for budget in 1..3 {
-        one_place::<ListFrontier>(&rt, rt.alloc(), budget)?;
-        one_place::<BucketFrontier>(&rt, rt.alloc(), budget)?;
+        one_place::<ListFrontier>(&rt, rt.alloc(), budget);
+        one_place::<BucketFrontier>(&rt, rt.alloc(), budget);
     }
-    Ok(())
 }

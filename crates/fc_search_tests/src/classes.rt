@@ -1,9 +1,10 @@
 //! Keys of classes.
 
+use crate::given::sure;
 use fc_classes::ClassKey;
 use fc_tests::boards::{TWO_KINGS, TWO_KINGS_TURNED};
 use fc_text::read_board;
-use std::test::Fail;
+use std::process::Abort;
 
 // The key of a board of four cards, as another program's certificate has it.
 static BYTES: [u8; 20] = [
@@ -11,20 +12,18 @@ static BYTES: [u8; 20] = [
     0, 0,
 ];
 
-fn key_of(text: &str) -> Result<ClassKey, Fail> {
-    Ok(ClassKey::of(&read_board(text.as_bytes(), 4)?))
+fn key_of(rt: &impl Abort, text: &str) -> ClassKey {
+    ClassKey::of(&sure(rt, read_board(text.as_bytes(), 4)))
 }
 
 #[test]
-fn a_key_has_the_bytes_of_its_class(rt: HostRuntime) -> Result<(), Fail> {
-    assert!(rt; key_of(TWO_KINGS)?.bytes() == BYTES.as_slice());
-    Ok(())
+fn a_key_has_the_bytes_of_its_class(rt: HostRuntime) {
+    assert!(rt; key_of(&rt, TWO_KINGS).bytes() == BYTES.as_slice());
 }
 
 #[test]
-fn class_mates_have_equal_keys(rt: HostRuntime) -> Result<(), Fail> {
-    let key = key_of(TWO_KINGS)?;
-    let other = key_of("Foundations: H-J C-K D-K S-J\nQS KS\nQH KH\n")?;
-    assert!(rt; key == key_of(TWO_KINGS_TURNED)? && key != other);
-    Ok(())
+fn class_mates_have_equal_keys(rt: HostRuntime) {
+    let key = key_of(&rt, TWO_KINGS);
+    let other = key_of(&rt, "Foundations: H-J C-K D-K S-J\nQS KS\nQH KH\n");
+    assert!(rt; key == key_of(&rt, TWO_KINGS_TURNED) && key != other);
 }

@@ -6,6 +6,8 @@ mod best_first;
 #[cfg(test)]
 mod classes;
 #[cfg(test)]
+mod given;
+#[cfg(test)]
 mod plain;
 #[cfg(test)]
 mod random;

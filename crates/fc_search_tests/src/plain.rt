@@ -1,8 +1,10 @@
 //! A plain search, breadth first over whole positions, to compare the program's with.
 
-use fc_moves::{Game, allows, apply, moves};
+use crate::given::{make, sure};
+use fc_moves::{Game, moves};
 use fc_position::Position;
-use std::alloc::{AllocError, Global};
+use std::alloc::Global;
+use std::process::Abort;
 
 // What the search finds: the length of a shortest list that wins, that none does, or that more positions can be reached
 // than may be stored.
@@ -22,52 +24,51 @@ struct Visit {
 
 // What the search finds from a position, where so many may be stored.
 pub fn search<G: Game>(
+    rt: &impl Abort,
     alloc: Global,
     game: &G,
     start: &Position,
     budget: usize,
-) -> Result<Found, AllocError> {
+) -> Found {
     let mut visits = Vec::new(alloc);
     let position = start.copy();
-    visits.push(Visit { position, moves: 0 })?;
+    sure(rt, visits.push(Visit { position, moves: 0 }));
     for number in 0..budget {
         let Some(visit) = visits.get(number) else {
             break;
         };
         if visit.position.is_won() {
-            return Ok(Found::Shortest(visit.moves));
+            return Found::Shortest(visit.moves);
         }
         let position = visit.position.copy();
         let moves = visit.moves.saturating_add(1);
-        if !expand(game, &position, moves, &mut visits, budget)? {
-            return Ok(Found::GaveUp);
+        if !expand(rt, game, &position, moves, &mut visits, budget) {
+            return Found::GaveUp;
         }
     }
-    Ok(Found::CannotWin)
+    Found::CannotWin
 }
 
 // Stores what one move leads to, where it isn't stored yet; or says that there is no place for it.
 fn expand<G: Game>(
+    rt: &impl Abort,
     game: &G,
     from: &Position,
     moves_to: usize,
     visits: &mut Vec<Visit>,
     budget: usize,
-) -> Result<bool, AllocError> {
+) -> bool {
     for m in moves(game, from).as_slice() {
-        if !allows(game, from, *m) {
-            continue;
-        }
         let mut position = from.copy();
-        apply(game, &mut position, *m);
+        make(rt, game, &mut position, *m);
         if visits.iter().any(|v| v.position.equals(&position)) {
             continue;
         }
         if visits.len() >= budget {
-            return Ok(false);
+            return false;
         }
         let moves = moves_to;
-        visits.push(Visit { position, moves })?;
+        sure(rt, visits.push(Visit { position, moves }));
     }
-    Ok(true)
+    true
 }

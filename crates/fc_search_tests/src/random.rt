@@ -1,5 +1,6 @@
 //! The program's search against the plain one, on random small boards.
 
+use crate::given::{bakers_game, free_cell, sure};
 use crate::plain::{self, Found};
 use arrayvec::ArrayVec;
 use fc_cards::{Card, Suit};
@@ -7,10 +8,8 @@ use fc_frontier::{BucketFrontier, Frontier, ListFrontier};
 use fc_moves::{Game, Kings};
 use fc_position::Position;
 use fc_search::{Answer, Search};
-use fc_tests::boards::{bakers_game, free_cell};
 use std::alloc::Global;
 use std::process::Abort;
-use std::test::Fail;
 
 // Numbers that look random: those of the generator of C's older libraries.
 #[derive(Drop)]
@@ -26,39 +25,58 @@ impl Numbers {
     }
 }
 
-// A board with none, the king, or the king and the queen of each suit left, in random columns, and in so many of the cells.
-fn random_board(numbers: &mut Numbers, cells: u32) -> Result<Position, Fail> {
-    let mut left: ArrayVec<Card, 52> = ArrayVec::new();
+// The cards of a suit from so many below the king on.
+fn leave(rt: &impl Abort, left: &mut ArrayVec<Card, 52>, suit: Suit, count: u8) {
+    for rank in 14u8.saturating_sub(count)..14 {
+        let card = Card::new(rank, suit).expect(rt, "a card");
+        sure(rt, left.try_push(card));
+    }
+}
+
+// None, the king, or the king and the queen of each suit left; how many of each are home.
+fn draw(rt: &impl Abort, numbers: &mut Numbers, left: &mut ArrayVec<Card, 52>) -> [u8; 4] {
     let mut homes = [13u8; 4];
     for (home, suit) in homes.iter_mut().zip([Suit::C, Suit::D, Suit::H, Suit::S]) {
         let count = u8::try_from(numbers.below(3)).unwrap_or(0);
         *home = 13u8.saturating_sub(count);
-        for rank in 14u8.saturating_sub(count)..14 {
-            let card = Card::new(rank, suit).ok_or("a card")?;
-            left.try_push(card).map_err(|_| "too many cards")?;
-        }
+        leave(rt, left, suit, count);
     }
+    homes
+}
+
+// Puts a card into one of so many cells, where it is drawn so and the cell is empty, and else on one of three columns.
+fn put(
+    rt: &impl Abort,
+    numbers: &mut Numbers,
+    cells: u32,
+    card: Card,
+    columns: &mut [ArrayVec<Card, 52>; 8],
+    held: &mut [Option<Card>; 4],
+) {
+    let place = numbers.below(4) as usize % 4;
+    if numbers.below(4) == 0 && (place as u32) < cells && held[place].is_none() {
+        held[place] = Some(card);
+    } else {
+        sure(rt, columns[place % 3].try_push(card));
+    }
+}
+
+// A board with none, the king, or the king and the queen of each suit left, in random columns, and in so many of the cells.
+fn random_board(rt: &impl Abort, numbers: &mut Numbers, cells: u32) -> Position {
+    let mut left = ArrayVec::new();
+    let homes = draw(rt, numbers, &mut left);
     let mut columns: [ArrayVec<Card, 52>; 8] = Default::default();
     let mut held = [None; 4];
     for _ in 0..8 {
-        let count = left.len() as u32;
+        let count = left.len();
         if count == 0 {
             break;
         }
-        let card = left.swap_remove(numbers.below(count) as usize % left.len());
-        let place = numbers.below(4) as usize % 4;
-        if numbers.below(4) == 0 && (place as u32) < cells && held[place].is_none() {
-            held[place] = Some(card);
-        } else {
-            columns[place % 3]
-                .try_push(card)
-                .map_err(|_| "a full column")?;
-        }
+        let card = left.swap_remove(numbers.below(count as u32) as usize % count);
+        put(rt, numbers, cells, card, &mut columns, &mut held);
     }
-    if homes.iter().any(|count| *count > 13) {
-        return Err("a count above 13".into());
-    }
-    Ok(Position::from_parts(columns, held, homes)?)
+    assert!(rt; !homes.iter().any(|count| *count > 13));
+    sure(rt, Position::from_parts(columns, held, homes))
 }
 
 // Whether the answers agree, where the plain search had room enough.
@@ -73,53 +91,52 @@ fn agree(answer: &Answer, found: Found) -> bool {
 
 // The answer of a search with this queue.
 fn answer_of<F: Frontier + Drop, G: Game + Drop>(
+    rt: &impl Abort,
     alloc: Global,
     game: &G,
     rule: u8,
     board: &Position,
-) -> Result<Answer, Fail> {
-    if rule > 2 || !board.fits(game.cells()) {
-        return Err("a rule or a board that doesn't fit".into());
+) -> Answer {
+    assert!(rt; rule <= 2 && board.fits(game.cells()));
+    let mut search: Search<F, G> = sure(rt, Search::new(alloc, game, rule, board, 4000));
+    sure(rt, search.run());
+    sure(rt, search.answer())
+}
+
+// An answer agrees with the plain search's.
+fn check_answer(rt: &impl Abort, answer: &Answer, found: Found) {
+    assert!(rt; agree(answer, found), "another answer");
+}
+
+// Compares the answers for a board of a game, by each rule and with either queue.
+fn compare_board<G: Game + Drop>(rt: &impl Abort, alloc: Global, game: &G, board: &Position) {
+    let found = plain::search(rt, alloc, game, board, 300);
+    for rule in 0..3 {
+        let list = answer_of::<ListFrontier, G>(rt, alloc, game, rule, board);
+        check_answer(rt, &list, found);
+        let buckets = answer_of::<BucketFrontier, G>(rt, alloc, game, rule, board);
+        check_answer(rt, &buckets, found);
     }
-    let mut search: Search<F, G> = Search::new(alloc, game, rule, board, 4000)?;
-    search.run()?;
-    Ok(search.answer()?)
 }
 
 // Compares the answers for some boards of a game.
-fn compare<G: Game + Drop>(
-    rt: &impl Abort,
-    alloc: Global,
-    game: &G,
-    seed: u32,
-) -> Result<(), Fail> {
+fn compare<G: Game + Drop>(rt: &impl Abort, alloc: Global, game: &G, seed: u32) {
     let mut numbers = Numbers { state: seed };
     for _ in 0..15 {
-        let board = random_board(&mut numbers, u32::from(game.cells()))?;
-        if !board.fits(game.cells()) {
-            return Err("a board that doesn't fit".into());
-        }
-        let found = plain::search(alloc, game, &board, 300)?;
-        for rule in 0..3 {
-            let list = answer_of::<ListFrontier, G>(alloc, game, rule, &board)?;
-            assert!(rt; agree(&list, found), "another answer with a list");
-            let buckets = answer_of::<BucketFrontier, G>(alloc, game, rule, &board)?;
-            assert!(rt; agree(&buckets, found), "another answer with buckets");
-        }
+        let board = random_board(rt, &mut numbers, u32::from(game.cells()));
+        compare_board(rt, alloc, game, &board);
     }
-    Ok(())
 }
 
 #[test]
-fn agrees_with_the_plain_search(rt: HostRuntime) -> Result<(), Fail> {
+fn agrees_with_the_plain_search(rt: HostRuntime) {
     for cells in 0..5u8 {
-        let free_cell = free_cell(cells)?;
-        let bakers = bakers_game(cells)?;
         let seed = u32::from(cells);
-        compare(&rt, rt.alloc(), &free_cell, seed)?;
-        compare(&rt, rt.alloc(), &bakers, 100 + seed)?;
-        compare(&rt, rt.alloc(), &Kings::new(free_cell), 200 + seed)?;
-        compare(&rt, rt.alloc(), &Kings::new(bakers), 300 + seed)?;
+        compare(&rt, rt.alloc(), &free_cell(&rt, cells), seed);
+        compare(&rt, rt.alloc(), &bakers_game(&rt, cells), 100 + seed);
+        let kings = Kings::new(free_cell(&rt, cells));
+        compare(&rt, rt.alloc(), &kings, 200 + seed);
+        let kings = Kings::new(bakers_game(&rt, cells));
+        compare(&rt, rt.alloc(), &kings, 300 + seed);
     }
-    Ok(())
 }

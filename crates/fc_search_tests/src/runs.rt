@@ -1,20 +1,20 @@
 //! Runs of the program: what they print, their statuses and their faults, over devices that fail too.
 
+use crate::given::{bakers_game, board, free_cell, make, sure};
 use fc_cards::Card;
 use fc_io::testing::Failing;
 use fc_io::{FromReader, FromSlice, ToArray};
-use fc_moves::{Game, Kings, allows, apply, read_move};
+use fc_moves::{Game, Kings, read_move};
+use fc_position::Position;
 use fc_replay::ReplayFault;
 use fc_runs::{Input, Output, ProgramFault, run_deal, run_replay, run_solve};
 use fc_tests::boards::{
     ALL_HOME, DEAL_ONE, LOCKED, ONE_KING, QUEEN_UNDER_KING, Rules, THREE_SPADES, TWO_KINGS,
-    bakers_game, free_cell,
 };
-use fc_text::{BoardFault, read_board};
+use fc_text::BoardFault;
 use std::alloc::Global;
 use std::io;
 use std::process::Abort;
-use std::test::Fail;
 
 // What a run prints: this text; or this line, and then so many moves, which win.
 #[derive(Clone, Copy)]
@@ -32,52 +32,52 @@ struct Row {
     printed: Printed,
 }
 
-// Whether the line's moves are so many, each allowed after those before it, and win.
-fn win<G: Game>(game: &G, board: &[u8], line: &[u8], count: usize) -> Result<bool, Fail> {
-    let mut position = read_board(board, game.cells())?;
-    let mut made = 0usize;
-    for word in line.chunks(3) {
-        let m = read_move(word.get(..2).ok_or("two letters")?).ok_or("a move")?;
-        if !allows(game, &position, m) {
-            return Ok(false);
-        }
-        apply(game, &mut position, m);
-        made = made.saturating_add(1);
-    }
-    Ok(made == count && position.is_won())
+// Makes the move of two letters.
+fn make_text<G: Game>(rt: &impl Abort, game: &G, position: &mut Position, word: &[u8]) {
+    let text = word.get(..2).expect(rt, "two letters");
+    make(rt, game, position, read_move(text).expect(rt, "a move"));
 }
 
-// Whether what the row's run printed is right.
-fn is_right<G: Game>(game: &G, row: &Row, text: &[u8]) -> Result<bool, Fail> {
+// The line's moves are so many, each allowed after those before it, and win.
+fn check_wins<G: Game>(rt: &impl Abort, game: &G, text: &str, line: &[u8], count: usize) {
+    let mut position = board(rt, game, text);
+    let mut made = 0usize;
+    for word in line.chunks(3) {
+        make_text(rt, game, &mut position, word);
+        made = made.saturating_add(1);
+    }
+    assert!(rt; made == count && position.is_won(), "moves that don't win");
+}
+
+// What the row's run printed is right.
+fn check_printed<G: Game>(rt: &impl Abort, game: &G, row: &Row, text: &[u8]) {
     match row.printed {
-        Printed::Text(wanted) => Ok(text == wanted),
-        Printed::Moves(head, count) => match text.strip_prefix(head) {
-            Some(line) => win(game, row.board.as_bytes(), line, count),
-            None => Ok(false),
-        },
+        Printed::Text(wanted) => assert!(rt; text == wanted, "another text"),
+        Printed::Moves(head, count) => {
+            let line = text.strip_prefix(head).expect(rt, "a first line");
+            check_wins(rt, game, row.board, line, count);
+        }
     }
 }
 
 // Solving the row's board by the first rule ends so.
-fn ends<G: Game + Drop>(rt: &impl Abort, alloc: Global, game: &G, row: &Row) -> Result<(), Fail> {
+fn ends<G: Game + Drop>(rt: &impl Abort, alloc: Global, game: &G, row: &Row) {
     let mut source = FromSlice::new(row.board.as_bytes());
     let mut out = ToArray::<200>::new();
     let result = run_solve(alloc, game, 1, &mut source, row.budget, &mut out);
     assert!(rt; result == row.wanted, "another answer");
-    assert!(rt; is_right(game, row, out.held())?, "another text");
-    Ok(())
+    check_printed(rt, game, row, out.held());
 }
 
 // Solving the rows' boards ends so.
-fn all_end(rt: &impl Abort, alloc: Global, rows: &[Row]) -> Result<(), Fail> {
+fn all_end(rt: &impl Abort, alloc: Global, rows: &[Row]) {
     for row in rows {
         match row.game {
-            Rules::FreeCell(cells) => ends(rt, alloc, &free_cell(cells)?, row)?,
-            Rules::Bakers(cells) => ends(rt, alloc, &bakers_game(cells)?, row)?,
-            Rules::Kings(cells) => ends(rt, alloc, &Kings::new(free_cell(cells)?), row)?,
+            Rules::FreeCell(cells) => ends(rt, alloc, &free_cell(rt, cells), row),
+            Rules::Bakers(cells) => ends(rt, alloc, &bakers_game(rt, cells), row),
+            Rules::Kings(cells) => ends(rt, alloc, &Kings::new(free_cell(rt, cells)), row),
         }
     }
-    Ok(())
 }
 
 const SHORTEST: [Row; 4] = [
@@ -112,8 +112,8 @@ const SHORTEST: [Row; 4] = [
 ];
 
 #[test]
-fn prints_shortest_lists(rt: HostRuntime) -> Result<(), Fail> {
-    all_end(&rt, rt.alloc(), SHORTEST.as_slice())
+fn prints_shortest_lists(rt: HostRuntime) {
+    all_end(&rt, rt.alloc(), SHORTEST.as_slice());
 }
 
 // Where only kings may go to an empty column and there is no cell, the king of three spades may stand in each of seven
@@ -164,8 +164,8 @@ const GAMES: [Row; 6] = [
 ];
 
 #[test]
-fn tells_games_apart(rt: HostRuntime) -> Result<(), Fail> {
-    all_end(&rt, rt.alloc(), GAMES.as_slice())
+fn tells_games_apart(rt: HostRuntime) {
+    all_end(&rt, rt.alloc(), GAMES.as_slice());
 }
 
 const STORED: [Row; 2] = [
@@ -186,8 +186,8 @@ const STORED: [Row; 2] = [
 ];
 
 #[test]
-fn stores_as_many_classes_as_are_needed(rt: HostRuntime) -> Result<(), Fail> {
-    all_end(&rt, rt.alloc(), STORED.as_slice())
+fn stores_as_many_classes_as_are_needed(rt: HostRuntime) {
+    all_end(&rt, rt.alloc(), STORED.as_slice());
 }
 
 const LOST: [Row; 2] = [
@@ -208,8 +208,8 @@ const LOST: [Row; 2] = [
 ];
 
 #[test]
-fn tells_what_cannot_be_won(rt: HostRuntime) -> Result<(), Fail> {
-    all_end(&rt, rt.alloc(), LOST.as_slice())
+fn tells_what_cannot_be_won(rt: HostRuntime) {
+    all_end(&rt, rt.alloc(), LOST.as_slice());
 }
 
 const REFUSED: [Row; 6] = [
@@ -258,8 +258,8 @@ const REFUSED: [Row; 6] = [
 ];
 
 #[test]
-fn gives_up_and_refuses(rt: HostRuntime) -> Result<(), Fail> {
-    all_end(&rt, rt.alloc(), REFUSED.as_slice())
+fn gives_up_and_refuses(rt: HostRuntime) {
+    all_end(&rt, rt.alloc(), REFUSED.as_slice());
 }
 
 // Solves one king over devices that move one byte a call and fail after so many calls: the run ends so, with so much of
@@ -270,65 +270,64 @@ fn ends_over(
     calls: (u32, u32),
     wanted: Result<u8, ProgramFault>,
     printed: &[u8],
-) -> Result<(), Fail> {
+) {
     let mut source = Failing::new(FromSlice::new(ONE_KING.as_bytes()), calls.0);
     let mut out = Failing::new(ToArray::<200>::new(), calls.1);
-    let result = run_solve(alloc, &free_cell(4)?, 1, &mut source, 100, &mut out);
-    assert!(rt;
-        result == wanted && out.device.held() == printed,
-        "another answer"
-    );
-    Ok(())
+    let result = run_solve(alloc, &free_cell(rt, 4), 1, &mut source, 100, &mut out);
+    assert!(rt; result == wanted, "another answer");
+    assert!(rt; out.device.held() == printed, "another text");
 }
 
 static PRINTED: [u8; 14] = *b"shortest 1\nah\n";
 
 #[test]
-fn reads_byte_by_byte(rt: HostRuntime) -> Result<(), Fail> {
-    ends_over(&rt, rt.alloc(), (1000, 1000), Ok(0), PRINTED.as_slice())
+fn reads_byte_by_byte(rt: HostRuntime) {
+    ends_over(&rt, rt.alloc(), (1000, 1000), Ok(0), PRINTED.as_slice());
 }
 
 #[test]
-fn tells_failing_devices(rt: HostRuntime) -> Result<(), Fail> {
+fn tells_failing_devices(rt: HostRuntime) {
     // The text is read by as many calls as it has bytes and one more, which finds the end.
     for calls in 0..=ONE_KING.len() as u32 {
         let wanted = Err(ProgramFault::Read(Input::Board));
-        ends_over(&rt, rt.alloc(), (calls, 1000), wanted, b"")?;
+        ends_over(&rt, rt.alloc(), (calls, 1000), wanted, b"");
     }
     for count in 0..PRINTED.len() {
         let calls = (1000, count as u32);
         let wanted = Err(ProgramFault::Write(Output::Answer));
-        ends_over(&rt, rt.alloc(), calls, wanted, &PRINTED[..count])?;
+        ends_over(&rt, rt.alloc(), calls, wanted, &PRINTED[..count]);
     }
-    Ok(())
 }
 
 #[test]
-fn stops_a_reader_that_never_ends(rt: HostRuntime) -> Result<(), Fail> {
+fn stops_a_reader_that_never_ends(rt: HostRuntime) {
     let mut source = FromReader::new(io::repeat(b' '));
     let mut out = ToArray::<200>::new();
-    let result = run_solve(rt.alloc(), &free_cell(4)?, 1, &mut source, 100, &mut out);
+    let result = run_solve(
+        rt.alloc(),
+        &free_cell(&rt, 4),
+        1,
+        &mut source,
+        100,
+        &mut out,
+    );
     let wanted = Err(ProgramFault::Board(BoardFault::TooLong));
     assert!(rt; result == wanted && out.held() == b"".as_slice());
-    Ok(())
 }
 
-const DEALS: [(u32, Result<u8, ProgramFault>, &str); 3] = [
-    (1, Ok(0), DEAL_ONE),
-    (0, Err(ProgramFault::Number(0)), ""),
-    (1_000_001, Err(ProgramFault::Number(1_000_001)), ""),
-];
+// Dealing a number ends so, with this text.
+fn check_deal(rt: &impl Abort, number: u32, wanted: Result<u8, ProgramFault>, printed: &str) {
+    let mut out = ToArray::<200>::new();
+    assert!(rt; run_deal(number, &mut out) == wanted, "deal {number}");
+    assert!(rt; out.held() == printed.as_bytes(), "deal {number}");
+}
 
 #[test]
 fn deals(rt: HostRuntime) {
-    for (number, wanted, printed) in DEALS {
-        let mut out = ToArray::<200>::new();
-        let result = run_deal(number, &mut out);
-        assert!(rt;
-            result == wanted && out.held() == printed.as_bytes(),
-            "deal {number}"
-        );
-    }
+    check_deal(&rt, 1, Ok(0), DEAL_ONE);
+    check_deal(&rt, 0, Err(ProgramFault::Number(0)), "");
+    let wanted = Err(ProgramFault::Number(1_000_001));
+    check_deal(&rt, 1_000_001, wanted, "");
     let mut short = ToArray::<10>::new();
     let result = run_deal(1, &mut short);
     let wanted = Err(ProgramFault::Write(Output::Answer));
@@ -398,35 +397,21 @@ const FAULTS: [(ProgramFault, &str, u8); 15] = [
 ];
 
 // A fault's text and its status are these.
-fn tells(
-    rt: &impl Abort,
-    alloc: Global,
-    fault: ProgramFault,
-    text: &str,
-    status: u8,
-) -> Result<(), Fail> {
-    let told = format!(in alloc; "{fault}")?;
+fn tells(rt: &impl Abort, alloc: Global, fault: ProgramFault, text: &str, status: u8) {
+    let told = sure(rt, format!(in alloc; "{fault}"));
     assert!(rt; told.as_str() == text && fault.status() == status, "{text}");
-    Ok(())
 }
 
 #[test]
-fn tells_faults(rt: HostRuntime) -> Result<(), Fail> {
+fn tells_faults(rt: HostRuntime) {
     for (fault, text, status) in FAULTS {
-        tells(&rt, rt.alloc(), fault, text, status)?;
+        tells(&rt, rt.alloc(), fault, text, status);
     }
-    let card = Card::read(b"JD").ok_or("a card")?;
-    let faults = [
-        (
-            BoardFault::RepeatedCard(card),
-            "board: card JD stands twice",
-        ),
-        (BoardFault::MissingCard(card), "board: card JD is missing"),
-    ];
-    for (fault, text) in faults {
-        tells(&rt, rt.alloc(), ProgramFault::Board(fault), text, 3)?;
-    }
-    Ok(())
+    let card = Card::read(b"JD").expect(&rt, "a card");
+    let twice = ProgramFault::Board(BoardFault::RepeatedCard(card));
+    tells(&rt, rt.alloc(), twice, "board: card JD stands twice", 3);
+    let missing = ProgramFault::Board(BoardFault::MissingCard(card));
+    tells(&rt, rt.alloc(), missing, "board: card JD is missing", 3);
 }
 
 // The boards of two kings after `1a` and then `1h`.
@@ -467,18 +452,31 @@ fn replays_over(
     alloc: Global,
     moves: &[u8],
     calls: Calls,
-    wanted: Result<u8, ProgramFault>,
+    wanted: &Result<u8, ProgramFault>,
     printed: &[u8],
-) -> Result<(), Fail> {
+) {
     let mut board = Failing::new(FromSlice::new(TWO_KINGS.as_bytes()), calls.board);
     let mut list = Failing::new(FromSlice::new(moves), calls.moves);
     let mut out = Failing::new(ToArray::<400>::new(), calls.sink);
-    let result = run_replay(alloc, &free_cell(4)?, &mut board, &mut list, &mut out);
-    assert!(rt;
-        result == wanted && out.device.held() == printed,
-        "another end"
-    );
-    Ok(())
+    let result = run_replay(alloc, &free_cell(rt, 4), &mut board, &mut list, &mut out);
+    assert!(rt; result == *wanted, "another end");
+    assert!(rt; out.device.held() == printed, "another text");
+}
+
+// The same over devices that move as many bytes as they can and don't fail.
+fn replays(
+    rt: &impl Abort,
+    alloc: Global,
+    moves: &[u8],
+    wanted: &Result<u8, ProgramFault>,
+    printed: &[u8],
+) {
+    let mut board = FromSlice::new(TWO_KINGS.as_bytes());
+    let mut list = FromSlice::new(moves);
+    let mut out = ToArray::<400>::new();
+    let result = run_replay(alloc, &free_cell(rt, 4), &mut board, &mut list, &mut out);
+    assert!(rt; result == *wanted, "another end");
+    assert!(rt; out.held() == printed, "another text");
 }
 
 // So many calls that no device fails.
@@ -488,67 +486,69 @@ const ENOUGH: Calls = Calls {
     sink: 1000,
 };
 
-const REPLAYS: [(&[u8], Result<u8, ProgramFault>, &[u8]); 3] = [
-    (b"1a 1H\r\n", Ok(0), TWO_BOARDS),
-    (
-        b"1a 1h 1h",
-        Err(ProgramFault::Moves(ReplayFault::NotAllowed(3))),
-        TWO_BOARDS,
-    ),
-    (
-        b"9h",
-        Err(ProgramFault::Moves(ReplayFault::BadMove(1))),
-        b"",
-    ),
-];
-
-#[test]
-fn replays_moves(rt: HostRuntime) -> Result<(), Fail> {
-    for (moves, wanted, printed) in REPLAYS {
-        replays_over(&rt, rt.alloc(), moves, ENOUGH, wanted, printed)?;
-        // And over devices that move as many bytes as they can.
-        let mut board = FromSlice::new(TWO_KINGS.as_bytes());
-        let mut list = FromSlice::new(moves);
-        let mut out = ToArray::<400>::new();
-        let result = run_replay(rt.alloc(), &free_cell(4)?, &mut board, &mut list, &mut out);
-        assert!(rt; result == wanted && out.held() == printed, "another end");
-    }
-    Ok(())
+// Replaying moves of two kings ends so, over either kind of devices.
+fn check_replay(
+    rt: &impl Abort,
+    alloc: Global,
+    moves: &[u8],
+    wanted: &Result<u8, ProgramFault>,
+    printed: &[u8],
+) {
+    replays_over(rt, alloc, moves, ENOUGH, wanted, printed);
+    replays(rt, alloc, moves, wanted, printed);
 }
 
 #[test]
-fn replays_over_failing_devices(rt: HostRuntime) -> Result<(), Fail> {
-    let moves = b"1a 1h".as_slice();
+fn replays_moves(rt: HostRuntime) {
+    check_replay(&rt, rt.alloc(), b"1a 1H\r\n", &Ok(0), TWO_BOARDS);
+    let refused = Err(ProgramFault::Moves(ReplayFault::NotAllowed(3)));
+    check_replay(&rt, rt.alloc(), b"1a 1h 1h", &refused, TWO_BOARDS);
+    let bad = Err(ProgramFault::Moves(ReplayFault::BadMove(1)));
+    check_replay(&rt, rt.alloc(), b"9h", &bad, b"");
+}
+
+// A replay of two moves whose devices fail after so many calls ends by this fault, with this written.
+fn check_failing(
+    rt: &impl Abort,
+    alloc: Global,
+    calls: Calls,
+    fault: ProgramFault,
+    printed: &[u8],
+) {
+    replays_over(rt, alloc, b"1a 1h", calls, &Err(fault), printed);
+}
+
+#[test]
+fn replays_over_failing_devices(rt: HostRuntime) {
     for board in 0..=TWO_KINGS.len() as u32 {
         let calls = Calls { board, ..ENOUGH };
-        let wanted = Err(ProgramFault::Read(Input::Board));
-        replays_over(&rt, rt.alloc(), moves, calls, wanted, b"")?;
+        let fault = ProgramFault::Read(Input::Board);
+        check_failing(&rt, rt.alloc(), calls, fault, b"");
     }
-    for read in 0..=moves.len() as u32 {
-        let calls = Calls {
-            moves: read,
-            ..ENOUGH
-        };
-        let wanted = Err(ProgramFault::Read(Input::Moves));
-        replays_over(&rt, rt.alloc(), moves, calls, wanted, b"")?;
+    for moves in 0..6 {
+        let calls = Calls { moves, ..ENOUGH };
+        let fault = ProgramFault::Read(Input::Moves);
+        check_failing(&rt, rt.alloc(), calls, fault, b"");
     }
     for count in 0..TWO_BOARDS.len() {
-        let calls = Calls {
-            sink: count as u32,
-            ..ENOUGH
-        };
-        let wanted = Err(ProgramFault::Write(Output::Answer));
-        replays_over(&rt, rt.alloc(), moves, calls, wanted, &TWO_BOARDS[..count])?;
+        let sink = count as u32;
+        let calls = Calls { sink, ..ENOUGH };
+        let fault = ProgramFault::Write(Output::Answer);
+        check_failing(&rt, rt.alloc(), calls, fault, &TWO_BOARDS[..count]);
     }
-    Ok(())
 }
 
 #[test]
-fn stops_moves_that_never_end(rt: HostRuntime) -> Result<(), Fail> {
+fn stops_moves_that_never_end(rt: HostRuntime) {
     let mut board = FromSlice::new(TWO_KINGS.as_bytes());
     let mut moves = FromReader::new(io::repeat(b' '));
     let mut out = ToArray::<400>::new();
-    let result = run_replay(rt.alloc(), &free_cell(4)?, &mut board, &mut moves, &mut out);
+    let result = run_replay(
+        rt.alloc(),
+        &free_cell(&rt, 4),
+        &mut board,
+        &mut moves,
+        &mut out,
+    );
     assert!(rt; result == Err(ProgramFault::TooLong(Input::Moves)));
-    Ok(())
 }

@@ -1,18 +1,17 @@
 //! Answers of searches: their moves, made one after the other, and their tables.
 
+use crate::given::{bakers_game, board, free_cell, make, sure};
 use fc_cards::Place;
 use fc_frontier::{BucketFrontier, Frontier, ListFrontier};
-use fc_moves::{FreeCell, Game, Kings, Move, allows, apply};
+use fc_moves::{FreeCell, Game, Kings, Move};
 use fc_position::Position;
 use fc_search::{Answer, MOST_BUDGET, MoveList, Search, SearchFault, Step, Table, Verdict, solve};
 use fc_tests::boards::{
     ALL_HOME, CLASSES_495, FREE_KING, LOCKED, ONE_COLUMN, ONE_KING, QUEEN_UNDER_KING, Rules,
-    THIRTY_MOVES, THREE_KINGS, THREE_SPADES, TWO_KINGS, bakers_game, free_cell,
+    THIRTY_MOVES, THREE_KINGS, THREE_SPADES, TWO_KINGS,
 };
-use fc_text::read_board;
 use std::alloc::Global;
 use std::process::Abort;
-use std::test::Fail;
 
 // What an answer told: so many moves, which win, and so many classes; so many classes; or a budget.
 #[derive(Clone, Copy, PartialEq)]
@@ -42,27 +41,23 @@ struct Row {
     shown: Shown,
 }
 
-// Whether the moves are allowed, one after the other, and win.
-fn wins<G: Game>(game: &G, start: &Position, list: &MoveList) -> bool {
+// The moves are allowed, one after the other, and win.
+fn check_wins<G: Game>(rt: &impl Abort, game: &G, start: &Position, list: &MoveList) {
     let mut position = start.copy();
-    for i in 0..list.len() {
-        let m = list.get(i);
-        if !allows(game, &position, m) {
-            return false;
-        }
-        apply(game, &mut position, m);
+    for m in list.as_slice() {
+        make(rt, game, &mut position, *m);
     }
-    position.is_won()
+    assert!(rt; position.is_won(), "moves that don't win");
+    assert!(rt; list.is_empty() == (list.len() == 0));
 }
 
-// Whether the table is of this rule, and each key less than the next one.
-fn is_table(table: &Table, rule: u8) -> bool {
+// The table is of this rule, and each key less than the next one.
+fn check_table(rt: &impl Abort, table: &Table, rule: u8) {
     for i in 1..table.len() {
-        if table.key(i - 1) >= table.key(i) {
-            return false;
-        }
+        assert!(rt; table.key(i - 1) < table.key(i), "keys that don't rise");
     }
-    table.rule() == rule && table.is_empty() == (table.len() == 0)
+    assert!(rt; table.rule() == rule, "another rule");
+    assert!(rt; table.is_empty() == (table.len() == 0));
 }
 
 // Whether the table has one row: this key, at no cost.
@@ -104,60 +99,48 @@ fn shows(answer: &Answer, shown: Shown) -> bool {
     }
 }
 
-// What an answer told; an error where its moves don't win or its table is of another rule or order.
-fn report<G: Game>(game: &G, rule: u8, start: &Position, answer: &Answer) -> Result<Told, Fail> {
+// What an answer told, whose moves win and whose table is of the rule and in order.
+fn report<G: Game>(rt: &impl Abort, game: &G, rule: u8, start: &Position, answer: &Answer) -> Told {
     match answer {
         Answer::Shortest(list, table) => {
-            if !wins(game, start, list) || list.is_empty() != (list.len() == 0) {
-                return Err("moves that don't win".into());
-            }
-            if !is_table(table, rule) {
-                return Err("no table".into());
-            }
-            Ok(Told::Shortest(list.len(), table.len()))
+            check_wins(rt, game, start, list);
+            check_table(rt, table, rule);
+            Told::Shortest(list.len(), table.len())
         }
         Answer::CannotWin(table) => {
-            if !is_table(table, rule) {
-                return Err("no table".into());
-            }
-            Ok(Told::CannotWin(table.len()))
+            check_table(rt, table, rule);
+            Told::CannotWin(table.len())
         }
-        Answer::GaveUp(budget) => Ok(Told::GaveUp(*budget)),
+        Answer::GaveUp(budget) => Told::GaveUp(*budget),
     }
+}
+
+// The answer for the row's board is the row's, by a rule.
+fn answers_by<G: Game + Drop>(rt: &impl Abort, alloc: Global, game: &G, rule: u8, row: &Row) {
+    assert!(rt; rule <= 2, "a rule");
+    let start = board(rt, game, row.board);
+    let answer = sure(rt, solve(alloc, game, rule, &start, row.budget));
+    let told = report(rt, game, rule, &start, &answer);
+    assert!(rt; told == row.told, "rule {rule}");
+    assert!(rt; shows(&answer, row.shown), "rule {rule}");
 }
 
 // The answer for the row's board is the row's, by each of its rules.
-fn answers<G: Game + Drop>(
-    rt: &impl Abort,
-    alloc: Global,
-    game: &G,
-    row: &Row,
-) -> Result<(), Fail> {
-    let start = read_board(row.board.as_bytes(), game.cells())?;
+fn answers<G: Game + Drop>(rt: &impl Abort, alloc: Global, game: &G, row: &Row) {
     for rule in row.rules.0..=row.rules.1 {
-        if rule > 2 {
-            return Err("a rule that isn't one".into());
-        }
-        let answer = solve(alloc, game, rule, &start, row.budget)?;
-        let told = report(game, rule, &start, &answer)?;
-        assert!(rt;
-            told == row.told && shows(&answer, row.shown),
-            "rule {rule}"
-        );
+        answers_by(rt, alloc, game, rule, row);
     }
-    Ok(())
 }
 
 // The answers for the rows' boards are the rows'.
-fn all_answer(rt: &impl Abort, alloc: Global, rows: &[Row]) -> Result<(), Fail> {
+fn all_answer(rt: &impl Abort, alloc: Global, rows: &[Row]) {
     for row in rows {
         match row.game {
-            Rules::FreeCell(cells) => answers(rt, alloc, &free_cell(cells)?, row)?,
-            Rules::Bakers(cells) => answers(rt, alloc, &bakers_game(cells)?, row)?,
-            Rules::Kings(cells) => answers(rt, alloc, &Kings::new(free_cell(cells)?), row)?,
+            Rules::FreeCell(cells) => answers(rt, alloc, &free_cell(rt, cells), row),
+            Rules::Bakers(cells) => answers(rt, alloc, &bakers_game(rt, cells), row),
+            Rules::Kings(cells) => answers(rt, alloc, &Kings::new(free_cell(rt, cells)), row),
         }
     }
-    Ok(())
 }
 
 static HOME_MOVES: [Row; 1] = [Row {
@@ -170,8 +153,8 @@ static HOME_MOVES: [Row; 1] = [Row {
 }];
 
 #[test]
-fn home_moves_alone(rt: HostRuntime) -> Result<(), Fail> {
-    all_answer(&rt, rt.alloc(), HOME_MOVES.as_slice())
+fn home_moves_alone(rt: HostRuntime) {
+    all_answer(&rt, rt.alloc(), HOME_MOVES.as_slice());
 }
 
 static WON: [Row; 1] = [Row {
@@ -184,8 +167,8 @@ static WON: [Row; 1] = [Row {
 }];
 
 #[test]
-fn a_won_position(rt: HostRuntime) -> Result<(), Fail> {
-    all_answer(&rt, rt.alloc(), WON.as_slice())
+fn a_won_position(rt: HostRuntime) {
+    all_answer(&rt, rt.alloc(), WON.as_slice());
 }
 
 // A card in a cell goes home.
@@ -199,8 +182,8 @@ static ONE_MOVE: [Row; 1] = [Row {
 }];
 
 #[test]
-fn one_move(rt: HostRuntime) -> Result<(), Fail> {
-    all_answer(&rt, rt.alloc(), ONE_MOVE.as_slice())
+fn one_move(rt: HostRuntime) {
+    all_answer(&rt, rt.alloc(), ONE_MOVE.as_slice());
 }
 
 static TOO_SMALL: [Row; 2] = [
@@ -223,8 +206,8 @@ static TOO_SMALL: [Row; 2] = [
 ];
 
 #[test]
-fn a_budget_that_is_too_small(rt: HostRuntime) -> Result<(), Fail> {
-    all_answer(&rt, rt.alloc(), TOO_SMALL.as_slice())
+fn a_budget_that_is_too_small(rt: HostRuntime) {
+    all_answer(&rt, rt.alloc(), TOO_SMALL.as_slice());
 }
 
 const TWO_KINGS_KEY: &[u8] = &[
@@ -242,8 +225,8 @@ static FOUR_CARDS: [Row; 1] = [Row {
 }];
 
 #[test]
-fn four_cards_take_five_moves(rt: HostRuntime) -> Result<(), Fail> {
-    all_answer(&rt, rt.alloc(), FOUR_CARDS.as_slice())
+fn four_cards_take_five_moves(rt: HostRuntime) {
+    all_answer(&rt, rt.alloc(), FOUR_CARDS.as_slice());
 }
 
 const LOCKED_KEY: &[u8] = &[
@@ -261,8 +244,8 @@ static LOST: [Row; 1] = [Row {
 }];
 
 #[test]
-fn a_locked_board_cannot_be_won(rt: HostRuntime) -> Result<(), Fail> {
-    all_answer(&rt, rt.alloc(), LOST.as_slice())
+fn a_locked_board_cannot_be_won(rt: HostRuntime) {
+    all_answer(&rt, rt.alloc(), LOST.as_slice());
 }
 
 static THIRTY: [Row; 2] = [
@@ -285,8 +268,8 @@ static THIRTY: [Row; 2] = [
 ];
 
 #[test]
-fn thirty_moves(rt: HostRuntime) -> Result<(), Fail> {
-    all_answer(&rt, rt.alloc(), THIRTY.as_slice())
+fn thirty_moves(rt: HostRuntime) {
+    all_answer(&rt, rt.alloc(), THIRTY.as_slice());
 }
 
 // Seven of its classes are needed.
@@ -310,8 +293,8 @@ static NEEDED: [Row; 2] = [
 ];
 
 #[test]
-fn needed_work_alone(rt: HostRuntime) -> Result<(), Fail> {
-    all_answer(&rt, rt.alloc(), NEEDED.as_slice())
+fn needed_work_alone(rt: HostRuntime) {
+    all_answer(&rt, rt.alloc(), NEEDED.as_slice());
 }
 
 const THREE_SPADES_KEY: &[u8] = &[
@@ -346,8 +329,8 @@ static FEW_CELLS: [Row; 3] = [
 ];
 
 #[test]
-fn few_cells_and_kings(rt: HostRuntime) -> Result<(), Fail> {
-    all_answer(&rt, rt.alloc(), FEW_CELLS.as_slice())
+fn few_cells_and_kings(rt: HostRuntime) {
+    all_answer(&rt, rt.alloc(), FEW_CELLS.as_slice());
 }
 
 static SECOND_RULE: [Row; 2] = [
@@ -370,8 +353,8 @@ static SECOND_RULE: [Row; 2] = [
 ];
 
 #[test]
-fn the_second_rule_sends_more_home(rt: HostRuntime) -> Result<(), Fail> {
-    all_answer(&rt, rt.alloc(), SECOND_RULE.as_slice())
+fn the_second_rule_sends_more_home(rt: HostRuntime) {
+    all_answer(&rt, rt.alloc(), SECOND_RULE.as_slice());
 }
 
 static MANY: [Row; 2] = [
@@ -394,8 +377,8 @@ static MANY: [Row; 2] = [
 ];
 
 #[test]
-fn a_board_of_495_classes(rt: HostRuntime) -> Result<(), Fail> {
-    all_answer(&rt, rt.alloc(), MANY.as_slice())
+fn a_board_of_495_classes(rt: HostRuntime) {
+    all_answer(&rt, rt.alloc(), MANY.as_slice());
 }
 
 static GREATEST: [Row; 1] = [Row {
@@ -407,64 +390,71 @@ static GREATEST: [Row; 1] = [Row {
     shown: Shown::Nothing,
 }];
 
+// A search with this queue that has begun.
+fn begun<F: Frontier + Drop>(
+    rt: &impl Abort,
+    alloc: Global,
+    text: &str,
+    budget: u32,
+) -> Result<Search<F, FreeCell>, SearchFault> {
+    let game = free_cell(rt, 4);
+    Search::new(alloc, &game, 1, &board(rt, &game, text), budget)
+}
+
+// A budget is out of range.
+fn check_budget(rt: &impl Abort, alloc: Global, budget: u32) {
+    let game = free_cell(rt, 4);
+    let start = board(rt, &game, QUEEN_UNDER_KING);
+    let fault = solve(alloc, &game, 1, &start, budget).err();
+    assert!(rt; fault == Some(SearchFault::Budget), "a budget of {budget}");
+    let fault = begun::<ListFrontier>(rt, alloc, QUEEN_UNDER_KING, budget).err();
+    assert!(rt; fault == Some(SearchFault::Budget), "a budget of {budget}");
+}
+
 #[test]
-fn budgets_out_of_range(rt: HostRuntime) -> Result<(), Fail> {
-    let game = free_cell(4)?;
-    let board = read_board(QUEEN_UNDER_KING.as_bytes(), game.cells())?;
-    for budget in [0, MOST_BUDGET + 1] {
-        let answer = solve(rt.alloc(), &game, 1, &board, budget);
-        assert!(rt;
-            answer.err() == Some(SearchFault::Budget),
-            "a budget of {budget}"
-        );
-        let search: Result<Search<ListFrontier, FreeCell>, SearchFault> = Search::new(
-            rt.alloc(),
-            &game,
-            1,
-            &board,
-            budget,
-        );
-        assert!(rt;
-            search.err() == Some(SearchFault::Budget),
-            "a budget of {budget}"
-        );
-    }
+fn budgets_out_of_range(rt: HostRuntime) {
     assert!(rt; MOST_BUDGET == 4_000_000);
-    all_answer(&rt, rt.alloc(), GREATEST.as_slice())
+    check_budget(&rt, rt.alloc(), 0);
+    check_budget(&rt, rt.alloc(), MOST_BUDGET + 1);
+    all_answer(&rt, rt.alloc(), GREATEST.as_slice());
+}
+
+// There is no answer while a search isn't done.
+fn check_unanswered<F: Frontier + Drop>(rt: &impl Abort, search: &Search<F, FreeCell>) {
+    let fault = search.answer().err();
+    assert!(rt;
+        fault == Some(SearchFault::NotDone),
+        "an answer before the end"
+    );
 }
 
 // Takes turns until the search is done, and no answer comes before; how many of them answered `Running`.
-fn take_turns<F: Frontier + Drop>(search: &mut Search<F, FreeCell>) -> Result<u32, Fail> {
+fn take_turns<F: Frontier + Drop>(rt: &impl Abort, search: &mut Search<F, FreeCell>) -> u32 {
     for turn in 0..1000u32 {
-        if search.answer().err() != Some(SearchFault::NotDone) {
-            return Err("an answer before the search is done".into());
-        }
-        if search.turn()? == Step::Done {
-            return Ok(turn);
+        check_unanswered(rt, search);
+        if sure(rt, search.turn()) == Step::Done {
+            return turn;
         }
     }
-    Err("a search that ends".into())
+    rt.panic("a search that doesn't end")
 }
 
 // A search of four cards answers `Running` twice or more, and once it is done stays so.
-fn four_cards_by_turns<F: Frontier + Drop>(rt: &impl Abort, alloc: Global) -> Result<(), Fail> {
-    let game = free_cell(4)?;
-    let board = read_board(TWO_KINGS.as_bytes(), game.cells())?;
-    let mut search: Search<F, FreeCell> = Search::new(alloc, &game, 1, &board, 100)?;
-    assert!(rt; take_turns(&mut search)? > 1, "turns that answered Running");
+fn four_cards_by_turns<F: Frontier + Drop>(rt: &impl Abort, alloc: Global) {
+    let mut search: Search<F, FreeCell> = sure(rt, begun(rt, alloc, TWO_KINGS, 100));
+    let turns = take_turns(rt, &mut search);
+    assert!(rt; turns > 1, "turns that answered Running");
+    let verdict = sure(rt, search.verdict());
     assert!(rt;
-        matches!(search.verdict()?, Verdict::Shortest(list) if list.len() == 5),
+        matches!(&verdict, Verdict::Shortest(list) if list.len() == 5),
         "five moves"
     );
-    assert!(rt;
-        search.turn() == Ok(Step::Done) && search.run() == Ok(()),
-        "one more, and all"
-    );
-    Ok(())
+    assert!(rt; search.turn() == Ok(Step::Done), "one more");
+    assert!(rt; search.run() == Ok(()), "all");
 }
 
 #[test]
-fn turn_by_turn(rt: HostRuntime) -> Result<(), Fail> {
-    four_cards_by_turns::<ListFrontier>(&rt, rt.alloc())?;
-    four_cards_by_turns::<BucketFrontier>(&rt, rt.alloc())
+fn turn_by_turn(rt: HostRuntime) {
+    four_cards_by_turns::<ListFrontier>(&rt, rt.alloc());
+    four_cards_by_turns::<BucketFrontier>(&rt, rt.alloc());
 }

@@ -1,18 +1,20 @@
 //! Searches of a game's positions by the core of the search, with either queue.
 
+ghost use Rattle.std.specs.Prelude.{◌≤◌};
+
+use crate::given::{bakers_game, board, free_cell, sure};
 use fc_best_first::{Search, Status};
 use fc_classes::ClassKey;
 use fc_frontier::{BucketFrontier, Frontier, ListFrontier};
 use fc_moves::{FreeCell, Game, Kings};
+use fc_position::Position;
 use fc_search::Positions;
 use fc_tests::boards::{
     ALL_HOME, CLASSES_495, FREE_KING, LOCKED, ONE_COLUMN, QUEEN_UNDER_KING, Rules, THIRTY_MOVES,
-    THREE_KINGS, THREE_SPADES, TWO_KINGS, TWO_KINGS_TURNED, bakers_game, free_cell,
+    THREE_KINGS, THREE_SPADES, TWO_KINGS, TWO_KINGS_TURNED,
 };
-use fc_text::read_board;
 use std::alloc::Global;
 use std::process::Abort;
-use std::test::Fail;
 
 // How a search ends.
 #[derive(Clone, Copy, PartialEq)]
@@ -32,48 +34,69 @@ struct Row {
     end: End,
 }
 
-// How a search of the row's board ends.
-fn end_of<F: Frontier + Drop, G: Game + Drop>(
+// A search of a board's text by a rule that has begun, with this budget.
+fn begun<F: Frontier + Drop, G: Game + Drop>(
+    rt: &impl Abort,
     alloc: Global,
     game: G,
     rule: u8,
-    row: &Row,
-) -> Result<End, Fail> {
-    if rule > 2 {
-        return Err("a rule that isn't one".into());
-    }
-    let start = read_board(row.board.as_bytes(), game.cells())?;
+    text: &str,
+    budget: u32,
+) -> Search<ClassKey, F, Positions<G>>
+    requires rule { rule ≤ 2 }
+{
+    let start = board(rt, &game, text);
     let space = Positions::new(game, rule, start);
-    let mut search: Search<ClassKey, F, Positions<G>> = Search::new(alloc, space, row.budget)?;
-    search.run()?;
-    Ok(match search.status() {
-        Status::Shortest(number) => End::Shortest(search.entry(*number).ok_or("a key")?.1.cost),
+    sure(rt, Search::new(alloc, space, budget))
+}
+
+// How a search ended.
+fn end_of<F: Frontier + Drop, G: Game + Drop>(search: &Search<ClassKey, F, Positions<G>>) -> End {
+    match search.status() {
+        Status::Shortest(number) => match search.entry(*number) {
+            Some((_, mark)) => End::Shortest(mark.cost),
+            None => End::Other,
+        },
         Status::CannotWin => End::CannotWin,
         Status::GaveUp(_, _) => End::GaveUp,
         _ => End::Other,
-    })
+    }
+}
+
+// A search of the row's board with this queue ends so, by a rule.
+fn ends_by<F: Frontier + Drop, G: Game + Drop>(
+    rt: &impl Abort,
+    alloc: Global,
+    game: &G,
+    rule: u8,
+    row: &Row,
+) {
+    assert!(rt; rule <= 2, "a rule");
+    let copy = game.copy();
+    let mut search: Search<ClassKey, F, Positions<G>> = begun(
+        rt, alloc, copy, rule, row.board, row.budget,
+    );
+    sure(rt, search.run());
+    assert!(rt; end_of(&search) == row.end, "rule {rule}");
 }
 
 // Searches of the row's board end so, by each of its rules and with either queue.
-fn ends<G: Game + Drop>(rt: &impl Abort, alloc: Global, game: &G, row: &Row) -> Result<(), Fail> {
+fn ends<G: Game + Drop>(rt: &impl Abort, alloc: Global, game: &G, row: &Row) {
     for rule in row.rules.0..=row.rules.1 {
-        let list = end_of::<ListFrontier, G>(alloc, game.copy(), rule, row)?;
-        let buckets = end_of::<BucketFrontier, G>(alloc, game.copy(), rule, row)?;
-        assert!(rt; list == row.end && buckets == row.end, "rule {rule}");
+        ends_by::<ListFrontier, G>(rt, alloc, game, rule, row);
+        ends_by::<BucketFrontier, G>(rt, alloc, game, rule, row);
     }
-    Ok(())
 }
 
 // Searches of the rows' boards end so.
-fn all_end(rt: &impl Abort, alloc: Global, rows: &[Row]) -> Result<(), Fail> {
+fn all_end(rt: &impl Abort, alloc: Global, rows: &[Row]) {
     for row in rows {
         match row.game {
-            Rules::FreeCell(cells) => ends(rt, alloc, &free_cell(cells)?, row)?,
-            Rules::Bakers(cells) => ends(rt, alloc, &bakers_game(cells)?, row)?,
-            Rules::Kings(cells) => ends(rt, alloc, &Kings::new(free_cell(cells)?), row)?,
+            Rules::FreeCell(cells) => ends(rt, alloc, &free_cell(rt, cells), row),
+            Rules::Bakers(cells) => ends(rt, alloc, &bakers_game(rt, cells), row),
+            Rules::Kings(cells) => ends(rt, alloc, &Kings::new(free_cell(rt, cells)), row),
         }
     }
-    Ok(())
 }
 
 static FOUR_CARDS: [Row; 2] = [
@@ -94,8 +117,8 @@ static FOUR_CARDS: [Row; 2] = [
 ];
 
 #[test]
-fn four_cards_take_five_moves(rt: HostRuntime) -> Result<(), Fail> {
-    all_end(&rt, rt.alloc(), FOUR_CARDS.as_slice())
+fn four_cards_take_five_moves(rt: HostRuntime) {
+    all_end(&rt, rt.alloc(), FOUR_CARDS.as_slice());
 }
 
 static TOO_SMALL: [Row; 2] = [
@@ -116,8 +139,8 @@ static TOO_SMALL: [Row; 2] = [
 ];
 
 #[test]
-fn a_budget_that_is_too_small(rt: HostRuntime) -> Result<(), Fail> {
-    all_end(&rt, rt.alloc(), TOO_SMALL.as_slice())
+fn a_budget_that_is_too_small(rt: HostRuntime) {
+    all_end(&rt, rt.alloc(), TOO_SMALL.as_slice());
 }
 
 static LOST: [Row; 1] = [Row {
@@ -129,8 +152,8 @@ static LOST: [Row; 1] = [Row {
 }];
 
 #[test]
-fn a_locked_board_cannot_be_won(rt: HostRuntime) -> Result<(), Fail> {
-    all_end(&rt, rt.alloc(), LOST.as_slice())
+fn a_locked_board_cannot_be_won(rt: HostRuntime) {
+    all_end(&rt, rt.alloc(), LOST.as_slice());
 }
 
 // A board that settles to a won one is won at the cost of settling, and stores one class; without a rule each move home
@@ -160,8 +183,8 @@ static HOME_MOVES: [Row; 3] = [
 ];
 
 #[test]
-fn home_moves_alone(rt: HostRuntime) -> Result<(), Fail> {
-    all_end(&rt, rt.alloc(), HOME_MOVES.as_slice())
+fn home_moves_alone(rt: HostRuntime) {
+    all_end(&rt, rt.alloc(), HOME_MOVES.as_slice());
 }
 
 // Eleven classes can be stored, and the search needs no more than seven of them.
@@ -183,8 +206,8 @@ static NEEDED: [Row; 2] = [
 ];
 
 #[test]
-fn needed_work_alone(rt: HostRuntime) -> Result<(), Fail> {
-    all_end(&rt, rt.alloc(), NEEDED.as_slice())
+fn needed_work_alone(rt: HostRuntime) {
+    all_end(&rt, rt.alloc(), NEEDED.as_slice());
 }
 
 static SECOND_RULE: [Row; 2] = [
@@ -205,8 +228,8 @@ static SECOND_RULE: [Row; 2] = [
 ];
 
 #[test]
-fn the_second_rule_sends_more_home(rt: HostRuntime) -> Result<(), Fail> {
-    all_end(&rt, rt.alloc(), SECOND_RULE.as_slice())
+fn the_second_rule_sends_more_home(rt: HostRuntime) {
+    all_end(&rt, rt.alloc(), SECOND_RULE.as_slice());
 }
 
 static FEW_CELLS: [Row; 3] = [
@@ -234,8 +257,8 @@ static FEW_CELLS: [Row; 3] = [
 ];
 
 #[test]
-fn few_cells_and_kings(rt: HostRuntime) -> Result<(), Fail> {
-    all_end(&rt, rt.alloc(), FEW_CELLS.as_slice())
+fn few_cells_and_kings(rt: HostRuntime) {
+    all_end(&rt, rt.alloc(), FEW_CELLS.as_slice());
 }
 
 static THIRTY: [Row; 2] = [
@@ -256,8 +279,8 @@ static THIRTY: [Row; 2] = [
 ];
 
 #[test]
-fn thirty_moves(rt: HostRuntime) -> Result<(), Fail> {
-    all_end(&rt, rt.alloc(), THIRTY.as_slice())
+fn thirty_moves(rt: HostRuntime) {
+    all_end(&rt, rt.alloc(), THIRTY.as_slice());
 }
 
 static MANY: [Row; 2] = [
@@ -278,26 +301,24 @@ static MANY: [Row; 2] = [
 ];
 
 #[test]
-fn a_board_of_495_classes(rt: HostRuntime) -> Result<(), Fail> {
-    all_end(&rt, rt.alloc(), MANY.as_slice())
+fn a_board_of_495_classes(rt: HostRuntime) {
+    all_end(&rt, rt.alloc(), MANY.as_slice());
 }
 
-// The position in which a search has begun.
+// A search knows its question and the position in which it has begun, whose key is stored at no cost.
+fn check_start(
+    rt: &impl Abort,
+    search: &Search<ClassKey, ListFrontier, Positions<FreeCell>>,
+    start: &Position,
+) {
+    assert!(rt; search.space().start.equals(start) && search.space().rule == 1);
+    let (key, mark) = search.entry(0).expect(rt, "the start");
+    assert!(rt; *key == ClassKey::of(start) && mark.cost == 0);
+}
+
 #[test]
-fn a_search_knows_its_question(rt: HostRuntime) -> Result<(), Fail> {
-    let board = read_board(TWO_KINGS.as_bytes(), 4)?;
-    let game = free_cell(4)?;
-    if !board.fits(game.cells()) {
-        return Err("a position that doesn't fit".into());
-    }
-    let space = Positions::new(game, 1, board.copy());
-    let search: Search<ClassKey, ListFrontier, Positions<FreeCell>> = Search::new(
-        rt.alloc(),
-        space,
-        7,
-    )?;
-    assert!(rt; search.space().start.equals(&board) && search.space().rule == 1);
-    let first = search.entry(0).ok_or("the start")?;
-    assert!(rt; *first.0 == ClassKey::of(&board) && first.1.cost == 0);
-    Ok(())
+fn a_search_knows_its_question(rt: HostRuntime) {
+    let start = board(&rt, &free_cell(&rt, 4), TWO_KINGS);
+    let search = begun(&rt, rt.alloc(), free_cell(&rt, 4), 1, TWO_KINGS, 7);
+    check_start(&rt, &search, &start);
 }

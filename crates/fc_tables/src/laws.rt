@@ -1,4 +1,4 @@
-//! Laws of the bound and of closed tables, each the contract of a function that does nothing.
+//! Laws of lower bounds and of closed tables, each the contract of a function that does nothing.
 
 ghost use Rattle.fc_tables.specs.Laws.{TheBoundIsALowerBound, ClosedBelowLeavesNoShorterList, ClosedLeavesNoList, ClosedByAnySettlingLeavesNoList, ClosedTablesNeedSettling, ClosedTablesNeedFitting, ClosedTablesNeedPositions, ClosedInsideLeavesNoShorterList, ClosedBelowIsClosedInside, OneBoardOfAClassIsEnough, OneBoardIsEnoughWithoutBound, ClosedBelowIsSeen, ClosedIsSeen, RowsInsideAreClosedBelow, ClosedInsideAllIsClosed, CostsOfClosedTablesAreFree, EveryBoardSettles, NoEmptyTableIsClosed};
 

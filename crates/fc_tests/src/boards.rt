@@ -1,11 +1,4 @@
-//! What the tests share: boards, cards and moves from their texts, lists of moves that are made, and games.
-
-use arrayvec::ArrayVec;
-use fc_cards::Card;
-use fc_moves::{BakersGame, FreeCell, Game, Move, allows, apply, read_move};
-use fc_position::Position;
-use fc_text::read_board;
-use std::test::Fail;
+//! What the tests share: boards and games.
 
 /// Every card is home.
 pub const ALL_HOME: &str = "Foundations: H-K C-K D-K S-K\n";
@@ -115,61 +108,10 @@ pub const DEAL_ONE: &str = "\
     7C KH AH 4D JH 8C\n\
     5H 3H 3C 7S 7D TC\n";
 
-/// The position of a board's text.
-pub fn board(text: &str) -> Result<Position, Fail> {
-    Ok(read_board(text.as_bytes(), 4)?)
-}
-
-/// The card of two letters.
-pub fn card(text: &[u8]) -> Result<Card, Fail> {
-    Ok(Card::read(text).ok_or("a card")?)
-}
-
-/// The cards of a text, parted by one blank.
-pub fn cards(text: &[u8]) -> Result<ArrayVec<Card, 52>, Fail> {
-    let mut cards = ArrayVec::new();
-    for word in text.chunks(3) {
-        let card = card(word.get(..2).ok_or("two letters")?)?;
-        cards.try_push(card).map_err(|_| "52 cards")?;
-    }
-    Ok(cards)
-}
-
-/// The moves of a text, parted by one blank.
-pub fn listed_moves(text: &[u8]) -> Result<ArrayVec<Move, 52>, Fail> {
-    let mut moves = ArrayVec::new();
-    for word in text.chunks(3) {
-        let m = read_move(word.get(..2).ok_or("two letters")?).ok_or("a move")?;
-        moves.try_push(m).map_err(|_| "52 moves")?;
-    }
-    Ok(moves)
-}
-
-/// Makes the moves of a text, each of which must be allowed.
-pub fn play<G: Game>(game: &G, position: &mut Position, text: &[u8]) -> Result<(), Fail> {
-    for m in listed_moves(text)?.as_slice() {
-        if !allows(game, position, *m) {
-            return Err("not allowed".into());
-        }
-        apply(game, position, *m);
-    }
-    Ok(())
-}
-
 /// A game and its number of cells: FreeCell, Baker's Game, or FreeCell with kings alone on empty columns.
 #[derive(Clone, Copy)]
 pub enum Rules {
     FreeCell(u8),
     Bakers(u8),
     Kings(u8),
-}
-
-/// FreeCell with so many cells.
-pub fn free_cell(cells: u8) -> Result<FreeCell, Fail> {
-    Ok(FreeCell::new(cells).ok_or("at most four cells")?)
-}
-
-/// Baker's Game with so many cells.
-pub fn bakers_game(cells: u8) -> Result<BakersGame, Fail> {
-    Ok(BakersGame::new(cells).ok_or("at most four cells")?)
 }

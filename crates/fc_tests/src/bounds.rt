@@ -1,18 +1,23 @@
 //! The lower bound, and cards above lower ones of their suit.
 
-use crate::boards::{DEAL_ONE, ONE_COLUMN, THIRTY_MOVES, TWO_KINGS, board};
+use crate::boards::{DEAL_ONE, ONE_COLUMN, THIRTY_MOVES, TWO_KINGS};
+use crate::given::board;
 use fc_bound::{bound, is_held_back};
 use fc_cards::Place;
-use std::test::Fail;
+use std::process::Abort;
 
-#[test]
-fn all_cards_in_one_column_that_goes_home_from_its_end(rt: HostRuntime) -> Result<(), Fail> {
-    assert!(rt; bound(&board(ONE_COLUMN)?) == 52);
-    Ok(())
+// The bound of a board.
+fn check_bound(rt: &impl Abort, text: &str, least: u8) {
+    assert!(rt; bound(&board(rt, text)) == least, "another bound");
 }
 
 #[test]
-fn boards_worked_out_by_hand(rt: HostRuntime) -> Result<(), Fail> {
+fn all_cards_in_one_column_that_goes_home_from_its_end(rt: HostRuntime) {
+    check_bound(&rt, ONE_COLUMN, 52);
+}
+
+#[test]
+fn boards_worked_out_by_hand(rt: HostRuntime) {
     let cases = [
         // Both spades are not home, and the king stands above the queen.
         ("Foundations: H-K C-K D-K S-J\nQS KS\n", 3),
@@ -24,22 +29,21 @@ fn boards_worked_out_by_hand(rt: HostRuntime) -> Result<(), Fail> {
         ("Foundations: H-K C-K D-K S-Q\nFreecells: KS\n", 1),
     ];
     for (text, least) in cases {
-        assert!(rt; bound(&board(text)?) == least, "{text}");
+        check_bound(&rt, text, least);
     }
-    Ok(())
 }
 
 // The king of spades stands above its queen; the king of clubs, the queen of diamonds and the queen of clubs in the cell
 // don't.
 #[test]
-fn cards_above_lower_ones_of_their_suit(rt: HostRuntime) -> Result<(), Fail> {
+fn cards_above_lower_ones_of_their_suit(rt: HostRuntime) {
     let text = "\
         Foundations: H-J C-J D-J S-J\n\
         Freecells: QC\n\
         QS KH KS\n\
         QH KC\n\
         KD QD\n";
-    let position = board(text)?;
+    let position = board(&rt, text);
     let places = [
         (Place::Column(0), true),
         (Place::Column(1), false),
@@ -52,18 +56,15 @@ fn cards_above_lower_ones_of_their_suit(rt: HostRuntime) -> Result<(), Fail> {
     for (place, held) in places {
         assert!(rt; is_held_back(&position, place) == held);
     }
-    Ok(())
 }
 
 #[test]
-fn six_cards_above_lower_ones(rt: HostRuntime) -> Result<(), Fail> {
-    assert!(rt; bound(&board(THIRTY_MOVES)?) == 30);
-    Ok(())
+fn six_cards_above_lower_ones(rt: HostRuntime) {
+    check_bound(&rt, THIRTY_MOVES, 30);
 }
 
 // Another program counted twelve cards above lower ones.
 #[test]
-fn a_deal(rt: HostRuntime) -> Result<(), Fail> {
-    assert!(rt; bound(&board(DEAL_ONE)?) == 64);
-    Ok(())
+fn a_deal(rt: HostRuntime) {
+    check_bound(&rt, DEAL_ONE, 64);
 }

@@ -1,16 +1,16 @@
 //! Classes of positions, their keys, and the moves that lead to different classes.
 
-use crate::boards::{DEAL_ONE, LOCKED, LONE_SPADES, THREE_SPADES, TWO_KINGS, board};
+use crate::boards::{ALL_HOME, DEAL_ONE, LOCKED, LONE_SPADES, THREE_SPADES, TWO_KINGS};
+use crate::given::{bakers_game, board, free_cell, make, sure};
 use arrayvec::ArrayVec;
 use fc_canonical::{
     Key, canonical, distinct_moves, find_move, key, key_len, moved_key, padded_key, position_of,
     read_key,
 };
 use fc_cards::{Card, Place};
-use fc_moves::{BakersGame, FreeCell, Game, Kings, Move, allows, apply, moves};
+use fc_moves::{Game, Kings, Move, allows, moves};
 use fc_position::Position;
 use std::process::Abort;
-use std::test::Fail;
 
 // The key of the board of four cards: no cells, `QH KS`, `QS KH`, and six empty columns.
 const FOUR_CARDS_KEY: &[u8] = &[
@@ -49,24 +49,30 @@ const WITH_CELLS: &str = "\
     QH\n\
     KH QS\n";
 
-#[test]
-fn writes_keys(rt: HostRuntime) -> Result<(), Fail> {
-    let cases = [
-        (TWO_KINGS, FOUR_CARDS_KEY),
-        (
-            "Foundations: H-J C-K D-K S-J\n:\nQH KS\n:\nQS KH\n",
-            FOUR_CARDS_KEY,
-        ),
-        (LOCKED, LOCKED_KEY),
-    ];
-    for (text, bytes) in cases {
-        assert!(rt; key(&board(text)?).as_slice() == bytes);
-    }
-    Ok(())
+// The key of a board's text.
+fn check_key(rt: &impl Abort, text: &str, bytes: &[u8]) {
+    assert!(rt; key(&board(rt, text)).as_slice() == bytes, "{text}");
 }
 
 #[test]
-fn writes_padded_keys(rt: HostRuntime) -> Result<(), Fail> {
+fn writes_keys(rt: HostRuntime) {
+    check_key(&rt, TWO_KINGS, FOUR_CARDS_KEY);
+    let parted = "Foundations: H-J C-K D-K S-J\n:\nQH KS\n:\nQS KH\n";
+    check_key(&rt, parted, FOUR_CARDS_KEY);
+    check_key(&rt, LOCKED, LOCKED_KEY);
+}
+
+// The key of a board's text and the zeros behind it.
+fn check_padded(rt: &impl Abort, text: &str, front: &[u8]) {
+    let bytes = padded_key(&board(rt, text));
+    assert!(rt; bytes.starts_with(front), "{text}");
+    for byte in bytes.iter().skip(front.len()) {
+        assert!(rt; *byte == 0, "{text}");
+    }
+}
+
+#[test]
+fn writes_padded_keys(rt: HostRuntime) {
     let turned = "\
         Foundations: H-7 C-7 D-7 S-7\n\
         Freecells: KH KS KC KD\n\
@@ -78,195 +84,210 @@ fn writes_padded_keys(rt: HostRuntime) -> Result<(), Fail> {
         TH QH JH\n\
         8H 9H\n\
         TD QD JD\n";
-    let cases = [
-        (TWO_KINGS, FOUR_CARDS_KEY),
-        (
-            "Foundations: H-J C-K D-K S-J\nQH KS\nQS KH\n",
-            FOUR_CARDS_KEY,
-        ),
-        (
-            "Foundations: H-J C-K D-K S-J\n:\nQS KH\n:\n:\n:\nQH KS\n",
-            FOUR_CARDS_KEY,
-        ),
-        (turned, LOCKED_KEY),
-    ];
-    for (text, front) in cases {
-        let bytes = padded_key(&board(text)?);
-        assert!(rt; bytes.starts_with(front));
-        assert!(rt; bytes.iter().skip(front.len()).all(|byte| *byte == 0));
-    }
-    Ok(())
+    check_padded(&rt, TWO_KINGS, FOUR_CARDS_KEY);
+    let exchanged = "Foundations: H-J C-K D-K S-J\nQH KS\nQS KH\n";
+    check_padded(&rt, exchanged, FOUR_CARDS_KEY);
+    let parted = "Foundations: H-J C-K D-K S-J\n:\nQS KH\n:\n:\n:\nQH KS\n";
+    check_padded(&rt, parted, FOUR_CARDS_KEY);
+    check_padded(&rt, turned, LOCKED_KEY);
+}
+
+// Some bytes begin with this key, whose position has it.
+fn check_read(rt: &impl Abort, bytes: &[u8], own: &[u8]) {
+    let (read, extent) = read_key(bytes).expect(rt, "a key");
+    assert!(rt; extent == own.len());
+    assert!(rt; key(&read).as_slice() == own);
+}
+
+// A board has this key, and the key's position does.
+fn check_written_and_read(rt: &impl Abort, text: &str, bytes: &[u8]) {
+    check_key(rt, text, bytes);
+    check_read(rt, bytes, bytes);
 }
 
 #[test]
-fn writes_and_reads_keys_of_certificates(rt: HostRuntime) -> Result<(), Fail> {
-    let cases = [
-        ("Foundations: H-K C-K D-K S-K\n", ALL_HOME_KEY),
-        ("Foundations: H-J C-K D-K S-Q\nQH KS\nKH\n", THREE_CARDS_KEY),
-        (THREE_SPADES, THREE_SPADES_KEY),
-    ];
-    for (text, bytes) in cases {
-        assert!(rt; key(&board(text)?).as_slice() == bytes);
-        let (read, extent) = read_key(bytes).ok_or("a key")?;
-        assert!(rt; extent == bytes.len());
-        assert!(rt; key(&read).as_slice() == bytes);
-    }
-    Ok(())
+fn writes_and_reads_keys_of_certificates(rt: HostRuntime) {
+    check_written_and_read(&rt, ALL_HOME, ALL_HOME_KEY);
+    let three = "Foundations: H-J C-K D-K S-Q\nQH KS\nKH\n";
+    check_written_and_read(&rt, three, THREE_CARDS_KEY);
+    check_written_and_read(&rt, THREE_SPADES, THREE_SPADES_KEY);
 }
 
 #[test]
-fn makes_canonical_positions(rt: HostRuntime) -> Result<(), Fail> {
+fn makes_canonical_positions(rt: HostRuntime) {
     let text = "Foundations: H-J C-K D-K S-J\nFreecells: - KS\n:\nQS KH\nQH\n";
-    let sorted = canonical(&board(text)?);
-    assert!(rt; sorted.cell(0) == Card::read(b"KS"));
-    assert!(rt; sorted.cell(1) == None);
-    for (i, count) in [1, 2, 0].iter().enumerate() {
-        assert!(rt; sorted.column(i as u8).len() == *count);
-    }
-    Ok(())
+    let sorted = canonical(&board(&rt, text));
+    assert!(rt; sorted.cell(0) == Card::read(b"KS") && sorted.cell(1) == None);
+    assert!(rt; sorted.column(0).len() == 1);
+    assert!(rt; sorted.column(1).len() == 2);
+    assert!(rt; sorted.column(2).len() == 0);
 }
 
 // The key of the board of four cards with other bytes behind it.
-fn followed() -> Result<Key, Fail> {
+fn followed(rt: &impl Abort) -> Key {
     let mut followed = ArrayVec::new();
-    for bytes in [FOUR_CARDS_KEY, &[0xFF, 0x00, 0x07]] {
-        followed.try_extend_from_slice(bytes).map_err(|_| "room")?;
-    }
-    Ok(followed)
+    sure(rt, followed.try_extend_from_slice(FOUR_CARDS_KEY));
+    sure(rt, followed.try_extend_from_slice(&[0xFF, 0x00, 0x07]));
+    followed
+}
+
+// Some bytes begin with no key.
+fn check_no_key(rt: &impl Abort, bytes: &[u8]) {
+    assert!(rt; read_key(bytes).is_none());
+}
+
+// So many of the first bytes of a key are none.
+fn check_front(rt: &impl Abort, end: usize) {
+    let front = FOUR_CARDS_KEY.get(..end).expect(rt, "a front");
+    assert!(rt; key_len(front).is_none());
+    check_no_key(rt, front);
+}
+
+// The first card of the first column of a key's position.
+fn check_first(rt: &impl Abort, bytes: &[u8], text: &[u8]) {
+    let (read, _) = read_key(bytes).expect(rt, "a key");
+    assert!(rt; read.column(0).first().copied() == Card::read(text));
 }
 
 #[test]
-fn reads_keys(rt: HostRuntime) -> Result<(), Fail> {
+fn reads_keys(rt: HostRuntime) {
     for end in 0..FOUR_CARDS_KEY.len() {
-        let front = FOUR_CARDS_KEY.get(..end).ok_or("a front")?;
-        assert!(rt; key_len(front).is_none());
-        assert!(rt; read_key(front).is_none());
+        check_front(&rt, end);
     }
-    let followed = followed()?;
+    let followed = followed(&rt);
     assert!(rt; key_len(followed.as_slice()) == Some(20));
-    for (bytes, own) in [
-        (followed.as_slice(), FOUR_CARDS_KEY),
-        (LOCKED_KEY, LOCKED_KEY),
-    ] {
-        let (read, extent) = read_key(bytes).ok_or("a key")?;
-        assert!(rt; extent == own.len());
-        assert!(rt; key(&read).as_slice() == own);
-    }
-    let (read, _) = read_key(FOUR_CARDS_KEY).ok_or("a key")?;
-    assert!(rt; read.column(0).first().copied() == Card::read(b"QH"));
-    Ok(())
+    check_read(&rt, followed.as_slice(), FOUR_CARDS_KEY);
+    check_read(&rt, LOCKED_KEY, LOCKED_KEY);
+    check_first(&rt, FOUR_CARDS_KEY, b"QH");
 }
 
-// The position of a key, read with no test.
-fn known(bytes: &[u8]) -> Result<Position, Fail> {
-    read_key(bytes).ok_or("a key")?;
-    Ok(position_of(bytes))
+// The position of a key, read with no test, is that of a text.
+fn check_known(rt: &impl Abort, bytes: &[u8], text: &str) {
+    assert!(rt; read_key(bytes).is_some());
+    assert!(rt; position_of(bytes).equals(&board(rt, text)), "{text}");
 }
 
 #[test]
-fn reads_known_keys(rt: HostRuntime) -> Result<(), Fail> {
-    let sorted = board("Foundations: H-J C-K D-K S-J\nQH KS\nQS KH\n")?;
-    assert!(rt; known(FOUR_CARDS_KEY)?.equals(&sorted));
-    assert!(rt; known(followed()?.as_slice())?.equals(&sorted));
-    assert!(rt; known(LOCKED_KEY)?.equals(&board(LOCKED)?));
-    assert!(rt; known(ALL_HOME_KEY)?.is_won());
-    Ok(())
+fn reads_known_keys(rt: HostRuntime) {
+    let sorted = "Foundations: H-J C-K D-K S-J\nQH KS\nQS KH\n";
+    check_known(&rt, FOUR_CARDS_KEY, sorted);
+    check_known(&rt, followed(&rt).as_slice(), sorted);
+    check_known(&rt, LOCKED_KEY, LOCKED);
+    check_known(&rt, ALL_HOME_KEY, ALL_HOME);
+    assert!(rt; board(&rt, ALL_HOME).is_won());
 }
 
 // The key of the board of four cards with one byte changed.
-fn changed(place: usize, byte: u8) -> Result<Key, Fail> {
+fn changed(rt: &impl Abort, place: usize, byte: u8) -> Key {
     let mut bytes = ArrayVec::new();
-    for (i, old) in FOUR_CARDS_KEY.iter().enumerate() {
-        let new = if i == place { byte } else { *old };
-        bytes.try_push(new).map_err(|_| "room")?;
-    }
-    Ok(bytes)
+    sure(rt, bytes.try_extend_from_slice(FOUR_CARDS_KEY));
+    *bytes.get_mut(place).expect(rt, "a byte there") = byte;
+    bytes
+}
+
+// The key of the board of four cards with one byte changed is none, and has this extent by its lengths, or none.
+fn check_changed(rt: &impl Abort, place: usize, byte: u8, extent: Option<usize>) {
+    let bytes = changed(rt, place, byte);
+    assert!(rt; key_len(bytes.as_slice()) == extent);
+    check_no_key(rt, bytes.as_slice());
 }
 
 #[test]
-fn refuses_what_is_no_key(rt: HostRuntime) -> Result<(), Fail> {
-    let cases = [
-        (3, 0x0E, Some(20)),
-        (4, 0x33, Some(20)),
-        (5, 0x34, Some(20)),
-        (9, 0x2F, Some(20)),
-        (10, 0x34, Some(20)),
-        (2, 0x0A, Some(20)),
-        (19, 1, None),
-    ];
-    for (place, byte, extent) in cases {
-        let bytes = changed(place, byte)?;
-        assert!(rt; key_len(bytes.as_slice()) == extent);
-        assert!(rt; read_key(bytes.as_slice()).is_none());
-    }
-    Ok(())
+fn refuses_what_is_no_key(rt: HostRuntime) {
+    check_changed(&rt, 3, 0x0E, Some(20));
+    check_changed(&rt, 4, 0x33, Some(20));
+    check_changed(&rt, 5, 0x34, Some(20));
+    check_changed(&rt, 9, 0x2F, Some(20));
+    check_changed(&rt, 10, 0x34, Some(20));
+    check_changed(&rt, 2, 0x0A, Some(20));
+    check_changed(&rt, 19, 1, None);
 }
 
-// The position that an allowed move leads to.
-fn after<G: Game>(game: &G, position: &Position, m: Move) -> Result<Position, Fail> {
-    if !allows(game, position, m) {
-        return Err("not allowed".into());
-    }
+// The key of the position that an allowed move leads to.
+fn key_after<G: Game>(rt: &impl Abort, game: &G, position: &Position, m: Move) -> Key {
     let mut next = position.copy();
-    apply(game, &mut next, m);
-    Ok(next)
+    make(rt, game, &mut next, m);
+    key(&next)
 }
 
 #[test]
-fn finds_moves(rt: HostRuntime) -> Result<(), Fail> {
-    let game = FreeCell::new(4).ok_or("four cells")?;
-    let position = board(TWO_KINGS)?;
+fn finds_moves(rt: HostRuntime) {
+    let game = free_cell(&rt, 4);
+    let position = board(&rt, TWO_KINGS);
     let m = Move {
         from: Place::Column(0),
         to: Place::Cell(2),
     };
-    let next = after(&game, &position, m)?;
-    let found = find_move(&game, &position, &key(&next)).ok_or("a move")?;
+    let next = key_after(&rt, &game, &position, m);
+    let found = find_move(&game, &position, &next).expect(&rt, "a move");
     assert!(rt; found.from == Place::Column(0));
     assert!(rt; matches!(found.to, Place::Cell(_)));
     assert!(rt; find_move(&game, &position, &key(&position)) == None);
-    Ok(())
+}
+
+// A board has so many allowed moves, and so many of its distinct moves are listed.
+fn check_counts(rt: &impl Abort, text: &str, cells: u8, all: usize, distinct: usize) {
+    let game = free_cell(rt, cells);
+    let position = board(rt, text);
+    assert!(rt; moves(&game, &position).len() == all);
+    assert!(rt; distinct_moves(&game, &position).len() == distinct);
 }
 
 #[test]
-fn lists_distinct_moves(rt: HostRuntime) -> Result<(), Fail> {
-    let lone = board(LONE_SPADES)?;
-    let none = FreeCell::new(0).ok_or("no cell")?;
-    for (text, cells, all, distinct) in [(TWO_KINGS, 4, 20, 4), (LONE_SPADES, 0, 16, 2)] {
-        let game = FreeCell::new(cells).ok_or("so many cells")?;
-        let position = board(text)?;
-        assert!(rt; moves(&game, &position).len() == all);
-        assert!(rt; distinct_moves(&game, &position).len() == distinct);
-    }
+fn lists_distinct_moves(rt: HostRuntime) {
+    check_counts(&rt, TWO_KINGS, 4, 20, 4);
+    check_counts(&rt, LONE_SPADES, 0, 16, 2);
+    let none = free_cell(&rt, 0);
+    let lone = board(&rt, LONE_SPADES);
+    let stays = find_move(&none, &lone, &key(&lone));
     for m in distinct_moves(&none, &lone).as_slice() {
-        let stays = find_move(&none, &lone, &key(&lone)) == Some(*m);
-        assert!(rt; stays || m.to == Place::Home);
+        assert!(rt; stays == Some(*m) || m.to == Place::Home);
     }
-    Ok(())
+}
+
+// Whether a move leads to a class to which none of these moves leads.
+fn is_first<G: Game>(
+    rt: &impl Abort,
+    game: &G,
+    position: &Position,
+    earlier: &[Move],
+    m: Move,
+) -> bool {
+    let end = key_after(rt, game, position, m);
+    for old in earlier {
+        if key_after(rt, game, position, *old).as_slice() == end.as_slice() {
+            return false;
+        }
+    }
+    true
 }
 
 // The list of distinct moves has, of all allowed moves in their order, each that leads to a class to which none before
 // it leads.
-fn check_distinct<G: Game>(rt: &impl Abort, game: &G, position: &Position) -> Result<(), Fail> {
+fn check_distinct<G: Game>(rt: &impl Abort, game: &G, position: &Position) {
     let distinct = distinct_moves(game, position);
     let mut kept = 0;
     for m in moves(game, position).as_slice() {
-        let end = key(&after(game, position, *m)?);
-        let mut is_new = true;
-        for old in distinct.as_slice().iter().take(kept) {
-            is_new &= key(&after(game, position, *old)?).as_slice() != end.as_slice();
-        }
-        if is_new {
+        let earlier = distinct.as_slice().get(..kept).expect(rt, "kept moves");
+        if is_first(rt, game, position, earlier, *m) {
             assert!(rt; distinct.get(kept).copied() == Some(*m));
             kept += 1;
         }
     }
     assert!(rt; distinct.len() == kept);
-    Ok(())
+}
+
+// The same for some games.
+fn check_distinct_in_games(rt: &impl Abort, position: &Position) {
+    check_distinct(rt, &free_cell(rt, 4), position);
+    check_distinct(rt, &free_cell(rt, 1), position);
+    check_distinct(rt, &bakers_game(rt, 3), position);
+    check_distinct(rt, &Kings::new(free_cell(rt, 4)), position);
+    check_distinct(rt, &Kings::new(bakers_game(rt, 3)), position);
 }
 
 #[test]
-fn lists_the_first_move_to_each_class(rt: HostRuntime) -> Result<(), Fail> {
+fn lists_the_first_move_to_each_class(rt: HostRuntime) {
     let full = "\
         Foundations: H-9 C-9 D-9 S-9\n\
         KC TD\n\
@@ -286,24 +307,27 @@ fn lists_the_first_move_to_each_class(rt: HostRuntime) -> Result<(), Fail> {
         WITH_CELLS,
         "Foundations: H-K C-K D-J S-T\nFreecells: - - - JS\nKS\n:\nQD KD\nQS\n",
     ];
-    let game = FreeCell::new(4).ok_or("four cells")?;
-    let one = FreeCell::new(1).ok_or("one cell")?;
-    let suits = BakersGame::new(3).ok_or("three cells")?;
     for text in texts {
-        let position = board(text)?;
-        check_distinct(&rt, &game, &position)?;
-        check_distinct(&rt, &one, &position)?;
-        check_distinct(&rt, &suits, &position)?;
-        check_distinct(&rt, &Kings::new(game), &position)?;
-        check_distinct(&rt, &Kings::new(suits), &position)?;
+        check_distinct_in_games(&rt, &board(&rt, text));
     }
-    Ok(())
+}
+
+// A position of the class with this key, from which the last card of the eighth column may go to the one cell of a game
+// exactly where the position doesn't fit the game.
+fn check_king(rt: &impl Abort, position: &Position, class: &Key, is_allowed: bool) {
+    let into_cell = Move {
+        from: Place::Column(7),
+        to: Place::Cell(0),
+    };
+    assert!(rt; key(position).as_slice() == class.as_slice());
+    assert!(rt; position.fits(1) != is_allowed);
+    assert!(rt; allows(&free_cell(rt, 1), position, into_cell) == is_allowed);
 }
 
 // Two boards of one class, of which one doesn't fit a game of one cell, where columns are opened by kings alone: a king
 // in a cell that the game lacks leaves the game's own cell to another card.
 #[test]
-fn boards_that_do_not_fit_step_otherwise(rt: HostRuntime) -> Result<(), Fail> {
+fn boards_that_do_not_fit_step_otherwise(rt: HostRuntime) {
     let fits = "\
         Foundations: H-T C-T D-T S-T\n\
         Freecells: KH\n\
@@ -326,24 +350,47 @@ fn boards_that_do_not_fit_step_otherwise(rt: HostRuntime) -> Result<(), Fail> {
         QD\n\
         QH\n\
         KD KC KS QS\n";
-    let game = FreeCell::new(1).ok_or("one cell")?;
-    let into_cell = Move {
-        from: Place::Column(7),
-        to: Place::Cell(0),
-    };
-    let class = key(&board(fits)?);
-    for (text, is_allowed) in [(fits, false), (other, true)] {
-        let position = board(text)?;
-        assert!(rt; key(&position).as_slice() == class.as_slice());
-        assert!(rt; position.fits(1) != is_allowed);
-        assert!(rt; allows(&game, &position, into_cell) == is_allowed);
-    }
-    Ok(())
+    let class = key(&board(&rt, fits));
+    check_king(&rt, &board(&rt, fits), &class, false);
+    check_king(&rt, &board(&rt, other), &class, true);
 }
 
-// Each allowed move from the canonical position of the board's class, but those home: the key made from the position's
-// own is that of where the move leads, and there is none exactly where the columns may change their order.
-fn check_moved_keys<G: Game>(rt: &impl Abort, game: &G, board: &Position) -> Result<bool, Fail> {
+// Whether the columns keep their order at a move: it doesn't take a column's only card, nor go to an empty column.
+fn keeps_order(position: &Position, m: Move) -> bool {
+    let leaves = match m.from {
+        Place::Column(i) => i >= 8 || position.column(i).len() > 1,
+        _ => true,
+    };
+    let joins = match m.to {
+        Place::Column(j) => j >= 8 || !position.column(j).is_empty(),
+        _ => true,
+    };
+    leaves && joins
+}
+
+// The key that was made is that of where the move leads, and there is none exactly where the columns may change their
+// order. Whether there is one.
+fn check_moved<G: Game>(
+    rt: &impl Abort,
+    game: &G,
+    position: &Position,
+    m: Move,
+    bytes: Option<[u8; 68]>,
+) -> bool {
+    assert!(rt; bytes.is_some() == keeps_order(position, m));
+    let mut after = position.copy();
+    make(rt, game, &mut after, m);
+    let key = padded_key(&after);
+    match bytes {
+        Some(bytes) => assert!(rt; bytes == key),
+        None => return false,
+    }
+    true
+}
+
+// Each allowed move from the canonical position of the board's class, but those home: the key that is made from the
+// position's own is right. Whether any is made.
+fn check_moved_keys<G: Game>(rt: &impl Abort, game: &G, board: &Position) -> bool {
     let position = canonical(board);
     let before = padded_key(&position);
     let mut made = false;
@@ -351,31 +398,15 @@ fn check_moved_keys<G: Game>(rt: &impl Abort, game: &G, board: &Position) -> Res
         if m.to == Place::Home || !allows(game, &position, *m) {
             continue;
         }
-        let card = position.playable(m.from).ok_or("a playable card")?;
-        let leaves = match m.from {
-            Place::Column(i) => i >= 8 || position.column(i).len() > 1,
-            _ => true,
-        };
-        let joins = match m.to {
-            Place::Column(j) => j >= 8 || !position.column(j).is_empty(),
-            _ => true,
-        };
-        let mut after = position.copy();
-        apply(game, &mut after, *m);
-        match moved_key(&before, &position, card, m.from, m.to) {
-            Some(bytes) => {
-                assert!(rt; leaves && joins);
-                assert!(rt; bytes == padded_key(&after));
-                made = true;
-            }
-            None => assert!(rt; !leaves || !joins),
-        }
+        let card = position.playable(m.from).expect(rt, "a playable card");
+        let bytes = moved_key(&before, &position, card, m.from, m.to);
+        made |= check_moved(rt, game, &position, *m, bytes);
     }
-    Ok(made)
+    made
 }
 
 #[test]
-fn makes_keys_of_moved_positions(rt: HostRuntime) -> Result<(), Fail> {
+fn makes_keys_of_moved_positions(rt: HostRuntime) {
     let texts = [
         DEAL_ONE,
         TWO_KINGS,
@@ -384,14 +415,13 @@ fn makes_keys_of_moved_positions(rt: HostRuntime) -> Result<(), Fail> {
         WITH_CELLS,
         "Foundations: H-J C-K D-T S-T\nFreecells: QD QH - JS\nKD JD\nQS KH\nKS\n",
     ];
-    let game = FreeCell::new(4).ok_or("four cells")?;
-    let suits = BakersGame::new(3).ok_or("three cells")?;
+    let game = free_cell(&rt, 4);
+    let suits = bakers_game(&rt, 3);
     let mut made = false;
     for text in texts {
-        let position = board(text)?;
-        made |= check_moved_keys(&rt, &game, &position)?;
-        made |= check_moved_keys(&rt, &suits, &position)?;
+        let position = board(&rt, text);
+        made |= check_moved_keys(&rt, &game, &position);
+        made |= check_moved_keys(&rt, &suits, &position);
     }
     assert!(rt; made);
-    Ok(())
 }

@@ -1,14 +1,15 @@
 //! Byte devices, and what is done over them.
 
+use crate::given::sure;
 use fc_io::testing::Failing;
 use fc_io::{
     Failed, FromReader, FromSlice, ReadFault, Sink, Source, ToArray, ToWriter, read_to_vec,
     read_up_to, write_all,
 };
+use std::alloc::Global;
 use std::io;
 use std::io::{ErrorKind, Read, Write};
 use std::process::Abort;
-use std::test::Fail;
 
 // A reader and a writer that moves one byte a call, and answers an error at its second call alone.
 #[derive(Drop)]
@@ -44,16 +45,21 @@ impl Write for Hiccup {
     }
 }
 
+// A sink that fails after so many calls takes as many bytes of a piece, and has failed from then on.
+fn check_failing_sink(rt: &impl Abort, calls: u32) {
+    let mut sink = Failing::new(ToArray::<8>::new(), calls);
+    assert!(rt; !sink.failed());
+    for _ in 0..2 {
+        assert!(rt; write_all(&mut sink, b"abc") == Err(Failed));
+        assert!(rt; sink.failed());
+        assert!(rt; Some(sink.device.held()) == b"abc".get(..calls as usize));
+    }
+}
+
 #[test]
 fn writes_whole_pieces_or_fails(rt: HostRuntime) {
     for calls in 0..3 {
-        let mut sink = Failing::new(ToArray::<8>::new(), calls);
-        assert!(rt; !sink.failed());
-        for _ in 0..2 {
-            assert!(rt; write_all(&mut sink, b"abc") == Err(Failed), "{calls}");
-            assert!(rt; sink.failed());
-            assert!(rt; sink.device.held() == &b"abc"[..calls as usize]);
-        }
+        check_failing_sink(&rt, calls);
     }
     let mut sink = Failing::new(ToArray::<8>::new(), 3);
     assert!(rt; write_all(&mut sink, b"abc") == Ok(()));
@@ -61,140 +67,162 @@ fn writes_whole_pieces_or_fails(rt: HostRuntime) {
     assert!(rt; !sink.failed());
 }
 
-// The pieces are answered so, one after the other, and the sink has failed from the first fault on.
-fn check_writes<K: Sink>(rt: &impl Abort, sink: &mut K, cases: &[(&[u8], Result<usize, Failed>)]) {
-    for (piece, answer) in cases {
-        assert!(rt; sink.write(piece) == *answer);
-        assert!(rt; sink.failed() == answer.is_err());
-    }
+// A piece is answered so, and the sink has failed exactly after a fault.
+fn check_write<K: Sink>(
+    rt: &impl Abort,
+    sink: &mut K,
+    piece: &[u8],
+    answer: Result<usize, Failed>,
+) {
+    assert!(rt; sink.write(piece) == answer);
+    assert!(rt; sink.failed() == answer.is_err());
 }
 
 #[test]
 fn fills_an_array(rt: HostRuntime) {
-    let cases: [(&[u8], Result<usize, Failed>); 5] = [
-        (b"abc", Ok(3)),
-        (b"def", Ok(1)),
-        (b"", Ok(0)),
-        (b"e", Err(Failed)),
-        (b"", Err(Failed)),
-    ];
     let mut array = ToArray::<4>::new();
-    check_writes(&rt, &mut array, &cases);
+    check_write(&rt, &mut array, b"abc", Ok(3));
+    check_write(&rt, &mut array, b"def", Ok(1));
+    check_write(&rt, &mut array, b"", Ok(0));
+    check_write(&rt, &mut array, b"e", Err(Failed));
+    check_write(&rt, &mut array, b"", Err(Failed));
     assert!(rt; array.held() == b"abcd".as_slice());
 }
 
-#[test]
-fn reads_into_room_or_fails(rt: HostRuntime) {
-    let text = b"abc".as_slice();
+// A source that fails after so many calls has given as many bytes of its text, and has failed from then on.
+fn check_failing_source(rt: &impl Abort, text: &[u8], calls: u32) {
     let mut room = [0; 4];
-    for calls in 0..4 {
-        let mut source = Failing::new(FromSlice::new(text), calls);
-        assert!(rt; !source.failed());
-        for _ in 0..2 {
-            assert!(rt;
-                read_up_to(&mut source, &mut room) == Err(Failed),
-                "{calls}"
-            );
-            assert!(rt; source.failed());
-            assert!(rt; source.device.left() == &text[calls as usize..]);
-        }
+    let mut source = Failing::new(FromSlice::new(text), calls);
+    assert!(rt; !source.failed());
+    for _ in 0..2 {
+        assert!(rt; read_up_to(&mut source, &mut room) == Err(Failed));
+        assert!(rt; source.failed());
+        assert!(rt; Some(source.device.left()) == text.get(calls as usize..));
     }
-    let mut source = Failing::new(FromSlice::new(text), 4);
-    assert!(rt; read_up_to(&mut source, &mut room) == Ok(3));
-    assert!(rt; room == *b"abc\0");
+}
+
+// Reading into four bytes gives so many, and these bytes are there then; the source hasn't failed.
+fn check_read<S: Source>(rt: &impl Abort, source: &mut S, count: usize, wanted: &[u8]) {
+    let mut room = [0; 4];
+    assert!(rt; read_up_to(source, &mut room) == Ok(count));
+    assert!(rt; room.as_slice() == wanted);
     assert!(rt; !source.failed());
 }
 
 #[test]
-fn tells_whether_all_came(rt: HostRuntime) {
-    let texts: [(&[u8], usize, &[u8]); 4] = [
-        (b"", 0, b""),
-        (b"abc", 3, b""),
-        (b"abcd", 4, b""),
-        (b"abcdef", 4, b"ef"),
-    ];
-    for (text, count, left) in texts {
-        let mut source = FromSlice::new(text);
-        let mut room = [0; 4];
-        assert!(rt; read_up_to(&mut source, &mut room) == Ok(count));
-        assert!(rt; source.left() == left);
+fn reads_into_room_or_fails(rt: HostRuntime) {
+    for calls in 0..4 {
+        check_failing_source(&rt, b"abc", calls);
     }
+    let mut source = Failing::new(FromSlice::new(b"abc"), 4);
+    check_read(&rt, &mut source, 3, b"abc\0");
+}
+
+// Reading a text into four bytes gives so many of it, and leaves this.
+fn check_left(rt: &impl Abort, text: &[u8], count: usize, left: &[u8]) {
+    let mut source = FromSlice::new(text);
+    let mut room = [0; 4];
+    assert!(rt; read_up_to(&mut source, &mut room) == Ok(count));
+    assert!(rt; source.left() == left);
+}
+
+#[test]
+fn tells_whether_all_came(rt: HostRuntime) {
+    check_left(&rt, b"", 0, b"");
+    check_left(&rt, b"abc", 3, b"");
+    check_left(&rt, b"abcd", 4, b"");
+    check_left(&rt, b"abcdef", 4, b"ef");
     let mut source = FromSlice::new(b"abc");
     assert!(rt; source.read(&mut []) == Ok(0));
     assert!(rt; source.left() == b"abc".as_slice());
     assert!(rt; !source.failed());
 }
 
-#[test]
-fn reads_into_memory(rt: HostRuntime) -> Result<(), Fail> {
-    let mut text = Vec::new(rt.alloc());
-    for number in 0..10_000_u32 {
-        text.push((number % 251) as u8)?;
+// What reading a text into memory tells, with at most so many bytes, and how many bytes it leaves.
+fn check_limit(
+    rt: &impl Abort,
+    alloc: Global,
+    text: &[u8],
+    limit: usize,
+    is_whole: bool,
+    left: usize,
+) {
+    let mut source = FromSlice::new(text);
+    match read_to_vec(alloc, &mut source, limit) {
+        Ok(bytes) => assert!(rt; is_whole && bytes.as_slice() == text, "{limit}"),
+        Err(fault) => assert!(rt; !is_whole && fault == ReadFault::TooLong, "{limit}"),
     }
-    for (limit, is_whole, left) in [
-        (10_001, true, 0),
-        (10_000, true, 0),
-        (9_999, false, 0),
-        (8_192, false, 1_807),
-        (8_191, false, 1_808),
-        (0, false, 9_999),
-    ] {
-        let mut source = FromSlice::new(&text);
-        match read_to_vec(rt.alloc(), &mut source, limit) {
-            Ok(bytes) => assert!(rt; is_whole && bytes == text, "{limit}"),
-            Err(fault) => {
-                assert!(rt; fault == ReadFault::TooLong, "{limit}");
-                assert!(rt; !is_whole, "{limit}");
-            }
-        }
-        assert!(rt; source.left().len() == left, "{limit}");
-    }
-    let mut nothing = FromSlice::new(b"");
-    assert!(rt; read_to_vec(rt.alloc(), &mut nothing, 0)?.is_empty());
-    Ok(())
+    assert!(rt; source.left().len() == left, "{limit}");
 }
 
 #[test]
-fn tells_a_fault_from_a_long_text(rt: HostRuntime) -> Result<(), Fail> {
+fn reads_into_memory(rt: HostRuntime) {
+    let mut text = [0; 10_000];
+    for (number, byte) in text.iter_mut().enumerate() {
+        *byte = (number % 251) as u8;
+    }
+    check_limit(&rt, rt.alloc(), &text, 10_001, true, 0);
+    check_limit(&rt, rt.alloc(), &text, 10_000, true, 0);
+    check_limit(&rt, rt.alloc(), &text, 9_999, false, 0);
+    check_limit(&rt, rt.alloc(), &text, 8_192, false, 1_807);
+    check_limit(&rt, rt.alloc(), &text, 8_191, false, 1_808);
+    check_limit(&rt, rt.alloc(), &text, 0, false, 9_999);
+    check_limit(&rt, rt.alloc(), b"", 0, true, 0);
+}
+
+// Reading from a source into memory ends by this fault.
+fn check_fault<S: Source>(
+    rt: &impl Abort,
+    alloc: Global,
+    source: &mut S,
+    limit: usize,
+    fault: ReadFault,
+) {
+    assert!(rt; read_to_vec(alloc, source, limit).err() == Some(fault));
+}
+
+// Reading from a source that fails after so many calls fails, twice.
+fn check_failure(rt: &impl Abort, alloc: Global, calls: u32) {
+    let mut source = Failing::new(FromSlice::new(b"abc"), calls);
+    check_fault(rt, alloc, &mut source, 3, ReadFault::Failed);
+    check_fault(rt, alloc, &mut source, 3, ReadFault::Failed);
+}
+
+#[test]
+fn tells_a_fault_from_a_long_text(rt: HostRuntime) {
     for calls in 0..4 {
-        let mut source = Failing::new(FromSlice::new(b"abc"), calls);
-        for _ in 0..2 {
-            let fault = read_to_vec(rt.alloc(), &mut source, 3).err();
-            assert!(rt; fault == Some(ReadFault::Failed), "{calls}");
-        }
+        check_failure(&rt, rt.alloc(), calls);
     }
     let mut whole = Failing::new(FromSlice::new(b"abc"), 4);
-    assert!(rt; read_to_vec(rt.alloc(), &mut whole, 3)?.as_slice() == b"abc".as_slice());
+    let bytes = sure(&rt, read_to_vec(rt.alloc(), &mut whole, 3));
+    assert!(rt; bytes.as_slice() == b"abc".as_slice());
     let mut long = Failing::new(FromSlice::new(b"abc"), 3);
-    let fault = read_to_vec(rt.alloc(), &mut long, 2).err();
-    assert!(rt; fault == Some(ReadFault::TooLong));
+    check_fault(&rt, rt.alloc(), &mut long, 2, ReadFault::TooLong);
     assert!(rt; !long.failed());
-    Ok(())
 }
 
-#[test]
-fn reads_a_reader(rt: HostRuntime) -> Result<(), Fail> {
+// What one read of a source answers, which has failed exactly after a fault.
+fn check_piece<S: Source>(rt: &impl Abort, source: &mut S, answer: Result<usize, Failed>) {
     let mut room = [0; 4];
-    let mut whole = FromReader::new(b"abc".as_slice());
-    assert!(rt; read_up_to(&mut whole, &mut room) == Ok(3));
-    assert!(rt; room == *b"abc\0");
-    assert!(rt; !whole.failed());
-
-    let mut endless = FromReader::new(io::repeat(b'x'));
-    assert!(rt; read_up_to(&mut endless, &mut room) == Ok(4));
-    let fault = read_to_vec(rt.alloc(), &mut endless, 5_000).err();
-    assert!(rt; fault == Some(ReadFault::TooLong));
-
-    let mut hiccup = FromReader::new(Hiccup { calls: 0 });
-    for answer in [Ok(1), Err(Failed), Err(Failed)] {
-        assert!(rt; hiccup.read(&mut room) == answer);
-        assert!(rt; hiccup.failed() == answer.is_err());
-    }
-    Ok(())
+    assert!(rt; source.read(&mut room) == answer);
+    assert!(rt; source.failed() == answer.is_err());
 }
 
 #[test]
-fn writes_a_writer(rt: HostRuntime) -> Result<(), Fail> {
+fn reads_a_reader(rt: HostRuntime) {
+    let mut whole = FromReader::new(b"abc".as_slice());
+    check_read(&rt, &mut whole, 3, b"abc\0");
+    let mut endless = FromReader::new(io::repeat(b'x'));
+    check_read(&rt, &mut endless, 4, b"xxxx");
+    check_fault(&rt, rt.alloc(), &mut endless, 5_000, ReadFault::TooLong);
+    let mut hiccup = FromReader::new(Hiccup { calls: 0 });
+    check_piece(&rt, &mut hiccup, Ok(1));
+    check_piece(&rt, &mut hiccup, Err(Failed));
+    check_piece(&rt, &mut hiccup, Err(Failed));
+}
+
+#[test]
+fn writes_a_writer(rt: HostRuntime) {
     let mut bytes = Vec::new(rt.alloc());
     let mut whole = ToWriter::new(&mut bytes);
     assert!(rt; write_all(&mut whole, b"abc") == Ok(()));
@@ -202,18 +230,13 @@ fn writes_a_writer(rt: HostRuntime) -> Result<(), Fail> {
     assert!(rt; bytes.as_slice() == b"abc".as_slice());
 
     let mut room = [0; 2];
-    let cases: [(&[u8], Result<usize, Failed>); 3] = [
-        (b"abc", Ok(2)),
-        (b"", Ok(0)),
-        (b"c", Err(Failed)),
-    ];
-    check_writes(&rt, &mut ToWriter::new(room.as_mut_slice()), &cases);
+    let mut short = ToWriter::new(room.as_mut_slice());
+    check_write(&rt, &mut short, b"abc", Ok(2));
+    check_write(&rt, &mut short, b"", Ok(0));
+    check_write(&rt, &mut short, b"c", Err(Failed));
 
-    let cases: [(&[u8], Result<usize, Failed>); 3] = [
-        (b"abc", Ok(1)),
-        (b"bc", Err(Failed)),
-        (b"bc", Err(Failed)),
-    ];
-    check_writes(&rt, &mut ToWriter::new(Hiccup { calls: 0 }), &cases);
-    Ok(())
+    let mut hiccup = ToWriter::new(Hiccup { calls: 0 });
+    check_write(&rt, &mut hiccup, b"abc", Ok(1));
+    check_write(&rt, &mut hiccup, b"bc", Err(Failed));
+    check_write(&rt, &mut hiccup, b"bc", Err(Failed));
 }

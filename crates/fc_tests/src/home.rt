@@ -2,13 +2,13 @@
 
 ghost use Rattle.std.specs.Prelude.{◌≤◌};
 
-use crate::boards::{ONE_COLUMN, THIRTY_MOVES, board, card, listed_moves};
+use crate::boards::{ONE_COLUMN, THIRTY_MOVES};
+use crate::given::{bakers_game, board, card, free_cell, listed_moves};
 use fc_cards::{Card, Place};
 use fc_home::{forced, free, goes_home_from, settle};
-use fc_moves::{BakersGame, FreeCell, Game, Kings, read_move};
+use fc_moves::{Game, Kings, read_move};
 use fc_position::Position;
 use std::process::Abort;
-use std::test::Fail;
 
 // The queen of hearts and the king of spades are next, the queen under the king, on which it could stand.
 const QUEEN_BELOW_KING: &str = "\
@@ -27,112 +27,122 @@ const JACK_LEFT: &str = "\
     KC\n";
 
 // Settling makes the moves of this text.
-fn check_settles<G: Game>(
-    rt: &impl Abort,
-    game: &G,
-    position: &mut Position,
-    rule: u8,
-    text: &[u8],
-) -> Result<(), Fail>
+fn check_settles<G: Game>(rt: &impl Abort, game: &G, position: &mut Position, rule: u8, text: &[u8])
     requires { rule ≤ 2 }
 {
     let made = settle(game, position, rule);
-    assert!(rt; made.as_slice() == listed_moves(text)?.as_slice());
-    Ok(())
+    assert!(rt; made.as_slice() == listed_moves(rt, text).as_slice());
 }
 
-#[test]
-fn settles_one_column(rt: HostRuntime) -> Result<(), Fail> {
-    let game = FreeCell::new(4).ok_or("four cells")?;
-    let mut position = board(ONE_COLUMN)?;
-    assert!(rt; forced(&game, &position) == Card::read(b"AC"));
-    check_settles(&rt, &game, &mut position, 0, b"")?;
-    assert!(rt; position.column(0).len() == 52);
-    for rule in 1..3 {
-        let mut position = board(ONE_COLUMN)?;
-        let made = settle(&game, &mut position, rule);
-        assert!(rt; made.len() == 52);
-        for m in made.as_slice() {
-            assert!(rt; read_move(b"1h") == Some(*m));
-        }
-        assert!(rt; position.is_won());
-        assert!(rt; forced(&game, &position) == None);
-        check_settles(&rt, &game, &mut position, rule, b"")?;
+// The forced card is that of this text, or there is none.
+fn check_forced<G: Game>(rt: &impl Abort, game: &G, position: &Position, text: &[u8]) {
+    assert!(rt; forced(game, position) == Card::read(text));
+}
+
+// Whether the card of this text is free.
+fn check_free<G: Game>(rt: &impl Abort, game: &G, position: &Position, text: &[u8], is_free: bool) {
+    assert!(rt; free(game, position, card(rt, text)) == is_free);
+}
+
+// All cards of one column go home by a rule, and then nothing more.
+fn check_column(rt: &impl Abort, rule: u8)
+    requires { rule ≤ 2 }
+{
+    let game = free_cell(rt, 4);
+    let mut position = board(rt, ONE_COLUMN);
+    let made = settle(&game, &mut position, rule);
+    assert!(rt; made.len() == 52);
+    let home = read_move(b"1h");
+    for m in made.as_slice() {
+        assert!(rt; home == Some(*m));
     }
-    Ok(())
-}
-
-#[test]
-fn finds_forced_cards(rt: HostRuntime) -> Result<(), Fail> {
-    let game = FreeCell::new(4).ok_or("four cells")?;
-    let suits = BakersGame::new(4).ok_or("four cells")?;
-    let position = board(THIRTY_MOVES)?;
-    let nine = card(b"9S")?;
-    assert!(rt; forced(&game, &position) == None);
-    assert!(rt; forced(&suits, &position) == Some(nine));
-    assert!(rt; forced(&Kings::new(suits), &position) == Some(nine));
-    assert!(rt; !free(&game, &position, nine) && free(&suits, &position, nine));
-    Ok(())
-}
-
-#[test]
-fn settles_free_cards(rt: HostRuntime) -> Result<(), Fail> {
-    let game = FreeCell::new(4).ok_or("four cells")?;
-    let mut position = board(QUEEN_BELOW_KING)?;
-    for (text, is_free) in [(b"KS", true), (b"QH", true), (b"KH", false)] {
-        assert!(rt; free(&game, &position, card(text)?) == is_free);
-    }
-    check_settles(&rt, &game, &mut position, 1, b"")?;
-    check_settles(&rt, &game, &mut position, 2, b"1h 1h ah")?;
     assert!(rt; position.is_won());
-    Ok(())
+    check_forced(rt, &game, &position, b"");
+    check_settles(rt, &game, &mut position, rule, b"");
 }
 
 #[test]
-fn keeps_cards_that_another_may_need(rt: HostRuntime) -> Result<(), Fail> {
-    let game = FreeCell::new(4).ok_or("four cells")?;
-    let mut position = board(JACK_LEFT)?;
-    for text in [b"KS", b"QH"] {
-        assert!(rt; !free(&game, &position, card(text)?));
-    }
-    assert!(rt; forced(&game, &position) == None);
-    check_settles(&rt, &game, &mut position, 2, b"")?;
+fn settles_one_column(rt: HostRuntime) {
+    let game = free_cell(&rt, 4);
+    let mut position = board(&rt, ONE_COLUMN);
+    check_forced(&rt, &game, &position, b"AC");
+    check_settles(&rt, &game, &mut position, 0, b"");
+    assert!(rt; position.column(0).len() == 52);
+    check_column(&rt, 1);
+    check_column(&rt, 2);
+}
+
+#[test]
+fn finds_forced_cards(rt: HostRuntime) {
+    let game = free_cell(&rt, 4);
+    let suits = bakers_game(&rt, 4);
+    let position = board(&rt, THIRTY_MOVES);
+    check_forced(&rt, &game, &position, b"");
+    check_forced(&rt, &suits, &position, b"9S");
+    check_forced(&rt, &Kings::new(suits.copy()), &position, b"9S");
+    check_free(&rt, &game, &position, b"9S", false);
+    check_free(&rt, &suits, &position, b"9S", true);
+}
+
+#[test]
+fn settles_free_cards(rt: HostRuntime) {
+    let game = free_cell(&rt, 4);
+    let mut position = board(&rt, QUEEN_BELOW_KING);
+    check_free(&rt, &game, &position, b"KS", true);
+    check_free(&rt, &game, &position, b"QH", true);
+    check_free(&rt, &game, &position, b"KH", false);
+    check_settles(&rt, &game, &mut position, 1, b"");
+    check_settles(&rt, &game, &mut position, 2, b"1h 1h ah");
+    assert!(rt; position.is_won());
+}
+
+#[test]
+fn keeps_cards_that_another_may_need(rt: HostRuntime) {
+    let game = free_cell(&rt, 4);
+    let mut position = board(&rt, JACK_LEFT);
+    check_free(&rt, &game, &position, b"KS", false);
+    check_free(&rt, &game, &position, b"QH", false);
+    check_forced(&rt, &game, &position, b"");
+    check_settles(&rt, &game, &mut position, 2, b"");
     assert!(rt; position.column(0).len() == 1);
-    Ok(())
+}
+
+// Four kings go home by a rule, the least first.
+fn check_kings(rt: &impl Abort, rule: u8)
+    requires { rule ≤ 2 }
+{
+    let game = free_cell(rt, 4);
+    let text = "Foundations: H-Q C-Q D-Q S-Q\nFreecells: KS KH\nKD\nKC\n";
+    let mut position = board(rt, text);
+    check_forced(rt, &game, &position, b"KC");
+    check_settles(rt, &game, &mut position, rule, b"2h 1h bh ah");
+    assert!(rt; position.is_won());
 }
 
 #[test]
-fn settles_the_least_card_first(rt: HostRuntime) -> Result<(), Fail> {
-    let game = FreeCell::new(4).ok_or("four cells")?;
-    for rule in 1..3 {
-        let mut position = board("Foundations: H-Q C-Q D-Q S-Q\nFreecells: KS KH\nKD\nKC\n")?;
-        assert!(rt; forced(&game, &position) == Card::read(b"KC"));
-        check_settles(&rt, &game, &mut position, rule, b"2h 1h bh ah")?;
-        assert!(rt; position.is_won());
-    }
-    Ok(())
+fn settles_the_least_card_first(rt: HostRuntime) {
+    check_kings(&rt, 1);
+    check_kings(&rt, 2);
+}
+
+// Whether the card of a place of a board goes home by a rule.
+fn check_goes<G: Game>(rt: &impl Abort, game: &G, text: &str, rule: u8, place: Place, goes: bool)
+    requires { rule ≤ 2 }
+{
+    assert!(rt; goes_home_from(game, &board(rt, text), rule, place) == goes);
 }
 
 #[test]
-fn tells_what_goes_home_from_a_place(rt: HostRuntime) -> Result<(), Fail> {
-    let game = FreeCell::new(4).ok_or("four cells")?;
-    let suits = BakersGame::new(4).ok_or("four cells")?;
-    let cases = [
-        (ONE_COLUMN, 0, Place::Column(0), false),
-        (ONE_COLUMN, 1, Place::Column(0), true),
-        (ONE_COLUMN, 1, Place::Column(1), false),
-        (ONE_COLUMN, 1, Place::Home, false),
-        (THIRTY_MOVES, 1, Place::Column(0), false),
-        (QUEEN_BELOW_KING, 1, Place::Column(0), false),
-        (QUEEN_BELOW_KING, 2, Place::Column(0), true),
-        (JACK_LEFT, 2, Place::Column(0), false),
-    ];
-    for (text, rule, place, goes) in cases {
-        if rule > 2 {
-            return Err("no rule".into());
-        }
-        assert!(rt; goes_home_from(&game, &board(text)?, rule, place) == goes);
-    }
-    assert!(rt; goes_home_from(&suits, &board(THIRTY_MOVES)?, 1, Place::Column(0)));
-    Ok(())
+fn tells_what_goes_home_from_a_place(rt: HostRuntime) {
+    let game = free_cell(&rt, 4);
+    let first = Place::Column(0);
+    check_goes(&rt, &game, ONE_COLUMN, 0, first, false);
+    check_goes(&rt, &game, ONE_COLUMN, 1, first, true);
+    check_goes(&rt, &game, ONE_COLUMN, 1, Place::Column(1), false);
+    check_goes(&rt, &game, ONE_COLUMN, 1, Place::Home, false);
+    check_goes(&rt, &game, THIRTY_MOVES, 1, first, false);
+    check_goes(&rt, &game, QUEEN_BELOW_KING, 1, first, false);
+    check_goes(&rt, &game, QUEEN_BELOW_KING, 2, first, true);
+    check_goes(&rt, &game, JACK_LEFT, 2, first, false);
+    check_goes(&rt, &bakers_game(&rt, 4), THIRTY_MOVES, 1, first, true);
 }

@@ -17,6 +17,8 @@ mod frontiers;
 #[cfg(test)]
 mod games;
 #[cfg(test)]
+mod given;
+#[cfg(test)]
 mod home;
 #[cfg(test)]
 mod moves;

@@ -1,24 +1,23 @@
 //! Positions made from their parts, what they tell, and cards that move.
 
-ghost use Rattle.std.specs.Prelude.{◌≡◌, map};
+ghost use Rattle.std.specs.Prelude.{◌≡◌, ◌≤◌, All, map};
 
-use crate::boards::{TWO_KINGS, board, card, cards};
+use crate::boards::TWO_KINGS;
+use crate::given::{board, card, cards, sure};
 use arrayvec::ArrayVec;
 use fc_cards::{Card, Place, Suit};
 use fc_position::{PartsFault, Position, Tally};
-use std::test::Fail;
+use std::process::Abort;
 
 // The columns of a position.
-fn columns(position: &Position) -> Result<[ArrayVec<Card, 52>; 8], Fail> {
+fn columns(rt: &impl Abort, position: &Position) -> [ArrayVec<Card, 52>; 8] {
     let mut columns: [ArrayVec<Card, 52>; 8] = Default::default();
     for (i, column) in columns.iter_mut().enumerate() {
         if i < 8 {
-            column
-                .try_extend_from_slice(position.column(i as u8))
-                .map_err(|_| "a full column")?;
+            sure(rt, column.try_extend_from_slice(position.column(i as u8)));
         }
     }
-    Ok(columns)
+    columns
 }
 
 // The same column.
@@ -48,145 +47,151 @@ fn same_columns(columns: &[ArrayVec<Card, 52>; 8]) -> [ArrayVec<Card, 52>; 8]
 }
 
 // Takes a card from one place to another, where that may be done.
-fn shift(position: &mut Position, from: Place, to: Place) -> Result<(), Fail> {
-    let card = position.playable(from).ok_or("no card there")?;
+fn shift(rt: &impl Abort, position: &mut Position, from: Place, to: Place) {
+    let card = position.playable(from).expect(rt, "a card there");
     let takes = match to {
         Place::Column(i) => i < 8,
         Place::Cell(i) => i < 4 && position.cell(i).is_none(),
         Place::Home => position.home(card.suit()) + 1 == card.rank(),
     };
-    if !takes {
-        return Err("no room there".into());
-    }
+    assert!(rt; takes, "no room there");
     position.shift(from, to);
-    Ok(())
+}
+
+// The card that may be taken from a place is that of this text, or there is none.
+fn check_playable(rt: &impl Abort, position: &Position, place: Place, text: &[u8]) {
+    assert!(rt; position.playable(place) == Card::read(text));
+}
+
+// So many cards of two suits are home.
+fn check_homes(rt: &impl Abort, position: &Position, suits: (Suit, Suit), counts: (u8, u8)) {
+    let (one, other) = suits;
+    assert!(rt; (position.home(one), position.home(other)) == counts);
 }
 
 #[test]
-fn tells_parts(rt: HostRuntime) -> Result<(), Fail> {
-    let position = board(TWO_KINGS)?;
-    assert!(rt; position.column(0) == cards(b"QS KH")?.as_slice());
-    assert!(rt; position.column(7).len() == 0);
-    assert!(rt; position.cell(3) == None);
-    assert!(rt; (position.home(Suit::D), position.home(Suit::H)) == (13, 11));
+fn tells_parts(rt: HostRuntime) {
+    let position = board(&rt, TWO_KINGS);
+    assert!(rt; position.column(0) == cards(&rt, b"QS KH").as_slice());
+    assert!(rt; position.column(7).len() == 0 && position.cell(3) == None);
     assert!(rt; !position.is_won() && position.fits(0));
-    let places: [(Place, &[u8]); 5] = [
-        (Place::Column(1), b"KS"),
-        (Place::Column(2), b""),
-        (Place::Column(8), b""),
-        (Place::Cell(4), b""),
-        (Place::Home, b""),
-    ];
-    for (place, text) in places {
-        assert!(rt; position.playable(place) == Card::read(text));
-    }
-    Ok(())
+    check_homes(&rt, &position, (Suit::D, Suit::H), (13, 11));
+    check_playable(&rt, &position, Place::Column(1), b"KS");
+    check_playable(&rt, &position, Place::Column(2), b"");
+    check_playable(&rt, &position, Place::Column(8), b"");
+    check_playable(&rt, &position, Place::Cell(4), b"");
+    check_playable(&rt, &position, Place::Home, b"");
 }
 
-#[test]
-fn takes_known_parts(rt: HostRuntime) -> Result<(), Fail> {
-    let columns = columns(&board(TWO_KINGS)?)?;
-    let tested = Position::from_parts(same_columns(&columns), [None; 4], [13, 13, 11, 11])?;
-    let position = Position::of_parts(columns, [None; 4], [13, 13, 11, 11]);
-    assert!(rt; position.equals(&tested) && position.equals(&board(TWO_KINGS)?));
-    for (i, text) in [(0, b"KH"), (1, b"KS")] {
-        assert!(rt; position.playable(Place::Column(i)) == Card::read(text));
-    }
+// A position of four cards, of which two columns are told.
+fn check_four(rt: &impl Abort, position: &Position) {
+    check_playable(rt, position, Place::Column(0), b"KH");
+    check_playable(rt, position, Place::Column(1), b"KS");
+    check_homes(rt, position, (Suit::C, Suit::S), (13, 11));
     assert!(rt; position.cell(0) == None);
-    assert!(rt; (position.home(Suit::C), position.home(Suit::S)) == (13, 11));
-    Ok(())
 }
 
 #[test]
-fn moves_cards(rt: HostRuntime) -> Result<(), Fail> {
-    let mut position = board(TWO_KINGS)?;
+fn takes_known_parts(rt: HostRuntime) {
+    let columns = columns(&rt, &board(&rt, TWO_KINGS));
+    let read = Position::from_parts(same_columns(&columns), [None; 4], [13, 13, 11, 11]);
+    let tested = sure(&rt, read);
+    let position = Position::of_parts(columns, [None; 4], [13, 13, 11, 11]);
+    assert!(rt; position.equals(&tested) && position.equals(&board(&rt, TWO_KINGS)));
+    check_four(&rt, &position);
+}
+
+// Takes a card from one place to another, and then so many spades and hearts are home.
+fn check_shift(rt: &impl Abort, position: &mut Position, from: Place, to: Place, counts: (u8, u8)) {
+    shift(rt, position, from, to);
+    check_homes(rt, position, (Suit::S, Suit::H), counts);
+}
+
+// Makes moves from the board of two kings with the king of hearts in the third cell, to all cards home.
+fn check_shifts(rt: &impl Abort, position: &mut Position) {
+    let first = Place::Column(0);
+    let second = Place::Column(1);
+    let last = Place::Column(7);
+    check_shift(rt, position, first, Place::Home, (12, 11));
+    check_shift(rt, position, second, Place::Home, (13, 11));
+    check_shift(rt, position, second, last, (13, 11));
+    check_shift(rt, position, last, Place::Home, (13, 12));
+    check_shift(rt, position, Place::Cell(2), Place::Home, (13, 13));
+    assert!(rt; position.is_won());
+}
+
+#[test]
+fn moves_cards(rt: HostRuntime) {
+    let mut position = board(&rt, TWO_KINGS);
     let before = position.copy();
     assert!(rt; before.equals(&position));
-    shift(&mut position, Place::Column(0), Place::Cell(2))?;
+    shift(&rt, &mut position, Place::Column(0), Place::Cell(2));
     assert!(rt; !before.equals(&position));
     assert!(rt; position.cell(2) == Card::read(b"KH"));
     assert!(rt; position.fits(3) && !position.fits(2));
-    let steps = [
-        (Place::Column(0), Place::Home, 12, 11),
-        (Place::Column(1), Place::Home, 13, 11),
-        (Place::Column(1), Place::Column(7), 13, 11),
-        (Place::Column(7), Place::Home, 13, 12),
-        (Place::Cell(2), Place::Home, 13, 13),
-    ];
-    for (from, to, spades, hearts) in steps {
-        shift(&mut position, from, to)?;
-        assert!(rt; (position.home(Suit::S), position.home(Suit::H)) == (spades, hearts));
-    }
-    assert!(rt; position.is_won());
-    assert!(rt; before.playable(Place::Column(0)) == Card::read(b"KH"));
-    Ok(())
+    check_shifts(&rt, &mut position);
+    check_playable(&rt, &before, Place::Column(0), b"KH");
 }
 
 #[test]
-fn exchanges_places(rt: HostRuntime) -> Result<(), Fail> {
-    let mut position = board(TWO_KINGS)?;
-    shift(&mut position, Place::Column(0), Place::Cell(0))?;
+fn exchanges_places(rt: HostRuntime) {
+    let mut position = board(&rt, TWO_KINGS);
+    shift(&rt, &mut position, Place::Column(0), Place::Cell(0));
     position.swap_columns(0, 5);
     position.swap_cells(0, 3);
-    let places: [(Place, &[u8]); 4] = [
-        (Place::Column(5), b"QS"),
-        (Place::Column(0), b""),
-        (Place::Cell(3), b"KH"),
-        (Place::Cell(0), b""),
-    ];
-    for (place, text) in places {
-        assert!(rt; position.playable(place) == Card::read(text));
+    check_playable(&rt, &position, Place::Column(5), b"QS");
+    check_playable(&rt, &position, Place::Column(0), b"");
+    check_playable(&rt, &position, Place::Cell(3), b"KH");
+    check_playable(&rt, &position, Place::Cell(0), b"");
+}
+
+// What is wrong with one card in the first cell, or none, and so many cards home; where nothing is, whether all are home.
+fn check_parts(rt: &impl Abort, cell: Option<Card>, homes: [u8; 4], fault: Option<PartsFault>)
+    requires counts { All (λ n. n ≤ 13) homes }
+{
+    match Position::from_parts(Default::default(), [cell, None, None, None], homes) {
+        Ok(position) => {
+            assert!(rt; fault == None);
+            assert!(rt; position.is_won() == cell.is_none());
+        }
+        Err(found) => assert!(rt; Some(found) == fault),
     }
-    Ok(())
 }
 
 #[test]
-fn names_the_first_fault(rt: HostRuntime) -> Result<(), Fail> {
-    let ace = card(b"AC")?;
-    let king = card(b"KS")?;
-    let cases = [
-        (None, [13; 4], None),
-        (None, [0; 4], Some(PartsFault::Missing(ace))),
-        (Some(ace), [1, 0, 0, 0], Some(PartsFault::Repeated(ace))),
-        (
-            Some(king),
-            [0, 13, 13, 13],
-            Some(PartsFault::Repeated(king)),
-        ),
-        (Some(king), [13, 13, 13, 12], None),
-    ];
-    for (cell, homes, fault) in cases {
-        if homes.iter().any(|count| *count > 13) {
-            return Err("a count above 13".into());
-        }
-        match Position::from_parts(Default::default(), [cell, None, None, None], homes) {
-            Ok(position) => {
-                assert!(rt; fault == None);
-                assert!(rt; position.is_won() == cell.is_none());
-            }
-            Err(found) => assert!(rt; Some(found) == fault),
-        }
-    }
-    Ok(())
+fn names_the_first_fault(rt: HostRuntime) {
+    let ace = card(&rt, b"AC");
+    let king = card(&rt, b"KS");
+    check_parts(&rt, None, [13; 4], None);
+    check_parts(&rt, None, [0; 4], Some(PartsFault::Missing(ace)));
+    let twice = Some(PartsFault::Repeated(ace));
+    check_parts(&rt, Some(ace), [1, 0, 0, 0], twice);
+    let twice = Some(PartsFault::Repeated(king));
+    check_parts(&rt, Some(king), [0, 13, 13, 13], twice);
+    check_parts(&rt, Some(king), [13, 13, 13, 12], None);
+}
+
+// The least card that stands twice in a tally is that of this text.
+fn check_twice(rt: &impl Abort, tally: &Tally, text: &[u8]) {
+    assert!(rt; tally.fault() == Some(PartsFault::Repeated(card(rt, text))));
 }
 
 #[test]
-fn tallies_cards(rt: HostRuntime) -> Result<(), Fail> {
-    let ace = card(b"AC")?;
-    let two = card(b"2C")?;
+fn tallies_cards(rt: HostRuntime) {
+    let two = card(&rt, b"2C");
     let mut tally = Tally::new();
     tally.add_homes(&[1, 13, 13, 13]);
     tally.add_column(&[two]);
     tally.add_cells(&[None, Card::read(b"3C")]);
-    assert!(rt; tally.fault() == Some(PartsFault::Missing(card(b"4C")?)));
-    let clubs = board("Foundations: H-K C-3 D-K S-K\n4C 5C 6C 7C 8C\n9C TC JC QC KC\n")?;
-    tally.add_columns(&columns(&clubs)?);
+    let missing = PartsFault::Missing(card(&rt, b"4C"));
+    assert!(rt; tally.fault() == Some(missing));
+    let clubs = "Foundations: H-K C-3 D-K S-K\n4C 5C 6C 7C 8C\n9C TC JC QC KC\n";
+    tally.add_columns(&columns(&rt, &board(&rt, clubs)));
     assert!(rt; tally.fault() == None);
     for _ in 0..300 {
         tally.add(two);
     }
-    assert!(rt; tally.fault() == Some(PartsFault::Repeated(two)));
-    tally.add(ace);
-    assert!(rt; tally.fault() == Some(PartsFault::Repeated(ace)));
-    Ok(())
+    check_twice(&rt, &tally, b"2C");
+    tally.add(card(&rt, b"AC"));
+    check_twice(&rt, &tally, b"AC");
 }

@@ -2,16 +2,15 @@
 
 ghost use Rattle.std.specs.Prelude.{◌≤◌, length};
 
-use crate::boards::{THREE_SPADES, TWO_KINGS, board};
+use crate::boards::{THREE_SPADES, TWO_KINGS};
+use crate::given::{board_for, free_cell, sure};
 use arrayvec::ArrayString;
 use fc_io::testing::Failing;
 use fc_io::{Sink, ToArray};
-use fc_moves::{FreeCell, Game, Kings};
+use fc_moves::{Game, Kings};
 use fc_replay::{ReplayFault, replay};
-use fc_text::read_board;
 use std::fmt::Write;
 use std::process::Abort;
-use std::test::Fail;
 
 // The board of four cards after `1a`, and after `1h` then.
 const TWO_BOARDS: &str = "\
@@ -43,70 +42,57 @@ fn check_replay<G: Game>(
     board: &str,
     text: &[u8],
     told: (Result<u32, ReplayFault>, &str),
-) -> Result<(), Fail>
+)
     requires short { length text.now ≤ 1048576 }
 {
-    let position = read_board(board.as_bytes(), game.cells())?;
+    let position = board_for(rt, game, board);
     let mut sink = ToArray::<1024>::new();
     let answer = replay(game, &position, text, &mut sink);
     let (wanted, boards) = told;
-    assert!(rt; answer == wanted);
-    assert!(rt; sink.held() == boards.as_bytes());
-    Ok(())
+    assert!(rt; answer == wanted, "{boards}");
+    assert!(rt; sink.held() == boards.as_bytes(), "{boards}");
+}
+
+// The same for the board of two kings and four cells.
+fn check_two_kings(rt: &impl Abort, text: &[u8], answer: Result<u32, ReplayFault>, boards: &str)
+    requires short { length text.now ≤ 1048576 }
+{
+    check_replay(rt, &free_cell(rt, 4), TWO_KINGS, text, (answer, boards));
 }
 
 #[test]
-fn replays_to_the_first_move_that_is_not_allowed(rt: HostRuntime) -> Result<(), Fail> {
-    let game = FreeCell::new(4).ok_or("four cells")?;
-    let cases: [(&[u8], Result<u32, ReplayFault>); 3] = [
-        (b"1a 1h 1h", Err(ReplayFault::NotAllowed(3))),
-        (b"1a 1h", Ok(2)),
-        (b"1a 1h 1h 9h 2h", Err(ReplayFault::NotAllowed(3))),
-    ];
-    for (text, answer) in cases {
-        check_replay(&rt, &game, TWO_KINGS, text, (answer, TWO_BOARDS))?;
-    }
-    Ok(())
+fn replays_to_the_first_move_that_is_not_allowed(rt: HostRuntime) {
+    let third = Err(ReplayFault::NotAllowed(3));
+    check_two_kings(&rt, b"1a 1h 1h", third, TWO_BOARDS);
+    check_two_kings(&rt, b"1a 1h", Ok(2), TWO_BOARDS);
+    check_two_kings(&rt, b"1a 1h 1h 9h 2h", third, TWO_BOARDS);
 }
 
 #[test]
-fn replays_to_the_first_token_that_is_no_move(rt: HostRuntime) -> Result<(), Fail> {
-    let game = FreeCell::new(4).ok_or("four cells")?;
-    let cases: [(&[u8], u32, &str); 5] = [
-        (b"9h", 1, ""),
-        (b"1a 1h h1 2h", 3, TWO_BOARDS),
-        (b"1a 1h 2hh", 3, TWO_BOARDS),
-        (b"1a 1h 2", 3, TWO_BOARDS),
-        (b"1a,1h", 1, ""),
-    ];
-    for (text, step, boards) in cases {
-        let answer = Err(ReplayFault::BadMove(step));
-        check_replay(&rt, &game, TWO_KINGS, text, (answer, boards))?;
-    }
-    Ok(())
+fn replays_to_the_first_token_that_is_no_move(rt: HostRuntime) {
+    let first = Err(ReplayFault::BadMove(1));
+    let third = Err(ReplayFault::BadMove(3));
+    check_two_kings(&rt, b"9h", first, "");
+    check_two_kings(&rt, b"1a 1h h1 2h", third, TWO_BOARDS);
+    check_two_kings(&rt, b"1a 1h 2hh", third, TWO_BOARDS);
+    check_two_kings(&rt, b"1a 1h 2", third, TWO_BOARDS);
+    check_two_kings(&rt, b"1a,1h", first, "");
 }
 
 #[test]
-fn reads_capitals_and_other_gaps(rt: HostRuntime) -> Result<(), Fail> {
-    let game = FreeCell::new(4).ok_or("four cells")?;
-    let cases: [(&[u8], u32, &str); 7] = [
-        (b"1A 1H", 2, TWO_BOARDS),
-        (b"1A\r\n1H\r\n", 2, TWO_BOARDS),
-        (b"\t1a\t \t1H", 2, TWO_BOARDS),
-        (b"\n\n 1a\r1h\r", 2, TWO_BOARDS),
-        (b"1A\n1h\n\n", 2, TWO_BOARDS),
-        (b"", 0, ""),
-        (b" \t\r\n", 0, ""),
-    ];
-    for (text, steps, boards) in cases {
-        check_replay(&rt, &game, TWO_KINGS, text, (Ok(steps), boards))?;
-    }
-    Ok(())
+fn reads_capitals_and_other_gaps(rt: HostRuntime) {
+    check_two_kings(&rt, b"1A 1H", Ok(2), TWO_BOARDS);
+    check_two_kings(&rt, b"1A\r\n1H\r\n", Ok(2), TWO_BOARDS);
+    check_two_kings(&rt, b"\t1a\t \t1H", Ok(2), TWO_BOARDS);
+    check_two_kings(&rt, b"\n\n 1a\r1h\r", Ok(2), TWO_BOARDS);
+    check_two_kings(&rt, b"1A\n1h\n\n", Ok(2), TWO_BOARDS);
+    check_two_kings(&rt, b"", Ok(0), "");
+    check_two_kings(&rt, b" \t\r\n", Ok(0), "");
 }
 
 #[test]
-fn replays_other_games(rt: HostRuntime) -> Result<(), Fail> {
-    let game = FreeCell::new(0).ok_or("no cell")?;
+fn replays_other_games(rt: HostRuntime) {
+    let game = free_cell(&rt, 0);
     let moved = "\
         Foundations: H-K C-K D-K S-T\n\
         Freecells:\n\
@@ -119,53 +105,68 @@ fn replays_other_games(rt: HostRuntime) -> Result<(), Fail> {
         :\n\
         :\n";
     let refused = (Err(ReplayFault::NotAllowed(1)), "");
-    check_replay(&rt, &game, THREE_SPADES, b"13", (Ok(1), moved))?;
-    check_replay(&rt, &game, THREE_SPADES, b"1a", refused)?;
-    check_replay(&rt, &Kings::new(game), THREE_SPADES, b"13", refused)
+    check_replay(&rt, &game, THREE_SPADES, b"13", (Ok(1), moved));
+    check_replay(&rt, &game, THREE_SPADES, b"1a", refused);
+    check_replay(&rt, &Kings::new(game), THREE_SPADES, b"13", refused);
+}
+
+// The answer to a text of moves on the board of two kings, whose sink has failed then with this held.
+fn check_failed(
+    rt: &impl Abort,
+    sink: &mut Failing<ToArray<256>>,
+    text: &[u8],
+    answer: Result<u32, ReplayFault>,
+    held: &[u8],
+)
+    requires short { length text.now ≤ 1048576 }
+{
+    let game = free_cell(rt, 4);
+    let position = board_for(rt, &game, TWO_KINGS);
+    assert!(rt; replay(&game, &position, text, sink) == answer);
+    assert!(rt; sink.failed() && sink.device.held() == held);
+}
+
+// A sink that fails after so many bytes has them written. Once it has failed a board that is to be written is a fault, and
+// nothing else is.
+fn check_failing(rt: &impl Abort, calls: u32) {
+    let held = TWO_BOARDS
+        .as_bytes()
+        .get(..calls as usize)
+        .expect(rt, "a front");
+    let mut sink = Failing::new(ToArray::<256>::new(), calls);
+    let write = Err(ReplayFault::Write);
+    check_failed(rt, &mut sink, b"1a 1h", write, held);
+    check_failed(rt, &mut sink, b"1a 1h", write, held);
+    check_failed(rt, &mut sink, b"1a", write, held);
+    let bad = Err(ReplayFault::BadMove(1));
+    check_failed(rt, &mut sink, b"9h", bad, held);
+    let refused = Err(ReplayFault::NotAllowed(1));
+    check_failed(rt, &mut sink, b"11 1a", refused, held);
+    check_failed(rt, &mut sink, b"", Ok(0), held);
 }
 
 #[test]
-fn fails_with_its_sink(rt: HostRuntime) -> Result<(), Fail> {
-    let game = FreeCell::new(4).ok_or("four cells")?;
-    let position = board(TWO_KINGS)?;
-    let boards = TWO_BOARDS.as_bytes();
-    let cases: [(&[u8], Result<u32, ReplayFault>); 6] = [
-        (b"1a 1h", Err(ReplayFault::Write)),
-        (b"1a 1h", Err(ReplayFault::Write)),
-        (b"1a", Err(ReplayFault::Write)),
-        (b"9h", Err(ReplayFault::BadMove(1))),
-        (b"11 1a", Err(ReplayFault::NotAllowed(1))),
-        (b"", Ok(0)),
-    ];
+fn fails_with_its_sink(rt: HostRuntime) {
     for calls in 0..145 {
-        let mut sink = Failing::new(ToArray::<256>::new(), calls);
-        for (text, answer) in cases {
-            assert!(rt;
-                replay(&game, &position, text, &mut sink) == answer,
-                "{calls}"
-            );
-            assert!(rt; sink.failed());
-            assert!(rt; Some(sink.device.held()) == boards.get(..calls as usize));
-        }
+        check_failing(&rt, calls);
     }
+    let game = free_cell(&rt, 4);
+    let position = board_for(&rt, &game, TWO_KINGS);
     let mut sink = Failing::new(ToArray::<256>::new(), 145);
     assert!(rt; replay(&game, &position, b"1a 1h", &mut sink) == Ok(2));
-    assert!(rt; !sink.failed());
-    assert!(rt; sink.device.held() == boards);
-    Ok(())
+    assert!(rt; !sink.failed() && sink.device.held() == TWO_BOARDS.as_bytes());
+}
+
+// A fault's text is this.
+fn check_told(rt: &impl Abort, fault: ReplayFault, told: &str) {
+    let mut text = ArrayString::<64>::new();
+    sure(rt, write!(text, "{fault}"));
+    assert!(rt; text.as_str() == told);
 }
 
 #[test]
-fn tells_faults(rt: HostRuntime) -> Result<(), Fail> {
-    let faults = [
-        (ReplayFault::BadMove(1), "step 1: not a move"),
-        (ReplayFault::NotAllowed(12), "step 12: not allowed"),
-        (ReplayFault::Write, "the boards can't be written"),
-    ];
-    for (fault, want) in faults {
-        let mut text = ArrayString::<64>::new();
-        write!(text, "{fault}")?;
-        assert!(rt; text.as_str() == want);
-    }
-    Ok(())
+fn tells_faults(rt: HostRuntime) {
+    check_told(&rt, ReplayFault::BadMove(1), "step 1: not a move");
+    check_told(&rt, ReplayFault::NotAllowed(12), "step 12: not allowed");
+    check_told(&rt, ReplayFault::Write, "the boards can't be written");
 }

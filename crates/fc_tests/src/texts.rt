@@ -8,15 +8,23 @@ mod printed;
 mod spellings;
 mod witness;
 
+use crate::given::sure;
 use fc_text::{print_board, read_board};
 use std::process::Abort;
-use std::test::Fail;
 
 // The text of a board in a game with so many cells is read, and printed so.
-fn check_printed(rt: &impl Abort, cells: u8, text: &str, printed: &str) -> Result<(), Fail>
+fn check_printed(rt: &impl Abort, cells: u8, text: &str, printed: &str)
     requires game { cells ≤ 4 }
 {
-    let position = read_board(text.as_bytes(), cells)?;
+    let position = sure(rt, read_board(text.as_bytes(), cells));
     assert!(rt; print_board(&position, cells).as_str() == printed, "{text}");
-    Ok(())
+}
+
+// The texts of one board, each of which is read and printed so.
+fn check_all_printed(rt: &impl Abort, cells: u8, texts: &[&str], printed: &str)
+    requires game { cells ≤ 4 }
+{
+    for text in texts {
+        check_printed(rt, cells, text, printed);
+    }
 }

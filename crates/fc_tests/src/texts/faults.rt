@@ -1,10 +1,10 @@
 //! What is wrong with a text.
 
-use crate::boards::card;
+use crate::given::{card, sure};
 use arrayvec::{ArrayString, ArrayVec};
 use fc_text::{BoardFault, read_board};
 use std::fmt::Write;
-use std::test::Fail;
+use std::process::Abort;
 
 // Deal 1 but for its last card.
 const DEAL_1_FRONT: &[u8] = b"\
@@ -17,30 +17,43 @@ const DEAL_1_FRONT: &[u8] = b"\
     7C KH AH 4D JH 8C\n\
     5H 3H 3C 7S 7D";
 
-// What is wrong with deal 1 but for its last card, and then these bytes.
-fn fault_then(end: &[u8]) -> Result<Option<BoardFault>, Fail> {
-    let mut text = ArrayVec::<u8, 256>::new();
-    for piece in [DEAL_1_FRONT, end] {
-        text.try_extend_from_slice(piece).map_err(|_| "room")?;
-    }
-    Ok(read_board(text.as_slice(), 4).err())
+// What is wrong with a text is this.
+fn check_fault(rt: &impl Abort, text: &[u8], fault: BoardFault) {
+    assert!(rt; read_board(text, 4).err() == Some(fault));
+}
+
+// A card of two letters stands twice.
+fn repeated(rt: &impl Abort, text: &[u8]) -> BoardFault {
+    BoardFault::RepeatedCard(card(rt, text))
+}
+
+// A card of two letters is missing.
+fn missing(rt: &impl Abort, text: &[u8]) -> BoardFault {
+    BoardFault::MissingCard(card(rt, text))
+}
+
+// Deal 1 but for its last card, and then these bytes.
+fn then(rt: &impl Abort, end: &[u8]) -> ArrayVec<u8, 256> {
+    let mut text = ArrayVec::new();
+    sure(rt, text.try_extend_from_slice(DEAL_1_FRONT));
+    sure(rt, text.try_extend_from_slice(end));
+    text
+}
+
+// What is wrong with deal 1 but for its last card, and then these bytes, is this.
+fn check_end(rt: &impl Abort, end: &[u8], fault: BoardFault) {
+    check_fault(rt, then(rt, end).as_slice(), fault);
 }
 
 #[test]
-fn names_the_fault_of_a_deal(rt: HostRuntime) -> Result<(), Fail> {
-    assert!(rt; fault_then(b" TC\n")? == None);
-    let ends: [(&[u8], BoardFault); 6] = [
-        (b" TC\nAC", BoardFault::TooManyColumns(9)),
-        (b" JD", BoardFault::RepeatedCard(card(b"JD")?)),
-        (b"", BoardFault::MissingCard(card(b"TC")?)),
-        (b" TC\nFC: 10C", BoardFault::RepeatedCard(card(b"TC")?)),
-        (b" TC KX", BoardFault::BadCard(8)),
-        (b" TC JD AC", BoardFault::RepeatedCard(card(b"AC")?)),
-    ];
-    for (end, fault) in ends {
-        assert!(rt; fault_then(end)? == Some(fault));
-    }
-    Ok(())
+fn names_the_fault_of_a_deal(rt: HostRuntime) {
+    assert!(rt; read_board(then(&rt, b" TC\n").as_slice(), 4).is_ok());
+    check_end(&rt, b" TC\nAC", BoardFault::TooManyColumns(9));
+    check_end(&rt, b" JD", repeated(&rt, b"JD"));
+    check_end(&rt, b"", missing(&rt, b"TC"));
+    check_end(&rt, b" TC\nFC: 10C", repeated(&rt, b"TC"));
+    check_end(&rt, b" TC KX", BoardFault::BadCard(8));
+    check_end(&rt, b" TC JD AC", repeated(&rt, b"AC"));
 }
 
 #[test]
@@ -73,7 +86,7 @@ fn names_the_first_faulty_line(rt: HostRuntime) {
         (b"Deck:\nDeck:", BoardFault::RepeatedLine(2)),
     ];
     for (text, fault) in texts {
-        assert!(rt; read_board(text, 4).err() == Some(fault));
+        check_fault(&rt, text, fault);
     }
 }
 
@@ -87,42 +100,33 @@ fn allows_the_games_cells_alone(rt: HostRuntime) {
 }
 
 #[test]
-fn names_the_least_card(rt: HostRuntime) -> Result<(), Fail> {
-    let texts: [(&[u8], BoardFault); 7] = [
-        (b"", BoardFault::MissingCard(card(b"AC")?)),
-        (b"AC\nAC", BoardFault::RepeatedCard(card(b"AC")?)),
-        (b"KS 3H KS 3H\n", BoardFault::RepeatedCard(card(b"3H")?)),
-        (
-            b"Deck: D-2\nKS KS 2D",
-            BoardFault::RepeatedCard(card(b"2D")?),
-        ),
-        (b"FC: KS\nKS", BoardFault::RepeatedCard(card(b"KS")?)),
-        (
-            b"Deck: C-K D-K H-K S-J",
-            BoardFault::MissingCard(card(b"QS")?),
-        ),
-        (b"Deck: C-K D-K H-K", BoardFault::MissingCard(card(b"AS")?)),
-    ];
-    for (text, fault) in texts {
-        assert!(rt; read_board(text, 4).err() == Some(fault));
-    }
-    Ok(())
+fn names_the_least_card(rt: HostRuntime) {
+    check_fault(&rt, b"", missing(&rt, b"AC"));
+    check_fault(&rt, b"AC\nAC", repeated(&rt, b"AC"));
+    check_fault(&rt, b"KS 3H KS 3H\n", repeated(&rt, b"3H"));
+    check_fault(&rt, b"Deck: D-2\nKS KS 2D", repeated(&rt, b"2D"));
+    check_fault(&rt, b"FC: KS\nKS", repeated(&rt, b"KS"));
+    check_fault(&rt, b"Deck: C-K D-K H-K S-J", missing(&rt, b"QS"));
+    check_fault(&rt, b"Deck: C-K D-K H-K", missing(&rt, b"AS"));
 }
 
 // At most 4,096 bytes are read, whatever they are.
 #[test]
-fn names_a_long_text(rt: HostRuntime) -> Result<(), Fail> {
-    let ace = BoardFault::MissingCard(card(b"AC")?);
-    assert!(rt; read_board(&[b' '; 4096], 4).err() == Some(ace));
-    for byte in [b' ', b'X'] {
-        assert!(rt; read_board(&[byte; 4097], 4).err() == Some(BoardFault::TooLong));
-    }
-    Ok(())
+fn names_a_long_text(rt: HostRuntime) {
+    check_fault(&rt, &[b' '; 4096], missing(&rt, b"AC"));
+    check_fault(&rt, &[b' '; 4097], BoardFault::TooLong);
+    check_fault(&rt, &[b'X'; 4097], BoardFault::TooLong);
+}
+
+// Changes one byte of a text, with which this is wrong then.
+fn check_change(rt: &impl Abort, text: &mut [u8], place: usize, byte: u8, fault: BoardFault) {
+    *text.get_mut(place).expect(rt, "a byte there") = byte;
+    check_fault(rt, text, fault);
 }
 
 // A column line may have more cards than there are.
 #[test]
-fn counts_all_cards_of_a_long_line(rt: HostRuntime) -> Result<(), Fail> {
+fn counts_all_cards_of_a_long_line(rt: HostRuntime) {
     let mut text = [b' '; 4096];
     for piece in text.chunks_mut(3) {
         if let [rank, suit, _] = piece {
@@ -130,45 +134,36 @@ fn counts_all_cards_of_a_long_line(rt: HostRuntime) -> Result<(), Fail> {
             *suit = b'S';
         }
     }
-    let king = BoardFault::RepeatedCard(card(b"KS")?);
-    assert!(rt; read_board(&text, 4).err() == Some(king));
+    check_fault(&rt, &text, repeated(&rt, b"KS"));
     text[4092] = b'2';
-    let changes = [
-        (4089, b'2', BoardFault::RepeatedCard(card(b"2S")?)),
-        (4095, b'X', BoardFault::BadCard(1)),
-        (4094, b'\n', BoardFault::BadCard(2)),
-    ];
-    for (place, byte, fault) in changes {
-        if let Some(old) = text.get_mut(place) {
-            *old = byte;
-        }
-        assert!(rt; read_board(&text, 4).err() == Some(fault));
-    }
-    Ok(())
+    check_change(&rt, &mut text, 4089, b'2', repeated(&rt, b"2S"));
+    check_change(&rt, &mut text, 4095, b'X', BoardFault::BadCard(1));
+    check_change(&rt, &mut text, 4094, b'\n', BoardFault::BadCard(2));
+}
+
+// A fault's text is this.
+fn check_told(rt: &impl Abort, fault: BoardFault, told: &str) {
+    let mut text = ArrayString::<64>::new();
+    sure(rt, write!(text, "{fault}"));
+    assert!(rt; text.as_str() == told);
 }
 
 #[test]
-fn tells_each_fault(rt: HostRuntime) -> Result<(), Fail> {
-    let faults = [
-        (BoardFault::TooLong, "too long"),
-        (BoardFault::BadCard(2), "line 2: not a card"),
-        (BoardFault::BadFoundation(1), "line 1: not a foundation"),
-        (BoardFault::TooManyCells(10), "line 10: too many cells"),
-        (
-            BoardFault::TooManyColumns(4096),
-            "line 4096: too many columns",
-        ),
-        (BoardFault::RepeatedLine(3), "line 3: repeated"),
-        (
-            BoardFault::RepeatedCard(card(b"JD")?),
-            "card JD stands twice",
-        ),
-        (BoardFault::MissingCard(card(b"10c")?), "card TC is missing"),
-    ];
-    for (fault, told) in faults {
-        let mut text = ArrayString::<64>::new();
-        write!(text, "{fault}")?;
-        assert!(rt; text.as_str() == told);
-    }
-    Ok(())
+fn tells_each_fault(rt: HostRuntime) {
+    check_told(&rt, BoardFault::TooLong, "too long");
+    check_told(&rt, BoardFault::BadCard(2), "line 2: not a card");
+    check_told(
+        &rt,
+        BoardFault::BadFoundation(1),
+        "line 1: not a foundation",
+    );
+    check_told(&rt, BoardFault::TooManyCells(10), "line 10: too many cells");
+    check_told(
+        &rt,
+        BoardFault::TooManyColumns(4096),
+        "line 4096: too many columns",
+    );
+    check_told(&rt, BoardFault::RepeatedLine(3), "line 3: repeated");
+    check_told(&rt, repeated(&rt, b"JD"), "card JD stands twice");
+    check_told(&rt, missing(&rt, b"10c"), "card TC is missing");
 }

@@ -1,9 +1,9 @@
 //! Boards as they are printed.
 
-use super::check_printed;
+use super::{check_all_printed, check_printed};
 use crate::boards;
+use crate::given::sure;
 use fc_text::{print_board, read_board};
-use std::test::Fail;
 
 // One card is left, in a cell.
 const ONE_CARD: &str = "\
@@ -98,7 +98,7 @@ pub(super) const DEAL_24: &str = "\
 
 // Each board in its shortest form, and as it is printed.
 #[test]
-fn prints_boards_that_read_back(rt: HostRuntime) -> Result<(), Fail> {
+fn prints_boards_that_read_back(rt: HostRuntime) {
     let full = "\
         AC QC 3C 5C 4C 2C KC\n\
         TC 8C 7C 6C 9C JC\n\
@@ -117,17 +117,14 @@ fn prints_boards_that_read_back(rt: HostRuntime) -> Result<(), Fail> {
         (full, FULL),
     ];
     for (text, printed) in cases {
-        check_printed(&rt, 4, text, printed)?;
-        check_printed(&rt, 4, printed, printed)?;
+        check_all_printed(&rt, 4, &[text, printed], printed);
     }
-    Ok(())
 }
 
 // The board of four cards after one move and after two.
 #[test]
-fn prints_a_full_cell_and_an_empty_column(rt: HostRuntime) -> Result<(), Fail> {
-    let texts = [
-        "\
+fn prints_a_full_cell_and_an_empty_column(rt: HostRuntime) {
+    let one = "\
         Foundations: H-J C-K D-K S-J\n\
         Freecells: KH - - -\n\
         : QS\n\
@@ -137,8 +134,8 @@ fn prints_a_full_cell_and_an_empty_column(rt: HostRuntime) -> Result<(), Fail> {
         :\n\
         :\n\
         :\n\
-        :\n",
-        "\
+        :\n";
+    let two = "\
         Foundations: H-J C-K D-K S-Q\n\
         Freecells: KH - - -\n\
         :\n\
@@ -148,17 +145,14 @@ fn prints_a_full_cell_and_an_empty_column(rt: HostRuntime) -> Result<(), Fail> {
         :\n\
         :\n\
         :\n\
-        :\n",
-    ];
-    for text in texts {
-        check_printed(&rt, 4, text, text)?;
-    }
-    Ok(())
+        :\n";
+    check_printed(&rt, 4, one, one);
+    check_printed(&rt, 4, two, two);
 }
 
 // All cards in one column, the ace of clubs last.
 #[test]
-fn prints_a_column_of_all_cards(rt: HostRuntime) -> Result<(), Fail> {
+fn prints_a_column_of_all_cards(rt: HostRuntime) {
     let text = "\
         Foundations: H-0 C-0 D-0 S-0\n\
         Freecells: - - - -\n\
@@ -167,15 +161,15 @@ fn prints_a_column_of_all_cards(rt: HostRuntime) -> Result<(), Fail> {
         7D 7C 6S 6H 6D 6C 5S 5H 5D 5C 4S 4H 4D \
         4C 3S 3H 3D 3C 2S 2H 2D 2C AS AH AD AC\n\
         :\n:\n:\n:\n:\n:\n:\n";
-    check_printed(&rt, 4, boards::ONE_COLUMN, text)?;
-    check_printed(&rt, 4, text, text)
+    check_printed(&rt, 4, boards::ONE_COLUMN, text);
+    check_printed(&rt, 4, text, text);
 }
 
 // Counts are printed from `0` to `K`, with `T` for ten, and as many cells as the game has.
 #[test]
-fn prints_counts_and_fewer_cells(rt: HostRuntime) -> Result<(), Fail> {
+fn prints_counts_and_fewer_cells(rt: HostRuntime) {
     let won = "Foundations: H-K C-K D-K S-K\nFreecells:\n:\n:\n:\n:\n:\n:\n:\n:\n";
-    check_printed(&rt, 0, "Foundations: H-K C-K D-K S-K\n", won)?;
+    check_printed(&rt, 0, "Foundations: H-K C-K D-K S-K\n", won);
     let text = "Founds: h-10 c-t d-T s-9\nFreecells: TS\nJS JD JC\n\nJH QH KH\nQD KD QC KC QS KS\n";
     let printed = "\
         Foundations: H-T C-T D-T S-9\n\
@@ -185,12 +179,12 @@ fn prints_counts_and_fewer_cells(rt: HostRuntime) -> Result<(), Fail> {
         : JH QH KH\n\
         : QD KD QC KC QS KS\n\
         :\n:\n:\n:\n";
-    check_printed(&rt, 3, text, printed)
+    check_printed(&rt, 3, text, printed);
 }
 
 // Deal 24 under foundation and cell lines with blanks at their ends, and `10` for ten.
 #[test]
-fn reads_deal_24(rt: HostRuntime) -> Result<(), Fail> {
+fn reads_deal_24(rt: HostRuntime) {
     let text = "\
         Foundations: H-0 C-0 D-0 S-0 \n\
         Freecells:        \n\
@@ -202,17 +196,16 @@ fn reads_deal_24(rt: HostRuntime) -> Result<(), Fail> {
         : 7H JS KH 10S KC 7C\n\
         : AH 5S 6S AD 8H JD\n\
         : 7S 6C 7D 4D 8S 9D\n";
-    check_printed(&rt, 4, text, DEAL_24)?;
-    check_printed(&rt, 4, DEAL_24, DEAL_24)
+    check_printed(&rt, 4, text, DEAL_24);
+    check_printed(&rt, 4, DEAL_24, DEAL_24);
 }
 
 // The board of four cards in other spellings, its two columns exchanged.
 #[test]
-fn reads_exchanged_columns(rt: HostRuntime) -> Result<(), Fail> {
+fn reads_exchanged_columns(rt: HostRuntime) {
     let text = b"founds: s-j h-j c-k d-k\r\n: qh ks\r\n: qs kh\r\n";
-    let mut position = read_board(text, 0)?;
+    let mut position = sure(&rt, read_board(text, 0));
     position.swap_columns(0, 1);
-    let four = read_board(boards::TWO_KINGS.as_bytes(), 0)?;
+    let four = sure(&rt, read_board(boards::TWO_KINGS.as_bytes(), 0));
     assert!(rt; print_board(&position, 0) == print_board(&four, 0));
-    Ok(())
 }

@@ -1,7 +1,6 @@
 //! Other spellings of boards.
 
-use super::check_printed;
-use std::test::Fail;
+use super::{check_all_printed, check_printed};
 
 // The board with every card home, and the one with the king of spades alone in a cell, in a game with one cell.
 const WON: &str = "\
@@ -21,7 +20,7 @@ const THIRD: &str = "\
     :\n:\n: KS\n:\n:\n:\n:\n:\n";
 
 #[test]
-fn reads_each_name_of_the_foundations(rt: HostRuntime) -> Result<(), Fail> {
+fn reads_each_name_of_the_foundations(rt: HostRuntime) {
     let texts = [
         "Foundations: H-K C-K D-K S-K",
         "Foundation: H-K C-K D-K S-K",
@@ -33,14 +32,11 @@ fn reads_each_name_of_the_foundations(rt: HostRuntime) -> Result<(), Fail> {
         " \tDECK: S-K D-k c-K  h-K \r\n",
         "deCKs: S-K D-k c-K  h-K \n\n\n",
     ];
-    for text in texts {
-        check_printed(&rt, 1, text, WON)?;
-    }
-    Ok(())
+    check_all_printed(&rt, 1, &texts, WON);
 }
 
 #[test]
-fn reads_each_name_of_the_cells(rt: HostRuntime) -> Result<(), Fail> {
+fn reads_each_name_of_the_cells(rt: HostRuntime) {
     let texts = [
         "Foundations: H-K C-K D-K S-Q\nFreecells: KS\n",
         "Foundations: H-K C-K D-K S-Q\nFreecell: KS\n",
@@ -49,52 +45,40 @@ fn reads_each_name_of_the_cells(rt: HostRuntime) -> Result<(), Fail> {
         "\t FreeCell:\tKs\t\r\n\r\nFoundations: H-K C-K D-K S-Q",
         ":\n\nfc:kS\n:\nFoundations: H-K C-K D-K S-Q\r",
     ];
-    for text in texts {
-        check_printed(&rt, 1, text, KING)?;
-    }
-    Ok(())
+    check_all_printed(&rt, 1, &texts, KING);
 }
 
 // An empty cell is a dash or a star, or is not told.
 #[test]
-fn reads_empty_cells(rt: HostRuntime) -> Result<(), Fail> {
+fn reads_empty_cells(rt: HostRuntime) {
     let printed = "\
         Foundations: H-K C-K D-K S-J\n\
         Freecells: - KS - QS\n\
         :\n:\n:\n:\n:\n:\n:\n:\n";
-    let cases = [
-        (4, "Found: H-K C-K D-K S-J\nFC: - KS * QS", printed),
-        (4, "FC: *\tks - Qs\nFound: H-K C-K D-K S-J", printed),
-        (1, "FC: KS\nFound: H-K C-K D-K S-Q", KING),
-        (1, "FC:\nFound: H-K C-K D-K S-K", WON),
-        (1, "Found: H-K C-K D-K S-K", WON),
+    let texts = [
+        "Found: H-K C-K D-K S-J\nFC: - KS * QS",
+        "FC: *\tks - Qs\nFound: H-K C-K D-K S-J",
     ];
-    for (cells, text, printed) in cases {
-        if cells > 4 {
-            return Err("too many cells".into());
-        }
-        check_printed(&rt, cells, text, printed)?;
-    }
-    Ok(())
+    check_all_printed(&rt, 4, &texts, printed);
+    check_printed(&rt, 1, "FC: KS\nFound: H-K C-K D-K S-Q", KING);
+    let texts = ["FC:\nFound: H-K C-K D-K S-K", "Found: H-K C-K D-K S-K"];
+    check_all_printed(&rt, 1, &texts, WON);
 }
 
 #[test]
-fn reads_empty_columns(rt: HostRuntime) -> Result<(), Fail> {
+fn reads_empty_columns(rt: HostRuntime) {
     let texts = [
         "Foundations: H-K C-K D-K S-Q\n\n\nKS",
         "Foundations: H-K C-K D-K S-Q\n:\n:\n: KS\n",
         "\r\n \t\r\n \t: KS \r\nDeck: S-Q H-K C-K D-K\r\n",
         "\nFC:\n:\nDeck: S-Q H-K C-K D-K\n:KS\n:\n\n\n\n\n\n :\n\t\n",
     ];
-    for text in texts {
-        check_printed(&rt, 1, text, THIRD)?;
-    }
-    Ok(())
+    check_all_printed(&rt, 1, &texts, THIRD);
 }
 
 // Ten is `T` or `10`, in either case, and blanks are spaces and tabs.
 #[test]
-fn reads_tens(rt: HostRuntime) -> Result<(), Fail> {
+fn reads_tens(rt: HostRuntime) {
     let printed = "\
         Foundations: H-T C-9 D-T S-9\n\
         Freecells:\n\
@@ -107,8 +91,5 @@ fn reads_tens(rt: HostRuntime) -> Result<(), Fail> {
         "Found: h-10 c-9 d-T s-9\nKS QS JS TS\nKH QH JH\nKD QD JD\nKC QC JC TC",
         "Found: h-t c-9 d-10 s-9\nks\tqs js 10s\n:\tkh qh\t\tjh\n:kd qd jd\nkc qc jc tC",
     ];
-    for text in texts {
-        check_printed(&rt, 0, text, printed)?;
-    }
-    Ok(())
+    check_all_printed(&rt, 0, &texts, printed);
 }

@@ -1,7 +1,6 @@
 //! What programs of Debian's package freecell-solver-bin 5.0.0-2+b1 write.
 
-use super::{check_printed, printed};
-use std::test::Fail;
+use super::{check_all_printed, check_printed, printed};
 
 // make-microsoft-freecell-board 24
 const DEAL_24: &str = "\
@@ -74,10 +73,8 @@ const ON_THE_WAY: &str = "\
     : 7S 6C 7D 4D 8S 9D\n";
 
 #[test]
-fn reads_generated_boards(rt: HostRuntime) -> Result<(), Fail> {
-    for text in [DEAL_24, DEAL_24_WITH_T, START] {
-        check_printed(&rt, 4, text, printed::DEAL_24)?;
-    }
+fn reads_generated_boards(rt: HostRuntime) {
+    check_all_printed(&rt, 4, &[DEAL_24, DEAL_24_WITH_T, START], printed::DEAL_24);
     let deal_11982 = "\
         Foundations: H-0 C-0 D-0 S-0\n\
         Freecells: - - - -\n\
@@ -89,14 +86,11 @@ fn reads_generated_boards(rt: HostRuntime) -> Result<(), Fail> {
         : 6S 7H JH TD TC QD\n\
         : TS AD 9S KH 4S 4C\n\
         : JS KS 3C 7C 7S 5H\n";
-    for text in [DEAL_11982, DEAL_11982_WITH_T] {
-        check_printed(&rt, 4, text, deal_11982)?;
-    }
-    Ok(())
+    check_all_printed(&rt, 4, &[DEAL_11982, DEAL_11982_WITH_T], deal_11982);
 }
 
 #[test]
-fn reads_boards_of_a_solution(rt: HostRuntime) -> Result<(), Fail> {
+fn reads_boards_of_a_solution(rt: HostRuntime) {
     let printed = "\
         Foundations: H-4 C-0 D-A S-A\n\
         Freecells: 6S 8H QD 4S\n\
@@ -108,5 +102,5 @@ fn reads_boards_of_a_solution(rt: HostRuntime) -> Result<(), Fail> {
         : 7H JS KH TS KC 7C\n\
         :\n\
         : 7S 6C 7D 4D 8S 9D\n";
-    check_printed(&rt, 4, ON_THE_WAY, printed)
+    check_printed(&rt, 4, ON_THE_WAY, printed);
 }

@@ -13,26 +13,26 @@ use Rattle.fc_canonical.proofs.readers.position_of.Goals as goal
 
 pub unwrap-counts-requires : goal.unwrap-counts-requires
 unwrap-counts-requires c =
-    let s = c.requires.spelled in
+    let (b, p, (rest, e)) = c.requires.spelled in
     surely c.read_counts.result _ c.read_counts.ensures.refused
-    (λ none. none s.0.homes (map cell_byte s.0.cells ++ (flat_map column_bytes s.0.columns ++ s.1)) s.2.homes (counts_most s.0 s.2)
-    (board_counts c.args.bytes.now s.0 s.1 s.3))
+    (λ none. none b.homes (map cell_byte b.cells ++ (flat_map column_bytes b.columns ++ rest)) p.homes (counts_most b p)
+    (board_counts c.args.bytes.now b rest e))
 
 pub unwrap-cells-requires : goal.unwrap-cells-requires
 unwrap-cells-requires c =
-    let s = c.requires.spelled in
+    let (b, p, (rest, e)) = c.requires.spelled in
     surely c.read_cells.result _ c.read_cells.ensures.refused
-    (λ none. none s.0.cells (flat_map column_bytes s.0.columns ++ s.1) s.2.cells (small_cells s.0 s.2)
-    (c.split_at.ensures.back ∙ board_cells c.args.bytes.now s.0 s.1 s.2.homes s.3))
+    (λ none. none b.cells (flat_map column_bytes b.columns ++ rest) p.cells (small_cells b p)
+    (c.split_at.ensures.back ∙ board_cells c.args.bytes.now b rest p.homes e))
 
 pub fill_columns-requires-clause-spelled : goal.fill_columns-requires-clause-spelled
 fill_columns-requires-clause-spelled c =
-    let s = c.requires.spelled in (
-      s.0.columns,
-      s.1,
-      s.2.columns,
-      columns_hold s.0 s.2,
-      c.split_at-2.ensures.back ∙ board_columns c.args.bytes.now s.0 s.1 s.2 s.3,
+    let (b, p, (rest, e)) = c.requires.spelled in (
+      b.columns,
+      rest,
+      p.columns,
+      columns_hold b p,
+      c.split_at-2.ensures.back ∙ board_columns c.args.bytes.now b rest p e,
     )
 
 pub of_parts-requires : goal.of_parts-requires
@@ -40,7 +40,7 @@ of_parts-requires c =
     let counts = MatchOption-at_some _ _ c.unwrap-counts.result c.unwrap-counts.ensures c.read_counts.ensures.read in
     let cells = MatchOption-at_some _ _ c.unwrap-cells.result c.unwrap-cells.ensures c.read_cells.ensures.read in
     let columns = c.fill_columns.ensures.parts in
-    let s = c.requires.spelled in
+    let (b, p, (rest, e)) = c.requires.spelled in
     record {
       whole = subst IsPosition
           (sym
@@ -52,7 +52,7 @@ of_parts-requires c =
             homes = counts.0;
             small = cells.1;
           })
-          counts.2.1 (sym c.split_at.ensures.back ∙ cells.2.1) (sym c.split_at-2.ensures.back ∙ columns.1) s.0 s.1 s.2 s.3)) s.2;
+          counts.2.1 (sym c.split_at.ensures.back ∙ cells.2.1) (sym c.split_at-2.ensures.back ∙ columns.1) b rest p e)) p;
     }
 
 pub returns-clause-value : goal.returns-clause-value
@@ -60,7 +60,7 @@ returns-clause-value c =
     let counts = MatchOption-at_some _ _ c.unwrap-counts.result c.unwrap-counts.ensures c.read_counts.ensures.read in
     let cells = MatchOption-at_some _ _ c.unwrap-cells.result c.unwrap-cells.ensures c.read_cells.ensures.read in
     let columns = c.fill_columns.ensures.parts in
-    λ b rest p e. c.of_parts.ensures.value
+    λ b p (rest, e). c.of_parts.ensures.value
     ∙ spelled_position c.args.bytes.now (board_of c.fill_columns.new.columns c.unwrap-cells.result c.unwrap-counts.result)
     counts.2.0 cells.2.0 columns.0
     (record {

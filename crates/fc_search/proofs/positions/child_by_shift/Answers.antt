@@ -1,7 +1,7 @@
 use Rattle.std.proofs.Common.{rules, ◌≡◌, ◌≢◌, true, ◌∙◌, arith}
 use Rattle.fc_cards.specs.declared.places.Place.TheVariants.{Home}
 use Rattle.fc_search.proofs.BackLemmas.{taken_back}
-use Rattle.fc_search.proofs.ShiftLemmas.{shifts}
+use Rattle.fc_search.proofs.ShiftLemmas.{shifts, child_of_step}
 use Rattle.fc_search.proofs.StayLemmas.{others_stay}
 use Rattle.fc_search.proofs.positions.child_by_shift.Goals as goal
 
@@ -46,3 +46,8 @@ returns-clause-same g c =
     let other : c.args.m.to ≢ Home = λ e. let is : c.eq.result ≡ true = search rules in cc in
     let back = taken_back (g.G.Game.game c.args.game.now) c.args.position.now c.apply.new.position c.args.m c.apply.ensures.step other in
     c.shift.ensures.after c.apply.ensures.step.card back.there ∙ back.back
+
+pub returns-clause-child : goal.returns-clause-child
+returns-clause-child g c =
+    child_of_step (g.G.Game.game c.args.game.now) c.args.rule c.args.position.now c.apply.new.position c.args.m
+    c.settled_already-child.result c.apply.ensures.step c.settled_already-child.ensures.settled

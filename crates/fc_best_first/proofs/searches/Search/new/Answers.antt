@@ -21,3 +21,6 @@ invariant_of-result g c =
           (λ y d h. let a = c.start-start.ensures.alone y d h in (a.0, subst (λ k. k ≤ d) (sym c.from-cost.ensures) a.1))
           refl exact,
     )
+
+pub walk-walk-requires : goal.walk-walk-requires
+walk-walk-requires g c = record { reached = (c.start-start.result.cost, (0, c.start-start.ensures.starts)) }

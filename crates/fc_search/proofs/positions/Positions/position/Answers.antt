@@ -9,14 +9,13 @@ position_of-requires g c =
     let b = spelled c.args.key.now in record {
       spelled = (
         b,
-        [],
         c.requires.key.position.position,
-        c.bytes.ensures.value ∙ c.requires.key.bytes ∙ sym (append-nil (board_bytes b)),
+        ([], c.bytes.ensures.value ∙ c.requires.key.bytes ∙ sym (append-nil (board_bytes b))),
       );
     }
 
 pub returns-clause-value : goal.returns-clause-value
 returns-clause-value g c =
     let b = spelled c.args.key.now in
-    c.position_of.ensures.value b [] c.requires.key.position.position
-    (c.bytes.ensures.value ∙ c.requires.key.bytes ∙ sym (append-nil (board_bytes b)))
+    c.position_of.ensures.value b c.requires.key.position.position
+    ([], c.bytes.ensures.value ∙ c.requires.key.bytes ∙ sym (append-nil (board_bytes b)))

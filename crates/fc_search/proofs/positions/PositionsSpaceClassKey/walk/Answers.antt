@@ -12,16 +12,16 @@ use Rattle.fc_bound.specs.Bound.{bound}
 
 pub position-position-requires : goal.position-position-requires
 position-position-requires g c = record {
-  key = (reached_of_positions bound (g.G.Game.game c.args.self.now.game) c.args.self.now.rule c.args.self.now.start c.start-first.result.key
-      c.start-first.result.cost c.args.self.now.fits (0, c.start-first.ensures.starts)).0;
+  key = (reached_of_positions bound (g.G.Game.game c.args.self.now.game) c.args.self.now.rule c.args.self.now.start c.args.key.now
+      c.requires.reached.0 c.args.self.now.fits c.requires.reached.1).0;
 }
 
 pub invariant_of-result : goal.invariant_of-result
 invariant_of-result g c =
     let own = c.args.self.now in
     let rules = g.G.Game.game own.game in
-    let key = c.start-first.result.key in
-    let reached = reached_of_positions bound rules own.rule own.start key c.start-first.result.cost own.fits (0, c.start-first.ensures.starts) in
+    let key = c.args.key.now in
+    let reached = reached_of_positions bound rules own.rule own.start key c.requires.reached.0 own.fits c.requires.reached.1 in
     let valid = reached.0 in
     let same = sym c.position-position.ensures.value in
     let settled = subst (NoneGoesHome own.rule rules) same (none_goes own.rule rules (spelled key) reached.1) in
@@ -29,7 +29,7 @@ invariant_of-result g c =
       own.known,
       subst (λ r. IsPositionOf r c.position-position.result) (sym c.copy.ensures.value) position,
       λ m there. absurd (let none = subst (λ l. Contains l m) c.new.ensures there in omega (arith, none.1)),
-      c.bound-low.ensures.value,
+      c.bound-bound.ensures.value,
       subst (λ r. NoneGoesHome own.rule r c.position-position.result) (sym c.copy.ensures.value) settled,
-      (subst IsCanonical same valid.ordered, valid.bytes ∙ ap board_bytes same),
+      (subst IsCanonical same valid.ordered, c.copy-2.ensures.value ∙ valid.bytes ∙ ap board_bytes same),
     )

@@ -46,7 +46,7 @@ follow-requires-clause-fits g c =
     ∙ ap (λ s. s.question) c.self.view_is in
     let run = subst (λ v. Run v.game v.start c.loop-next.made.items c.loop-next.position) (sym e)
     c.loop-next.invariant.1.3 in
-    (run_keeps (g.G.Game.game sp.game) sp.start c.loop-next.position c.loop-next.made.items sp.fits run).fits
+    run_keeps (g.G.Game.game sp.game) sp.start c.loop-next.position c.loop-next.made.items sp.fits run
 
 pub follow-requires-clause-leads : goal.follow-requires-clause-leads
 follow-requires-clause-leads g c =

@@ -4,7 +4,8 @@ use Rattle.fc_cards.specs.declared.places.Place.TheVariants.{Column}
 use Rattle.fc_moves.specs.declared.steps.Move.{Move}
 use Rattle.fc_canonical.proofs.MoveLemmas.{one_more}
 use Rattle.fc_search.specs.Walk.{LeadsWithin}
-use Rattle.fc_search.proofs.walks.step_to.Goals as goal
+use Rattle.fc_search.proofs.WalkLemmas.{not_there}
+use Rattle.fc_search.proofs.walks.way_on.Goals as goal
 
 pub loop-m-preserved : goal.loop-m-preserved
 loop-m-preserved g c =
@@ -13,7 +14,7 @@ loop-m-preserved g c =
     one_more items c.loop-m.m-index d
     (λ m. LeadsWithin (g.G.Game.game c.args.space.now.game) c.args.space.now.rule c.args.position.now c.args.key.now c.args.most m → ⊥)
     c.loop-m-test.true c.loop-m.invariant
-    (λ leads. let yes = c.leads_within.ensures.value.1 leads in let no = c.if-leads_within.false in cc)
+    (not_there c.way_by-way.result _ _ c.way_by-way.ensures.value c.if-is_some.ensures)
 
 pub returns : goal.returns
 returns g c = record {
