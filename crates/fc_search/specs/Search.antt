@@ -70,11 +70,15 @@ IsUnanswered Running told = told ≡ fault.NotDone
 IsUnanswered Stopped told = told ≡ fault.Stopped
 IsUnanswered done told = told ≡ fault.Memory
 
--- the verdict is that of a search that began, and ran to its end within the budget
-pub record IsRunToEnd (g : GameRules) (rule : ℕ) (b : Board) (budget : ℕ) (verdict : Verdict) : Type 0 where
+-- a search that began ran on to this store and this status within the budget
+pub record HasRun (g : GameRules) (rule : ℕ) (b : Board) (budget : ℕ) (last : Store (List ℕ)) (status : Status (List ℕ)) : Type 0 where
   pub first : Store (List ℕ)
   pub begins : Begins (classes bound g rule b) first
+  pub runs : Runs (classes bound g rule b) budget Running first last status
+
+-- the verdict is that of a search that began, and ran to its end within the budget
+pub record IsRunToEnd (g : GameRules) (rule : ℕ) (b : Board) (budget : ℕ) (verdict : Verdict) : Type 0 where
   pub last : Store (List ℕ)
   pub status : Status (List ℕ)
-  pub runs : Runs (classes bound g rule b) budget Running first last status
+  pub ran : HasRun g rule b budget last status
   pub answered : IsOfStatus last budget status verdict

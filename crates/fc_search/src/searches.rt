@@ -6,7 +6,7 @@ ghost use Rattle.fc_best_first.specs.Shown.{Holds, Shows};
 ghost use Rattle.fc_best_first.specs.Store.{Stands};
 ghost use Rattle.fc_best_first.specs.Turn.{work_left};
 ghost use Rattle.fc_answers.specs.Verdict.{verdict_of};
-ghost use Rattle.fc_search.specs.Search.{classes_of, Answers, IsVerdict, IsOfStatus, IsRefused, IsUnanswered, IsRunToEnd};
+ghost use Rattle.fc_search.specs.Search.{classes_of, Answers, IsVerdict, IsOfStatus, IsRefused, IsUnanswered, IsRunToEnd, HasRun};
 
 use crate::positions::Positions;
 use fc_answers::{Answer, MoveList, Verdict};
@@ -212,9 +212,7 @@ pub fn solve<G: Game + Drop>(
     ensures range { OnOk result ((1 ≤ budget) × (budget ≤ 4000000)) }
     ensures fault { IfErr result (IsRefused budget) }
 {
-    let mut search: Search<BucketFrontier, G> = Search::new(alloc, game, rule, position, budget)?;
-    search.run()?;
-    search.answer()
+    at_end(alloc, game, rule, position, budget)?.answer()
 }
 
 /// The verdict of such a search, as `solve` gives its answer, with no table made.
@@ -235,7 +233,27 @@ pub fn decide<G: Game + Drop>(
     ensures range { OnOk result ((1 ≤ budget) × (budget ≤ 4000000)) }
     ensures fault { IfErr result (IsRefused budget) }
 {
-    let mut open: Search<BucketFrontier, G> = Search::new(alloc, game, rule, position, budget)?;
-    open.run()?;
-    open.verdict()
+    at_end(alloc, game, rule, position, budget)?.verdict()
+}
+
+// Such a search, which has run to its end.
+fn at_end<G: Game + Drop>(
+    alloc: Global,
+    game: &G,
+    rule: u8,
+    position: &Position,
+    budget: u32,
+) -> Result<Search<BucketFrontier, G>, SearchFault>
+    requires rule { rule ≤ 2 }
+    requires fits { Fits (G.game game.now).cells position.now }
+    ensures question { IfOk result (λ search. search.question ≡ record { game = G.game game.now; rule = rule; start = position.now }) }
+    ensures budget { IfOk result (λ search. search.budget ≡ budget) }
+    ensures ran { IfOk result (λ search. HasRun (G.game game.now) rule position.now budget search.store search.status) }
+    ensures done { IfOk result (λ search. reply_of search.status ≡ Ok Step.Done) }
+    ensures range { OnOk result ((1 ≤ budget) × (budget ≤ 4000000)) }
+    ensures fault { IfErr result (IsRefused budget) }
+{
+    let mut search: Search<BucketFrontier, G> = Search::new(alloc, game, rule, position, budget)?;
+    search.run()?;
+    Ok(search)
 }
