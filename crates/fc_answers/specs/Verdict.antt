@@ -4,6 +4,7 @@ use Rattle.fc_position.specs.Board.{Board}
 use Rattle.fc_moves.specs.GameRules.{GameRules}
 use Rattle.fc_moves.specs.MoveText.{HasText}
 use Rattle.fc_moves.specs.Run.{IsShortest, CannotWin, ReachesMore}
+use Rattle.fc_answers.specs.declared.tables.TheConstants.{MOST_CLASSES}
 use Rattle.fc_answers.specs.declared.answers.Answer.{Answer}
 use Rattle.fc_answers.specs.declared.answers.Answer.TheVariants as answer
 use Rattle.fc_answers.specs.declared.answers.Verdict.{Verdict}
@@ -24,6 +25,6 @@ IsRight g b budget (GaveUp told) = (told ≡ budget) × ReachesMore g b budget
 
 -- the moves of a list can be written: each has a text, and they are at most 53 for each class that could be stored
 abbrev pub CanBeWritten : Verdict → Type 0
-CanBeWritten (Shortest moves) = All HasText moves × (length moves ≤ 53 * 4000000)
+CanBeWritten (Shortest moves) = All HasText moves × (length moves ≤ 53 * MOST_CLASSES)
 CanBeWritten cannot_win = Unit {0}
 CanBeWritten (GaveUp told) = Unit {0}

@@ -3,7 +3,7 @@
 #![tactic(auto)]
 
 pub use answers::{Answer, MoveList, Verdict};
-pub use tables::{Row, Table};
+pub use tables::{MOST_CLASSES, Row, Table};
 
 mod answers;
 pub mod laws;

@@ -5,6 +5,9 @@ ghost use Rattle.fc_answers.specs.Table.{HaveKeysOnce, IsRising, pairs_of};
 use fc_canonical::Key;
 use std::marker::Model;
 
+/// The most classes that a table lists.
+pub const MOST_CLASSES: u32 = 4_000_000;
+
 /// A class, by its key, and a cost in moves from the start.
 #[derive(PartialEq, Eq, PartialOrd, Ord, Drop)]
 pub struct Row {
@@ -23,19 +26,20 @@ pub struct Table {
 impl Model for Table {
     ghost use Rattle.std.specs.Prelude.{◌≤◌, length};
     ghost use Rattle.fc_answers.specs.Table.{Listing, IsRising, pairs_of};
+    ghost use Rattle.fc_answers.specs.declared.tables.TheConstants.{MOST_CLASSES};
 
     ghost Value = { Listing };
 
     ghost view = { λ s. record { rule = s.rule; rows = pairs_of s.rows.items } };
 
-    ghost invariant = { λ s. (s.rule ≤ 2) × (length s.rows.items ≤ 4000000) × IsRising (pairs_of s.rows.items) };
+    ghost invariant = { λ s. (s.rule ≤ 2) × (length s.rows.items ≤ MOST_CLASSES) × IsRising (pairs_of s.rows.items) };
 }
 
 impl Table {
     /// The table of these rows, in order, under a home rule of at most 2. No two rows may have one key.
     pub fn sorted(rule: u8, rows: Vec<Row>) -> Self
         requires known { rule ≤ 2 }
-        requires few { length rows.items ≤ 4000000 }
+        requires few { length rows.items ≤ MOST_CLASSES }
         requires once { HaveKeysOnce (pairs_of rows.items) }
         ensures rule { result.rule ≡ rule }
         ensures rows { IsPermutation (pairs_of rows.items) result.rows }
@@ -57,7 +61,7 @@ impl Table {
     /// How many classes are listed, at most 4,000,000.
     pub fn len(&self) -> usize
         ensures value { result ≡ length self.now.rows }
-        ensures most { result ≤ 4000000 }
+        ensures most { result ≤ MOST_CLASSES }
         ensures rising { IsRising self.now.rows }
     {
         self.rows.len()

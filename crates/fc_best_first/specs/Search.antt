@@ -1,6 +1,7 @@
 -- A search as a whole: what it is of, where it stands, and what a turn does to it.
-use Rattle.std.specs.Prelude.{◌≡◌, ℕ, ◌+◌, ◌⊎◌, suc, zero, [], ◌∷◌, Result, Ok, Err}
+use Rattle.std.specs.Prelude.{◌≡◌, ℕ, ◌+◌, ◌≤◌, ◌⊎◌, suc, zero, [], ◌∷◌, Result, Ok, Err}
 use Rattle.fc_frontier.specs.Queue.{Adds}
+use Rattle.fc_best_first.specs.declared.turns.TheConstants.{MOST_BUDGET}
 use Rattle.fc_best_first.specs.declared.turns.Status.{Status}
 use Rattle.fc_best_first.specs.declared.turns.Status.TheVariants.{Running, Stopped}
 use Rattle.fc_best_first.specs.declared.searches.Step.{Step}
@@ -17,6 +18,18 @@ pub record Progress (S : Type 0) (K : Type 0) : Type 0 where
   pub budget : ℕ
   pub store : Store K
   pub status : Status K
+
+-- so many keys may be stored
+pub record IsBudget (budget : ℕ) : Type 0 where
+  pub least : 1 ≤ budget
+  pub greatest : budget ≤ MOST_BUDGET
+
+-- why a search isn't begun: the budget is none; or it is one, and a growth was refused
+abbrev pub IsRefused : ℕ → SearchFault → Type 0
+IsRefused budget fault.Budget = IsBudget budget → ⊥
+IsRefused budget fault.Memory = IsBudget budget
+IsRefused budget fault.Stopped = ⊥
+IsRefused budget fault.NotDone = ⊥
 
 module _ {K : Type 0} where
   -- the key that starts is stored under 0, as its own parent, and open at its cost plus bound

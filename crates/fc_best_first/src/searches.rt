@@ -1,5 +1,5 @@
 ghost use Rattle.std.specs.Prelude.{◌≡◌, ◌<◌, ◌≤◌, ◌↔◌, ◌⊎◌, length, IfOk, IfErr, OnOk, OnErr, MatchOption};
-ghost use Rattle.fc_best_first.specs.Search.{Begins, Turns, Runs, reply_of};
+ghost use Rattle.fc_best_first.specs.Search.{Begins, IsBudget, IsRefused, Turns, Runs, reply_of};
 ghost use Rattle.fc_best_first.specs.Shown.{Holds, Shows};
 ghost use Rattle.fc_best_first.specs.Store.{Stands};
 ghost use Rattle.fc_best_first.specs.Turn.{work_left};
@@ -66,8 +66,8 @@ impl<K: ExactKey, F: Frontier + Drop, S: Space<K> + Drop> Search<K, F, S> {
         ensures budget { IfOk result (λ search. search.budget ≡ budget) }
         ensures status { IfOk result (λ search. search.status ≡ Status.Running) }
         ensures begins { IfOk result (λ search. Begins (S.graph space) search.store) }
-        ensures range { OnOk result ((1 ≤ budget) × (budget ≤ 4000000)) }
-        ensures fault { IfErr result (λ f. ((f ≡ SearchFault.Budget) × ((budget < 1) ⊎ (4000000 < budget))) ⊎ ((f ≡ SearchFault.Memory) × (1 ≤ budget) × (budget ≤ 4000000))) }
+        ensures range { OnOk result (IsBudget budget) }
+        ensures fault { IfErr result (IsRefused budget) }
     {
         if budget < 1 || budget > MOST_BUDGET {
             return Err(SearchFault::Budget);
@@ -100,7 +100,7 @@ impl<K: ExactKey, F: Frontier + Drop, S: Space<K> + Drop> Search<K, F, S> {
     /// How many keys may be stored, 1 to 4,000,000.
     pub fn budget(&self) -> u32
         ensures value { result ≡ self.now.budget }
-        ensures most { result ≤ 4000000 }
+        ensures most { result ≤ MOST_BUDGET }
     {
         self.budget
     }
@@ -110,7 +110,7 @@ impl<K: ExactKey, F: Frontier + Drop, S: Space<K> + Drop> Search<K, F, S> {
         ensures value { result.now ≡ self.now.status }
         ensures holds { Holds (S.graph self.now.space) self.now.budget self.now.store self.now.status }
         ensures shows { Shows (S.graph self.now.space) self.now.budget self.now.store self.now.status }
-        ensures most { self.now.budget ≤ 4000000 }
+        ensures most { self.now.budget ≤ MOST_BUDGET }
     {
         &self.status
     }

@@ -34,7 +34,7 @@ fn expand<K: ExactKey, F: Frontier + Drop, S: Space<K>>(
     walk: &mut S::Walk,
 ) -> Result<Option<K>, Full>
     requires room { length book.old.stored ≤ budget }
-    requires low { cost ≤ 53 * 4000000 }
+    requires low { cost ≤ 53 * MOST_BUDGET }
     ensures expands { IfOk result (λ left_out. Expands budget number cost (S.rest walk.old) book.old book.new left_out) }
 {
     while let Some(child) = space.next(walk) {
@@ -60,7 +60,7 @@ pub(crate) fn advance<K: ExactKey, F: Frontier + Drop, S: Space<K>>(
     budget: u32,
 ) -> Result<Status<K>, Full>
     requires kept { IsKept (S.graph space.now) budget book.old }
-    requires budget { budget ≤ 4000000 }
+    requires budget { budget ≤ MOST_BUDGET }
     ensures takes { IfOk result (λ status. Takes (S.graph space.now) budget book.old book.new status) }
 {
     let Some((f, number)) = book.take() else {

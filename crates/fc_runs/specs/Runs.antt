@@ -1,5 +1,5 @@
 -- What the runs of the program promise, over any source and any sink.
-use Rattle.std.specs.Prelude.{◌≡◌, ℕ, ◌≤◌, Bool, List, [], length, Option, Result, Ok, Err, IsTrue}
+use Rattle.std.specs.Prelude.{◌≡◌, ℕ, ◌+◌, ◌≤◌, Bool, List, [], length, Option, Result, Ok, Err, IsTrue}
 use Rattle.fc_io.specs.Moves.{Gives, Takes, TakesFront, Stays, IsAllTold, TellsAtLeast}
 use Rattle.fc_position.specs.Board.{Board}
 use Rattle.fc_position.specs.Position.{Fits}
@@ -13,7 +13,9 @@ use Rattle.fc_replay.specs.declared.faults.ReplayFault.TheVariants.{BadMove, Not
 use Rattle.fc_replay.specs.Played.{Replays}
 use Rattle.fc_replay.specs.Token.{move_tokens}
 use Rattle.fc_answers.specs.declared.answers.Verdict.{Verdict}
+use Rattle.fc_best_first.specs.Search.{IsBudget}
 use Rattle.fc_search.specs.Search.{IsVerdict, IsRunToEnd}
+use Rattle.fc_runs.specs.declared.runs.TheConstants.{LONGEST_BOARD, LONGEST_MOVES}
 use Rattle.fc_runs.specs.declared.faults.Input.TheVariants.{Board as of_board, Moves as of_moves}
 use Rattle.fc_runs.specs.declared.faults.Output.TheVariants.{Answer as of_answer}
 use Rattle.fc_runs.specs.declared.faults.ProgramFault.{ProgramFault}
@@ -26,15 +28,10 @@ pub record Device : Type 0 where
   pub new : Option (List ℕ)
   pub failed : Bool
 
--- so many classes may be stored
-pub record IsBudget (budget : ℕ) : Type 0 where
-  pub least : 1 ≤ budget
-  pub greatest : budget ≤ 4000000
-
 -- a source gave a text: all that it told, or more than 4,096 bytes of it
 pub record GivesText (source : Device) (text : List ℕ) : Type 0 where
   pub given : Gives source.old source.new text
-  pub whole : length text ≤ 4096 → IsAllTold source.old text
+  pub whole : length text ≤ LONGEST_BOARD → IsAllTold source.old text
   pub sound : IsTrue source.failed → ⊥
 
 -- a source gave a text that spells a position of a game with n cells
@@ -149,7 +146,7 @@ abbrev pub IsReplayFault : GameRules → Device → Device → Device → Progra
 IsReplayFault g board moves sink (Read of_board) = IsTrue board.failed × Stays moves.old moves.new × Stays sink.old sink.new
 IsReplayFault g board moves sink (bad_board fault) = GivesFault g.cells board fault × Stays moves.old moves.new × Stays sink.old sink.new
 IsReplayFault g board moves sink (Read of_moves) = IsWithoutMoves g board sink × IsTrue moves.failed
-IsReplayFault g board moves sink (TooLong of_moves) = IsWithoutMoves g board sink × TellsAtLeast moves.old 1048577 × (IsTrue moves.failed → ⊥)
+IsReplayFault g board moves sink (TooLong of_moves) = IsWithoutMoves g board sink × TellsAtLeast moves.old (LONGEST_MOVES + 1) × (IsTrue moves.failed → ⊥)
 IsReplayFault g board moves sink Memory = IsWithoutMoves g board sink × TellsAtLeast moves.old 1 × (IsTrue moves.failed → ⊥)
 IsReplayFault g board moves sink (Moves (BadMove step)) = IsReplayOf g board moves sink (Err (BadMove step))
 IsReplayFault g board moves sink (Moves (NotAllowed step)) = IsReplayOf g board moves sink (Err (NotAllowed step))

@@ -1,6 +1,6 @@
 //! The runs of the program, over any source and any sink.
 
-ghost use Rattle.std.specs.Prelude.{◌≡◌, ◌≤◌, IfOk, IfErr};
+ghost use Rattle.std.specs.Prelude.{◌≡◌, ◌+◌, ◌≤◌, IfOk, IfErr};
 ghost use Rattle.fc_io.specs.Moves.{GivesAtMost};
 ghost use Rattle.fc_runs.specs.Runs.{IsSolved, IsSolveFault, GivesBoard, IsReadFault, IsDealt, IsDealFault, IsReplayed, IsReplayFault};
 ghost use Rattle.fc_runs.specs.Fault.{moves_fault, replay_fault};
@@ -44,7 +44,7 @@ pub fn run_solve<G: Game + Drop, S: Source, K: Sink>(
     ensures fault { IfErr result (IsSolveFault (G.game game.now) rule budget
         record { old = S.told board.old; new = S.told board.new; failed = S.has_failed board.new }
         record { old = K.held out.old; new = K.held out.new; failed = K.has_failed out.new }) }
-    ensures taken { GivesAtMost (S.told board.old) (S.told board.new) 4097 }
+    ensures taken { GivesAtMost (S.told board.old) (S.told board.new) (LONGEST_BOARD + 1) }
 {
     if budget == 0 || budget > MOST_BUDGET {
         return Err(ProgramFault::Budget);
@@ -67,7 +67,7 @@ fn read_position<S: Source>(board: &mut S, cells: u8) -> Result<Position, Progra
         record { old = S.told board.old; new = S.told board.new; failed = S.has_failed board.new }) }
     ensures fault { IfErr result (IsReadFault cells
         record { old = S.told board.old; new = S.told board.new; failed = S.has_failed board.new }) }
-    ensures taken { GivesAtMost (S.told board.old) (S.told board.new) 4097 }
+    ensures taken { GivesAtMost (S.told board.old) (S.told board.new) (LONGEST_BOARD + 1) }
 {
     let mut room = [0; LONGEST_BOARD + 1];
     let count = match read_up_to(board, &mut room) {
@@ -121,8 +121,8 @@ pub fn run_replay<G: Game, B: Source, M: Source, K: Sink>(
         record { old = B.told board.old; new = B.told board.new; failed = B.has_failed board.new }
         record { old = M.told moves.old; new = M.told moves.new; failed = M.has_failed moves.new }
         record { old = K.held out.old; new = K.held out.new; failed = K.has_failed out.new }) }
-    ensures taken_board { GivesAtMost (B.told board.old) (B.told board.new) 4097 }
-    ensures taken_moves { GivesAtMost (M.told moves.old) (M.told moves.new) 1048577 }
+    ensures taken_board { GivesAtMost (B.told board.old) (B.told board.new) (LONGEST_BOARD + 1) }
+    ensures taken_moves { GivesAtMost (M.told moves.old) (M.told moves.new) (LONGEST_MOVES + 1) }
 {
     let start = read_position(board, game.cells())?;
     let text = match read_to_vec(alloc, moves, LONGEST_MOVES) {

@@ -1,5 +1,5 @@
 -- A search of a position's classes as a whole: how it begins, runs and is answered.
-use Rattle.std.specs.Prelude.{◌≡◌, ℕ, ◌<◌, ◌≤◌, ◌⊎◌, List, length}
+use Rattle.std.specs.Prelude.{◌≡◌, ℕ, List, length}
 use Rattle.fc_position.specs.Board.{Board}
 use Rattle.fc_moves.specs.GameRules.{GameRules}
 use Rattle.fc_best_first.specs.declared.books.Mark.{Mark}
@@ -56,13 +56,6 @@ pub record Answers (g : GameRules) (rule : ℕ) (b : Board) (budget : ℕ) (answ
   pub told : IsVerdict g rule b budget (verdict_of answer)
   pub backed : IsBacked g b answer
   pub ruled : IsByRule rule answer
-
--- why a search isn't begun: the budget is out of range; or it is in range, and a growth was refused
-abbrev pub IsRefused : ℕ → SearchFault → Type 0
-IsRefused budget fault.Budget = (budget < 1) ⊎ (4000000 < budget)
-IsRefused budget fault.Memory = (1 ≤ budget) × (budget ≤ 4000000)
-IsRefused budget fault.Stopped = ⊥
-IsRefused budget fault.NotDone = ⊥
 
 -- why a search isn't answered: it is still running, it was stopped, or it is done and a growth was refused
 abbrev pub IsUnanswered : Status (List ℕ) → SearchFault → Type 0

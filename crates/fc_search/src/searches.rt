@@ -1,17 +1,17 @@
 ghost use Rattle.std.specs.Prelude.{◌≡◌, ◌<◌, ◌≤◌, ◌⊎◌, length, IfOk, IfErr, OnOk, OnErr};
 ghost use Rattle.fc_position.specs.Position.{Fits};
 ghost use Rattle.fc_moves.specs.GameRules.{IsPositionOf};
-ghost use Rattle.fc_best_first.specs.Search.{Begins, Turns, Runs, reply_of};
+ghost use Rattle.fc_best_first.specs.Search.{Begins, IsBudget, IsRefused, Turns, Runs, reply_of};
 ghost use Rattle.fc_best_first.specs.Shown.{Holds, Shows};
 ghost use Rattle.fc_best_first.specs.Store.{Stands};
 ghost use Rattle.fc_best_first.specs.Turn.{work_left};
 ghost use Rattle.fc_answers.specs.Verdict.{verdict_of};
-ghost use Rattle.fc_search.specs.Search.{classes_of, Answers, IsVerdict, IsOfStatus, IsRefused, IsUnanswered, IsRunToEnd, HasRun};
+ghost use Rattle.fc_search.specs.Search.{classes_of, Answers, IsVerdict, IsOfStatus, IsUnanswered, IsRunToEnd, HasRun};
 
 use crate::positions::Positions;
 use fc_answers::{Answer, MoveList, Verdict};
 use fc_best_first as best_first;
-use fc_best_first::{Mark, SearchFault, Status, Step};
+use fc_best_first::{MOST_BUDGET, Mark, SearchFault, Status, Step};
 use fc_classes::ClassKey;
 use fc_frontier::{BucketFrontier, Frontier};
 use fc_moves::Game;
@@ -61,7 +61,7 @@ impl<F: Frontier + Drop, G: Game + Drop> Search<F, G> {
         ensures budget { IfOk result (λ search. search.budget ≡ budget) }
         ensures status { IfOk result (λ search. search.status ≡ Status.Running) }
         ensures begins { IfOk result (λ search. Begins (classes_of search.question) search.store) }
-        ensures range { OnOk result ((1 ≤ budget) × (budget ≤ 4000000)) }
+        ensures range { OnOk result (IsBudget budget) }
         ensures fault { IfErr result (IsRefused budget) }
     {
         let space = Positions::new(game.copy(), rule, position.copy());
@@ -154,7 +154,7 @@ impl<F: Frontier + Drop, G: Game + Drop> Search<F, G> {
     fn shortest_list(&self, number: u32) -> Result<MoveList, AllocError>
         requires held { Holds (classes_of self.now.question) self.now.budget self.now.store self.now.status }
         requires shown { Shows (classes_of self.now.question) self.now.budget self.now.store self.now.status }
-        requires most { self.now.budget ≤ 4000000 }
+        requires most { self.now.budget ≤ MOST_BUDGET }
         requires fits { IsPositionOf self.now.question.game self.now.question.start }
         requires done { self.now.status ≡ Status.Shortest number }
         ensures told { IfOk result (λ moves. IsVerdict self.now.question.game self.now.question.rule self.now.question.start self.now.budget (Verdict.Shortest moves)) }
@@ -168,7 +168,7 @@ impl<F: Frontier + Drop, G: Game + Drop> Search<F, G> {
     fn shortest(&self, number: u32) -> Result<Answer, AllocError>
         requires held { Holds (classes_of self.now.question) self.now.budget self.now.store self.now.status }
         requires shown { Shows (classes_of self.now.question) self.now.budget self.now.store self.now.status }
-        requires most { self.now.budget ≤ 4000000 }
+        requires most { self.now.budget ≤ MOST_BUDGET }
         requires fits { IsPositionOf self.now.question.game self.now.question.start }
         requires done { self.now.status ≡ Status.Shortest number }
         ensures answers { IfOk result (Answers self.now.question.game self.now.question.rule self.now.question.start self.now.budget) }
@@ -183,7 +183,7 @@ impl<F: Frontier + Drop, G: Game + Drop> Search<F, G> {
     fn cannot_win(&self) -> Result<Answer, AllocError>
         requires held { Holds (classes_of self.now.question) self.now.budget self.now.store self.now.status }
         requires shown { Shows (classes_of self.now.question) self.now.budget self.now.store self.now.status }
-        requires most { self.now.budget ≤ 4000000 }
+        requires most { self.now.budget ≤ MOST_BUDGET }
         requires fits { IsPositionOf self.now.question.game self.now.question.start }
         requires done { self.now.status ≡ Status.CannotWin }
         ensures answers { IfOk result (Answers self.now.question.game self.now.question.rule self.now.question.start self.now.budget) }
@@ -209,7 +209,7 @@ pub fn solve<G: Game + Drop>(
     requires fits { Fits (G.game game.now).cells position.now }
     ensures answers { IfOk result (Answers (G.game game.now) rule position.now budget) }
     ensures ran { IfOk result (λ answer. IsRunToEnd (G.game game.now) rule position.now budget (verdict_of answer)) }
-    ensures range { OnOk result ((1 ≤ budget) × (budget ≤ 4000000)) }
+    ensures range { OnOk result (IsBudget budget) }
     ensures fault { IfErr result (IsRefused budget) }
 {
     at_end(alloc, game, rule, position, budget)?.answer()
@@ -230,7 +230,7 @@ pub fn decide<G: Game + Drop>(
     requires fits { Fits (G.game game.now).cells position.now }
     ensures told { IfOk result (IsVerdict (G.game game.now) rule position.now budget) }
     ensures ran { IfOk result (IsRunToEnd (G.game game.now) rule position.now budget) }
-    ensures range { OnOk result ((1 ≤ budget) × (budget ≤ 4000000)) }
+    ensures range { OnOk result (IsBudget budget) }
     ensures fault { IfErr result (IsRefused budget) }
 {
     at_end(alloc, game, rule, position, budget)?.verdict()
@@ -250,7 +250,7 @@ fn at_end<G: Game + Drop>(
     ensures budget { IfOk result (λ search. search.budget ≡ budget) }
     ensures ran { IfOk result (λ search. HasRun (G.game game.now) rule position.now budget search.store search.status) }
     ensures done { IfOk result (λ search. reply_of search.status ≡ Ok Step.Done) }
-    ensures range { OnOk result ((1 ≤ budget) × (budget ≤ 4000000)) }
+    ensures range { OnOk result (IsBudget budget) }
     ensures fault { IfErr result (IsRefused budget) }
 {
     let mut search: Search<BucketFrontier, G> = Search::new(alloc, game, rule, position, budget)?;

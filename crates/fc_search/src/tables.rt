@@ -9,7 +9,7 @@ ghost use Rattle.fc_search.specs.Stored.{costs_of};
 
 use crate::searches::Search;
 use fc_answers::{Row, Table};
-use fc_best_first::Space;
+use fc_best_first::{MOST_BUDGET, Space};
 use fc_frontier::Frontier;
 use fc_moves::Game;
 use std::alloc::AllocError;
@@ -18,10 +18,10 @@ impl<F: Frontier + Drop, G: Game + Drop> Search<F, G> {
     // The stored classes whose cost and bound are below n.
     pub(crate) fn table_below(&self, n: usize) -> Result<Table, AllocError>
         requires sound { IsSound (classes_of self.now.question) self.now.budget self.now.store }
-        requires most { self.now.budget ≤ 4000000 }
+        requires most { self.now.budget ≤ MOST_BUDGET }
         ensures rule { IfOk result (λ table. table.rule ≡ self.now.question.rule) }
         ensures known { IfOk result (λ table. table.rule ≤ 2) }
-        ensures few { IfOk result (λ table. length table.rows ≤ 4000000) }
+        ensures few { IfOk result (λ table. length table.rows ≤ MOST_BUDGET) }
         ensures rows { IfOk result (λ table. IsPermutation (inside n (costs_of self.now.store)) table.rows) }
         ensures rising { IfOk result (λ table. IsRising table.rows) }
     {
@@ -42,10 +42,10 @@ impl<F: Frontier + Drop, G: Game + Drop> Search<F, G> {
     // The stored classes, each at no cost.
     pub(crate) fn table_of_all(&self) -> Result<Table, AllocError>
         requires sound { IsSound (classes_of self.now.question) self.now.budget self.now.store }
-        requires most { self.now.budget ≤ 4000000 }
+        requires most { self.now.budget ≤ MOST_BUDGET }
         ensures rule { IfOk result (λ table. table.rule ≡ self.now.question.rule) }
         ensures known { IfOk result (λ table. table.rule ≤ 2) }
-        ensures few { IfOk result (λ table. length table.rows ≤ 4000000) }
+        ensures few { IfOk result (λ table. length table.rows ≤ MOST_BUDGET) }
         ensures rows { IfOk result (λ table. IsPermutation (at_no_cost (costs_of self.now.store)) table.rows) }
         ensures rising { IfOk result (λ table. IsRising table.rows) }
     {
