@@ -10,9 +10,9 @@ no function's own text.
 A wave is one check of a copy of the crate with many edits: a check goes on after a function that it refuses, and takes the
 callers of that function over its contract. The first edit of a function changes it in place, each further one a copy of it that
 stands beside it under a name of its own, with the same contract and proof, and one more copy without an edit must be proved. A
-trait's methods and functions that call themselves have no copies: their further edits go to further waves. An edit is refused
-where a goal of a function that it changes stays open; that the function calls one that isn't proved does not count. What a wave
-does not settle is tried alone.
+function that calls itself has no copies, nor has a trait's method unless its impl states the contract again; their further edits
+go to further waves. An edit is refused where a goal of a function that it changes stays open; that the function calls one that
+isn't proved does not count. What a wave does not settle is tried alone.
 --alone tries each edit by itself. --follow LOG tries a crate's edits as soon as the `rt ci` that writes LOG says that the crate is
 proved, over the libraries that it builds; else those that have changed are built first. The last line is 'N passed, M failed'.
 """
@@ -33,15 +33,15 @@ from kit import crates_of_gate, rt, rtlib
 
 @dataclass
 class Function:
-    """A function of a source file: the end of the name that a check gives it, the span of its text, and whether a copy of it can
-    stand beside it with its proof: a trait's method can't, nor a function that calls itself."""
+    """A function of a source file: the end of the name that a check gives it, the span of its text, and where a copy of it can
+    stand with its proof: beside it, in an impl with this head, or nowhere."""
 
     path: str
     module: str
     name: str
     begin: int
     end: int
-    can_be_copied: bool
+    copies: str | None
 
     def has(self, at):
         return self.begin <= at < self.end
@@ -59,7 +59,7 @@ class Edit:
 
     def is_of_copy(self):
         """Whether it can change a copy of a function in the function's place."""
-        return len(self.within) == 1 and self.within[0].can_be_copied
+        return len(self.within) == 1 and self.within[0].copies is not None
 
 
 class BadEdit(Exception):
@@ -78,39 +78,59 @@ def last_name(text):
     return re.sub(r"\W", "", bare(text).strip().split("::")[-1])
 
 
-def owner_of(head):
-    """How a check spells the type of an impl or a trait: 'impl<R: Read> Source for FromReader<R>' is FromReaderSource, and
-    'impl From<AllocError> for Full' is FullFromAllocError; of a type parameter it is Any."""
-    said = re.split(r"\swhere\s", re.sub(r"^(pub +)?(impl|trait)\b", "", head))[0]
+def parts_of(head):
+    """The type parameters of an impl's head, the trait with its arguments ('' where there is none), the type, and what follows."""
+    said, where, bounds = re.sub(r"^(pub +)?(impl|trait)\b", "", head.strip()).partition(" where ")
     depth = 0
-    for at, letter in enumerate(said):
+    for at, letter in enumerate(f"{said} "):
         depth += (letter == "<") - (letter == ">")
         if not depth and letter != ">":
             break
-    parameters = [last_name(it.partition(":")[0]) for it in said[1:at].split(",")]
     trait, _, kind = said[at:].rpartition(" for ")
+    return said[:at].strip(), trait.strip(), kind.strip(), where + bounds
+
+
+def owner_of(head):
+    """How a check spells the type of an impl or a trait: 'impl<R: Read> Source for FromReader<R>' is FromReaderSource, and
+    'impl From<AllocError> for Full' is FullFromAllocError; of a type parameter it is Any."""
+    parameters, trait, kind, _ = parts_of(head)
     if not trait:
         return last_name(bare(kind).partition(":")[0])
     name, _, arguments = trait.partition("<")
-    owner = "Any" if last_name(kind) in parameters else last_name(kind)
+    owner = "Any" if last_name(kind) in names_of(parameters) else last_name(kind)
     return owner + last_name(name) + "".join(last_name(it) for it in bare(arguments.rpartition(">")[0]).split(","))
+
+
+def names_of(parameters):
+    """The names of type parameters, as '<R: Read, W>'."""
+    return [last_name(it.partition(":")[0]) for it in parameters[1:-1].split(",")]
+
+
+def place_of_copies(head, code):
+    """Where copies of a method can stand: '' beside it, else the head of an impl of the type alone, which needs the contract in
+    the method's own text, or None."""
+    parameters, trait, kind, where = parts_of(head)
+    if head.startswith("impl") and not trait:
+        return ""
+    is_whole = head.startswith("impl") and "ensures" in code and "Self::" not in code
+    return f"impl{parameters} {kind}{where}" if is_whole and last_name(kind) not in names_of(parameters) else None
 
 
 def functions_of(path, text):
     """Each function of a formatted source file."""
     module = [] if path in ("src/lib.rt", "src/main.rt") else re.sub(r"(/mod)?\.rt$", "", path)[4:].split("/")
-    found, at, owner, of_trait, begun = [], 0, [], False, None
+    found, at, impl, begun = [], 0, "", None
     for line in text.splitlines(True):
         head = re.match(r"( *)(?:pub(?:\([^)]*\))? +|const +|final +|unsafe +)*fn +(\w+)", line)
         if re.match(r"(pub +)?(impl|trait)\b", line):
-            said = text[at : text.find("{", at)]
-            owner, of_trait = [owner_of(said)], " for " in said or not said.startswith("impl")
+            impl = text[at : text.find("{", at)]
         elif head:
-            begun = (at, head[1], "::".join([*(owner if head[1] else module), head[2]]))
+            begun = (at, head[1], [*([owner_of(impl)] if head[1] else module), head[2]])
         elif begun and line.rstrip() == begun[1] + "}":
-            itself = rf"(\bself\.|\bSelf::|(?<![\w.:])){begun[2].rpartition('::')[2]}\("
-            is_plain = not re.search(itself, text[begun[0] : at].partition("(")[2]) and not (begun[1] and of_trait)
-            found.append(Function(path, "::".join(module), begun[2], begun[0], at + len(line), is_plain))
+            code = text[begun[0] : at]
+            itself = re.search(rf"(\bself\.|\bSelf::|(?<![\w.:])){begun[2][-1]}\(", code.partition("(")[2])
+            copies = None if itself else place_of_copies(impl, code) if begun[1] else ""
+            found.append(Function(path, "::".join(module), "::".join(begun[2]), begun[0], at + len(line), copies))
             begun = None
         at += len(line)
     return found
@@ -198,25 +218,29 @@ def read(path):
 
 
 def add_copy(crate, texts, function, changes, number):
-    """Adds a copy of a function to the texts, behind it, with its proof and these changes of its own text. Returns its name."""
+    """Adds a copy of a function to the texts, with its proof and these changes of its own text. Returns its name."""
     path = function.path
-    code = read(f"{crate.folder}/{path}")
-    code = next(code[it.begin : it.end] for it in functions_of(path, code) if it.name == function.name)
+    code = read(f"{crate.folder}/{path}")[function.begin : function.end]
     for _, old, new in changes:
         code = code.replace(old, new)
-    last = function.name.rpartition("::")[2]
+    *owner, last = function.name.split("::")
     code = re.sub(rf"\bfn +{last}\b", f"fn {last}_copy{number}", code, count=1)
     text = texts.get(path) or read(f"{crate.folder}/{path}")
-    end = next(it.end for it in functions_of(path, text) if it.name == function.name)
-    texts[path] = f"{text[:end]}\n{code}{text[end:]}"
+    if function.copies:
+        texts[path] = f"{text}\n{function.copies} {{\n{code}}}\n"
+        new_owner = [owner_of(function.copies)]
+    else:
+        end = next(it.end for it in functions_of(path, text) if it.name == function.name)
+        texts[path] = f"{text[:end]}\n{code}{text[end:]}"
+        new_owner = owner
     # (a method's name has no module, a function's has)
-    whole = function.name if function.name.startswith(f"{function.module}::") else f"{function.module}::{function.name}"
-    names = [it for it in whole.split("::") if it]
-    at = f"{crate.folder}/proofs/{'/'.join(names)}"
-    own = rf"(Rattle\.{crate.name}\.(?:proofs|specs\.contracts)\.{re.escape('.'.join(names))})(?![\w-])"
+    module = [] if function.name.startswith(f"{function.module}::") else function.module.split("::") if function.module else []
+    was, now = [*module, *owner, last], [*module, *new_owner, f"{last}_copy{number}"]
+    at = f"{crate.folder}/proofs/{'/'.join(was)}"
+    own = rf"(Rattle\.{crate.name}\.(?:proofs|specs\.contracts)\.){re.escape('.'.join(was))}(?![\w-])"
     for file in os.listdir(at) if os.path.isdir(at) else []:
-        texts[f"proofs/{'/'.join(names)}_copy{number}/{file}"] = re.sub(own, rf"\1_copy{number}", read(f"{at}/{file}"))
-    return f"{function.name}_copy{number}"
+        texts[f"proofs/{'/'.join(now)}/{file}"] = re.sub(own, rf"\g<1>{'.'.join(now)}", read(f"{at}/{file}"))
+    return "::".join([*new_owner, f"{last}_copy{number}"])
 
 
 def put_together(crate, wave):

@@ -71,6 +71,15 @@ OWNERS = {
     "pub trait Frontier: Drop ": "Frontier",
 }
 
+# The head of an impl and what its method says, and where copies of the method can stand.
+PLACES = {
+    ("impl Draft ", ""): "",
+    ("impl<R: Reading> Source for FromReader<R> ", "ensures"): "impl<R: Reading> FromReader<R>",
+    ("impl<R: Reading> Source for FromReader<R> ", ""): None,
+    ("impl<R: Read> Reading for R ", "ensures"): None,
+    ("pub trait Frontier: Drop ", "ensures"): None,
+}
+
 # An edit's text, and what is wrong with it (None: it is refused). The second edit of a function changes a copy of it.
 EDITS = {
     "larger_harmless": ("file: src/lib.rt\nold: if a < b { b }\nnew: if a <= b { b }\n", "NOT REFUSED: Small::larger is proved"),
@@ -129,13 +138,15 @@ def main():
         expect("functions are found", names == ["Small::larger", "sum", "twice", "limited"])
         for head, name in OWNERS.items():
             expect(head, breaks.owner_of(head) == name)
+        for (head, code), place in PLACES.items():
+            expect(f"copies of {head}", breaks.place_of_copies(head, code) == place)
         for edits in (EDITS, MISSPELT):
             passed, wrong = tried(crate, edits)
             for name, (_, want) in edits.items():
                 expect(name, re.search(want, wrong.get(f"{name}.edit", "")) if want else f"{name}.edit" not in wrong)
             expect("the refused ones are counted", passed == sum(want is None for _, want in edits.values()))
         os.chdir("/")
-    count = len(EDITS) + len(MISSPELT) + len(OWNERS) + 3
+    count = len(EDITS) + len(MISSPELT) + len(OWNERS) + len(PLACES) + 3
     print(f"{count - failed} passed, {failed} failed")
     return 1 if failed else 0
 
