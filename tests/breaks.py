@@ -411,7 +411,6 @@ def main():
     if given.follow:
         # The proofs that others wait for come first.
         os.nice(5)
-        lanes = max(1, rt.processors() - 1)
     with ThreadPoolExecutor(given.lanes or lanes) as pool:
         ready = followed(crates, given.follow) if given.follow else built(crates)
         runs = [pool.submit(tried, crate, is_ready, given.alone) for crate, is_ready in ready]
