@@ -178,7 +178,8 @@ def read_edit(crate, name):
         if not inside:
             raise BadEdit("it changes no function's text: name the function by a line 'fn: MODULE::NAME'")
         function = max(inside, key=lambda it: it.begin)
-        found[path, function.name] = function
+        # (the first change finds the function where it stands in the file)
+        found.setdefault((path, function.name), function)
         texts[path] = texts[path].replace(old, new)
     edit.within = [*found.values()]
     edit.functions = {it.name for it in edit.within}
