@@ -1,5 +1,5 @@
 -- Lemmas on offering the children of a key one after the other.
-use Rattle.std.proofs.Common.{◌≡◌, ℕ, ◌+◌, ◌≤◌, ◌⊎◌, Option, List, ◌∷◌, length, refl, sym, ◌∙◌, ap, subst, inl, inr, arith}
+use Rattle.std.proofs.Common.{◌≡◌, ℕ, ◌+◌, ◌≤◌, ◌⊎◌, Option, Some, List, ◌∷◌, length, refl, sym, ◌∙◌, ap, subst, inl, inr, arith}
 use Rattle.std.proofs.lemmas.List.{length_push}
 use Rattle.indexmap.specs.Layout.{length-set_value_at}
 use Rattle.fc_best_first.specs.declared.books.Mark.{Mark}
@@ -45,3 +45,18 @@ module _ {K : Type 0} where
       by Lowered q h = inr (inl h)
       by Added q h = inr (inr h)
       by (Full y) q h = absurd (q y refl)
+
+  -- a child that found no place, whatever others are after it
+  pub expands_full : (budget number cost : ℕ) (child : Child K) (children : List (Child K)) (old new : Store K) (key : K)
+      (r b : ℕ) (o : Offered K) → r ≡ child.cost → b ≡ child.bound → o ≡ Full key
+      → Offers budget old new child.key (record { cost = cost + r; parent = number }) (cost + r + b) o
+      → Expands budget number cost (child ∷ children) old new (Some key)
+  expands_full budget number cost child children old new key r b o e f is offers =
+      let full = subst (Offers budget old new child.key (record { cost = cost + r; parent = number }) (cost + r + b)) is offers in
+      let named = subst (λ y. Offers budget old new child.key (record { cost = cost + r; parent = number }) (cost + r + b) (Full y))
+      full.0 full in
+      inl (
+        subst (λ v. Offers budget old new child.key (mark_of number cost child) (cost + child.cost + v) (Full child.key)) f
+            (subst (λ v. Offers budget old new child.key (record { cost = cost + v; parent = number }) (cost + v + b) (Full child.key)) e named),
+        ap Some full.0,
+      )

@@ -1,5 +1,6 @@
 -- Questions that a search answers, each seen as a graph whose edges have costs.
 use Rattle.std.specs.Prelude.{◌≡◌, ℕ, ◌+◌, ◌<◌, ◌≤◌, ◌⊎◌, suc, zero, List, Contains}
+use Rattle.fc_best_first.specs.declared.turns.TheConstants.{MOST_COST}
 
 -- a question over keys: where it starts and at which cost, which edges lead on and what each costs, a lower bound of
 -- what is still to pay, which keys are won, and at which costs the question has an answer
@@ -39,9 +40,9 @@ module _ {K : Type 0} where
         → Covers g n table y (d + c)
 
   -- what a search asks of its question: a won key that is reached is an answer, a table that is closed inside n leaves no
-  -- answer below n, and an edge costs 1 to 53, a start at most 53
+  -- answer below n, an edge costs something, and no edge and no start costs more than the most
   pub record IsLawful (g : Graph K) : Type 0 where
     pub answers : (x : K) (d : ℕ) → Reached g x d → g.won x → g.wins d
     pub closed : (n : ℕ) (table : List (K × ℕ)) → IsClosedInside g n table → (m : ℕ) → g.wins m → n ≤ m
-    pub edges : (x : K) (c : ℕ) (y : K) → g.edge x c y → (1 ≤ c) × (c ≤ 53)
-    pub starts : (x : K) (d : ℕ) → g.starts x d → d ≤ 53
+    pub edges : (x : K) (c : ℕ) (y : K) → g.edge x c y → (1 ≤ c) × (c ≤ MOST_COST)
+    pub starts : (x : K) (d : ℕ) → g.starts x d → d ≤ MOST_COST

@@ -1,6 +1,7 @@
 -- What a search keeps from turn to turn.
 use Rattle.std.specs.Prelude.{◌≡◌, ℕ, ◌+◌, ◌*◌, ◌≤◌, ◌⊎◌, length, Contains}
 use Rattle.fc_best_first.specs.declared.books.Mark.{Mark}
+use Rattle.fc_best_first.specs.declared.turns.TheConstants.{MOST_COST}
 use Rattle.fc_best_first.specs.Graph.{Graph, Reached}
 use Rattle.fc_best_first.specs.Store.{Store, Stands}
 
@@ -33,7 +34,7 @@ module _ {K : Type 0} where
     pub room : length s.stored ≤ budget
     pub once : (i j : ℕ) (x : K) (m n : Mark) → Stands s i x m → Stands s j x n → i ≡ j
     pub reached : (i : ℕ) (x : K) (m : Mark) → Stands s i x m → Reached g x m.cost
-    pub low : (i : ℕ) (x : K) (m : Mark) → Stands s i x m → m.cost ≤ 53 * i + 53
+    pub low : (i : ℕ) (x : K) (m : Mark) → Stands s i x m → m.cost ≤ MOST_COST * i + MOST_COST
     pub comes : (i : ℕ) (x : K) (m : Mark) → Stands s i x m → Comes g s i x m
     pub needed : (i : ℕ) (x : K) (m : Mark) → Stands s i x m → IsNeeded g x
     pub starts : (x : K) (d : ℕ) → g.starts x d → HasAt s x d

@@ -5,6 +5,7 @@ use Rattle.fc_best_first.specs.declared.books.Offered.TheVariants.{Known, Lowere
 use Rattle.fc_best_first.specs.declared.spaces.Child.{Child}
 use Rattle.fc_best_first.specs.declared.turns.Status.{Status}
 use Rattle.fc_best_first.specs.declared.turns.Status.TheVariants.{Running, Shortest, CannotWin, GaveUp, Stopped}
+use Rattle.fc_best_first.specs.declared.turns.TheConstants.{MOST_COST}
 use Rattle.fc_best_first.specs.Graph.{Graph}
 use Rattle.fc_best_first.specs.Store.{Store, Offers, IsTaken}
 
@@ -59,4 +60,4 @@ module _ {K : Type 0} where
   -- how much a search may still do: it falls with each turn that leaves the search running
   abbrev pub work_left : ℕ → Store K → ℕ
   work_left budget s =
-      2 * (sum_by (λ e. e.1.cost) s.stored + (budget - length s.stored) * (53 * budget + 54)) + length s.waiting
+      2 * (sum_by (λ e. e.1.cost) s.stored + (budget - length s.stored) * (MOST_COST * budget + (MOST_COST + 1))) + length s.waiting

@@ -51,12 +51,13 @@ impl<K: ExactKey, F: Frontier + Drop, S: Space<K> + Drop> Model for Search<K, F,
     ghost use Rattle.std.specs.Prelude.{◌≤◌};
     ghost use Rattle.fc_best_first.specs.Search.{Progress};
     ghost use Rattle.fc_best_first.specs.Shown.{Holds};
+    ghost use Rattle.fc_best_first.specs.declared.turns.TheConstants.{MOST_BUDGET};
 
     ghost Value = { Progress S K };
 
     ghost view = { λ s. record { space = s.space; budget = s.budget; store = s.book; status = s.status } };
 
-    ghost invariant = { λ s. (s.budget ≤ 4000000) × Holds (S.graph s.space) s.budget s.book s.status };
+    ghost invariant = { λ s. (s.budget ≤ MOST_BUDGET) × Holds (S.graph s.space) s.budget s.book s.status };
 }
 
 impl<K: ExactKey, F: Frontier + Drop, S: Space<K> + Drop> Search<K, F, S> {
@@ -72,12 +73,11 @@ impl<K: ExactKey, F: Frontier + Drop, S: Space<K> + Drop> Search<K, F, S> {
         if budget < 1 || budget > MOST_BUDGET {
             return Err(SearchFault::Budget);
         }
-        let start = space.start();
+        let (start, walk) = space.start();
         let cost = u32::from(start.cost);
         let f = cost + u32::from(start.bound);
         let mut book = Book::new(alloc);
         let mark = Mark { cost, parent: 0 };
-        let walk = space.walk(&start.key);
         let Ok(_offered) = book.offer(budget, start.key, mark, f) else {
             return Err(SearchFault::Memory);
         };

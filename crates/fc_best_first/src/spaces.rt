@@ -1,4 +1,4 @@
-ghost use Rattle.std.specs.Prelude.{◌≡◌, ◌≤◌, ◌↔◌, ℕ, List, [], ◌∷◌, IsTrue, MatchOption};
+ghost use Rattle.std.specs.Prelude.{◌≡◌, ◌≤◌, ◌<◌, ◌↔◌, ℕ, List, [], ◌∷◌, IsTrue, IfSome, MatchOption};
 ghost use Rattle.fc_best_first.specs.Graph.{Graph, IsLawful, Reached};
 ghost use Rattle.fc_best_first.specs.Turn.{AreChildren};
 
@@ -20,14 +20,17 @@ pub trait Space<K> {
     /// What is left of the children of a key. One is made for a whole search, and each visit fills it anew.
     type Walk: Drop;
 
-    // The children that are left.
-    ghost rest: { Self.Walk → List (Child K) };
+    // The children that are left may be these, in this order.
+    ghost rest: { Self.Walk → List (Child K) → Type 0 };
 
-    /// The key that starts, and its cost.
-    fn start(&self) -> Child<K>
-        ensures starts { (graph self.now).starts result.key result.cost }
-        ensures alone { (x : K) (d : ℕ) → (graph self.now).starts x d → (x ≡ result.key) × (result.cost ≤ d) }
-        ensures bound { result.bound ≡ (graph self.now).bound result.key };
+    // How many children are left.
+    ghost left: { Self.Walk → ℕ };
+
+    /// The key that starts, with its cost and its bound, and a walk to visit keys with.
+    fn start(&self) -> (Child<K>, Self::Walk)
+        ensures starts { (graph self.now).starts result.0.key result.0.cost }
+        ensures alone { (x : K) (d : ℕ) → (graph self.now).starts x d → (x ≡ result.0.key) × (result.0.cost ≤ d) }
+        ensures bound { result.0.bound ≡ (graph self.now).bound result.0.key };
 
     /// Whether a key that was reached is won.
     fn is_won(&self, key: &K) -> bool
@@ -39,20 +42,18 @@ pub trait Space<K> {
         requires reached { (d : ℕ) × Reached (graph self.now) key.now d }
         ensures value { result ≡ (graph self.now).bound key.now };
 
-    /// A walk with no child left, which begins at a key that was reached.
-    fn walk(&self, key: &K) -> Self::Walk
-        requires reached { (d : ℕ) × Reached (graph self.now) key.now d }
-        ensures none { rest result ≡ [] };
-
     /// The lower bound of a key that was reached. Its children take the place of those that were left.
     fn visit(&self, key: &K, walk: &mut Self::Walk) -> u8
         requires reached { (d : ℕ) × Reached (graph self.now) key.now d }
         ensures bound { result ≡ (graph self.now).bound key.now }
-        ensures children { AreChildren (graph self.now) key.now (rest walk.new) };
+        ensures children { (children : List (Child K)) → rest walk.new children → AreChildren (graph self.now) key.now children };
 
-    /// The next of the children that are left.
+    /// The next of the children that are left; whichever may follow it could follow it before.
     fn next(&self, walk: &mut Self::Walk) -> Option<Child<K>>
-        ensures next { MatchOption result (rest walk.old ≡ []) (λ child. rest walk.old ≡ child ∷ rest walk.new) };
+        ensures next { MatchOption result (rest walk.old [])
+            (λ child. (children : List (Child K)) → rest walk.new children → rest walk.old (child ∷ children)) }
+        ensures some { (children : List (Child K)) × rest walk.new children }
+        ensures fewer { IfSome result (λ _. left walk.new < left walk.old) };
 
     ghost lawful: { (s : Self) → IsLawful (graph s) };
 }

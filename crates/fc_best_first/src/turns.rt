@@ -12,6 +12,9 @@ use fc_frontier::{Frontier, Full};
 /// The greatest budget, in stored keys.
 pub const MOST_BUDGET: u32 = 4_000_000;
 
+/// The most that a start or an edge may cost.
+pub const MOST_COST: u8 = 53;
+
 /// Where a search stands: it is running; the key with this number is won, and its cost is the least answer; there is no
 /// answer; it gave up, having found no place for this key, which came from the key with this number; or memory stopped it.
 #[derive(Drop)]
@@ -34,8 +37,8 @@ fn expand<K: ExactKey, F: Frontier + Drop, S: Space<K>>(
     walk: &mut S::Walk,
 ) -> Result<Option<K>, Full>
     requires room { length book.old.stored ≤ budget }
-    requires low { cost ≤ 53 * MOST_BUDGET }
-    ensures expands { IfOk result (λ left_out. Expands budget number cost (S.rest walk.old) book.old book.new left_out) }
+    requires low { cost ≤ MOST_COST * MOST_BUDGET }
+    ensures expands { IfOk result (λ left_out. (children : List (Child K)) × S.rest walk.old children × Expands budget number cost children book.old book.new left_out) }
 {
     while let Some(child) = space.next(walk) {
         let reached = cost + u32::from(child.cost);
@@ -51,8 +54,8 @@ fn expand<K: ExactKey, F: Frontier + Drop, S: Space<K>>(
     Ok(None)
 }
 
-// One turn of a running search, and the status that it leaves; the walk is its room to work in. At `Err` a growth was refused, and nothing is known of
-// the book.
+// One turn of a running search, and the status that it leaves; the walk is its room to work in. At `Err` a growth was
+// refused, and nothing is known of the book.
 pub(crate) fn advance<K: ExactKey, F: Frontier + Drop, S: Space<K>>(
     space: &S,
     book: &mut Book<K, F>,

@@ -8,6 +8,7 @@ ghost use Rattle.fc_runs.specs.Fault.{moves_fault, replay_fault};
 use crate::answers::{answer_text, status_of};
 use crate::faults::{Input, Output, ProgramFault};
 use fc_deal::{deal, deal_text};
+use fc_home::GREATEST_RULE;
 use fc_io::{ReadFault, Sink, Source, read_to_vec, read_up_to, write_all};
 use fc_moves::Game;
 use fc_position::Position;
@@ -37,7 +38,7 @@ pub fn run_solve<G: Game + Drop, S: Source, K: Sink>(
     budget: u32,
     out: &mut K,
 ) -> Result<u8, ProgramFault>
-    requires rule { rule ≤ 2 }
+    requires rule { rule ≤ GREATEST_RULE }
     ensures answered { IfOk result (IsSolved (G.game game.now) rule budget
         record { old = S.told board.old; new = S.told board.new; failed = S.has_failed board.new }
         record { old = K.held out.old; new = K.held out.new; failed = K.has_failed out.new }) }

@@ -1,8 +1,10 @@
 -- What a search that is done holds makes its verdict right, and its table backs it.
-use Rattle.std.proofs.Common.{◌≡◌, ℕ, zero, suc, ◌+◌, ◌<◌, ◌≤◌, List, [], ◌∷◌, length, refl, sym, ◌∙◌, ap, subst, arith}
+use Rattle.std.proofs.Common.{◌≡◌, ℕ, zero, suc, ◌+◌, ◌<◌, ◌≤◌, Bool, List, [], ◌∷◌, length, refl, sym, ◌∙◌, ap, subst, arith, nat_lt}
 use Rattle.std.specs.Prelude.{All, Contains}
 use Rattle.std.specs.List.Sorted.{IsPermutation}
-use Rattle.std.proofs.lemmas.List.Sorted.{IsPermutation-sym, Contains-permutation}
+use Rattle.std.proofs.lemmas.List.{length-map}
+use Rattle.std.proofs.lemmas.List.Sorted.{IsPermutation-sym, Contains-permutation, length_permutation}
+use Rattle.std.proofs.lemmas.List.Sums.{length-filter, count_by-le-length}
 use Rattle.fc_position.specs.Board.{Board}
 use Rattle.fc_position.specs.Position.{IsWon}
 use Rattle.fc_moves.specs.declared.steps.Move.{Move}
@@ -24,14 +26,17 @@ use Rattle.fc_tables.specs.Table.{as_boards}
 use Rattle.fc_canonical.specs.Spelled.{spelled}
 use Rattle.fc_classes.proofs.PathLemmas.{reached_of_positions}
 use Rattle.fc_classes.proofs.TableLemmas.{board_listed, key_listed, closed_board}
+use Rattle.fc_answers.specs.declared.answers.Answer.TheVariants as answer
 use Rattle.fc_answers.specs.declared.answers.Verdict.TheVariants.{Shortest, CannotWin, GaveUp}
 use Rattle.fc_search.specs.Search.{IsVerdict}
 use Rattle.fc_answers.specs.Answer.{IsBackedBelow, IsBackedWhole}
-use Rattle.fc_answers.specs.Table.{Listing, IsRising, inside, at_no_cost}
-use Rattle.fc_answers.proofs.RowLemmas.{free_listed, freely_listed, inside_listed, listed_inside}
+use Rattle.fc_answers.specs.Table.{Listing, HaveKeysOnce, IsRising, inside, at_no_cost}
+use Rattle.fc_answers.proofs.OrderLemmas.{in_order}
+use Rattle.fc_answers.proofs.RowLemmas.{free_listed, freely_listed, inside_listed, inside_once, listed_inside, no_cost_once}
 use Rattle.fc_search.specs.Stored.{costs_of}
 use Rattle.fc_search.specs.Walk.{IsAtClass}
 use Rattle.fc_search.proofs.NeedLemmas.{needs_more, needs_reach}
+use Rattle.fc_search.proofs.RowLemmas.{stored_once, stored_long}
 use Rattle.fc_tables.proofs.BoundLemmas.{bound_lower}
 
 -- each move of a run from a position of the game has a text
@@ -98,22 +103,6 @@ module _ (g : GameRules) (rule : ℕ) (p : Board) (budget : ℕ) (s : Store (Lis
         λ others w. let far = least (length others) (others, refl, w) in omega (arith, far, long),
       )
 
-  -- the verdict of a search that found a shortest list
-  pub shortest_verdict : (number : ℕ) (ms : List Move) (b : Board) → budget ≤ 4000000
-      → IsFound (classes bound g rule p) budget s number → Shows (classes bound g rule p) budget s (status.Shortest number)
-      → IsAtClass g s p number ms b → IsVerdict g rule p budget (Shortest ms)
-  shortest_verdict number ms b few (sound, found) shows walked =
-      let won = won_length number ms b (sound, found) shows walked in
-      let low = sound.low number won.0 won.1 won.2 in
-      let inside_store = stands_within s number won.0 won.1 won.2 in
-      let room = sound.room in
-      let run = walked.3 in
-      let cost = won.3 in record {
-        right = record { wins = won.4; least = won.5 };
-        earned = tt;
-        written = (run_texts g p b ms pp run, omega (arith, low, inside_store, room, few, cost));
-      }
-
   -- the table of a search that found a shortest list shows that none is shorter
   pub backed_below : (number : ℕ) (ms : List Move) (table : Listing) → IsFound (classes bound g rule p) budget s number
       → (x : List ℕ) (mark : Mark) → Stands s number x mark → length ms ≡ mark.cost → table.rule ≡ rule → table.rule ≤ 2
@@ -153,13 +142,54 @@ module _ (g : GameRules) (rule : ℕ) (p : Board) (budget : ℕ) (s : Store (Lis
         below = λ e there. (within e there).1;
       }
 
+  -- rows of which no two have one key, as a table of the search's rule
+  as_table : (rows : List (List ℕ × ℕ)) → HaveKeysOnce rows → length rows ≤ 4000000
+      → (table : Listing) × (table.rule ≡ rule) × (length table.rows ≤ 4000000) × IsRising table.rows × IsPermutation rows table.rows
+  as_table rows once few =
+      let all = in_order rows once in
+      let long : length all.0 ≡ length rows = length_permutation rows all.0 all.1 in
+      (record { rule = rule; rows = all.0 }, refl, omega (arith, few, long), all.2, all.1)
+
+  -- the verdict of a search that found a shortest list
+  pub shortest_verdict : (number : ℕ) (ms : List Move) (b : Board) → rule ≤ 2 → budget ≤ 4000000
+      → IsFound (classes bound g rule p) budget s number → Shows (classes bound g rule p) budget s (status.Shortest number)
+      → IsAtClass g s p number ms b → IsVerdict g rule p budget (Shortest ms)
+  shortest_verdict number ms b known few (sound, found) shows walked =
+      let won = won_length number ms b (sound, found) shows walked in
+      let low = sound.low number won.0 won.1 won.2 in
+      let inside_store = stands_within s number won.0 won.1 won.2 in
+      let room = sound.room in
+      let run = walked.3 in
+      let cost = won.3 in
+      let test : (List ℕ × ℕ) → Bool = λ e. nat_lt (e.1 + bound (spelled e.0)) (length ms) in
+      let listed = as_table (inside (length ms) (costs_of s))
+      (inside_once (length ms) (costs_of s) (stored_once (classes bound g rule p) budget s sound))
+      (omega (arith, length-filter test (costs_of s), count_by-le-length test (costs_of s), stored_long s, room, few)) in
+      let table = listed.0 in
+      let backed = backed_below number ms table (sound, found) won.0 won.1 won.2 won.3 listed.1
+      (subst (λ r. r ≤ 2) (sym listed.1) known) listed.2 listed.3 listed.4 in record {
+        right = record { wins = won.4; least = won.5 };
+        earned = tt;
+        written = (run_texts g p b ms pp run, omega (arith, low, inside_store, room, few, cost));
+        backed = record { answer = answer.Shortest ms table; told = refl; backed = backed; ruled = listed.1 };
+      }
+
   -- the verdict of a search that found no way to win
-  pub cannot_win_verdict : Shows (classes bound g rule p) budget s status.CannotWin → IsVerdict g rule p budget CannotWin
-  cannot_win_verdict none = record {
-    right = λ ms wins. none (length ms) (ms, refl, wins);
-    earned = tt;
-    written = tt;
-  }
+  pub cannot_win_verdict : rule ≤ 2 → budget ≤ 4000000 → IsExhausted (classes bound g rule p) budget s
+      → Shows (classes bound g rule p) budget s status.CannotWin → IsVerdict g rule p budget CannotWin
+  cannot_win_verdict known few (sound, done) none =
+      let free : (List ℕ × ℕ) → List ℕ × ℕ = λ e. (e.0, 0) in
+      let room = sound.room in
+      let listed = as_table (at_no_cost (costs_of s)) (no_cost_once (costs_of s) (stored_once (classes bound g rule p) budget s sound))
+      (omega (arith, length-map (costs_of s) free, stored_long s, room, few)) in
+      let table = listed.0 in
+      let backed = backed_whole table (sound, done) listed.1 (subst (λ r. r ≤ 2) (sym listed.1) known) listed.2 listed.3 listed.4 in
+      record {
+        right = λ ms wins. none (length ms) (ms, refl, wins);
+        earned = tt;
+        written = tt;
+        backed = record { answer = answer.CannotWin table; told = refl; backed = backed; ruled = listed.1 };
+      }
 
   -- the verdict of a search that gave up
   pub gave_up_verdict : (y : List ℕ) (number told : ℕ) → Shows (classes bound g rule p) budget s (status.GaveUp y number)
@@ -169,4 +199,5 @@ module _ (g : GameRules) (rule : ℕ) (p : Board) (budget : ℕ) (s : Store (Lis
         right = (same, needs_reach g rule p budget more);
         earned = more;
         written = tt;
+        backed = record { answer = answer.GaveUp told; told = refl; backed = tt; ruled = tt };
       }

@@ -14,7 +14,7 @@ use Rattle.fc_classes.specs.Classes.{classes}
 use Rattle.fc_answers.specs.declared.answers.Answer.{Answer}
 use Rattle.fc_answers.specs.declared.answers.Verdict.{Verdict}
 use Rattle.fc_answers.specs.declared.answers.Verdict.TheVariants as verdict
-use Rattle.fc_answers.specs.Answer.{IsBacked, IsByRule}
+use Rattle.fc_answers.specs.Answer.{IsBacked, IsByRule, CanBeBacked}
 use Rattle.fc_answers.specs.Verdict.{verdict_of, IsRight, CanBeWritten}
 use Rattle.fc_search.specs.Need.{IsEarned}
 use Rattle.fc_bound.specs.Bound.{bound}
@@ -45,11 +45,13 @@ IsOfStatus s budget CannotWin verdict.CannotWin = Unit {0}
 IsOfStatus s budget (GaveUp y number) (verdict.GaveUp told) = told ≡ budget
 IsOfStatus s budget status verdict = ⊥
 
--- all that a verdict of a search for the board is: right, earned, and such as can be written
+-- all that a verdict of a search for the board is: right, earned, such as can be written, and that of an answer that a
+-- table of the search's rule backs, whether or not it was made
 pub record IsVerdict (g : GameRules) (rule : ℕ) (b : Board) (budget : ℕ) (verdict : Verdict) : Type 0 where
   pub right : IsRight g b budget verdict
   pub earned : IsEarned g rule b budget verdict
   pub written : CanBeWritten verdict
+  pub backed : CanBeBacked g rule b verdict
 
 -- all that an answer of a search for the board is: a verdict that is right, backed by a table of the search's rule
 pub record Answers (g : GameRules) (rule : ℕ) (b : Board) (budget : ℕ) (answer : Answer) : Type 0 where

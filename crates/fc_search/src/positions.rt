@@ -1,16 +1,18 @@
-ghost use Rattle.std.specs.Prelude.{◌≡◌, ◌≤◌, ℕ, IfSome, Some};
+ghost use Rattle.std.specs.Prelude.{◌≡◌, ◌≤◌, ℕ, IfSome, Some, length, reverse};
 ghost use Rattle.fc_position.specs.Board.{playable, lifted, placed};
 ghost use Rattle.fc_position.specs.Position.{Fits, IsPosition};
 ghost use Rattle.fc_moves.specs.GameRules.{IsPositionOf};
 ghost use Rattle.fc_moves.specs.Step.{Allows};
 ghost use Rattle.fc_canonical.specs.Key.{IsKeyOf};
 ghost use Rattle.fc_canonical.specs.Moved.{MayMove};
+ghost use Rattle.fc_home.specs.declared.settling.TheConstants.{GREATEST_RULE};
 ghost use Rattle.fc_home.specs.Settles.{NoneGoesHome};
 ghost use Rattle.fc_bound.specs.Bound.{bound as bound_of};
+ghost use Rattle.fc_best_first.specs.Graph.{Reached};
 ghost use Rattle.fc_classes.specs.Classes.{classes};
 ghost use Rattle.fc_canonical.specs.Spelled.{IsKeyIn, spelled};
 ghost use Rattle.fc_classes.proofs.TableLemmas.{lawful};
-ghost use Rattle.fc_search.specs.Children.{IsSettled, IsChildOf, OthersStay, Spells, children_by};
+ghost use Rattle.fc_search.specs.Children.{IsSettled, IsChildOf, OthersStay, Spells, AreChildrenBy};
 ghost use Rattle.fc_tables.proofs.BoundLemmas.{bound_lower};
 
 use arrayvec::ArrayVec;
@@ -19,7 +21,7 @@ use fc_bound::{bound, is_held_back};
 use fc_canonical::{distinct_moves, position_of};
 use fc_cards::Place;
 use fc_classes::ClassKey;
-use fc_home::{goes_home_from, settle};
+use fc_home::{GREATEST_RULE, goes_home_from, settle};
 use fc_moves::{Game, Move, apply};
 use fc_position::Position;
 use std::marker::Model;
@@ -31,7 +33,7 @@ pub struct Positions<G: Game + Drop> {
     pub game: G,
     pub rule: u8,
     pub start: Position,
-    pub ghost known: { rule ≤ 2 },
+    pub ghost known: { rule ≤ GREATEST_RULE },
     pub ghost fits: { IsPositionOf (G.game game) start },
 }
 
@@ -50,6 +52,7 @@ pub struct Children<G: Game + Drop> {
 impl<G: Game + Drop> Model for Children<G> {
     ghost use Rattle.std.specs.Prelude.{◌≡◌, ◌≤◌};
     ghost use Rattle.fc_moves.specs.GameRules.{IsPositionOf};
+    ghost use Rattle.fc_home.specs.declared.settling.TheConstants.{GREATEST_RULE};
     ghost use Rattle.fc_home.specs.Settles.{NoneGoesHome};
     ghost use Rattle.fc_bound.specs.Bound.{bound as bound_of};
     ghost use Rattle.fc_search.specs.Children.{AreAllowed, Left, Spells};
@@ -58,14 +61,14 @@ impl<G: Game + Drop> Model for Children<G> {
 
     ghost view = { λ s. record { game = s.game; rule = s.rule; position = s.position; moves = s.left.items } };
 
-    ghost invariant = { λ s. (s.rule ≤ 2) × IsPositionOf (G.game s.game) s.position × AreAllowed (G.game s.game) s.position s.left.items
+    ghost invariant = { λ s. (s.rule ≤ GREATEST_RULE) × IsPositionOf (G.game s.game) s.position × AreAllowed (G.game s.game) s.position s.left.items
         × (s.bound ≡ bound_of s.position) × NoneGoesHome s.rule (G.game s.game) s.position × Spells s.key s.position };
 }
 
 impl<G: Game + Drop> Positions<G> {
     /// The question for a position that fits the game.
     pub fn new(game: G, rule: u8, start: Position) -> Self
-        requires rule { rule ≤ 2 }
+        requires rule { rule ≤ GREATEST_RULE }
         requires fits { Fits (G.game game).cells start }
         ensures game { result.game ≡ game }
         ensures rule { result.rule ≡ rule }
@@ -83,11 +86,27 @@ impl<G: Game + Drop> Positions<G> {
     {
         position_of(key.bytes())
     }
+
+    // A walk with no child left, which begins at a class that was reached.
+    fn walk(&self, key: &ClassKey) -> Children<G>
+        requires reached { (d : ℕ) × Reached (classes bound_of (G.game self.now.game) self.now.rule self.now.start) key.now d }
+    {
+        let position = self.position(key);
+        let bound = bound(&position);
+        Children {
+            game: self.game.copy(),
+            rule: self.rule,
+            position,
+            key: key.copy(),
+            bound,
+            left: ArrayVec::new(),
+        }
+    }
 }
 
 // The class that the position settles to by the rule, where so many moves led to the position.
 fn settled<G: Game>(game: &G, rule: u8, position: Position, moves: u8) -> Child<ClassKey>
-    requires known { rule ≤ 2 }
+    requires known { rule ≤ GREATEST_RULE }
     requires few { moves ≤ 1 }
     ensures settled { IsSettled (G.game game.now) rule position moves result }
 {
@@ -110,7 +129,7 @@ fn settled_already<G: Game>(
     bound: u8,
     key: Option<ClassKey>,
 ) -> Option<Child<ClassKey>>
-    requires known { rule ≤ 2 }
+    requires known { rule ≤ GREATEST_RULE }
     requires bound { bound ≡ bound_of position.now }
     requires key { IfSome key (IsKeyOf position.now) }
     requires others { OthersStay rule (G.game game.now) position.now from }
@@ -160,7 +179,7 @@ fn child_by_shift<G: Game>(
     bound: u8,
     m: Move,
 ) -> Option<Child<ClassKey>>
-    requires known { rule ≤ 2 }
+    requires known { rule ≤ GREATEST_RULE }
     requires bound { bound ≡ bound_of position.old }
     requires settled { NoneGoesHome rule (G.game game.now) position.old }
     requires whole { IsPosition position.old }
@@ -183,7 +202,7 @@ fn child_by_shift<G: Game>(
 
 // The child to which a move leads, made on a copy of the position.
 fn child_by_copy<G: Game>(game: &G, rule: u8, position: &Position, m: Move) -> Child<ClassKey>
-    requires known { rule ≤ 2 }
+    requires known { rule ≤ GREATEST_RULE }
     requires allowed { Allows (G.game game.now) position.now m }
     ensures child { IsChildOf (G.game game.now) rule position.now m result }
 {
@@ -201,7 +220,7 @@ fn child_by<G: Game>(
     bound: u8,
     m: Move,
 ) -> Child<ClassKey>
-    requires known { rule ≤ 2 }
+    requires known { rule ≤ GREATEST_RULE }
     requires bound { bound ≡ bound_of position.old }
     requires settled { NoneGoesHome rule (G.game game.now) position.old }
     requires whole { IsPosition position.old }
@@ -221,10 +240,14 @@ impl<G: Game + Drop> Space<ClassKey> for Positions<G> {
 
     type Walk = Children<G>;
 
-    ghost rest = { λ w. children_by (G.game w.game) w.rule w.position w.moves };
+    ghost rest = { λ w children. AreChildrenBy (G.game w.game) w.rule w.position (reverse w.moves) children };
 
-    fn start(&self) -> Child<ClassKey> {
-        settled(&self.game, self.rule, self.start.copy(), 0)
+    ghost left = { λ w. length w.moves };
+
+    fn start(&self) -> (Child<ClassKey>, Children<G>) {
+        let child = settled(&self.game, self.rule, self.start.copy(), 0);
+        let walk = self.walk(&child.key);
+        (child, walk)
     }
 
     fn is_won(&self, key: &ClassKey) -> bool {
@@ -233,19 +256,6 @@ impl<G: Game + Drop> Space<ClassKey> for Positions<G> {
 
     fn bound(&self, key: &ClassKey) -> u8 {
         bound(&self.position(key))
-    }
-
-    fn walk(&self, key: &ClassKey) -> Children<G> {
-        let position = self.position(key);
-        let bound = bound(&position);
-        Children {
-            game: self.game.copy(),
-            rule: self.rule,
-            position,
-            key: key.copy(),
-            bound,
-            left: ArrayVec::new(),
-        }
     }
 
     fn visit(&self, key: &ClassKey, walk: &mut Children<G>) -> u8 {

@@ -14,6 +14,7 @@ use fc_best_first as best_first;
 use fc_best_first::{MOST_BUDGET, Mark, SearchFault, Status, Step};
 use fc_classes::ClassKey;
 use fc_frontier::{BucketFrontier, Frontier};
+use fc_home::GREATEST_RULE;
 use fc_moves::Game;
 use fc_position::Position;
 use std::alloc::{AllocError, Global};
@@ -53,7 +54,7 @@ impl<F: Frontier + Drop, G: Game + Drop> Search<F, G> {
         position: &Position,
         budget: u32,
     ) -> Result<Self, SearchFault>
-        requires rule { rule ≤ 2 }
+        requires rule { rule ≤ GREATEST_RULE }
         requires fits { Fits (G.game game.now).cells position.now }
         ensures game { IfOk result (λ search. search.question.game ≡ G.game game.now) }
         ensures rule { IfOk result (λ search. search.question.rule ≡ rule) }
@@ -155,6 +156,7 @@ impl<F: Frontier + Drop, G: Game + Drop> Search<F, G> {
         requires held { Holds (classes_of self.now.question) self.now.budget self.now.store self.now.status }
         requires shown { Shows (classes_of self.now.question) self.now.budget self.now.store self.now.status }
         requires most { self.now.budget ≤ MOST_BUDGET }
+        requires known { self.now.question.rule ≤ GREATEST_RULE }
         requires fits { IsPositionOf self.now.question.game self.now.question.start }
         requires done { self.now.status ≡ Status.Shortest number }
         ensures told { IfOk result (λ moves. IsVerdict self.now.question.game self.now.question.rule self.now.question.start self.now.budget (Verdict.Shortest moves)) }
@@ -169,6 +171,7 @@ impl<F: Frontier + Drop, G: Game + Drop> Search<F, G> {
         requires held { Holds (classes_of self.now.question) self.now.budget self.now.store self.now.status }
         requires shown { Shows (classes_of self.now.question) self.now.budget self.now.store self.now.status }
         requires most { self.now.budget ≤ MOST_BUDGET }
+        requires known { self.now.question.rule ≤ GREATEST_RULE }
         requires fits { IsPositionOf self.now.question.game self.now.question.start }
         requires done { self.now.status ≡ Status.Shortest number }
         ensures answers { IfOk result (Answers self.now.question.game self.now.question.rule self.now.question.start self.now.budget) }
@@ -184,6 +187,7 @@ impl<F: Frontier + Drop, G: Game + Drop> Search<F, G> {
         requires held { Holds (classes_of self.now.question) self.now.budget self.now.store self.now.status }
         requires shown { Shows (classes_of self.now.question) self.now.budget self.now.store self.now.status }
         requires most { self.now.budget ≤ MOST_BUDGET }
+        requires known { self.now.question.rule ≤ GREATEST_RULE }
         requires fits { IsPositionOf self.now.question.game self.now.question.start }
         requires done { self.now.status ≡ Status.CannotWin }
         ensures answers { IfOk result (Answers self.now.question.game self.now.question.rule self.now.question.start self.now.budget) }
@@ -205,7 +209,7 @@ pub fn solve<G: Game + Drop>(
     position: &Position,
     budget: u32,
 ) -> Result<Answer, SearchFault>
-    requires rule { rule ≤ 2 }
+    requires rule { rule ≤ GREATEST_RULE }
     requires fits { Fits (G.game game.now).cells position.now }
     ensures answers { IfOk result (Answers (G.game game.now) rule position.now budget) }
     ensures ran { IfOk result (λ answer. IsRunToEnd (G.game game.now) rule position.now budget (verdict_of answer)) }
@@ -226,7 +230,7 @@ pub fn decide<G: Game + Drop>(
     position: &Position,
     budget: u32,
 ) -> Result<Verdict, SearchFault>
-    requires rule { rule ≤ 2 }
+    requires rule { rule ≤ GREATEST_RULE }
     requires fits { Fits (G.game game.now).cells position.now }
     ensures told { IfOk result (IsVerdict (G.game game.now) rule position.now budget) }
     ensures ran { IfOk result (IsRunToEnd (G.game game.now) rule position.now budget) }
@@ -244,7 +248,7 @@ fn at_end<G: Game + Drop>(
     position: &Position,
     budget: u32,
 ) -> Result<Search<BucketFrontier, G>, SearchFault>
-    requires rule { rule ≤ 2 }
+    requires rule { rule ≤ GREATEST_RULE }
     requires fits { Fits (G.game game.now).cells position.now }
     ensures question { IfOk result (λ search. search.question ≡ record { game = G.game game.now; rule = rule; start = position.now }) }
     ensures budget { IfOk result (λ search. search.budget ≡ budget) }

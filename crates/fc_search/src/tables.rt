@@ -11,6 +11,7 @@ use crate::searches::Search;
 use fc_answers::{Row, Table};
 use fc_best_first::{MOST_BUDGET, Space};
 use fc_frontier::Frontier;
+use fc_home::GREATEST_RULE;
 use fc_moves::Game;
 use std::alloc::AllocError;
 
@@ -20,15 +21,16 @@ impl<F: Frontier + Drop, G: Game + Drop> Search<F, G> {
         requires sound { IsSound (classes_of self.now.question) self.now.budget self.now.store }
         requires most { self.now.budget ≤ MOST_BUDGET }
         ensures rule { IfOk result (λ table. table.rule ≡ self.now.question.rule) }
-        ensures known { IfOk result (λ table. table.rule ≤ 2) }
+        ensures known { IfOk result (λ table. table.rule ≤ GREATEST_RULE) }
         ensures few { IfOk result (λ table. length table.rows ≤ MOST_BUDGET) }
         ensures rows { IfOk result (λ table. IsPermutation (inside n (costs_of self.now.store)) table.rows) }
         ensures rising { IfOk result (λ table. IsRising table.rows) }
     {
+        let space = self.search.space();
         let mut rows = Vec::new(self.alloc);
         for number in 0..self.search.len() as u32 {
             let (key, mark) = self.at(number);
-            let bound = self.search.space().bound(key);
+            let bound = space.bound(key);
             if ((mark.cost + u32::from(bound)) as usize) < n {
                 rows.push(Row {
                     key: key.copied(),
@@ -36,7 +38,7 @@ impl<F: Frontier + Drop, G: Game + Drop> Search<F, G> {
                 })?;
             }
         }
-        Ok(Table::sorted(self.search.space().rule, rows))
+        Ok(Table::sorted(space.rule, rows))
     }
 
     // The stored classes, each at no cost.
@@ -44,7 +46,7 @@ impl<F: Frontier + Drop, G: Game + Drop> Search<F, G> {
         requires sound { IsSound (classes_of self.now.question) self.now.budget self.now.store }
         requires most { self.now.budget ≤ MOST_BUDGET }
         ensures rule { IfOk result (λ table. table.rule ≡ self.now.question.rule) }
-        ensures known { IfOk result (λ table. table.rule ≤ 2) }
+        ensures known { IfOk result (λ table. table.rule ≤ GREATEST_RULE) }
         ensures few { IfOk result (λ table. length table.rows ≤ MOST_BUDGET) }
         ensures rows { IfOk result (λ table. IsPermutation (at_no_cost (costs_of self.now.store)) table.rows) }
         ensures rising { IfOk result (λ table. IsRising table.rows) }

@@ -79,14 +79,22 @@ impl Space<Sum> for Sums {
 
     type Walk = Addends;
 
-    ghost rest = { λ w. option_to_list w.two ++ (option_to_list w.four ++ option_to_list w.six) };
+    ghost rest = { λ w children. children ≡ option_to_list w.two ++ (option_to_list w.four ++ option_to_list w.six) };
 
-    fn start(&self) -> Child<Sum> {
-        Child {
+    ghost left = { λ w. length (option_to_list w.two ++ (option_to_list w.four ++ option_to_list w.six)) };
+
+    fn start(&self) -> (Child<Sum>, Addends) {
+        let child = Child {
             key: Sum { value: 0 },
             cost: 0,
             bound: self.goal,
-        }
+        };
+        let walk = Addends {
+            two: None,
+            four: None,
+            six: None,
+        };
+        (child, walk)
     }
 
     fn is_won(&self, key: &Sum) -> bool {
@@ -95,14 +103,6 @@ impl Space<Sum> for Sums {
 
     fn bound(&self, key: &Sum) -> u8 {
         u32::from(self.goal).saturating_sub(key.value) as u8
-    }
-
-    fn walk(&self, _key: &Sum) -> Addends {
-        Addends {
-            two: None,
-            four: None,
-            six: None,
-        }
     }
 
     fn visit(&self, key: &Sum, walk: &mut Addends) -> u8 {

@@ -5,7 +5,9 @@ use fc_cards::Place;
 use fc_frontier::{BucketFrontier, Frontier, ListFrontier};
 use fc_moves::{FreeCell, Game, Kings, Move};
 use fc_position::Position;
-use fc_search::{Answer, MOST_BUDGET, MoveList, Search, SearchFault, Step, Table, Verdict, solve};
+use fc_search::{
+    Answer, MOST_BUDGET, MoveList, Search, SearchFault, Step, Table, Verdict, decide, solve,
+};
 use fc_tests::boards::{
     ALL_HOME, CLASSES_495, FREE_KING, LOCKED, ONE_COLUMN, ONE_KING, QUEEN_UNDER_KING, Rules,
     THIRTY_MOVES, THREE_KINGS, THREE_SPADES, TWO_KINGS,
@@ -115,7 +117,17 @@ fn report<G: Game>(rt: &impl Abort, game: &G, rule: u8, start: &Position, answer
     }
 }
 
-// The answer for the row's board is the row's, by a rule.
+// Whether the verdict is that of such an answer.
+fn is_verdict_of(verdict: &Verdict, told: Told) -> bool {
+    match (verdict, told) {
+        (Verdict::Shortest(list), Told::Shortest(count, _)) => list.len() == count,
+        (Verdict::CannotWin, Told::CannotWin(_)) => true,
+        (Verdict::GaveUp(budget), Told::GaveUp(least)) => *budget == least,
+        _ => false,
+    }
+}
+
+// The answer for the row's board is the row's, by a rule, and so is the verdict.
 fn answers_by<G: Game + Drop>(rt: &impl Abort, alloc: Global, game: &G, rule: u8, row: &Row) {
     assert!(rt; rule <= 2, "a rule");
     let start = board(rt, game, row.board);
@@ -123,6 +135,8 @@ fn answers_by<G: Game + Drop>(rt: &impl Abort, alloc: Global, game: &G, rule: u8
     let told = report(rt, game, rule, &start, &answer);
     assert!(rt; told == row.told, "rule {rule}");
     assert!(rt; shows(&answer, row.shown), "rule {rule}");
+    let verdict = sure(rt, decide(alloc, game, rule, &start, row.budget));
+    assert!(rt; is_verdict_of(&verdict, row.told), "rule {rule}");
 }
 
 // The answer for the row's board is the row's, by each of its rules.

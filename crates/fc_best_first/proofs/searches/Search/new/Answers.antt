@@ -6,7 +6,7 @@ use Rattle.fc_best_first.proofs.searches.Search.new.Goals as goal
 pub invariant_of-result : goal.invariant_of-result
 invariant_of-result g c =
     let graph = g.S.Space.graph c.args.space in
-    let key = c.start-start.result.key in
+    let key = c.start-start.result.0.key in
     let cost : ℕ = c.from-cost.result in
     let mark : Mark = record { cost = cost; parent = 0 } in
     let f : ℕ = cost + c.from.result in
@@ -21,6 +21,3 @@ invariant_of-result g c =
           (λ y d h. let a = c.start-start.ensures.alone y d h in (a.0, subst (λ k. k ≤ d) (sym c.from-cost.ensures) a.1))
           refl exact,
     )
-
-pub walk-walk-requires : goal.walk-walk-requires
-walk-walk-requires g c = record { reached = (c.start-start.result.cost, (0, c.start-start.ensures.starts)) }

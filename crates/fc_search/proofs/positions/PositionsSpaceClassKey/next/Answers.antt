@@ -1,12 +1,13 @@
-use Rattle.std.proofs.Common.{◌≡◌, [], ◌∷◌, sym, subst}
+use Rattle.std.proofs.Common.{◌≡◌, [], ◌∷◌, reverse, sym, subst}
 use Rattle.std.specs.Prelude.{Contains}
 use Rattle.std.proofs.lemmas.List.Elements.{Contains-push, Contains-append_left}
+use Rattle.std.proofs.lemmas.List.Sorted.{Contains-permutation, IsPermutation-reverse, IsPermutation-sym}
 use Rattle.fc_moves.specs.GameRules.{IsPositionOf}
 use Rattle.fc_moves.specs.Step.{Allows}
 use Rattle.fc_home.specs.Settles.{NoneGoesHome}
 use Rattle.fc_bound.specs.Bound.{bound as bound_of}
-use Rattle.fc_search.specs.Children.{children_by, Spells}
-use Rattle.fc_search.proofs.ChildLemmas.{next_child}
+use Rattle.fc_search.specs.Children.{AreAllowed, AreChildrenBy, Spells}
+use Rattle.fc_search.proofs.ChildLemmas.{children_exist, next_child}
 use Rattle.fc_search.proofs.positions.PositionsSpaceClassKey.next.Goals as goal
 
 pub child_by-requires-clause-allowed : goal.child_by-requires-clause-allowed
@@ -30,16 +31,25 @@ invariant_of-walk-2 g c =
       subst (Spells inner.key) same c.walk.invariant.5,
     )
 
-pub returns : goal.returns
-returns g c =
+pub returns-clause-next : goal.returns-clause-next
+returns-clause-next g c =
     let inner = c.walk.inside in
-    let m = c.in_ok-m.m in
-    let next = next_child (g.G.Game.game inner.game) inner.rule inner.position inner.left.items c.pop.new.self.items m c.child_by.result
-    c.walk.invariant.1 c.in_ok-m.ensures.items c.child_by.ensures.child in
-    let after = subst (λ b. children_by (g.G.Game.game inner.game) inner.rule inner.position inner.left.items
-    ≡ c.child_by.result ∷ children_by (g.G.Game.game inner.game) inner.rule b c.pop.new.self.items) (sym c.child_by.ensures.same) next in
-    record {
-      next = subst (λ w. children_by (g.G.Game.game w.game) w.rule w.position w.moves
-          ≡ c.child_by.result ∷ children_by (g.G.Game.game inner.game) inner.rule c.child_by.new.position c.pop.new.self.items)
-          c.walk.view_is after;
-    }
+    let rules = g.G.Game.game inner.game in
+    let rest = c.pop.new.self.items in
+    λ children are. subst (λ w. AreChildrenBy (g.G.Game.game w.game) w.rule w.position (reverse w.moves) (c.child_by.result ∷ children))
+    c.walk.view_is
+    (next_child rules inner.rule inner.position inner.left.items rest c.in_ok-m.m c.child_by.result children c.in_ok-m.ensures.items
+    c.child_by.ensures.child (subst (λ b. AreChildrenBy rules inner.rule b (reverse rest) children) c.child_by.ensures.same are))
+
+pub returns-clause-some : goal.returns-clause-some
+returns-clause-some g c =
+    let inner = c.walk.inside in
+    let rules = g.G.Game.game inner.game in
+    let rest = c.pop.new.self.items in
+    let allowed : AreAllowed rules inner.position (reverse rest) = λ m there.
+    c.walk.invariant.2 m
+    (subst (λ l. Contains l m) (sym c.in_ok-m.ensures.items)
+    (Contains-append_left rest (c.in_ok-m.m ∷ []) m
+    (Contains-permutation (reverse rest) rest m (IsPermutation-sym rest (reverse rest) (IsPermutation-reverse rest)) there))) in
+    let some = children_exist rules inner.rule inner.position (reverse rest) allowed in
+    (some.0, subst (λ b. AreChildrenBy rules inner.rule b (reverse rest) some.0) (sym c.child_by.ensures.same) some.1)

@@ -1,15 +1,13 @@
-use Rattle.std.proofs.Common.{map, sym, subst, ap, ◌∙◌}
+use Rattle.std.proofs.Common.{reverse, sym, subst, ap, ◌∙◌}
 use Rattle.fc_moves.specs.GameRules.{IsPositionOf}
 use Rattle.fc_canonical.specs.Distinct.{ListsClasses}
 use Rattle.fc_canonical.specs.Key.{board_bytes}
 use Rattle.fc_canonical.specs.Order.{IsCanonical}
 use Rattle.fc_home.specs.Settles.{NoneGoesHome}
-use Rattle.fc_best_first.specs.Turn.{AreChildren}
-use Rattle.fc_classes.specs.Classes.{classes}
 use Rattle.fc_canonical.specs.Spelled.{spelled}
 use Rattle.fc_classes.proofs.PathLemmas.{reached_of_positions}
-use Rattle.fc_search.specs.Children.{AreAllowed, child_by, children_by}
-use Rattle.fc_search.proofs.ChildLemmas.{have_children, children_all}
+use Rattle.fc_search.specs.Children.{AreAllowed, AreChildrenBy}
+use Rattle.fc_search.proofs.ChildLemmas.{children_all}
 use Rattle.fc_search.proofs.StayLemmas.{none_goes}
 use Rattle.fc_search.proofs.positions.PositionsSpaceClassKey.visit.Goals as goal
 use Rattle.fc_bound.specs.Bound.{bound}
@@ -49,9 +47,6 @@ returns-clause-children g c =
     let moves = c.distinct_moves-walk-inside.result.items in
     let valid = (reached_of_positions bound rules own.rule own.start x c.requires.reached.0 own.fits c.requires.reached.1).0 in
     let lists = subst (λ b. ListsClasses rules b moves) c.position-walk-inside.ensures.value c.distinct_moves-walk-inside.ensures.classes in
-    let have = have_children rules own.rule (spelled x) moves lists.allowed in
-    let all = children_all rules own.rule own.start x moves (map (child_by rules own.rule (spelled x)) moves) valid lists have in
-    subst (λ r. AreChildren (classes bound rules own.rule own.start) x (children_by r own.rule c.position-walk-inside.result moves))
-    (sym c.copy.ensures.value)
-    (subst (λ b. AreChildren (classes bound rules own.rule own.start) x (children_by rules own.rule b moves))
-    (sym c.position-walk-inside.ensures.value) all)
+    λ children are. children_all rules own.rule own.start x moves children valid lists
+    (subst (λ b. AreChildrenBy rules own.rule b (reverse moves) children) c.position-walk-inside.ensures.value
+    (subst (λ r. AreChildrenBy r own.rule c.position-walk-inside.result (reverse moves) children) c.copy.ensures.value are))

@@ -17,7 +17,8 @@ returns-clause-answers g c =
     let budget = c.args.self.now.budget in
     let store = c.args.self.now.store in
     let made = c.in_ok-table_of_all.ensures in record {
-      told = cannot_win_verdict q.game q.rule q.start budget store c.requires.fits
+      told = cannot_win_verdict q.game q.rule q.start budget store c.requires.fits c.requires.known c.requires.most
+          (subst (Holds graph budget store) c.requires.done c.requires.held)
           (subst (Shows graph budget store) c.requires.done c.requires.shown);
       backed = backed_whole q.game q.rule q.start budget store c.requires.fits c.in_ok-table_of_all.field-0
           (subst (Holds graph budget store) c.requires.done c.requires.held) made.rule made.known made.few made.rising made.rows;

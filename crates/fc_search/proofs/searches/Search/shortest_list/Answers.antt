@@ -15,7 +15,7 @@ returns-clause-told g c =
     let store = c.args.self.now.store in
     let there = c.in_ok-moves.ensures.there in
     shortest_verdict q.game q.rule q.start budget store c.requires.fits c.args.number c.in_ok-moves.moves there.0
-    c.requires.most (subst (Holds graph budget store) c.requires.done c.requires.held)
+    c.requires.known c.requires.most (subst (Holds graph budget store) c.requires.done c.requires.held)
     (subst (Shows graph budget store) c.requires.done c.requires.shown) there.1
 
 pub returns-clause-kind : goal.returns-clause-kind

@@ -22,7 +22,7 @@ bound-bound-requires g c =
     record {
       reached = (
         cost,
-        subst (λ s. Reached (classes bound (g.G.Game.game s.game) s.rule s.start) key cost) (sym c.space.ensures.value) inner,
+        subst (λ s. Reached (classes bound (g.G.Game.game s.game) s.rule s.start) key cost) (sym c.space-space.ensures.value) inner,
       );
     }
 

@@ -1,5 +1,5 @@
 use Rattle.std.proofs.Common.{◌≡◌, sym, ◌∙◌, subst}
-use Rattle.fc_best_first.specs.Shown.{Shows}
+use Rattle.fc_best_first.specs.Shown.{Holds, Shows}
 use Rattle.fc_best_first.specs.declared.turns.Status.TheVariants as status
 use Rattle.fc_classes.specs.Classes.{classes}
 use Rattle.fc_answers.specs.declared.answers.Verdict.TheVariants as verdict
@@ -14,7 +14,9 @@ returns-in-CannotWin-clause-told g c =
     let graph = classes bound (g.G.Game.game inner.space.game) inner.space.rule inner.space.start in
     let stands : inner.status ≡ status.CannotWin = sym c.status.ensures.value ∙ c.in-CannotWin.is in
     let told = cannot_win_verdict (g.G.Game.game inner.space.game) inner.space.rule inner.space.start inner.budget inner.store
-    inner.space.fits (subst (Shows graph inner.budget inner.store) stands c.status.ensures.shows) in
+    inner.space.fits inner.space.known c.status.ensures.most
+    (subst (Holds graph inner.budget inner.store) stands c.status.ensures.holds)
+    (subst (Shows graph inner.budget inner.store) stands c.status.ensures.shows) in
     subst (λ s. IsVerdict s.question.game s.question.rule s.question.start s.budget verdict.CannotWin)
     c.self.view_is told
 

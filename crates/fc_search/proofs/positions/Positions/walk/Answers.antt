@@ -7,7 +7,7 @@ use Rattle.fc_home.specs.Settles.{NoneGoesHome}
 use Rattle.fc_canonical.specs.Spelled.{spelled}
 use Rattle.fc_classes.proofs.PathLemmas.{reached_of_positions}
 use Rattle.fc_search.proofs.StayLemmas.{none_goes}
-use Rattle.fc_search.proofs.positions.PositionsSpaceClassKey.walk.Goals as goal
+use Rattle.fc_search.proofs.positions.Positions.walk.Goals as goal
 use Rattle.fc_bound.specs.Bound.{bound}
 
 pub position-position-requires : goal.position-position-requires
