@@ -36,8 +36,8 @@ pub record AreCells (most : ℕ) (bytes : List ℕ) : Type 0 where
   pub rising : IsNonDecreasing bytes
   pub few : count_by (λ byte. not (byte == 255)) bytes ≤ most
 
--- the bytes are so many columns, in order from that one on, and with what was read before each number stands as often
--- as it is due
+-- the bytes are so many columns by rising order, none lower than the given one, and what was read before and the columns
+-- have each number as often as it is due
 pub record AreColumns (read : ℕ → ℕ) (order count : ℕ) (key : List ℕ) : Type 0 where
   pub columns : List (List ℕ)
   pub many : length columns ≡ count

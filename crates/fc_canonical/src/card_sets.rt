@@ -6,9 +6,10 @@ ghost use Rattle.fc_canonical.specs.Parts.{times_in, due, count_in_cells};
 
 use std::marker::Model;
 
-// The bits of all the cards, and of each suit's, every fourth.
+// The bits of all the cards.
 const ALL: u64 = 0xF_FFFF_FFFF_FFFF;
 
+// The bits of the cards of each suit, which are every fourth.
 const CLUBS: u64 = 0x1_1111_1111_1111;
 
 const DIAMONDS: u64 = 0x2_2222_2222_2222;

@@ -1,8 +1,7 @@
 //! Bytes told to be a key with no position made of them.
 
-ghost use Rattle.std.specs.Prelude.{◌≡◌, ℕ, ◌≤◌, ◌↔◌, IsTrue, All, IfSome, IfNone, length, List, ◌++◌};
+ghost use Rattle.std.specs.Prelude.{◌≡◌, ◌≤◌, ◌↔◌, IsTrue, All, length};
 ghost use Rattle.std.specs.List.Sorted.{IsNonDecreasing};
-ghost use Rattle.fc_canonical.specs.Key.{column_bytes};
 ghost use Rattle.fc_canonical.specs.Order.{column_order};
 ghost use Rattle.fc_canonical.specs.Parts.{times_in, AreCells, AreColumns};
 ghost use Rattle.fc_canonical.specs.Spelled.{IsKeyFor};
