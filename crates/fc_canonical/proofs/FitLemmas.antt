@@ -8,9 +8,10 @@ use Rattle.fc_position.specs.Board.{Board, cell}
 use Rattle.fc_position.specs.Position.{IsPosition}
 use Rattle.fc_position.proofs.BoardLemmas.{cell_there, playable_below}
 use Rattle.fc_canonical.specs.Order.{IsCanonical, cell_byte}
+use Rattle.fc_canonical.specs.Spelled.{spelled}
 use Rattle.fc_canonical.proofs.ClassLemmas.{class_positions}
 use Rattle.fc_canonical.proofs.Rearrange.{one_full, full_most}
-use Rattle.fc_canonical.specs.Laws.{CanonicalBoardsFit, CanonicalBoardsFitByCount}
+use Rattle.fc_canonical.specs.Laws.{CanonicalBoardsFit, CanonicalBoardsFitByCount, KeysOfGamesByCells}
 
 -- where the first n are full, at least n are
 many_full : (n : ℕ) (xs : List (Option ℕ)) → ((i : ℕ) → i < n → one_full (get_or xs i None) ≡ 1) → n ≤ sum_by one_full xs
@@ -65,4 +66,19 @@ fits_by_count n b p ordered = (
   λ fits. let few = full_most n b.cells fits in omega (arith, few, counted b.cells),
   λ few i past. none_by (cell b i)
       (λ u there. no_card n b i u p ordered (omega (arith, few, counted b.cells)) past there),
+)
+
+pub keys_by_cells : KeysOfGamesByCells
+keys_by_cells g key = (
+  λ k. record {
+    position = k.position.position;
+    few = (fits_by_count g.cells (spelled key) k.position.position k.ordered).0 k.position.fits;
+    ordered = k.ordered;
+    bytes = k.bytes;
+  },
+  λ k. record {
+    position = record { position = k.position; fits = (fits_by_count g.cells (spelled key) k.position k.ordered).1 k.few };
+    ordered = k.ordered;
+    bytes = k.bytes;
+  },
 )

@@ -1,3 +1,4 @@
+pub mod CheckLemmas
 pub mod ClassLemmas
 pub mod DistinctLemmas
 pub mod FitLemmas
@@ -7,7 +8,9 @@ pub mod ListingLemmas
 pub mod MoveLemmas
 pub mod MovedLemmas
 pub mod OrderLemmas
+pub mod PartLemmas
 pub mod ReadLemmas
 pub mod Rearrange
+pub mod SetLemmas
 pub mod SortLemmas
 pub mod SpelledLemmas

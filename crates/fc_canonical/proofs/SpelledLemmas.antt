@@ -23,7 +23,7 @@ cell_back : (x : Option ℕ) → IsSmall x → spelled_cell (cell_byte x) ≡ x
 cell_back None small = refl
 cell_back (Some c) small = grind (arith, nat_tests)
 
-cells_back : (xs : List (Option ℕ)) → All IsSmall xs → map spelled_cell (map cell_byte xs) ≡ xs
+pub cells_back : (xs : List (Option ℕ)) → All IsSmall xs → map spelled_cell (map cell_byte xs) ≡ xs
 cells_back [] all = refl
 cells_back (x ∷ xs) all =
     ap (λ y. y ∷ map spelled_cell (map cell_byte xs)) (cell_back x (All-head IsSmall x xs all))

@@ -9,7 +9,7 @@ use Rattle.fc_moves.specs.Step.{Step}
 use Rattle.fc_canonical.specs.Class.{SameClass}
 use Rattle.fc_canonical.specs.Key.{longest_key, IsKeyOf, HasExtent, BeginsWithKey}
 use Rattle.fc_canonical.specs.Order.{IsCanonical, full_cells}
-use Rattle.fc_canonical.specs.Spelled.{IsKeyIn, spelled}
+use Rattle.fc_canonical.specs.Spelled.{IsKeyIn, IsKeyFor, spelled}
 
 -- a board is of its own class, and to be of one class may be turned round and joined
 abbrev pub ClassesAreEquivalences : Type 0
@@ -89,3 +89,7 @@ KeysBeginThemselves = (g : GameRules) (key : List ℕ) → IsKeyIn g key → Beg
 -- bytes that begin with the key of a position spell it, whatever follows
 abbrev pub FrontKeysSpellTheirBoard : Type 0
 FrontKeysSpellTheirBoard = (bytes : List ℕ) (b : Board) (n : ℕ) → BeginsWithKey bytes b n → spelled bytes ≡ b
+
+-- bytes are a key of the game exactly where they are one of whose cells at most as many as the game has hold a card
+abbrev pub KeysOfGamesByCells : Type 0
+KeysOfGamesByCells = (g : GameRules) (key : List ℕ) → IsKeyIn g key ↔ IsKeyFor g.cells key

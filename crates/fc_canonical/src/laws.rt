@@ -1,6 +1,6 @@
 //! Laws of the definitions, each the contract of a function that does nothing.
 
-ghost use Rattle.fc_canonical.specs.Laws.{ClassesAreEquivalences, ClassMatesArePositions, ClassMatesStepAlike, ClassMatesWinAlike, ClassesHaveOneCanonicalBoard, KeysTellClasses, BytesBeginWithOneKey, KeysHaveExtents, ExtentsAreOne, FrontsHaveTheirExtent, KeysAreShort, PositionsHaveKeys, KeysSpellPositions, KeysBeginThemselves, FrontKeysSpellTheirBoard, CanonicalBoardsFit, CanonicalBoardsFitByCount};
+ghost use Rattle.fc_canonical.specs.Laws.{ClassesAreEquivalences, ClassMatesArePositions, ClassMatesStepAlike, ClassMatesWinAlike, ClassesHaveOneCanonicalBoard, KeysTellClasses, BytesBeginWithOneKey, KeysHaveExtents, ExtentsAreOne, FrontsHaveTheirExtent, KeysAreShort, PositionsHaveKeys, KeysSpellPositions, KeysBeginThemselves, FrontKeysSpellTheirBoard, CanonicalBoardsFit, CanonicalBoardsFitByCount, KeysOfGamesByCells};
 
 /// A board is of its own class, and to be of one class may be turned round and joined.
 pub fn classes_are_equivalences()
@@ -86,4 +86,9 @@ pub fn keys_begin_themselves()
 /// Bytes that begin with the key of a position spell that position, whatever follows.
 pub fn front_keys_spell_their_board()
     ensures { FrontKeysSpellTheirBoard }
+{}
+
+/// Bytes are a key of a game exactly where they are one of whose cells at most as many as the game has hold a card.
+pub fn keys_of_games_by_cells()
+    ensures { KeysOfGamesByCells }
 {}

@@ -182,7 +182,7 @@ fn push_cards(bytes: &[u8], cards: &mut ArrayVec<Card, 52>)
 }
 
 // The bytes of the cards of the column at the front, and what follows the column.
-fn split_column(bytes: &[u8]) -> Option<(&[u8], &[u8])>
+pub(crate) fn split_column(bytes: &[u8]) -> Option<(&[u8], &[u8])>
     ensures found { IfSome result (λ r. bytes.now ≡ column_bytes r.0.now ++ r.1.now) }
     ensures none { IfNone result ((cards rest : List ℕ) → bytes.now ≡ column_bytes cards ++ rest → ⊥) }
 {
@@ -191,7 +191,7 @@ fn split_column(bytes: &[u8]) -> Option<(&[u8], &[u8])>
 }
 
 // The first bytes, and what follows them.
-fn cut(bytes: &[u8], count: usize) -> Option<(&[u8], &[u8])>
+pub(crate) fn cut(bytes: &[u8], count: usize) -> Option<(&[u8], &[u8])>
     ensures found { IfSome result (λ r. (count ≤ length bytes.now) × (r.0.now ≡ take count bytes.now)
         × (r.1.now ≡ drop count bytes.now)) }
     ensures none { IfNone result (length bytes.now < count) }
