@@ -7,7 +7,9 @@ use Rattle.fc_tables.specs.Table.{IsClosed, IsClosedBelow, as_boards}
 use Rattle.fc_canonical.specs.Spelled.{spelled}
 use Rattle.fc_answers.specs.declared.answers.Answer.{Answer}
 use Rattle.fc_answers.specs.declared.answers.Answer.TheVariants.{Shortest, CannotWin, GaveUp}
+use Rattle.fc_answers.specs.declared.answers.Verdict.{Verdict}
 use Rattle.fc_answers.specs.Table.{Listing, IsTable}
+use Rattle.fc_answers.specs.Verdict.{verdict_of}
 
 -- the table shows that no list of fewer than n moves wins from the board: it is one of the game, closed below n under its
 -- own rule, and each cost and bound is below n
@@ -34,3 +36,10 @@ abbrev pub IsByRule : ℕ → Answer → Type 0
 IsByRule rule (Shortest moves table) = table.rule ≡ rule
 IsByRule rule (CannotWin table) = table.rule ≡ rule
 IsByRule rule (GaveUp told) = Unit {0}
+
+-- the verdict is that of a backed answer, by this home rule
+pub record CanBeBacked (g : GameRules) (rule : ℕ) (b : Board) (verdict : Verdict) : Type 0 where
+  pub answer : Answer
+  pub told : verdict_of answer ≡ verdict
+  pub backed : IsBacked g b answer
+  pub ruled : IsByRule rule answer

@@ -4,6 +4,7 @@ use Rattle.std.specs.List.{filter}
 use Rattle.fc_moves.specs.GameRules.{GameRules}
 use Rattle.fc_canonical.specs.KeyOrder.{IsBefore}
 use Rattle.fc_canonical.specs.Spelled.{IsKeyIn, spelled}
+use Rattle.fc_home.specs.declared.settling.TheConstants.{GREATEST_RULE}
 use Rattle.fc_bound.specs.Bound.{bound}
 use Rattle.fc_answers.specs.declared.tables.TheConstants.{MOST_CLASSES}
 use Rattle.fc_answers.specs.declared.tables.Row.{Row}
@@ -24,7 +25,7 @@ AreClasses g rows = (e : List ℕ × ℕ) → Contains rows e → IsKeyIn g e.0
 
 -- a table of the game: it is under a home rule, has at most 4,000,000 rows, which rise, and lists classes of the game alone
 pub record IsTable (g : GameRules) (table : Listing) : Type 0 where
-  pub known : table.rule ≤ 2
+  pub known : table.rule ≤ GREATEST_RULE
   pub few : length table.rows ≤ MOST_CLASSES
   pub rising : IsRising table.rows
   pub classes : AreClasses g table.rows

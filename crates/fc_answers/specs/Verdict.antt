@@ -1,10 +1,10 @@
 -- What is told of a position and a budget, and when that is right.
-use Rattle.std.specs.Prelude.{◌≡◌, ℕ, ◌*◌, ◌≤◌, length, All}
+use Rattle.std.specs.Prelude.{◌≡◌, ℕ, ◌≤◌, length, All}
 use Rattle.fc_position.specs.Board.{Board}
 use Rattle.fc_moves.specs.GameRules.{GameRules}
 use Rattle.fc_moves.specs.MoveText.{HasText}
 use Rattle.fc_moves.specs.Run.{IsShortest, CannotWin, ReachesMore}
-use Rattle.fc_answers.specs.declared.tables.TheConstants.{MOST_CLASSES}
+use Rattle.fc_answers.specs.declared.answers.TheConstants.{MOST_MOVES}
 use Rattle.fc_answers.specs.declared.answers.Answer.{Answer}
 use Rattle.fc_answers.specs.declared.answers.Answer.TheVariants as answer
 use Rattle.fc_answers.specs.declared.answers.Verdict.{Verdict}
@@ -23,8 +23,8 @@ IsRight g b budget (Shortest moves) = IsShortest g b moves
 IsRight g b budget cannot_win = CannotWin g b
 IsRight g b budget (GaveUp told) = (told ≡ budget) × ReachesMore g b budget
 
--- the moves of a list can be written: each has a text, and they are at most 53 for each class that could be stored
+-- the moves of a list can be written: each has a text, and they are no more than a list may have
 abbrev pub CanBeWritten : Verdict → Type 0
-CanBeWritten (Shortest moves) = All HasText moves × (length moves ≤ 53 * MOST_CLASSES)
+CanBeWritten (Shortest moves) = All HasText moves × (length moves ≤ MOST_MOVES)
 CanBeWritten cannot_win = Unit {0}
 CanBeWritten (GaveUp told) = Unit {0}

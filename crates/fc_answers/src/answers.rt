@@ -1,8 +1,11 @@
 ghost use Rattle.std.specs.Prelude.{◌≡◌, ◌<◌, ◌↔◌, [], length, Some, slice_get, IsTrue};
 
-use crate::tables::Table;
+use crate::tables::{MOST_CLASSES, Table};
 use fc_moves::Move;
 use std::marker::Model;
+
+/// The most moves of a list that is answered: a move and 52 home moves for each class that a table may list.
+pub const MOST_MOVES: u32 = 53 * MOST_CLASSES;
 
 /// What is answered of a position and a budget.
 #[derive(Drop)]

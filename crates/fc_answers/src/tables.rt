@@ -3,6 +3,7 @@ ghost use Rattle.std.specs.List.Sorted.{IsPermutation};
 ghost use Rattle.fc_answers.specs.Table.{HaveKeysOnce, IsRising, pairs_of};
 
 use fc_canonical::Key;
+use fc_home::GREATEST_RULE;
 use std::marker::Model;
 
 /// The most classes that a table lists.
@@ -25,6 +26,7 @@ pub struct Table {
 
 impl Model for Table {
     ghost use Rattle.std.specs.Prelude.{◌≤◌, length};
+    ghost use Rattle.fc_home.specs.declared.settling.TheConstants.{GREATEST_RULE};
     ghost use Rattle.fc_answers.specs.Table.{Listing, IsRising, pairs_of};
     ghost use Rattle.fc_answers.specs.declared.tables.TheConstants.{MOST_CLASSES};
 
@@ -32,13 +34,13 @@ impl Model for Table {
 
     ghost view = { λ s. record { rule = s.rule; rows = pairs_of s.rows.items } };
 
-    ghost invariant = { λ s. (s.rule ≤ 2) × (length s.rows.items ≤ MOST_CLASSES) × IsRising (pairs_of s.rows.items) };
+    ghost invariant = { λ s. (s.rule ≤ GREATEST_RULE) × (length s.rows.items ≤ MOST_CLASSES) × IsRising (pairs_of s.rows.items) };
 }
 
 impl Table {
     /// The table of these rows, in order, under a home rule of at most 2. No two rows may have one key.
     pub fn sorted(rule: u8, rows: Vec<Row>) -> Self
-        requires known { rule ≤ 2 }
+        requires known { rule ≤ GREATEST_RULE }
         requires few { length rows.items ≤ MOST_CLASSES }
         requires once { HaveKeysOnce (pairs_of rows.items) }
         ensures rule { result.rule ≡ rule }
@@ -53,7 +55,7 @@ impl Table {
     /// The home rule that the classes were searched by, 0 to 2.
     pub fn rule(&self) -> u8
         ensures value { result ≡ self.now.rule }
-        ensures known { result ≤ 2 }
+        ensures known { result ≤ GREATEST_RULE }
     {
         self.rule
     }

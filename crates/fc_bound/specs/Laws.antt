@@ -8,6 +8,7 @@ use Rattle.fc_moves.specs.GameRules.{GameRules}
 use Rattle.fc_moves.specs.Run.{Wins}
 use Rattle.fc_moves.specs.Step.{Step}
 use Rattle.fc_canonical.specs.Class.{SameClass}
+use Rattle.fc_bound.specs.declared.bounds.TheConstants.{GREATEST_BOUND}
 use Rattle.fc_bound.specs.Bound.{bound, is_away, is_held_back, StandsAboveLower}
 
 -- the tests by which the bound counts tell exactly the cards that are not home, and those above a lower card of their suit
@@ -33,6 +34,6 @@ WinsNeedTheBound = (g : GameRules) (b : Board) (ms : List Move) → IsPosition b
 abbrev pub ClassMatesHaveOneBound : Type 0
 ClassMatesHaveOneBound = (b c : Board) → SameClass b c → bound b ≡ bound c
 
--- the bound of a board is at most 104: each of the 52 cards is counted twice at most
+-- no bound of a board is above the greatest: each of the 52 cards is counted twice at most
 abbrev pub BoundsAreSmall : Type 0
-BoundsAreSmall = (b : Board) → bound b ≤ 104
+BoundsAreSmall = (b : Board) → bound b ≤ GREATEST_BOUND

@@ -57,11 +57,14 @@ pub fn is_held_back(position: &Position, from: Place) -> bool
     }
 }
 
+/// The greatest bound: each of the 52 cards is counted twice at most.
+pub const GREATEST_BOUND: u8 = 104;
+
 /// The number of cards that are not home, plus the number of cards that stand above a lower card of their own suit in
 /// their column: at most 104. No list of moves that wins from the position is shorter.
 pub fn bound(position: &Position) -> u8
     ensures value { result ≡ bound position.now }
-    ensures most { result ≤ 104 }
+    ensures most { result ≤ GREATEST_BOUND }
     ensures whole { IsPosition position.now }
 {
     let mut total = away(position);

@@ -4,7 +4,7 @@
 //! of the way before, since the lower card goes home first. No call allocates.
 #![tactic(auto)]
 
-pub use bounds::{bound, is_held_back};
+pub use bounds::{GREATEST_BOUND, bound, is_held_back};
 
 mod bounds;
 pub mod laws;

@@ -1,9 +1,10 @@
 -- The boards that the bytes of keys spell.
-use Rattle.std.specs.Prelude.{◌≡◌, ℕ, suc, zero, ◌==◌, if◌then◌else◌, Option, Some, None, List, [], ◌∷◌, map, take, drop}
+use Rattle.std.specs.Prelude.{◌≡◌, ◌≤◌, ℕ, suc, zero, ◌==◌, if◌then◌else◌, Option, Some, None, List, [], ◌∷◌, map, take, drop}
 use Rattle.fc_position.specs.Board.{Board}
+use Rattle.fc_position.specs.Position.{IsPosition}
 use Rattle.fc_moves.specs.GameRules.{GameRules, IsPositionOf}
 use Rattle.fc_canonical.specs.Key.{board_bytes}
-use Rattle.fc_canonical.specs.Order.{IsCanonical}
+use Rattle.fc_canonical.specs.Order.{IsCanonical, full_cells}
 
 -- the byte 255 spells an empty cell, and any other the card with that number
 abbrev pub spelled_cell : ℕ → Option ℕ
@@ -26,5 +27,12 @@ spelled bytes = record {
 -- the bytes are the key of a canonical position of the game
 pub record IsKeyIn (g : GameRules) (key : List ℕ) : Type 0 where
   pub position : IsPositionOf g (spelled key)
+  pub ordered : IsCanonical (spelled key)
+  pub bytes : key ≡ board_bytes (spelled key)
+
+-- the bytes are the key of a canonical position, of whose cells at most so many hold a card
+pub record IsKeyFor (cells : ℕ) (key : List ℕ) : Type 0 where
+  pub position : IsPosition (spelled key)
+  pub few : full_cells (spelled key) ≤ cells
   pub ordered : IsCanonical (spelled key)
   pub bytes : key ≡ board_bytes (spelled key)

@@ -5,7 +5,7 @@
 #![tactic(auto)]
 
 pub use rules::free;
-pub use settling::{forced, goes_home_from, settle};
+pub use settling::{GREATEST_RULE, forced, goes_home_from, settle};
 
 mod known;
 pub mod laws;

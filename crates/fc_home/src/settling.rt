@@ -17,6 +17,9 @@ use fc_cards::{Card, Place};
 use fc_moves::{Game, Move};
 use fc_position::Position;
 
+/// The greatest number of a home rule: 0 sends nothing home, 1 the forced cards, 2 the free ones.
+pub const GREATEST_RULE: u8 = 2;
+
 // A playable card that is next in its suit, and where it lies.
 #[derive(Clone, Copy)]
 struct Goer {
@@ -38,7 +41,7 @@ pub fn forced<G: Game>(game: &G, position: &Position) -> Option<Card>
 /// Whether the place has a playable card and it goes home by a home rule, at most 2.
 #[inline]
 pub fn goes_home_from<G: Game>(game: &G, position: &Position, rule: u8, from: Place) -> bool
-    requires rule { rule ≤ 2 }
+    requires rule { rule ≤ GREATEST_RULE }
     ensures value { IsTrue result ↔ PlayableGoesHome rule (G.game game.now) position.now from }
     ensures whole { IsPosition position.now }
 {
@@ -55,7 +58,7 @@ pub fn goes_home_from<G: Game>(game: &G, position: &Position, rule: u8, from: Pl
 /// Settles a position by a home rule, at most 2: sends cards home one by one, always the one with the least number that
 /// goes by the rule, until none goes. The moves that it made, in order.
 pub fn settle<G: Game>(game: &G, position: &mut Position, rule: u8) -> ArrayVec<Move, 52>
-    requires rule { rule ≤ 2 }
+    requires rule { rule ≤ GREATEST_RULE }
     ensures settled { SettlesBy (G.game game.now) rule position.old result.items position.new }
     ensures count { Settles (G.game game.now) rule position.old (length result.items) position.new }
     ensures run { Run (G.game game.now) position.old result.items position.new }

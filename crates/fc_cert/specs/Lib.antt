@@ -1,0 +1,4 @@
+pub mod Claim
+pub mod Content
+pub mod Laws
+pub mod Reading
