@@ -2,3 +2,4 @@ pub mod Claim
 pub mod Content
 pub mod Laws
 pub mod Reading
+pub mod Writing

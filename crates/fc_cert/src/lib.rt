@@ -5,8 +5,10 @@
 pub use claims::Claim;
 pub use contents::{Form, Kind};
 pub use faults::CertFault;
+pub use writers::write_answer;
 
 mod claims;
 mod contents;
 mod faults;
 pub mod laws;
+mod writers;
