@@ -1,8 +1,8 @@
 -- Bytes that are written piece by piece.
-use Rattle.std.proofs.Common.{◌≡◌, ℕ, ◌+◌, ◌<◌, ◌≤◌, Bool, true, false, List, [], ◌∷◌, ◌++◌, length, get_or, take, drop, Option, refl, sym, ◌∙◌, ap, subst, append_assoc, append-nil, take-append-drop}
+use Rattle.std.proofs.Common.{◌≡◌, ℕ, ◌+◌, ◌<◌, Bool, true, false, List, [], ◌∷◌, ◌++◌, length, get_or, take, drop, Option, refl, sym, ◌∙◌, ap, subst, append_assoc, append-nil, take-append-drop}
 use Rattle.std.specs.Prelude.{Result, Ok, Err, IsTrue, IsErr, IsErrAnd, Some, slice_get}
 use Rattle.std.specs.List.{flat_map}
-use Rattle.std.proofs.lemmas.List.{take_more, take_all}
+use Rattle.std.proofs.lemmas.List.{take_more}
 use Rattle.std.proofs.lemmas.List.Concat.{flat_map-append}
 use Rattle.std.proofs.lemmas.Option.{get_or_from_slice_get}
 use Rattle.fc_io.specs.declared.devices.Failed.{Failed}
@@ -70,6 +70,10 @@ cut_before {a} {b} {xs} ys cut = record {
   unmoved = cut.unmoved;
 }
 
+pub cut_at_head : {a b : SinkState} {piece : List ℕ} (head rest : List ℕ) → piece ≡ head → IsCutShort a b piece
+    → IsCutShort a b (head ++ rest)
+cut_at_head {a} {b} {piece} head rest same cut = cut_before rest (subst (IsCutShort a b) same cut)
+
 module _ {X : Type 0} (bytes_of_one : X → List ℕ) where
   -- the bytes of one element more
   one_more : (xs : List X) (i : ℕ) (x d : X) → i < length xs → x ≡ get_or xs i d
@@ -80,20 +84,20 @@ module _ {X : Type 0} (bytes_of_one : X → List ℕ) where
       ∙ ap (λ l. flat_map bytes_of_one (take i xs) ++ l) (append-nil (bytes_of_one x))
 
   -- the elements so far are written, and one more
-  pub whole_next : {a b c : SinkState} (head : List ℕ) (xs : List X) (i : ℕ) (x d : X) → i < length xs → x ≡ get_or xs i d
-      → TakesWhole a b (head ++ flat_map bytes_of_one (take i xs)) → TakesWhole b c (bytes_of_one x)
-      → TakesWhole a c (head ++ flat_map bytes_of_one (take (i + 1) xs))
-  whole_next {a} {b} {c} head xs i x d within here so_far next =
+  pub whole_next : {a b c : SinkState} {piece : List ℕ} (head : List ℕ) (xs : List X) (i : ℕ) (x d : X) → i < length xs
+      → x ≡ get_or xs i d → piece ≡ bytes_of_one x → TakesWhole a b (head ++ flat_map bytes_of_one (take i xs))
+      → TakesWhole b c piece → TakesWhole a c (head ++ flat_map bytes_of_one (take (i + 1) xs))
+  whole_next {a} {b} {c} {piece} head xs i x d within here same so_far next =
       let front : List ℕ = flat_map bytes_of_one (take i xs) in
       subst (TakesWhole a c)
       (append_assoc head front (bytes_of_one x) ∙ ap (λ l. head ++ l) (sym (one_more xs i x d within here)))
-      (whole_both so_far next)
+      (whole_both so_far (subst (TakesWhole b c) same next))
 
   -- the elements so far are written, and the sink fails at one more
-  pub cut_next : {a b c : SinkState} (head : List ℕ) (xs : List X) (i : ℕ) (x d : X) → i < length xs → x ≡ get_or xs i d
-      → TakesWhole a b (head ++ flat_map bytes_of_one (take i xs)) → IsCutShort b c (bytes_of_one x)
-      → IsCutShort a c (head ++ flat_map bytes_of_one xs)
-  cut_next {a} {b} {c} head xs i x d within here so_far cut =
+  pub cut_next : {a b c : SinkState} {piece : List ℕ} (head : List ℕ) (xs : List X) (i : ℕ) (x d : X) → i < length xs
+      → x ≡ get_or xs i d → piece ≡ bytes_of_one x → TakesWhole a b (head ++ flat_map bytes_of_one (take i xs))
+      → IsCutShort b c piece → IsCutShort a c (head ++ flat_map bytes_of_one xs)
+  cut_next {a} {b} {c} {piece} head xs i x d within here same so_far cut =
       let front : List ℕ = flat_map bytes_of_one (take i xs) in
       let later : List X = drop (i + 1) xs in
       let whole : front ++ (bytes_of_one x ++ flat_map bytes_of_one later) ≡ flat_map bytes_of_one xs =
@@ -102,13 +106,7 @@ module _ {X : Type 0} (bytes_of_one : X → List ℕ) where
       ∙ sym (flat_map-append bytes_of_one (take (i + 1) xs) later) ∙ ap (flat_map bytes_of_one) (take-append-drop (i + 1) xs) in
       subst (IsCutShort a c)
       (append_assoc head front (bytes_of_one x ++ flat_map bytes_of_one later) ∙ ap (λ l. head ++ l) whole)
-      (cut_later so_far (cut_before (flat_map bytes_of_one later) cut))
-
-  -- all elements are written
-  pub whole_all : {a b : SinkState} (head : List ℕ) (xs : List X) (i : ℕ) → length xs ≤ i
-      → TakesWhole a b (head ++ flat_map bytes_of_one (take i xs)) → TakesWhole a b (head ++ flat_map bytes_of_one xs)
-  whole_all {a} {b} head xs i past so_far =
-      subst (TakesWhole a b) (ap (λ l. head ++ flat_map bytes_of_one l) (take_all i xs past)) so_far
+      (cut_later so_far (cut_before (flat_map bytes_of_one later) (subst (IsCutShort b c) same cut)))
 
 -- a row with this key and this cost, where each was read of the row with this number
 pub row_read : (rows : List (List ℕ × ℕ)) (i : ℕ) (key other : List ℕ) (cost told : ℕ) → slice_get rows i ≡ Some (key, told)
