@@ -1,0 +1,2 @@
+pub mod CertifiedLemmas
+pub mod WritingLemmas

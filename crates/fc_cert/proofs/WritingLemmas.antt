@@ -1,0 +1,146 @@
+-- Bytes that are written piece by piece.
+use Rattle.std.proofs.Common.{◌≡◌, ℕ, ◌+◌, ◌<◌, Bool, true, false, List, [], ◌∷◌, ◌++◌, length, get_or, take, drop, Option, refl, sym, ◌∙◌, ap, subst, append_assoc, append-nil, take-append-drop}
+use Rattle.std.specs.Prelude.{Result, Ok, Err, IsTrue, IsErr, IsErrAnd, Some, slice_get}
+use Rattle.std.specs.List.{flat_map}
+use Rattle.std.proofs.lemmas.List.{take_more}
+use Rattle.std.proofs.lemmas.List.Concat.{flat_map-append}
+use Rattle.std.proofs.lemmas.Option.{get_or_from_slice_get}
+use Rattle.fc_io.specs.declared.devices.Failed.{Failed}
+use Rattle.fc_io.specs.Moves.{Takes, TakesFront, Stays}
+use Rattle.fc_io.proofs.MoveLemmas.{Takes-both, takes_then_front, sound_at_ok}
+use Rattle.fc_moves.specs.declared.steps.Move.{Move}
+use Rattle.fc_moves.specs.GameRules.{GameRules}
+use Rattle.fc_answers.specs.declared.answers.Answer.{Answer}
+use Rattle.fc_answers.specs.declared.answers.Answer.TheVariants as answer
+use Rattle.fc_answers.specs.Table.{Listing}
+use Rattle.fc_cert.specs.declared.contents.Form.TheVariants.{Second}
+use Rattle.fc_cert.specs.declared.contents.Kind.{Kind}
+use Rattle.fc_cert.specs.declared.contents.Kind.TheVariants as kind
+use Rattle.fc_cert.specs.declared.faults.CertFault.{CertFault}
+use Rattle.fc_cert.specs.declared.faults.CertFault.TheVariants.{Write}
+use Rattle.fc_cert.specs.Claim.{IsWrittenAs}
+use Rattle.fc_cert.specs.Content.{Content, bytes_of}
+use Rattle.fc_cert.specs.Writing.{SinkState, TakesWhole, IsCutShort, Writes, WritesAnswer}
+
+-- what `write_all` says of a piece that was written
+pub whole_piece : {old new : Option (List ℕ)} {was is : Bool} {piece : List ℕ} → Takes old new piece → (IsTrue is → false ≡ true)
+    → (IsTrue was → false ≡ true) → TakesWhole (record { held = old; has_failed = was }) (record { held = new; has_failed = is }) piece
+whole_piece {old} {new} {was} {is} {piece} taken fault stays = record {
+  taken = taken;
+  was_sound = sound_at_ok was stays;
+  is_sound = sound_at_ok is fault;
+}
+
+-- what it says of one at which the sink failed
+pub cut_piece : {old new : Option (List ℕ)} {was is : Bool} {piece : List ℕ} → TakesFront old new piece → (true ≡ true → IsTrue is)
+    → (IsTrue was → Stays old new) → IsCutShort (record { held = old; has_failed = was }) (record { held = new; has_failed = is }) piece
+cut_piece {old} {new} {was} {is} {piece} front fault unmoved = record { front = front; failed = fault refl; unmoved = unmoved }
+
+-- what holds of a sink that failed holds of the fault that is told
+pub cut_told : (old new : SinkState) (bytes : List ℕ) (told : Result (Unit {0}) Failed) → IsErr told → IsCutShort old new bytes
+    → Writes old new bytes told
+cut_told old new bytes (Ok done) is cut = absurd (cc is)
+cut_told old new bytes (Err failed) is cut = cut
+
+pub whole_both : {a b c : SinkState} {xs ys : List ℕ} → TakesWhole a b xs → TakesWhole b c ys → TakesWhole a c (xs ++ ys)
+whole_both {a} {b} {c} {xs} {ys} first second = record {
+  taken = Takes-both a.held b.held c.held xs ys first.taken second.taken;
+  was_sound = first.was_sound;
+  is_sound = second.is_sound;
+}
+
+-- the sink fails at the second piece
+pub cut_later : {a b c : SinkState} {xs ys : List ℕ} → TakesWhole a b xs → IsCutShort b c ys → IsCutShort a c (xs ++ ys)
+cut_later {a} {b} {c} {xs} {ys} first second = record {
+  front = takes_then_front a.held b.held c.held xs ys first.taken second.front;
+  failed = second.failed;
+  unmoved = λ failed. absurd (let e = first.was_sound in cc);
+}
+
+-- the sink fails before the second piece
+pub cut_before : {a b : SinkState} {xs : List ℕ} (ys : List ℕ) → IsCutShort a b xs → IsCutShort a b (xs ++ ys)
+cut_before {a} {b} {xs} ys cut = record {
+  front = record {
+    front = cut.front.front;
+    rest = cut.front.rest ++ ys;
+    parts = ap (λ l. l ++ ys) cut.front.parts ∙ append_assoc cut.front.front cut.front.rest ys;
+    taken = cut.front.taken;
+  };
+  failed = cut.failed;
+  unmoved = cut.unmoved;
+}
+
+pub cut_at_head : {a b : SinkState} {piece : List ℕ} (head rest : List ℕ) → piece ≡ head → IsCutShort a b piece
+    → IsCutShort a b (head ++ rest)
+cut_at_head {a} {b} {piece} head rest same cut = cut_before rest (subst (IsCutShort a b) same cut)
+
+module _ {X : Type 0} (bytes_of_one : X → List ℕ) where
+  -- the bytes of one element more
+  one_more : (xs : List X) (i : ℕ) (x d : X) → i < length xs → x ≡ get_or xs i d
+      → flat_map bytes_of_one (take (i + 1) xs) ≡ flat_map bytes_of_one (take i xs) ++ bytes_of_one x
+  one_more xs i x d within here =
+      ap (flat_map bytes_of_one) (take_more xs i d within ∙ ap (λ y. take i xs ++ y ∷ []) (sym here))
+      ∙ flat_map-append bytes_of_one (take i xs) (x ∷ [])
+      ∙ ap (λ l. flat_map bytes_of_one (take i xs) ++ l) (append-nil (bytes_of_one x))
+
+  -- the elements so far are written, and one more
+  pub whole_next : {a b c : SinkState} {piece : List ℕ} (head : List ℕ) (xs : List X) (i : ℕ) (x d : X) → i < length xs
+      → x ≡ get_or xs i d → piece ≡ bytes_of_one x → TakesWhole a b (head ++ flat_map bytes_of_one (take i xs))
+      → TakesWhole b c piece → TakesWhole a c (head ++ flat_map bytes_of_one (take (i + 1) xs))
+  whole_next {a} {b} {c} {piece} head xs i x d within here same so_far next =
+      let front : List ℕ = flat_map bytes_of_one (take i xs) in
+      subst (TakesWhole a c)
+      (append_assoc head front (bytes_of_one x) ∙ ap (λ l. head ++ l) (sym (one_more xs i x d within here)))
+      (whole_both so_far (subst (TakesWhole b c) same next))
+
+  -- the elements so far are written, and the sink fails at one more
+  pub cut_next : {a b c : SinkState} {piece : List ℕ} (head : List ℕ) (xs : List X) (i : ℕ) (x d : X) → i < length xs
+      → x ≡ get_or xs i d → piece ≡ bytes_of_one x → TakesWhole a b (head ++ flat_map bytes_of_one (take i xs))
+      → IsCutShort b c piece → IsCutShort a c (head ++ flat_map bytes_of_one xs)
+  cut_next {a} {b} {c} {piece} head xs i x d within here same so_far cut =
+      let front : List ℕ = flat_map bytes_of_one (take i xs) in
+      let later : List X = drop (i + 1) xs in
+      let whole : front ++ (bytes_of_one x ++ flat_map bytes_of_one later) ≡ flat_map bytes_of_one xs =
+      sym (append_assoc front (bytes_of_one x) (flat_map bytes_of_one later))
+      ∙ ap (λ l. l ++ flat_map bytes_of_one later) (sym (one_more xs i x d within here))
+      ∙ sym (flat_map-append bytes_of_one (take (i + 1) xs) later) ∙ ap (flat_map bytes_of_one) (take-append-drop (i + 1) xs) in
+      subst (IsCutShort a c)
+      (append_assoc head front (bytes_of_one x ++ flat_map bytes_of_one later) ∙ ap (λ l. head ++ l) whole)
+      (cut_later so_far (cut_before (flat_map bytes_of_one later) (subst (IsCutShort b c) same cut)))
+
+-- a row with this key and this cost, where each was read of the row with this number
+pub row_read : (rows : List (List ℕ × ℕ)) (i : ℕ) (key other : List ℕ) (cost told : ℕ) → slice_get rows i ≡ Some (key, told)
+    → slice_get rows i ≡ Some (other, cost) → slice_get rows i ≡ Some (key, cost)
+row_read rows i key other cost told first second =
+    let d : List ℕ × ℕ = (key, told) in
+    let same = sym (get_or_from_slice_get rows i d d first) ∙ get_or_from_slice_get rows i (other, cost) d second in
+    first ∙ ap (λ k. Some (key, k)) (ap (λ r. r.1) same)
+
+-- what is written in the second form, of this kind
+abbrev pub content : GameRules → Kind → ℕ → List Move → List (List ℕ × ℕ) → Content
+content g of_kind rule moves rows = record {
+  head = record { form = Second; game = g.code; cells = g.cells; rule = rule; kind = of_kind };
+  moves = moves;
+  rows = rows;
+}
+
+pub shortest_written : (g : GameRules) (answered : Answer) (moves told : List Move) (table : Listing) (rule : ℕ)
+    → answered ≡ answer.Shortest moves table → rule ≡ table.rule → told ≡ moves
+    → IsWrittenAs g answered (content g kind.Shortest rule told table.rows)
+shortest_written g answered moves told table rule is rule_is moves_are =
+    subst (λ a. IsWrittenAs g a (content g kind.Shortest rule told table.rows)) (sym is)
+    (ap (λ r. content g kind.Shortest r told table.rows) rule_is ∙ ap (λ ms. content g kind.Shortest table.rule ms table.rows) moves_are)
+
+pub cannot_win_written : (g : GameRules) (answered : Answer) (table : Listing) (rule : ℕ) → answered ≡ answer.CannotWin table
+    → rule ≡ table.rule → IsWrittenAs g answered (content g kind.CannotWin rule [] table.rows)
+cannot_win_written g answered table rule is rule_is =
+    subst (λ a. IsWrittenAs g a (content g kind.CannotWin rule [] table.rows)) (sym is)
+    (ap (λ r. content g kind.CannotWin r [] table.rows) rule_is)
+
+-- where the sink failed, `Write` is told
+pub answer_cut : (g : GameRules) (answered : Answer) (old new : SinkState) (c : Content) (told : Result (Unit {0}) CertFault)
+    → IsErrAnd told (λ e. e ≡ Write) → IsWrittenAs g answered c → IsCutShort old new (bytes_of c) → WritesAnswer g answered old new told
+answer_cut g answered old new c (Ok done) is written cut = absurd is
+answer_cut g answered old new c (Err e) is written cut =
+    let Ends : CertFault → Type 0 = λ fault. WritesAnswer g answered old new (Err fault) in
+    subst Ends (sym is) (c, written, cut)

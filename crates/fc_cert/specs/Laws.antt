@@ -1,0 +1,32 @@
+-- What the laws of this crate state.
+use Rattle.std.specs.Prelude.{◌≡◌, ℕ, ◌↔◌, ◌<◌, ◌^◌, List, length, Result, Ok, Err, All}
+use Rattle.fc_position.specs.Board.{Board}
+use Rattle.fc_moves.specs.GameRules.{GameRules, IsGame, IsPositionOf}
+use Rattle.fc_moves.specs.MoveText.{HasText}
+use Rattle.fc_answers.specs.declared.answers.Answer.{Answer}
+use Rattle.fc_answers.specs.Answer.{IsBacked}
+use Rattle.fc_answers.specs.Verdict.{verdict_of, CanBeWritten}
+use Rattle.fc_cert.specs.declared.claims.Claim.{Claim}
+use Rattle.fc_cert.specs.declared.faults.CertFault.{CertFault}
+use Rattle.fc_cert.specs.Claim.{IsCertificate, IsTrueOf, IsWrittenAs, Claims, HasWinningMoves}
+use Rattle.fc_cert.specs.Content.{Content, IsSpelled, bytes_of}
+use Rattle.fc_cert.specs.Reading.{Reads}
+
+-- bytes are read as a content exactly where they are a certificate with it
+abbrev pub CertificatesAreRead : Type 0
+CertificatesAreRead = (bytes : List ℕ) (c : Content) → Reads bytes (Ok c) ↔ IsSpelled bytes c
+
+-- reading comes to one end: no bytes have two contents, or two faults, or a content and a fault
+abbrev pub ReadingComesToOneEnd : Type 0
+ReadingComesToOneEnd = (bytes : List ℕ) (a b : Result Content CertFault) → Reads bytes a → Reads bytes b → a ≡ b
+
+-- what bytes that are a certificate of a position and a claim claim is true
+abbrev pub CertificatesAreTrue : Type 0
+CertificatesAreTrue = (g : GameRules) (b : Board) (bytes : List ℕ) (claimed : Claim) → IsPositionOf g b
+    → IsCertificate g b bytes claimed → IsTrueOf g b claimed
+
+-- what is written of a backed answer whose moves win is a certificate of its claim
+abbrev pub BackedAnswersAreCertified : Type 0
+BackedAnswersAreCertified = (g : GameRules) (b : Board) (answered : Answer) (c : Content) (claimed : Claim)
+    → IsGame g → IsPositionOf g b → IsBacked g b answered → HasWinningMoves g b answered → CanBeWritten (verdict_of answered)
+    → IsWrittenAs g answered c → Claims answered claimed → IsCertificate g b (bytes_of c) claimed

@@ -1,0 +1,5 @@
+pub mod Claim
+pub mod Content
+pub mod Laws
+pub mod Reading
+pub mod Writing
