@@ -18,12 +18,12 @@ use Rattle.fc_answers.specs.Table.{Listing, IsTable}
 use Rattle.fc_answers.specs.Verdict.{verdict_of, CanBeWritten}
 use Rattle.fc_cert.specs.declared.claims.Claim.{Claim}
 use Rattle.fc_cert.specs.declared.claims.Claim.TheVariants as claim
-use Rattle.fc_cert.specs.declared.contents.Form.TheVariants.{Second}
 use Rattle.fc_cert.specs.declared.contents.Kind.{Kind}
 use Rattle.fc_cert.specs.declared.contents.Kind.TheVariants as kind
 use Rattle.fc_cert.specs.Claim.{Shows, IsTrueOf, IsWrittenAs, Claims, HasWinningMoves}
 use Rattle.fc_cert.specs.Content.{Content, IsContent, IsRecord, MayCost, MayList}
 use Rattle.fc_cert.specs.Laws.{CertificatesAreTrue, BackedAnswersAreCertified}
+use Rattle.fc_cert.proofs.WritingLemmas.{content}
 
 -- a content shows only what is true
 shown_true : (g : GameRules) (b : Board) (c : Content) (claimed : Claim) → IsPositionOf g b → Shows g b c claimed → IsTrueOf g b claimed
@@ -59,12 +59,7 @@ are_records g kind table listed may =
 
 -- the content with these moves and the rows of a table of the game has bytes
 has_bytes : (g : GameRules) (kind : Kind) (moves : List Move) (table : Listing) → IsGame g → IsTable g table → MayList kind moves
-    → ((e : List ℕ × ℕ) → Contains table.rows e → MayCost kind e.1)
-    → IsContent (record {
-      head = record { form = Second; game = g.code; cells = g.cells; rule = table.rule; kind = kind };
-      moves = moves;
-      rows = table.rows;
-    })
+    → ((e : List ℕ × ℕ) → Contains table.rows e → MayCost kind e.1) → IsContent (content g kind table.rule moves table.rows)
 has_bytes g kind moves table game listed may_list may_cost = record {
   head = (game.code, game.cells, listed.known);
   moves = may_list;
@@ -73,32 +68,26 @@ has_bytes g kind moves table game listed may_list may_cost = record {
   rising = listed.rising;
 }
 
--- the content that a backed answer is written as has bytes, is of the game, and shows the claim
+-- the content has bytes, is of the game, and shows the claim of the board
+abbrev IsShowing : GameRules → Board → Claim → Content → Type 0
+IsShowing g b claimed c = IsContent c × (c.head.game ≡ g.code) × (c.head.cells ≡ g.cells) × Shows g b c claimed
+
+-- so is the content that a backed answer is written as
 written_shows : (g : GameRules) (b : Board) (answered : Answer) (c : Content) (claimed : Claim) → IsGame g → IsBacked g b answered
     → HasWinningMoves g b answered → CanBeWritten (verdict_of answered) → IsWrittenAs g answered c → Claims answered claimed
-    → IsContent c × (c.head.game ≡ g.code) × (c.head.cells ≡ g.cells) × Shows g b c claimed
+    → IsShowing g b claimed c
 written_shows g b (answer.Shortest moves table) c claimed game backed wins can same claims =
-    let told : Content = record {
-      head = record { form = Second; game = g.code; cells = g.cells; rule = table.rule; kind = kind.Shortest };
-      moves = moves;
-      rows = table.rows;
-    } in
-    let Good : Content → Claim → Type 0 = λ d said. IsContent d × (d.head.game ≡ g.code) × (d.head.cells ≡ g.cells) × Shows g b d said in
+    let told : Content = content g kind.Shortest table.rule moves table.rows in
     let few : length moves < 2 ^ 32 = omega (arith, can.1) in
-    let content : IsContent told = has_bytes g kind.Shortest moves table game backed.listed (few, can.0)
+    let has : IsContent told = has_bytes g kind.Shortest moves table game backed.listed (few, can.0)
     (λ e there. omega (arith, backed.below e there, few)) in
-    subst (λ d. Good d claimed) (sym same)
-    (subst (λ said. Good told said) (sym claims) (content, refl, refl, (refl, refl, wins, backed.closed)))
+    subst (IsShowing g b claimed) (sym same)
+    (subst (λ said. IsShowing g b said told) (sym claims) (has, refl, refl, (refl, refl, wins, backed.closed)))
 written_shows g b (answer.CannotWin table) c claimed game backed wins can same claims =
-    let told : Content = record {
-      head = record { form = Second; game = g.code; cells = g.cells; rule = table.rule; kind = kind.CannotWin };
-      moves = [];
-      rows = table.rows;
-    } in
-    let Good : Content → Claim → Type 0 = λ d said. IsContent d × (d.head.game ≡ g.code) × (d.head.cells ≡ g.cells) × Shows g b d said in
-    let content : IsContent told = has_bytes g kind.CannotWin [] table game backed.listed refl backed.free in
-    subst (λ d. Good d claimed) (sym same)
-    (subst (λ said. Good told said) (sym claims) (content, refl, refl, (refl, backed.closed)))
+    let told : Content = content g kind.CannotWin table.rule [] table.rows in
+    let has : IsContent told = has_bytes g kind.CannotWin [] table game backed.listed refl backed.free in
+    subst (IsShowing g b claimed) (sym same)
+    (subst (λ said. IsShowing g b said told) (sym claims) (has, refl, refl, (refl, backed.closed)))
 written_shows g b (answer.GaveUp told) c claimed game backed wins can same claims = absurd same
 
 pub backed_certified : BackedAnswersAreCertified

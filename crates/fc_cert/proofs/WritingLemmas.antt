@@ -42,6 +42,7 @@ pub cut_told : (old new : SinkState) (bytes : List ℕ) (told : Result (Unit {0}
 cut_told old new bytes (Ok done) is cut = absurd (cc is)
 cut_told old new bytes (Err failed) is cut = cut
 
+-- the sink took the one piece and then the other
 pub whole_both : {a b c : SinkState} {xs ys : List ℕ} → TakesWhole a b xs → TakesWhole b c ys → TakesWhole a c (xs ++ ys)
 whole_both {a} {b} {c} {xs} {ys} first second = record {
   taken = Takes-both a.held b.held c.held xs ys first.taken second.taken;
@@ -70,6 +71,7 @@ cut_before {a} {b} {xs} ys cut = record {
   unmoved = cut.unmoved;
 }
 
+-- the same where the piece is told apart from the head that it is
 pub cut_at_head : {a b : SinkState} {piece : List ℕ} (head rest : List ℕ) → piece ≡ head → IsCutShort a b piece
     → IsCutShort a b (head ++ rest)
 cut_at_head {a} {b} {piece} head rest same cut = cut_before rest (subst (IsCutShort a b) same cut)
@@ -124,6 +126,7 @@ content g of_kind rule moves rows = record {
   rows = rows;
 }
 
+-- the content of an answer of moves, by the rule and the moves that are read of it
 pub shortest_written : (g : GameRules) (answered : Answer) (moves told : List Move) (table : Listing) (rule : ℕ)
     → answered ≡ answer.Shortest moves table → rule ≡ table.rule → told ≡ moves
     → IsWrittenAs g answered (content g kind.Shortest rule told table.rows)
@@ -131,6 +134,7 @@ shortest_written g answered moves told table rule is rule_is moves_are =
     subst (λ a. IsWrittenAs g a (content g kind.Shortest rule told table.rows)) (sym is)
     (ap (λ r. content g kind.Shortest r told table.rows) rule_is ∙ ap (λ ms. content g kind.Shortest table.rule ms table.rows) moves_are)
 
+-- the content of an answer that no list wins
 pub cannot_win_written : (g : GameRules) (answered : Answer) (table : Listing) (rule : ℕ) → answered ≡ answer.CannotWin table
     → rule ≡ table.rule → IsWrittenAs g answered (content g kind.CannotWin rule [] table.rows)
 cannot_win_written g answered table rule is rule_is =
