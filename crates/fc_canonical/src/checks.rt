@@ -1,6 +1,6 @@
 //! Bytes told to be a key with no position made of them.
 
-ghost use Rattle.std.specs.Prelude.{◌≡◌, ◌≤◌, ◌↔◌, IsTrue, All, length};
+ghost use Rattle.std.specs.Prelude.{◌≡◌, ◌≤◌, ◌↔◌, ◌==◌, not, IsTrue, All, length, count_by};
 ghost use Rattle.std.specs.List.Sorted.{IsNonDecreasing};
 ghost use Rattle.fc_canonical.specs.Order.{column_order};
 ghost use Rattle.fc_canonical.specs.Parts.{times_in, AreCells, AreColumns};
@@ -36,7 +36,7 @@ fn are_cells(bytes: &[u8], most: u8) -> bool
     requires count { length bytes.now ≡ 4 }
     ensures value { IsTrue result ↔ AreCells most bytes.now }
 {
-    are_in_order(bytes) && bytes.iter().filter(|byte| **byte != 255).count() <= most as usize
+    are_in_order(bytes) && full_cells(bytes) <= most as usize
 }
 
 // Whether none of four bytes is lower than one before it.
@@ -50,6 +50,19 @@ fn are_in_order(bytes: &[u8]) -> bool
         }
     }
     true
+}
+
+// How many cells with these bytes hold a card.
+fn full_cells(bytes: &[u8]) -> usize
+    ensures value { result ≡ count_by (λ byte. not (byte == 255)) bytes.now }
+{
+    let mut full = 0;
+    for byte in bytes {
+        if *byte != 255 {
+            full += 1;
+        }
+    }
+    full
 }
 
 // Whether the bytes are eight columns in order that have, beside the cards of the set, each card once.

@@ -4,8 +4,8 @@ use crate::boards::{ALL_HOME, DEAL_ONE, LOCKED, LONE_SPADES, THREE_SPADES, TWO_K
 use crate::given::{bakers_game, board, free_cell, make, sure};
 use arrayvec::ArrayVec;
 use fc_canonical::{
-    Key, canonical, distinct_moves, find_move, key, key_len, moved_key, padded_key, position_of,
-    read_key,
+    Key, canonical, distinct_moves, find_move, is_key, key, key_len, moved_key, padded_key,
+    position_of, read_key,
 };
 use fc_cards::{Card, Place};
 use fc_moves::{Game, Kings, Move, allows, moves};
@@ -39,6 +39,11 @@ const THREE_CARDS_KEY: &[u8] = &[
 const THREE_SPADES_KEY: &[u8] = &[
     0x0D, 0x0D, 0x0D, 0x0A, 0xFF, 0xFF, 0xFF, 0xFF, 0x02, 0x2B, 0x2F, 0x01, 0x33, 0x00, 0x00, 0x00,
     0x00, 0x00, 0x00,
+];
+
+// The key of a board of two cards, both in cells.
+const SPADES_IN_CELLS_KEY: &[u8] = &[
+    0x0D, 0x0D, 0x0D, 0x0B, 0x2F, 0x33, 0xFF, 0xFF, 0x00, 0x00, 0x00, 0x00, 0x00, 0x00, 0x00, 0x00,
 ];
 
 // Cards in the first cell and the third, and two columns behind an empty one.
@@ -97,6 +102,8 @@ fn check_read(rt: &impl Abort, bytes: &[u8], own: &[u8]) {
     let (read, extent) = read_key(bytes).expect(rt, "a key");
     assert!(rt; extent == own.len());
     assert!(rt; key(&read).as_slice() == own);
+    assert!(rt; is_key(own, 4));
+    assert!(rt; is_key(bytes, 4) == (bytes.len() == own.len()));
 }
 
 // A board has this key, and the key's position does.
@@ -134,6 +141,7 @@ fn followed(rt: &impl Abort) -> Key {
 // Some bytes begin with no key.
 fn check_no_key(rt: &impl Abort, bytes: &[u8]) {
     assert!(rt; read_key(bytes).is_none());
+    assert!(rt; !is_key(bytes, 4));
 }
 
 // So many of the first bytes of a key are none.
@@ -201,6 +209,62 @@ fn refuses_what_is_no_key(rt: HostRuntime) {
     check_changed(&rt, 10, 0x34, Some(20));
     check_changed(&rt, 2, 0x0A, Some(20));
     check_changed(&rt, 19, 1, None);
+}
+
+// The key of a board of which so many cells hold a card.
+fn check_cells(rt: &impl Abort, text: &str, full: u8) {
+    let bytes = key(&board(rt, text));
+    for cells in 0..6 {
+        assert!(rt;
+            is_key(bytes.as_slice(), cells) == (full <= cells),
+            "{text}"
+        );
+    }
+    assert!(rt; is_key(bytes.as_slice(), 255), "{text}");
+}
+
+#[test]
+fn tells_keys_by_their_cells(rt: HostRuntime) {
+    let cases = [
+        (ALL_HOME, 0),
+        (TWO_KINGS, 0),
+        ("Foundations: H-K C-K D-K S-Q\nFreecells: - - - KS\n", 1),
+        (WITH_CELLS, 2),
+        (
+            "Foundations: H-K C-K D-J S-J\nFreecells: KS QD - QS\nKD\n",
+            3,
+        ),
+        (LOCKED, 4),
+        (DEAL_ONE, 0),
+    ];
+    for (text, full) in cases {
+        check_cells(&rt, text, full);
+    }
+}
+
+#[test]
+fn refuses_parts_of_keys_out_of_place(rt: HostRuntime) {
+    let cases: [&[u8]; 10] = [
+        // Two cells exchanged, and two behind an empty one; in order they are a key.
+        b"\x0D\x0D\x0D\x0B\x33\x2F\xFF\xFF\0\0\0\0\0\0\0\0",
+        b"\x0D\x0D\x0D\x0B\xFF\x2F\x33\xFF\0\0\0\0\0\0\0\0",
+        // Two columns exchanged, and two behind an empty one.
+        b"\x0D\x0D\x0D\x0B\xFF\xFF\xFF\xFF\x01\x33\x01\x2F\0\0\0\0\0\0",
+        b"\x0D\x0D\x0D\x0B\xFF\xFF\xFF\xFF\0\x01\x2F\x01\x33\0\0\0\0\0",
+        // A card in a cell that stands in a column too, and one that is home too.
+        b"\x0D\x0D\x0D\x0B\x33\xFF\xFF\xFF\x02\x2F\x33\0\0\0\0\0\0\0",
+        b"\x0D\x0D\x0D\x0B\x2F\x33\xFF\xFF\x01\0\0\0\0\0\0\0\0",
+        // A card that is nowhere.
+        b"\x0D\x0D\x0D\x0B\x33\xFF\xFF\xFF\0\0\0\0\0\0\0\0",
+        // Numbers of no card in place of a card's: one above the last, the highest, and 64 more than the card's.
+        b"\x0D\x0D\x0D\x0B\x2F\x34\xFF\xFF\0\0\0\0\0\0\0\0",
+        b"\x0D\x0D\x0D\x0B\x2F\xFE\xFF\xFF\0\0\0\0\0\0\0\0",
+        b"\x0D\x0D\x0D\x0B\xFF\xFF\xFF\xFF\x02\x2F\x73\0\0\0\0\0\0\0",
+    ];
+    for bytes in cases {
+        check_no_key(&rt, bytes);
+    }
+    check_read(&rt, SPADES_IN_CELLS_KEY, SPADES_IN_CELLS_KEY);
 }
 
 // The key of the position that an allowed move leads to.
