@@ -1,3 +1,4 @@
+pub mod CheckLemmas
 pub mod ClassLemmas
 pub mod DistinctLemmas
 pub mod FitLemmas

@@ -3,6 +3,7 @@
 //! A class is known by its canonical position, or by that position's bytes, its key. No call allocates.
 #![tactic(auto)]
 
+pub use checks::is_key;
 pub use distinct::distinct_moves;
 pub use keys::{Key, key, padded_key};
 pub use moved::moved_key;
@@ -10,6 +11,7 @@ pub use orders::canonical;
 pub use readers::{key_len, position_of, read_key};
 pub use searches::find_move;
 
+mod checks;
 mod distinct;
 mod keys;
 pub mod laws;
