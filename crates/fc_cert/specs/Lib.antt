@@ -1,4 +1,5 @@
 pub mod Claim
 pub mod Content
+pub mod Layout
 pub mod Laws
 pub mod Reading

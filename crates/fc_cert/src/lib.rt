@@ -3,10 +3,11 @@
 #![tactic(auto)]
 
 pub use claims::Claim;
-pub use contents::{Form, Kind};
+pub use contents::{Form, Head, Kind};
 pub use faults::CertFault;
 
 mod claims;
 mod contents;
 mod faults;
 pub mod laws;
+mod readers;
