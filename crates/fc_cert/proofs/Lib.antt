@@ -1,3 +1,4 @@
 pub mod FieldLemmas
 pub mod ReadingLemmas
 pub mod SpelledLemmas
+mod LayoutLemmas

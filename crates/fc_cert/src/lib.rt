@@ -2,10 +2,12 @@
 //! Nothing here searches.
 #![tactic(auto)]
 
+pub use certificates::{Certificate, LONGEST_CERTIFICATE};
 pub use claims::Claim;
 pub use contents::{Form, Head, Kind};
 pub use faults::CertFault;
 
+mod certificates;
 mod claims;
 mod contents;
 mod faults;
