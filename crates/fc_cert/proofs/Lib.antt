@@ -1,3 +1,5 @@
 pub mod FieldLemmas
 pub mod ReadingLemmas
+pub mod LawLemmas
+pub mod OnceLemmas
 pub mod SpelledLemmas

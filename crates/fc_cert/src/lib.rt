@@ -11,3 +11,4 @@ mod contents;
 mod faults;
 pub mod laws;
 mod readers;
+pub mod reading_laws;
