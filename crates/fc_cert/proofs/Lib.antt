@@ -1,4 +1,6 @@
 pub mod FieldLemmas
 pub mod ReadingLemmas
+pub mod LawLemmas
+pub mod OnceLemmas
 pub mod SpelledLemmas
 mod LayoutLemmas

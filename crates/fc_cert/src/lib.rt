@@ -13,3 +13,4 @@ mod contents;
 mod faults;
 pub mod laws;
 mod readers;
+pub mod reading_laws;
