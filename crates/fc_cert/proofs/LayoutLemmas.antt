@@ -1,10 +1,10 @@
 -- What the parts of a certificate say, by where they stand.
-use Rattle.std.proofs.Common.{◌≡◌, ◌==◌, ℕ, zero, suc, ◌+◌, ◌-◌, ◌*◌, ◌<◌, ◌≤◌, ◌^◌, true, false, cond, nat_lt, List, [], ◌∷◌, ◌++◌, length, take, drop, get_or, refl, sym, ◌∙◌, ap, subst, append_assoc, arith}
+use Rattle.std.proofs.Common.{◌≡◌, ◌==◌, ℕ, zero, suc, ◌+◌, ◌-◌, ◌*◌, ◌/◌, ◌<◌, ◌≤◌, ◌^◌, true, false, cond, nat_lt, List, [], ◌∷◌, ◌++◌, length, take, drop, get_or, refl, sym, ◌∙◌, ap, subst, append_assoc, arith}
 use Rattle.std.specs.Prelude.{All, slice_range}
 use Rattle.std.specs.Int.{w32, from_be_bytes}
 use Rattle.std.specs.List.{flat_map}
 use Rattle.std.proofs.lemmas.Bool.Decides.{nat_tests}
-use Rattle.std.proofs.lemmas.List.{length-append, take_at, drop_at}
+use Rattle.std.proofs.lemmas.List.{get_or_default, length-append, take_at, drop_at}
 use Rattle.std.proofs.lemmas.List.Elements.{All-head, All-tail}
 use Rattle.std.proofs.lemmas.Nat.{from_be_bytes-to_be_bytes_4}
 use Rattle.fc_cards.specs.declared.places.Place.{Place}
@@ -15,6 +15,7 @@ use Rattle.fc_moves.proofs.StepLemmas.{move_same, source_is_there}
 use Rattle.fc_cert.specs.declared.contents.Kind.{Kind}
 use Rattle.fc_cert.specs.declared.contents.Kind.TheVariants.{Shortest, CannotWin}
 use Rattle.fc_cert.specs.Content.{Content, IsContent, IsRecord, MayCost, MayList, four_bytes, record_bytes}
+use Rattle.fc_cert.proofs.OnceLemmas.{cost_small}
 use Rattle.fc_cert.specs.Layout.{AreParts, content_of, ends_from, moves_of, place_of, row_of, rows_ending, start_of}
 
 -- a place's letter says the place
@@ -55,15 +56,11 @@ text_there (m ∷ moves) (suc i) d lt =
     ap (λ k. take 2 (drop k (flat_map move_text (m ∷ moves)))) two ∙ text_there moves i d (omega (arith, lt))
 
 -- a record's bytes say its key and its cost
-row_back : (row : List ℕ × ℕ) → row.1 < 2 ^ 32 → row_of (record_bytes row) ≡ row
+pub row_back : (row : List ℕ × ℕ) → row.1 < 2 ^ 32 → row_of (record_bytes row) ≡ row
 row_back row small =
     ap (λ key. (key, from_be_bytes w32 (take 4 (record_bytes row)))) (drop_at (four_bytes row.1) row.0 4 refl)
     ∙ ap (λ l. (row.0, from_be_bytes w32 l)) (take_at (four_bytes row.1) row.0 4 refl)
     ∙ ap (λ n. (row.0, n)) (from_be_bytes-to_be_bytes_4 row.1 small)
-
-pub cost_small : (kind : Kind) (cost : ℕ) → MayCost kind cost → cost < 2 ^ 32
-cost_small Shortest cost may = may
-cost_small CannotWin cost may = omega (arith, may)
 
 -- what stands between two fronts
 slice_here : (front here rest : List ℕ)
@@ -108,7 +105,7 @@ pub record Stands (bytes : List ℕ) (from to : ℕ) (here : List ℕ) : Type 0 
   pub within : to ≤ length bytes
   pub bytes_are : slice_range bytes from to ≡ here
 
-pub record_there : (front : List ℕ) (rows : List (List ℕ × ℕ)) (i : ℕ) (d : List ℕ × ℕ) → i < length rows
+record_there : (front : List ℕ) (rows : List (List ℕ × ℕ)) (i : ℕ) (d : List ℕ × ℕ) → i < length rows
     → Stands (front ++ flat_map record_bytes rows) (start_of (length front) (ends_from (length front) rows) i)
     (get_or (ends_from (length front) rows) i 0) (record_bytes (get_or rows i d))
 record_there front [] i d lt = absurd (omega (arith, lt))
@@ -136,6 +133,16 @@ listed_texts : (kind : Kind) (moves : List Move) → MayList kind moves → move
 listed_texts Shortest moves may = moves_back moves may.1
 listed_texts CannotWin moves may = subst (λ l. moves_of (flat_map move_text l) ≡ l) (sym may) refl
 
+-- and they are few
+list_few : (kind : Kind) (moves : List Move) → MayList kind moves → length moves < 2 ^ 32
+list_few Shortest moves may = may.0
+list_few CannotWin moves may = let none = ap length may in omega (arith, none)
+
+listed_has_text : (kind : Kind) (moves : List Move) → MayList kind moves → (i : ℕ) (d : Move) → i < length moves
+    → HasText (get_or moves i d)
+listed_has_text Shortest moves may i d lt = may.1 i d lt
+listed_has_text CannotWin moves may i d lt = let none = ap length may in absurd (omega (arith, none, lt))
+
 -- the parts of a content are those that say it
 pub content_back : (c : Content) (t r e : List ℕ) → AreParts c t r e → content_of c.head t r e ≡ c
 content_back c t r e parts =
@@ -147,3 +154,42 @@ content_back c t r e parts =
 
 pub parts_back : (c : Content) (t r e : List ℕ) → AreParts c t r e → AreParts (content_of c.head t r e) t r e
 parts_back c t r e parts = subst (λ d. AreParts d t r e) (sym (content_back c t r e parts)) parts
+
+module _ (c : Content) (t r e : List ℕ) (parts : AreParts c t r e) where
+  -- as many places where records end as records, and two bytes for each move
+  pub places_many : length e ≡ length c.rows
+  places_many = ap length parts.ends ∙ ends_long c.head.cells c.head.kind 0 c.rows
+
+  pub bytes_many : length t ≡ length c.moves * 2
+  bytes_many = ap length parts.texts ∙ texts_long c.moves
+
+  -- few enough to be counted in four bytes
+  pub rows_few : length e < 2 ^ 32
+  rows_few = omega (arith, places_many, parts.content.count)
+
+  pub moves_few : length t / 2 < 2 ^ 32
+  moves_few = omega (arith, bytes_many, list_few c.head.kind c.moves parts.content.moves)
+
+  pub moves_many : length t / 2 ≡ length c.moves
+  moves_many = omega (arith, bytes_many)
+
+  -- the text of a move stands at twice its number
+  pub text_at : (i : ℕ) (d : Move) → i < length c.moves → take 2 (drop (i * 2) t) ≡ move_text (get_or c.moves i d)
+  text_at i d lt = ap (λ l. take 2 (drop (i * 2) l)) parts.texts ∙ text_there c.moves i d lt
+
+  pub has_text : (i : ℕ) (d : Move) → i < length c.moves → HasText (get_or c.moves i d)
+  has_text i d lt = listed_has_text c.head.kind c.moves parts.content.moves i d lt
+
+  -- the record with a number stands where its places say, and its cost is small
+  pub record_at_places : (i : ℕ) (to : ℕ) (d : List ℕ × ℕ) → i < length c.rows → to ≡ get_or e i to
+      → Stands r (start_of 0 e i) to (record_bytes (get_or c.rows i d))
+  record_at_places i to d lt there =
+      let ends = sym parts.ends in
+      let last : get_or e i 0 ≡ to = sym (there ∙ get_or_default e i to 0 (omega (arith, lt, places_many))) in
+      subst (λ k. Stands r (start_of 0 e i) k (record_bytes (get_or c.rows i d))) last
+      (subst (λ l. Stands r (start_of 0 l i) (get_or l i 0) (record_bytes (get_or c.rows i d))) ends
+      (subst (λ l. Stands l (start_of 0 (ends_from 0 c.rows) i) (get_or (ends_from 0 c.rows) i 0) (record_bytes (get_or c.rows i d)))
+      (sym parts.records) (record_there [] c.rows i d lt)))
+
+  pub cost_at : (i : ℕ) (d : List ℕ × ℕ) → i < length c.rows → (get_or c.rows i d).1 < 2 ^ 32
+  cost_at i d lt = cost_small c.head.kind (get_or c.rows i d).1 (parts.content.rows i d lt).cost

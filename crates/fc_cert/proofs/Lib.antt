@@ -4,3 +4,7 @@ pub mod LawLemmas
 pub mod OnceLemmas
 pub mod SpelledLemmas
 mod LayoutLemmas
+mod RecordLemmas
+mod FindLemmas
+mod PartsLemmas
+mod ReadFaultLemmas

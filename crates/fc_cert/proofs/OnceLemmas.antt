@@ -195,7 +195,7 @@ end_of cells kind number before bytes (Err (Label i)) (same, (cost, key, has, ri
 end_of cells kind number before bytes (Err other) h = absurd h
 
 -- what is all there is one cost and one key
-record_once : (bytes : List ℕ) (cost price : ℕ) (key other : List ℕ) (x : HasRecord bytes cost key) (y : HasRecord bytes price other)
+pub record_once : (bytes : List ℕ) (cost price : ℕ) (key other : List ℕ) (x : HasRecord bytes cost key) (y : HasRecord bytes price other)
     → (cost ≡ price) × (key ≡ other) × (x.rest ≡ y.rest)
 record_once bytes cost price key other x y =
     let fronts = same_fronts (four_bytes cost) (four_bytes price) (key ++ x.rest) (other ++ y.rest) refl

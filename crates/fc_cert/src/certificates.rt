@@ -1,6 +1,6 @@
 //! Certificates that were read.
 
-ghost use Rattle.std.specs.Prelude.{◌≡◌, ◌+◌, ◌<◌, ◌≤◌, ◌↔◌, ℕ, List, [], ◌++◌, Some, length, slice_get, Contains, IsTrue, IfOk, IfErr, MatchOption};
+ghost use Rattle.std.specs.Prelude.{◌≡◌, ◌+◌, ◌<◌, ◌≤◌, ◌^◌, ◌↔◌, ℕ, List, [], ◌++◌, Some, length, slice_get, Contains, IsTrue, IfOk, IfErr, MatchOption};
 ghost use Rattle.fc_cert.specs.Content.{IsContent, IsRecord, IsSpelled, kind_byte, record_bytes};
 ghost use Rattle.fc_cert.specs.Layout.{AreRecords, ends_from, start_of};
 ghost use Rattle.fc_cert.specs.Reading.{HasRecord, IsReadFault};
@@ -137,7 +137,7 @@ impl<'a> Certificate<'a> {
     // The bytes of the record with this number.
     fn record_bytes(&self, i: usize) -> &'a [u8]
         requires within { i < length self.now.rows }
-        ensures value { (row : List ℕ × ℕ) × (slice_get self.now.rows i ≡ Some row) × (result.now ≡ record_bytes row) }
+        ensures value { (row : List ℕ × ℕ) × (slice_get self.now.rows i ≡ Some row) × (result.now ≡ record_bytes row) × (row.1 < 2 ^ 32) }
     {
         let from = start_of(self.ends.as_slice(), i);
         &self.records[from..self.ends[i] as usize]
