@@ -1,2 +1,12 @@
 pub mod CertifiedLemmas
+pub mod FieldLemmas
+pub mod FindLemmas
+pub mod LawLemmas
+pub mod LayoutLemmas
+pub mod OnceLemmas
+pub mod PartsLemmas
+pub mod ReadFaultLemmas
+pub mod ReadingLemmas
+pub mod RecordLemmas
+pub mod SpelledLemmas
 pub mod WritingLemmas

@@ -9,16 +9,9 @@ use Rattle.fc_home.specs.declared.settling.TheConstants.{GREATEST_RULE}
 use Rattle.fc_answers.specs.Table.{IsRising}
 use Rattle.fc_cert.specs.declared.contents.Form.{Form}
 use Rattle.fc_cert.specs.declared.contents.Form.TheVariants.{First, Second}
+use Rattle.fc_cert.specs.declared.contents.Head.{Head}
 use Rattle.fc_cert.specs.declared.contents.Kind.{Kind}
 use Rattle.fc_cert.specs.declared.contents.Kind.TheVariants.{Shortest, CannotWin}
-
--- the fields that stand before the moves: the form, the code of the game, its number of cells, the home rule and the kind
-pub record Head : Type 0 where
-  pub form : Form
-  pub game : ℕ
-  pub cells : ℕ
-  pub rule : ℕ
-  pub kind : Kind
 
 -- what a certificate contains: its head, a list of moves, and rows of a class's key and a cost
 pub record Content : Type 0 where

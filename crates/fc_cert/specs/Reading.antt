@@ -8,11 +8,12 @@ use Rattle.fc_canonical.specs.Spelled.{IsKeyFor}
 use Rattle.fc_home.specs.declared.settling.TheConstants.{GREATEST_RULE}
 use Rattle.fc_cert.specs.declared.contents.Form.{Form}
 use Rattle.fc_cert.specs.declared.contents.Form.TheVariants.{First, Second}
+use Rattle.fc_cert.specs.declared.contents.Head.{Head}
 use Rattle.fc_cert.specs.declared.contents.Kind.{Kind}
 use Rattle.fc_cert.specs.declared.contents.Kind.TheVariants.{Shortest, CannotWin}
 use Rattle.fc_cert.specs.declared.faults.CertFault.{CertFault}
 use Rattle.fc_cert.specs.declared.faults.CertFault.TheVariants.{Short, BadMagic, BadCells, BadRule, BadKind, BadMove, BadRecord, Order, Label, Trailing, NotCertified, Write, Memory}
-use Rattle.fc_cert.specs.Content.{Head, Content, magic, kind_byte, four_bytes, record_bytes, MayCost, IsRecord}
+use Rattle.fc_cert.specs.Content.{Content, IsSpelled, magic, kind_byte, four_bytes, record_bytes, MayCost, IsRecord}
 
 module _ {A : Type 0} where
   -- a field of n bytes: what it says, and the bytes after it; or it isn't all there; or it is, and says nothing
@@ -141,3 +142,8 @@ Reads bytes out =
 -- the fault of bytes that have no content
 abbrev pub IsFormFault : List ℕ → CertFault → Type 0
 IsFormFault bytes fault = Reads bytes (Err fault)
+
+-- why nothing was read of the bytes: the fault of their form, or a growth that was refused, where they are a certificate
+abbrev pub IsReadFault : List ℕ → CertFault → Type 0
+IsReadFault bytes Memory = (c : Content) × IsSpelled bytes c
+IsReadFault bytes fault = IsFormFault bytes fault

@@ -15,3 +15,13 @@ pub enum Kind {
     /// Classes that show that no list wins.
     CannotWin,
 }
+
+/// The fields that stand before the moves: the form, the code of the game, its number of cells, the home rule and the kind.
+#[derive(Clone, Copy, Debug, PartialEq, Eq)]
+pub struct Head {
+    pub form: Form,
+    pub game: u8,
+    pub cells: u8,
+    pub rule: u8,
+    pub kind: Kind,
+}

@@ -2,13 +2,16 @@
 //! Nothing here searches.
 #![tactic(auto)]
 
+pub use certificates::{Certificate, LONGEST_CERTIFICATE, form_fault};
 pub use claims::Claim;
-pub use contents::{Form, Kind};
+pub use contents::{Form, Head, Kind};
 pub use faults::CertFault;
 pub use writers::write_answer;
 
+mod certificates;
 mod claims;
 mod contents;
 mod faults;
 pub mod laws;
+mod readers;
 mod writers;

@@ -1,0 +1,211 @@
+//! Certificates that were read.
+
+ghost use Rattle.std.specs.Prelude.{◌≡◌, ◌+◌, ◌<◌, ◌≤◌, ◌^◌, ◌↔◌, ℕ, List, [], ◌++◌, Some, length, slice_get, Contains, IsTrue, IfOk, IfErr, MatchOption};
+ghost use Rattle.fc_cert.specs.Content.{Content, IsContent, IsRecord, IsSpelled, kind_byte, record_bytes};
+ghost use Rattle.fc_cert.specs.Layout.{AreRecords, ends_from, start_of};
+ghost use Rattle.fc_cert.specs.Reading.{IsFormFault, IsReadFault};
+
+use crate::contents::{Head, Kind};
+use crate::faults::CertFault;
+use crate::readers::{check_form, split_number, split_record};
+use fc_home::GREATEST_RULE;
+use fc_moves::{Move, read_move};
+use std::alloc::{AllocError, Global};
+use std::cmp::Ordering;
+use std::marker::Model;
+
+/// The most bytes that a certificate may have: 1 GiB.
+pub const LONGEST_CERTIFICATE: usize = 1_073_741_824;
+
+/// A certificate, over the bytes that it was read from. No record is copied: only where each ends is kept.
+#[derive(Drop)]
+pub struct Certificate<'a> {
+    head: Head,
+    texts: &'a [u8],
+    records: &'a [u8],
+    ends: Vec<u32>,
+}
+
+impl<'a> Model for Certificate<'a> {
+    ghost use Rattle.fc_cert.specs.Content.{Content};
+    ghost use Rattle.fc_cert.specs.Layout.{AreParts, content_of};
+
+    ghost Value = { Content };
+
+    ghost view = { λ s. content_of s.head s.texts.now s.records.now s.ends.items };
+
+    ghost invariant = { λ s. AreParts (content_of s.head s.texts.now s.records.now s.ends.items) s.texts.now s.records.now s.ends.items };
+}
+
+impl<'a> Certificate<'a> {
+    /// The certificate that the bytes are, at most 1 GiB of them.
+    ///
+    /// # Errors
+    /// The first fault of the form, field by field; `Memory` only once the whole form was checked, where the one growth was
+    /// refused.
+    pub fn read(alloc: Global, bytes: &'a [u8]) -> Result<Self, CertFault>
+        requires limit { length bytes.now ≤ LONGEST_CERTIFICATE }
+        ensures read { IfOk result (IsSpelled bytes.now) }
+        ensures fault { IfErr result (IsReadFault bytes.now) }
+    {
+        let parts = check_form(bytes)?;
+        let Ok(ends) = ends_of(alloc, parts.head, parts.records, parts.count) else {
+            return Err(CertFault::Memory);
+        };
+        Ok(Certificate {
+            head: parts.head,
+            texts: parts.texts,
+            records: parts.records,
+            ends,
+        })
+    }
+
+    /// The code of the game.
+    pub fn game(&self) -> u8
+        ensures value { result ≡ self.now.head.game }
+    {
+        self.head.game
+    }
+
+    /// The game's number of cells, at most 4.
+    pub fn cells(&self) -> u8
+        ensures value { result ≡ self.now.head.cells }
+        ensures most { result ≤ 4 }
+    {
+        self.head.cells
+    }
+
+    /// The home rule that the table is closed by, 0 to 2.
+    pub fn rule(&self) -> u8
+        ensures value { result ≡ self.now.head.rule }
+        ensures known { result ≤ GREATEST_RULE }
+    {
+        self.head.rule
+    }
+
+    /// 1 where it claims that its moves are a shortest list, 2 where it claims that no list wins.
+    pub fn kind(&self) -> u8
+        ensures value { result ≡ kind_byte self.now.head.kind }
+    {
+        match self.head.kind {
+            Kind::Shortest => 1,
+            Kind::CannotWin => 2,
+        }
+    }
+
+    /// How many moves are listed.
+    pub fn move_count(&self) -> u32
+        ensures value { result ≡ length self.now.moves }
+    {
+        (self.texts.len() / 2) as u32
+    }
+
+    /// The move with this number, from 0 to below `move_count`.
+    pub fn move_at(&self, i: u32) -> Move
+        requires within { i < length self.now.moves }
+        ensures value { slice_get self.now.moves i ≡ Some result }
+    {
+        let at = i as usize * 2;
+        read_move(&self.texts[at..at + 2]).unwrap()
+    }
+
+    /// How many records are listed.
+    pub fn len(&self) -> u32
+        ensures value { result ≡ length self.now.rows }
+        ensures content { IsContent self.now }
+    {
+        self.ends.len() as u32
+    }
+
+    /// Whether no record is listed.
+    pub fn is_empty(&self) -> bool
+        ensures value { IsTrue result ↔ (self.now.rows ≡ []) }
+    {
+        self.ends.is_empty()
+    }
+
+    /// The bytes of the key and the cost of the record with this number, from 0 to below `len`. The key is lent out of the
+    /// bytes that the certificate was read from.
+    pub fn record_at(&self, i: u32) -> (&'a [u8], u32)
+        requires within { i < length self.now.rows }
+        ensures value { slice_get self.now.rows i ≡ Some (result.0.now, result.1) }
+    {
+        let (cost, key) = split_number(self.record_bytes(i as usize)).unwrap();
+        (key, cost)
+    }
+
+    // The bytes of the record with this number.
+    fn record_bytes(&self, i: usize) -> &'a [u8]
+        requires within { i < length self.now.rows }
+        ensures value { (row : List ℕ × ℕ) × (slice_get self.now.rows i ≡ Some row) × (result.now ≡ record_bytes row) × (row.1 < 2 ^ 32) }
+    {
+        let from = start_of(self.ends.as_slice(), i);
+        &self.records[from..self.ends[i] as usize]
+    }
+
+    /// The cost that is listed for a key, sought by halves; `None` where none is.
+    pub fn find(&self, key: &[u8]) -> Option<u32>
+        ensures value { MatchOption result ((cost : ℕ) → Contains self.now.rows (key.now, cost) → ⊥)
+            (λ cost. Contains self.now.rows (key.now, cost)) }
+    {
+        let mut low = 0;
+        let mut high = self.len();
+        while low < high {
+            let middle = low + (high - low) / 2;
+            let (other, cost) = self.record_at(middle);
+            match key.cmp(other) {
+                Ordering::Less => high = middle,
+                Ordering::Equal => return Some(cost),
+                Ordering::Greater => low = middle + 1,
+            }
+        }
+        None
+    }
+}
+
+/// The fault of the bytes' form, the first field by field; `None` exactly where they are a certificate. No memory is asked
+/// for.
+pub fn form_fault(bytes: &[u8]) -> Option<CertFault>
+    ensures value { MatchOption result ((c : Content) × IsSpelled bytes.now c) (IsFormFault bytes.now) }
+{
+    match check_form(bytes) {
+        Ok(_) => None,
+        Err(fault) => Some(fault),
+    }
+}
+
+// Where the record with this number begins, by where the records end.
+fn start_of(ends: &[u32], i: usize) -> usize
+    requires within { i ≤ length ends.now }
+    ensures value { result ≡ start_of 0 ends.now i }
+{
+    match i.checked_sub(1) {
+        Some(before) => ends[before] as usize,
+        None => 0,
+    }
+}
+
+// Where so many records end that are all of the bytes.
+fn ends_of(alloc: Global, head: Head, records: &[u8], count: u32) -> Result<Vec<u32>, AllocError>
+    requires limit { length records.now ≤ LONGEST_CERTIFICATE }
+    requires rows { (rows : List (List ℕ × ℕ)) × AreRecords head.cells head.kind records.now count rows }
+    ensures value { IfOk result (λ ends. (rows : List (List ℕ × ℕ)) → AreRecords head.cells head.kind records.now count rows
+        → ends.items ≡ ends_from 0 rows) }
+{
+    let mut ends = Vec::with_capacity(alloc, count as usize)?;
+    let mut rest = records;
+    for _ in 0..count {
+        rest = after_record(head, rest);
+        ends.push((records.len() - rest.len()) as u32)?;
+    }
+    Ok(ends)
+}
+
+// What follows the record at the front.
+fn after_record(head: Head, bytes: &[u8]) -> &[u8]
+    requires record { (row : List ℕ × ℕ) × (rest : List ℕ) × IsRecord head.cells head.kind row × (bytes.now ≡ record_bytes row ++ rest) }
+    ensures value { (row : List ℕ × ℕ) (rest : List ℕ) → IsRecord head.cells head.kind row → bytes.now ≡ record_bytes row ++ rest → result.now ≡ rest }
+{
+    let (_cost, _key, rest) = split_record(bytes).unwrap();
+    rest
+}

@@ -1,0 +1,282 @@
+ghost use Rattle.std.specs.Prelude.{◌≡◌, ◌+◌, ◌<◌, ◌≤◌, ◌^◌, ◌↔◌, ℕ, List, [], ◌∷◌, ◌++◌, length, take, drop, IsTrue, IfOk, IfErr, IfSome, IfNone};
+ghost use Rattle.std.specs.List.{flat_map};
+ghost use Rattle.std.specs.Option.{option_copied};
+ghost use Rattle.fc_moves.specs.declared.steps.Move.{Move};
+ghost use Rattle.fc_moves.specs.MoveText.{move_text};
+ghost use Rattle.fc_canonical.specs.Key.{HasExtent};
+ghost use Rattle.fc_canonical.specs.KeyOrder.{IsBefore};
+ghost use Rattle.fc_cert.specs.Content.{Content, magic, kind_byte, four_bytes, record_bytes, MayCost};
+ghost use Rattle.fc_cert.specs.Layout.{HasParts};
+ghost use Rattle.fc_cert.specs.Reading.{Field, SaysByte, SaysNumber, SaysMove, MayRule, IsAfter, HasRecord, ReadsGame, ReadsHead, ReadsMoves, ReadsList, ReadsRecord, ReadsRecords, Reads, IsFormFault};
+
+use crate::contents::{Form, Head, Kind};
+use crate::faults::CertFault;
+use fc_canonical::{is_key, key_len};
+use fc_home::GREATEST_RULE;
+use fc_moves::read_move;
+
+/// The parts of a certificate's bytes that are kept: the head, the texts of the moves, and the records, so many.
+#[derive(Clone, Copy)]
+pub struct Parts<'a> {
+    pub head: Head,
+    pub texts: &'a [u8],
+    pub count: u32,
+    pub records: &'a [u8],
+}
+
+/// Reads all the bytes, field by field, up to the first that isn't all there, or is wrong.
+///
+/// # Errors
+///
+/// The fault of that field. No memory is asked for.
+pub fn check_form(bytes: &[u8]) -> Result<Parts<'_>, CertFault>
+    ensures read { IfOk result (λ p. (c : Content) × Reads bytes.now (Ok c)
+        × HasParts c p.head p.texts.now p.records.now p.count) }
+    ensures fault { IfErr result (λ f. IsFormFault bytes.now f) }
+{
+    let (head, rest) = read_head(bytes)?;
+    let (texts, rest) = read_list(head.kind, rest)?;
+    let (count, records) = read_number(rest)?;
+    let rest = read_records(&head, count, records)?;
+    if !rest.is_empty() {
+        return Err(CertFault::Trailing);
+    }
+    Ok(Parts {
+        head,
+        texts,
+        count,
+        records,
+    })
+}
+
+// The fields before the moves, and what follows them.
+fn read_head(bytes: &[u8]) -> Result<(Head, &[u8]), CertFault>
+    ensures read { IfOk result (λ r. ReadsHead bytes.now (Ok (r.0, r.1.now))) }
+    ensures fault { IfErr result (λ f. ReadsHead bytes.now (Err f)) }
+{
+    let (form, rest) = read_form(bytes)?;
+    let ((game, cells), rest) = read_game(form, rest)?;
+    let (rule, rest) = read_rule(form, rest)?;
+    let (kind, rest) = read_kind(rest)?;
+    let head = Head {
+        form,
+        game,
+        cells,
+        rule,
+        kind,
+    };
+    Ok((head, rest))
+}
+
+// The form, by the four bytes at the front, and what follows them.
+fn read_form(bytes: &[u8]) -> Result<(Form, &[u8]), CertFault>
+    ensures read { IfOk result (λ r. Field 4 (λ here form. here ≡ magic form) CertFault.BadMagic bytes.now (Ok (r.0, r.1.now))) }
+    ensures fault { IfErr result (λ f. Field 4 (λ here form. here ≡ magic form) CertFault.BadMagic bytes.now (Err f)) }
+{
+    let (here, rest) = bytes.split_at_checked(4).ok_or(CertFault::Short)?;
+    match here {
+        b"FCC1" => Ok((Form::First, rest)),
+        b"FCC2" => Ok((Form::Second, rest)),
+        _ => Err(CertFault::BadMagic),
+    }
+}
+
+// The code of the game and its number of cells, and what follows them.
+fn read_game(form: Form, bytes: &[u8]) -> Result<((u8, u8), &[u8]), CertFault>
+    ensures read { IfOk result (λ r. ReadsGame form bytes.now (Ok (r.0, r.1.now))) }
+    ensures fault { IfErr result (λ f. ReadsGame form bytes.now (Err f)) }
+{
+    match form {
+        Form::First => Ok(((0, 4), bytes)),
+        Form::Second => {
+            let (game, rest) = split_byte(bytes)?;
+            let (cells, rest) = read_cells(rest)?;
+            Ok(((game, cells), rest))
+        }
+    }
+}
+
+// The number of cells of a game, and what follows it.
+fn read_cells(bytes: &[u8]) -> Result<(u8, &[u8]), CertFault>
+    ensures read { IfOk result (λ r. Field 1 (SaysByte (λ n. n ≤ 4)) CertFault.BadCells bytes.now (Ok (r.0, r.1.now))) }
+    ensures fault { IfErr result (λ f. Field 1 (SaysByte (λ n. n ≤ 4)) CertFault.BadCells bytes.now (Err f)) }
+{
+    let (cells, rest) = split_byte(bytes)?;
+    if cells <= 4 {
+        Ok((cells, rest))
+    } else {
+        Err(CertFault::BadCells)
+    }
+}
+
+// A home rule that the form may name, and what follows it.
+fn read_rule(form: Form, bytes: &[u8]) -> Result<(u8, &[u8]), CertFault>
+    ensures read { IfOk result (λ r. Field 1 (SaysByte (MayRule form)) CertFault.BadRule bytes.now (Ok (r.0, r.1.now))) }
+    ensures fault { IfErr result (λ f. Field 1 (SaysByte (MayRule form)) CertFault.BadRule bytes.now (Err f)) }
+{
+    let (rule, rest) = split_byte(bytes)?;
+    if rule <= greatest_rule(form) {
+        Ok((rule, rest))
+    } else {
+        Err(CertFault::BadRule)
+    }
+}
+
+// The greatest home rule that the form may name.
+fn greatest_rule(form: Form) -> u8
+    ensures value { (rule : ℕ) → (rule ≤ result) ↔ MayRule form rule }
+{
+    match form {
+        Form::First => 1,
+        Form::Second => GREATEST_RULE,
+    }
+}
+
+// The kind, and what follows it.
+fn read_kind(bytes: &[u8]) -> Result<(Kind, &[u8]), CertFault>
+    ensures read { IfOk result (λ r. Field 1 (λ here kind. here ≡ kind_byte kind ∷ []) CertFault.BadKind bytes.now (Ok (r.0, r.1.now))) }
+    ensures fault { IfErr result (λ f. Field 1 (λ here kind. here ≡ kind_byte kind ∷ []) CertFault.BadKind bytes.now (Err f)) }
+{
+    let (byte, rest) = split_byte(bytes)?;
+    match byte {
+        1 => Ok((Kind::Shortest, rest)),
+        2 => Ok((Kind::CannotWin, rest)),
+        _ => Err(CertFault::BadKind),
+    }
+}
+
+// The texts of the moves that a certificate of this kind lists, and what follows them.
+fn read_list(kind: Kind, bytes: &[u8]) -> Result<(&[u8], &[u8]), CertFault>
+    ensures read { IfOk result (λ r. (moves : List Move) × ReadsList kind bytes.now (Ok (moves, r.1.now))
+        × (r.0.now ≡ flat_map move_text moves)) }
+    ensures fault { IfErr result (λ f. ReadsList kind bytes.now (Err f)) }
+{
+    match kind {
+        Kind::Shortest => {
+            let (count, texts) = read_number(bytes)?;
+            let rest = read_moves(count, texts)?;
+            Ok(texts.split_at(texts.len() - rest.len()))
+        }
+        Kind::CannotWin => Ok(bytes.split_at(0)),
+    }
+}
+
+// What follows so many moves.
+fn read_moves(count: u32, bytes: &[u8]) -> Result<&[u8], CertFault>
+    ensures read { IfOk result (λ r. (moves : List Move) × ReadsMoves count 1 bytes.now (Ok (moves, r.now))) }
+    ensures fault { IfErr result (λ f. ReadsMoves count 1 bytes.now (Err f)) }
+{
+    let mut rest = bytes;
+    for i in 0..count {
+        rest = read_text(i + 1, rest)?;
+    }
+    Ok(rest)
+}
+
+// What follows the text of the move with this number.
+fn read_text(number: u32, bytes: &[u8]) -> Result<&[u8], CertFault>
+    ensures read { IfOk result (λ r. (m : Move) × Field 2 SaysMove (CertFault.BadMove number) bytes.now (Ok (m, r.now))) }
+    ensures fault { IfErr result (λ f. Field 2 SaysMove (CertFault.BadMove number) bytes.now (Err f)) }
+{
+    let (text, rest) = bytes.split_at_checked(2).ok_or(CertFault::Short)?;
+    match read_move(text) {
+        Some(_) => Ok(rest),
+        None => Err(CertFault::BadMove(number)),
+    }
+}
+
+// What follows so many records.
+fn read_records<'a>(head: &Head, count: u32, bytes: &'a [u8]) -> Result<&'a [u8], CertFault>
+    ensures read { IfOk result (λ r. (rows : List (List ℕ × ℕ))
+        × ReadsRecords head.now.cells head.now.kind count 0 None bytes.now (Ok (rows, r.now))) }
+    ensures fault { IfErr result (λ f. ReadsRecords head.now.cells head.now.kind count 0 None bytes.now (Err f)) }
+{
+    let mut rest = bytes;
+    let mut before = None;
+    for number in 0..count {
+        let (key, after) = read_record(head, number, before, rest)?;
+        before = Some(key);
+        rest = after;
+    }
+    Ok(rest)
+}
+
+// The key of the record with this number, after one with that key, and what follows the record.
+fn read_record<'a>(
+    head: &Head,
+    number: u32,
+    before: Option<&[u8]>,
+    bytes: &'a [u8],
+) -> Result<(&'a [u8], &'a [u8]), CertFault>
+    ensures read { IfOk result (λ r. (cost : ℕ)
+        × ReadsRecord head.now.cells head.now.kind number (option_copied before.entry) bytes.now (Ok ((r.0.now, cost), r.1.now))) }
+    ensures fault { IfErr result (λ f. ReadsRecord head.now.cells head.now.kind number (option_copied before.entry) bytes.now (Err f)) }
+{
+    let (cost, key, rest) = split_record(bytes).ok_or(CertFault::Short)?;
+    if !is_key(key, head.cells) {
+        return Err(CertFault::BadRecord(number));
+    }
+    if !is_after(before, key) {
+        return Err(CertFault::Order(number));
+    }
+    if !may_cost(head.kind, cost) {
+        return Err(CertFault::Label(number));
+    }
+    Ok((key, rest))
+}
+
+/// The cost of the record at the front, the extent of its key by its length bytes, and what follows.
+pub fn split_record(bytes: &[u8]) -> Option<(u32, &[u8], &[u8])>
+    ensures found { IfSome result (λ r. (has : HasRecord bytes.now r.0 r.1.now) × (has.rest ≡ r.2.now)) }
+    ensures none { IfNone result ((cost : ℕ) (key : List ℕ) → HasRecord bytes.now cost key → ⊥) }
+{
+    let (cost, from_key) = split_number(bytes)?;
+    let (key, rest) = from_key.split_at(key_len(from_key)?);
+    Some((cost, key, rest))
+}
+
+// Whether the key comes after that of the record before.
+fn is_after(before: Option<&[u8]>, key: &[u8]) -> bool
+    ensures value { IsTrue result ↔ IsAfter (option_copied before.entry) key.now }
+{
+    match before {
+        Some(other) => other.cmp(&key).is_lt(),
+        None => true,
+    }
+}
+
+// Whether a certificate of this kind may have the cost.
+fn may_cost(kind: Kind, cost: u32) -> bool
+    ensures value { IsTrue result ↔ MayCost kind cost }
+{
+    match kind {
+        Kind::Shortest => true,
+        Kind::CannotWin => cost == 0,
+    }
+}
+
+// A number of four bytes, and what follows it.
+fn read_number(bytes: &[u8]) -> Result<(u32, &[u8]), CertFault>
+    ensures read { IfOk result (λ r. Field 4 SaysNumber CertFault.Short bytes.now (Ok (r.0, r.1.now))) }
+    ensures fault { IfErr result (λ f. Field 4 SaysNumber CertFault.Short bytes.now (Err f)) }
+{
+    split_number(bytes).ok_or(CertFault::Short)
+}
+
+/// The number that the first four bytes say, and what follows them. `None` where the bytes end first.
+pub fn split_number(bytes: &[u8]) -> Option<(u32, &[u8])>
+    ensures found { IfSome result (λ r. (bytes.now ≡ four_bytes r.0 ++ r.1.now) × (r.0 < 2 ^ 32)) }
+    ensures none { IfNone result (length bytes.now < 4) }
+{
+    let (here, rest) = bytes.split_first_chunk::<4>()?;
+    Some((u32::from_be_bytes(*here), rest))
+}
+
+// The first byte, and what follows it.
+fn split_byte(bytes: &[u8]) -> Result<(u8, &[u8]), CertFault>
+    ensures read { IfOk result (λ r. (bytes.now ≡ r.0 ∷ r.1.now) × (r.0 < 256)) }
+    ensures fault { IfErr result (λ f. (bytes.now ≡ []) × (f ≡ CertFault.Short)) }
+{
+    let (byte, rest) = bytes.split_first().ok_or(CertFault::Short)?;
+    Ok((*byte, rest))
+}
