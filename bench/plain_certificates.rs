@@ -2,7 +2,7 @@
 //! It is there to be compared with; nothing of the product uses it.
 //!
 //! plain_certificates make COUNT SEED FILE    writes a certificate of kind 2 with so many random keys
-//! plain_certificates read FILE ROUNDS        checks its form and keeps offsets, so often; then finds each key by halves
+//! plain_certificates read ROUNDS FILE        checks its form and keeps offsets, so often; then finds each key by halves
 
 use std::env;
 use std::fs;
@@ -243,42 +243,27 @@ fn make(count: usize, seed: u64) -> Vec<u8> {
     bytes
 }
 
-fn median(mut times: Vec<f64>) -> f64 {
-    times.sort_by(f64::total_cmp);
-    times[times.len() / 2]
-}
-
-fn peak_kilobytes() -> String {
-    let status = fs::read_to_string("/proc/self/status").unwrap_or_default();
-    let line = status.lines().find(|line| line.starts_with("VmHWM:"));
-    line.and_then(|line| line.split_whitespace().nth(1)).unwrap_or("0").to_string()
-}
-
 fn measure(bytes: &[u8], rounds: usize) -> Result<(), Fault> {
-    let mut reading = Vec::new();
+    let began = Instant::now();
+    let mut records = 0;
     for _ in 0..rounds {
-        let began = Instant::now();
-        let certificate = read(bytes)?;
-        reading.push(began.elapsed().as_secs_f64());
-        assert!(certificate.starts.capacity() == certificate.starts.len());
+        records += read(bytes)?.starts.len();
     }
+    let reading = began.elapsed().as_nanos();
     let certificate = read(bytes)?;
     let count = certificate.starts.len();
-    let mut finding = Vec::new();
-    let mut sum = 0u64;
+    let began = Instant::now();
+    let mut found = 0;
     for _ in 0..rounds {
-        let began = Instant::now();
         for i in 0..count {
             let (key, _) = certificate.record_at(i * 7919 % count);
-            sum += certificate.find(key).map_or(1, u64::from);
+            found += usize::from(certificate.find(key).is_some());
         }
-        finding.push(began.elapsed().as_secs_f64());
     }
-    let nanoseconds = |times| median(times) * 1e9 / count.max(1) as f64;
-    println!("records {count} missing {sum}");
-    println!("read {:.1} ns a record", nanoseconds(reading));
-    println!("find {:.1} ns a key", nanoseconds(finding));
-    println!("peak {} KB", peak_kilobytes());
+    let finding = began.elapsed().as_nanos();
+    println!("records {count}");
+    println!("read {:.1} ns", reading as f64 / records.max(1) as f64);
+    println!("find {:.1} ns", finding as f64 / found.max(1) as f64);
     Ok(())
 }
 
@@ -295,7 +280,7 @@ fn main() -> ExitCode {
                 Err(_) => ExitCode::from(5),
             }
         }
-        ["read", file, rounds] => {
+        ["read", rounds, file] => {
             let (Ok(bytes), Ok(rounds)) = (fs::read(file), rounds.parse()) else {
                 return ExitCode::from(5);
             };

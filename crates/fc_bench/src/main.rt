@@ -1,7 +1,11 @@
 //! Measures calls of the library on the start of deal 1: nanoseconds a call, and how that compares with copying as many
-//! bytes as a position has. The argument is how often each call is made; at 0 nothing is measured.
+//! bytes as a position has. The argument is how often each call is made; at 0 nothing is measured. A second argument names
+//! a certificate's file: then reading it and finding its keys is measured, and nothing else.
 #![tactic(auto)]
 
+mod certificates;
+
+use crate::certificates::bench_certificate;
 use arrayvec::ArrayVec;
 use fc_bound::bound;
 use fc_canonical::{Key, canonical, distinct_moves, key};
@@ -426,6 +430,9 @@ fn main(rt: HostRuntime) -> io::Result<()> {
         .next()
         .and_then(|word| word.parse::<u32>().ok())
         .unwrap_or(0);
+    if let Some(path) = words.next() {
+        return bench_certificate(&rt, path.as_str(), rounds);
+    }
     match (deal(1), FreeCell::new(4)) {
         (Some(position), Some(game)) => bench(&rt, &position, &game, rounds),
         _ => println!(rt; "no deal"),

@@ -36,7 +36,8 @@ fn are_cells(bytes: &[u8], most: u8) -> bool
     requires count { length bytes.now ≡ 4 }
     ensures value { IsTrue result ↔ AreCells most bytes.now }
 {
-    are_in_order(bytes) && full_cells(bytes) <= most as usize
+    // Four cells can't be too many where the game has four.
+    are_in_order(bytes) && (most >= 4 || full_cells(bytes) <= most as usize)
 }
 
 // Whether none of four bytes is lower than one before it.

@@ -15,6 +15,7 @@ use fc_position::Position;
 
 /// How many bytes at the front are a key by their length bytes alone: eight bytes and then eight columns, whatever the
 /// other bytes are. `None` where the bytes end first.
+#[inline]
 pub fn key_len(bytes: &[u8]) -> Option<usize>
     ensures found { IfSome result (HasExtent bytes.now) }
     ensures none { IfNone result ((n : ℕ) → HasExtent bytes.now n → ⊥) }

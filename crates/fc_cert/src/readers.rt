@@ -226,6 +226,7 @@ fn read_record<'a>(
 }
 
 /// The cost of the record at the front, the extent of its key by its length bytes, and what follows.
+#[inline]
 pub fn split_record(bytes: &[u8]) -> Option<(u32, &[u8], &[u8])>
     ensures found { IfSome result (λ r. (has : HasRecord bytes.now r.0 r.1.now) × (has.rest ≡ r.2.now)) }
     ensures none { IfNone result ((cost : ℕ) (key : List ℕ) → HasRecord bytes.now cost key → ⊥) }
@@ -264,6 +265,7 @@ fn read_number(bytes: &[u8]) -> Result<(u32, &[u8]), CertFault>
 }
 
 /// The number that the first four bytes say, and what follows them. `None` where the bytes end first.
+#[inline]
 pub fn split_number(bytes: &[u8]) -> Option<(u32, &[u8])>
     ensures found { IfSome result (λ r. (bytes.now ≡ four_bytes r.0 ++ r.1.now) × (r.0 < 2 ^ 32)) }
     ensures none { IfNone result (length bytes.now < 4) }
