@@ -72,7 +72,7 @@ orders_stand orders long up i j d le inside =
       ap (slice_index orders) (at j inside),
     )
 
-length-bytes : (columns : List (List ℕ)) → sum_by (λ x. length (column_bytes x)) columns ≡ length columns + sum_by (λ x. length x) columns
+pub length-bytes : (columns : List (List ℕ)) → sum_by (λ x. length (column_bytes x)) columns ≡ length columns + sum_by (λ x. length x) columns
 length-bytes [] = refl
 length-bytes (x ∷ xs) =
     omega (arith, sum_by-cons (λ y. length (column_bytes y)) x xs, sum_by-cons (λ (y : List ℕ). length y) x xs, length-bytes xs)
@@ -348,7 +348,7 @@ key_front b p =
     omega (arith, length-append b.homes (map cell_byte b.cells), length-map b.cells cell_byte, p.homes, p.cells)
 
 -- a key is its front and its columns, and so long
-key_size : (b : Board) → IsPosition b → length (board_bytes b) ≡ 8 + length (flat_map column_bytes b.columns)
+pub key_size : (b : Board) → IsPosition b → length (board_bytes b) ≡ 8 + length (flat_map column_bytes b.columns)
 key_size b p =
     omega (arith, key_front b p, length-append (b.homes ++ map cell_byte b.cells) (flat_map column_bytes b.columns))
 

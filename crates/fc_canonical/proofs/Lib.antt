@@ -12,5 +12,6 @@ pub mod PartLemmas
 pub mod ReadLemmas
 pub mod Rearrange
 pub mod SetLemmas
+pub mod SizeLemmas
 pub mod SortLemmas
 pub mod SpelledLemmas

@@ -54,7 +54,7 @@ fn are_in_order(bytes: &[u8]) -> bool
 }
 
 // How many cells with these bytes hold a card.
-fn full_cells(bytes: &[u8]) -> usize
+pub(crate) fn full_cells(bytes: &[u8]) -> usize
     ensures value { result ≡ count_by (λ byte. not (byte == 255)) bytes.now }
 {
     let mut full = 0;

@@ -8,7 +8,7 @@ pub use distinct::distinct_moves;
 pub use keys::{Key, key, padded_key};
 pub use moved::moved_key;
 pub use orders::canonical;
-pub use readers::{key_len, position_of, read_key};
+pub use readers::{key_len, key_size, position_of, read_key};
 pub use searches::find_move;
 
 mod card_sets;

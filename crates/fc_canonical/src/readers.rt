@@ -1,4 +1,4 @@
-ghost use Rattle.std.specs.Prelude.{◌≡◌, ℕ, ◌+◌, ◌≤◌, ◌<◌, ◌↔◌, IsTrue, All, IfSome, IfNone, length, map, take, drop, List, ◌++◌, Option};
+ghost use Rattle.std.specs.Prelude.{◌≡◌, ◌==◌, ℕ, ◌+◌, ◌≤◌, ◌<◌, ◌↔◌, IsTrue, All, IfSome, IfNone, count_by, length, map, not, slice_index, take, drop, List, ◌++◌, Option};
 ghost use Rattle.std.specs.List.{flat_map};
 ghost use Rattle.arrayvec.specs.ArrayVec.{array_vec_len};
 ghost use Rattle.fc_position.specs.Board.{Board};
@@ -8,6 +8,7 @@ ghost use Rattle.fc_canonical.specs.Key.{column_bytes, board_bytes, HasExtent, B
 ghost use Rattle.fc_canonical.specs.Order.{cell_byte};
 ghost use Rattle.fc_canonical.specs.Parts.{IsSmall, IsHolding};
 
+use crate::checks::full_cells;
 use crate::keys::key;
 use arrayvec::ArrayVec;
 use fc_cards::Card;
@@ -26,6 +27,35 @@ pub fn key_len(bytes: &[u8]) -> Option<usize>
         rest = after;
     }
     Some(bytes.len() - rest.len())
+}
+
+/// How many bytes the key at the front has, by its counts and its cells: each card that is neither home nor in a cell is
+/// spelled by one. That a key stands there is known.
+#[inline]
+pub fn key_size(bytes: &[u8]) -> usize
+    requires key { (b : Board) × (n : ℕ) × BeginsWithKey bytes.now b n }
+    ensures value { (b : Board) (n : ℕ) → BeginsWithKey bytes.now b n → result ≡ n }
+{
+    let (counts, rest) = bytes.split_at(4);
+    let (cells, _) = rest.split_at(4);
+    longest_key_without(counts, cells)
+}
+
+// The bytes of the longest key, less one for each card that is home, by these counts, and each that cells with these bytes
+// hold.
+fn longest_key_without(counts: &[u8], cells: &[u8]) -> usize
+    requires counts { length counts.now ≡ 4 }
+    requires cells { length cells.now ≡ 4 }
+    requires few { slice_index counts.now 0 + slice_index counts.now 1 + slice_index counts.now 2 + slice_index counts.now 3
+        + count_by (λ byte. not (byte == 255)) cells.now ≤ 68 }
+    ensures value { result + (slice_index counts.now 0 + slice_index counts.now 1 + slice_index counts.now 2 + slice_index counts.now 3
+        + count_by (λ byte. not (byte == 255)) cells.now) ≡ 68 }
+{
+    let home = usize::from(counts[0])
+        + usize::from(counts[1])
+        + usize::from(counts[2])
+        + usize::from(counts[3]);
+    68 - home - full_cells(cells)
 }
 
 /// The canonical position whose key stands at the front, and how many bytes the key has, whatever follows. `None` where

@@ -1,36 +1,36 @@
 -- Records one after the other: where each ends, and what follows it.
-use Rattle.std.proofs.Common.{◌≡◌, ℕ, suc, ◌+◌, ◌-◌, ◌<◌, ◌≤◌, List, [], ◌∷◌, ◌++◌, length, refl, sym, ◌∙◌, ap, subst, append_assoc, arith}
+use Rattle.std.proofs.Common.{◌≡◌, ℕ, suc, ◌+◌, ◌-◌, ◌<◌, ◌≤◌, List, [], ◌∷◌, ◌++◌, length, drop, refl, sym, ◌∙◌, ap, subst, append_assoc, arith}
 use Rattle.std.specs.Prelude.{All}
 use Rattle.std.specs.List.{flat_map}
 use Rattle.std.proofs.lemmas.List.{length-append, take_at, drop_at}
 use Rattle.std.proofs.lemmas.List.Elements.{All-head, All-tail}
+use Rattle.fc_canonical.specs.Key.{BeginsWithKey}
+use Rattle.fc_canonical.specs.Spelled.{spelled}
 use Rattle.fc_cert.specs.declared.contents.Kind.{Kind}
 use Rattle.fc_cert.specs.Content.{IsRecord, four_bytes, record_bytes}
 use Rattle.fc_cert.specs.Layout.{AreRecords, ends_from}
-use Rattle.fc_cert.specs.Reading.{HasRecord}
-use Rattle.fc_cert.proofs.OnceLemmas.{cost_small, key_has_extent, record_once}
 
 module _ (cells : ℕ) (kind : Kind) (bytes : List ℕ) (row : List ℕ × ℕ) (rest : List ℕ) (is : IsRecord cells kind row)
     (e : bytes ≡ record_bytes row ++ rest) where
-  -- a record at the front is a cost and the extent of a key
-  pub has_record : HasRecord bytes row.1 row.0
-  has_record = record {
+  -- behind the cost of a record at the front stands its key
+  pub behind_cost : drop 4 bytes ≡ row.0 ++ rest
+  behind_cost = ap (drop 4) (e ∙ append_assoc (four_bytes row.1) row.0 rest) ∙ drop_at (four_bytes row.1) (row.0 ++ rest) 4 refl
+
+  pub begins : (from_key : List ℕ) → from_key ≡ drop 4 bytes → BeginsWithKey from_key (spelled row.0) (length row.0)
+  begins from_key behind = record {
+    position = is.key.position;
+    ordered = is.key.ordered;
     rest = rest;
-    small = cost_small kind row.1 is.cost;
-    extent = key_has_extent cells row.0 rest is.key;
-    parts = e;
+    parts = behind ∙ behind_cost ∙ ap (λ l. l ++ rest) is.key.bytes;
+    size = ap length is.key.bytes;
   }
 
-  -- and what follows it is one
-  pub record_rest : (cost : ℕ) (key : List ℕ) → (has : HasRecord bytes cost key) → has.rest ≡ rest
-  record_rest cost key has =
-      let own : HasRecord bytes row.1 row.0 = record {
-        rest = rest;
-        small = cost_small kind row.1 is.cost;
-        extent = key_has_extent cells row.0 rest is.key;
-        parts = e;
-      } in
-      (record_once bytes cost row.1 key row.0 has own).2
+  -- and behind its key what follows it
+  pub long_enough : (from_key : List ℕ) → from_key ≡ drop 4 bytes → length row.0 ≤ length from_key
+  long_enough from_key behind = omega (arith, ap length (behind ∙ behind_cost), length-append row.0 rest)
+
+  pub behind_key : (from_key : List ℕ) (n : ℕ) → from_key ≡ drop 4 bytes → n ≡ length row.0 → drop n from_key ≡ rest
+  behind_key from_key n behind long = ap (drop n) (behind ∙ behind_cost) ∙ drop_at row.0 rest n (sym long)
 
 -- the first of the records that are left, and the others
 pub record First (cells : ℕ) (kind : Kind) (bytes : List ℕ) (n : ℕ) (left : List (List ℕ × ℕ)) : Type 0 where

@@ -7,7 +7,8 @@ ghost use Rattle.fc_cert.specs.Reading.{IsFormFault, IsReadFault};
 
 use crate::contents::{Head, Kind};
 use crate::faults::CertFault;
-use crate::readers::{check_form, split_number, split_record};
+use crate::readers::{check_form, split_number};
+use fc_canonical::key_size;
 use fc_home::GREATEST_RULE;
 use fc_moves::{Move, read_move};
 use std::alloc::{AllocError, Global};
@@ -206,6 +207,7 @@ fn after_record(head: Head, bytes: &[u8]) -> &[u8]
     requires record { (row : List ℕ × ℕ) × (rest : List ℕ) × IsRecord head.cells head.kind row × (bytes.now ≡ record_bytes row ++ rest) }
     ensures value { (row : List ℕ × ℕ) (rest : List ℕ) → IsRecord head.cells head.kind row → bytes.now ≡ record_bytes row ++ rest → result.now ≡ rest }
 {
-    let (_cost, _key, rest) = split_record(bytes).unwrap();
+    let (_cost, from_key) = bytes.split_at(4);
+    let (_key, rest) = from_key.split_at(key_size(from_key));
     rest
 }

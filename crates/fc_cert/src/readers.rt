@@ -225,9 +225,9 @@ fn read_record<'a>(
     Ok((key, rest))
 }
 
-/// The cost of the record at the front, the extent of its key by its length bytes, and what follows.
+// The cost of the record at the front, the extent of its key by its length bytes, and what follows.
 #[inline]
-pub fn split_record(bytes: &[u8]) -> Option<(u32, &[u8], &[u8])>
+fn split_record(bytes: &[u8]) -> Option<(u32, &[u8], &[u8])>
     ensures found { IfSome result (λ r. (has : HasRecord bytes.now r.0 r.1.now) × (has.rest ≡ r.2.now)) }
     ensures none { IfNone result ((cost : ℕ) (key : List ℕ) → HasRecord bytes.now cost key → ⊥) }
 {

@@ -1,22 +1,35 @@
-use Rattle.std.proofs.Common.{List, ℕ, ◌++◌, ◌∷◌, ◌≡◌, length, Some, refl, sym, ◌∙◌, ap, subst}
-use Rattle.std.specs.Prelude.{IfSome}
-use Rattle.fc_canonical.proofs.ReadLemmas.{surely}
-use Rattle.fc_cert.specs.Reading.{HasRecord}
-use Rattle.fc_cert.proofs.RecordLemmas.{has_record, record_rest}
+use Rattle.std.proofs.Common.{◌≤◌, length, sym, ◌∙◌, ap, subst}
+use Rattle.fc_canonical.specs.Spelled.{spelled}
+use Rattle.fc_cert.proofs.RecordLemmas.{begins, behind_key, long_enough}
 use Rattle.fc_cert.proofs.certificates.after_record.Goals as goal
 
-pub unwrap-cost-requires : goal.unwrap-cost-requires
-unwrap-cost-requires c =
+pub key_size-requires : goal.key_size-requires
+key_size-requires c =
+    let (row, rest, is, e) = c.requires.record in record {
+      key = (
+        spelled row.0,
+        length row.0,
+        begins c.args.head.cells c.args.head.kind c.args.bytes.now row rest is e c.split_at.result.1.now c.split_at.ensures.back,
+      );
+    }
+
+pub split_at-requires-2 : goal.split_at-requires-2
+split_at-requires-2 c =
     let (row, rest, is, e) = c.requires.record in
-    surely c.split_record.result _ c.split_record.ensures.none
-    (λ none. none row.1 row.0 (has_record c.args.head.cells c.args.head.kind c.args.bytes.now row rest is e))
+    let head = c.args.head in
+    let from_key = c.split_at.result.1.now in
+    let size = c.key_size.ensures.value (spelled row.0) (length row.0)
+    (begins head.cells head.kind c.args.bytes.now row rest is e from_key c.split_at.ensures.back) in
+    subst (λ n. n ≤ length from_key) (sym size)
+    (long_enough head.cells head.kind c.args.bytes.now row rest is e from_key c.split_at.ensures.back)
 
 pub returns : goal.returns
-returns c =
-    let r = c.unwrap-cost.result in
-    let found = subst (λ o. IfSome o (λ r. (has : HasRecord c.args.bytes.now r.0 r.1.now) × (has.rest ≡ r.2.now)))
-    c.unwrap-cost.ensures c.split_record.ensures.found in
-    record {
-      value = λ row rest is e. sym found.1
-          ∙ record_rest c.args.head.cells c.args.head.kind c.args.bytes.now row rest is e r.0 r.1.now found.0;
-    }
+returns c = record {
+  value = λ row rest is e.
+      let head = c.args.head in
+      let from_key = c.split_at.result.1.now in
+      let size = c.key_size.ensures.value (spelled row.0) (length row.0)
+      (begins head.cells head.kind c.args.bytes.now row rest is e from_key c.split_at.ensures.back) in
+      c.split_at-2.ensures.back
+      ∙ behind_key head.cells head.kind c.args.bytes.now row rest is e from_key c.key_size.result c.split_at.ensures.back size;
+}
