@@ -163,6 +163,21 @@ pub cost_small : (kind : Kind) (cost : ℕ) → MayCost kind cost → cost < 2 ^
 cost_small Shortest cost may = may
 cost_small CannotWin cost may = omega (arith, may)
 
+-- a cost, and a key behind it, are a record
+pub key_taken : (cells : ℕ) (bytes from_key key rest : List ℕ) (cost : ℕ) → bytes ≡ four_bytes cost ++ from_key → cost < 2 ^ 32
+    → from_key ≡ key ++ rest → IsKeyFor cells key
+    → (has : HasRecord bytes cost key) × (has.rest ≡ rest) × IsKeyFor cells key
+key_taken cells bytes from_key key rest cost e small split is = (
+  record {
+    rest = rest;
+    small = small;
+    extent = key_has_extent cells key rest is;
+    parts = e ∙ ap (λ l. four_bytes cost ++ l) split ∙ sym (append_assoc (four_bytes cost) key rest);
+  },
+  refl,
+  is,
+)
+
 -- a row that was read is a record that is all there
 pub row_there : (cells : ℕ) (kind : Kind) (bytes rest key : List ℕ) (cost : ℕ) → bytes ≡ record_bytes (key, cost) ++ rest
     → IsRecord cells kind (key, cost) → HasRecord bytes cost key

@@ -1,10 +1,12 @@
-ghost use Rattle.std.specs.Prelude.{◌≡◌, ◌+◌, ◌<◌, ◌≤◌, ◌^◌, ◌↔◌, ℕ, List, [], ◌∷◌, ◌++◌, length, take, drop, IsTrue, IfOk, IfErr, IfSome, IfNone};
+ghost use Rattle.std.specs.Prelude.{◌≡◌, ◌+◌, ◌<◌, ◌≤◌, ◌^◌, ◌↔◌, ℕ, List, [], ◌∷◌, ◌++◌, length, take, drop, IsTrue, IfOk, IfErr, IfSome, IfNone, Option};
 ghost use Rattle.std.specs.List.{flat_map};
 ghost use Rattle.std.specs.Option.{option_copied};
 ghost use Rattle.fc_moves.specs.declared.steps.Move.{Move};
 ghost use Rattle.fc_moves.specs.MoveText.{move_text};
 ghost use Rattle.fc_canonical.specs.Key.{HasExtent};
 ghost use Rattle.fc_canonical.specs.KeyOrder.{IsBefore};
+ghost use Rattle.fc_canonical.specs.Spelled.{IsKeyFor};
+ghost use Rattle.fc_cert.specs.declared.contents.Kind.{Kind};
 ghost use Rattle.fc_cert.specs.Content.{Content, magic, kind_byte, four_bytes, record_bytes, MayCost};
 ghost use Rattle.fc_cert.specs.Layout.{HasParts};
 ghost use Rattle.fc_cert.specs.Reading.{Field, SaysByte, SaysNumber, SaysMove, MayRule, IsAfter, HasRecord, ReadsGame, ReadsHead, ReadsMoves, ReadsList, ReadsRecord, ReadsRecords, Reads, IsFormFault};
@@ -212,10 +214,7 @@ fn read_record<'a>(
         × ReadsRecord head.now.cells head.now.kind number (option_copied before.entry) bytes.now (Ok ((r.0.now, cost), r.1.now))) }
     ensures fault { IfErr result (λ f. ReadsRecord head.now.cells head.now.kind number (option_copied before.entry) bytes.now (Err f)) }
 {
-    let (cost, key, rest) = split_record(bytes).ok_or(CertFault::Short)?;
-    if !is_key(key, head.cells) {
-        return Err(CertFault::BadRecord(number));
-    }
+    let (cost, key, rest) = take_record(head.cells, number, bytes)?;
     if !is_after(before, key) {
         return Err(CertFault::Order(number));
     }
@@ -223,6 +222,52 @@ fn read_record<'a>(
         return Err(CertFault::Label(number));
     }
     Ok((key, rest))
+}
+
+// The cost and the key of the record with this number at the front, of a game with so many cells, and what follows.
+fn take_record(cells: u8, number: u32, bytes: &[u8]) -> Result<(u32, &[u8], &[u8]), CertFault>
+    ensures read { IfOk result (λ r. (has : HasRecord bytes.now r.0 r.1.now) × (has.rest ≡ r.2.now) × IsKeyFor cells r.1.now) }
+    ensures fault { IfErr result (λ f. (kind : Kind) (before : Option (List ℕ)) → ReadsRecord cells kind number before bytes.now (Err f)) }
+{
+    if let Some(record) = take_key(cells, bytes) {
+        return Ok(record);
+    }
+    let Some((cost, key, rest)) = split_record(bytes) else {
+        return Err(CertFault::Short);
+    };
+    if !is_key(key, cells) {
+        return Err(CertFault::BadRecord(number));
+    }
+    Ok((cost, key, rest))
+}
+
+// The same where a key stands there, as long as its counts and its cells say; `None` tells nothing.
+#[inline]
+fn take_key(cells: u8, bytes: &[u8]) -> Option<(u32, &[u8], &[u8])>
+    ensures found { IfSome result (λ r. (has : HasRecord bytes.now r.0 r.1.now) × (has.rest ≡ r.2.now) × IsKeyFor cells r.1.now) }
+{
+    let (cost, from_key) = split_number(bytes)?;
+    let (key, rest) = from_key.split_at_checked(likely_size(from_key)?)?;
+    if is_key(key, cells) {
+        Some((cost, key, rest))
+    } else {
+        None
+    }
+}
+
+// How many bytes a key with these counts and cells has, if it is one: a guess, which is tested.
+#[inline]
+fn likely_size(bytes: &[u8]) -> Option<usize> {
+    let (front, _) = bytes.split_at_checked(8)?;
+    let home = usize::from(front[0])
+        + usize::from(front[1])
+        + usize::from(front[2])
+        + usize::from(front[3]);
+    let held = usize::from(front[4] != 255)
+        + usize::from(front[5] != 255)
+        + usize::from(front[6] != 255)
+        + usize::from(front[7] != 255);
+    68_usize.checked_sub(home + held)
 }
 
 // The cost of the record at the front, the extent of its key by its length bytes, and what follows.
