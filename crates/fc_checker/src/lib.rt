@@ -1,0 +1,8 @@
+//! The checker of certificates: it accepts bytes that prove a claim of a board, or says why they don't, and searches nothing.
+#![tactic(auto)]
+
+pub use faults::CheckFault;
+pub use fc_cert::Claim;
+
+mod faults;
+pub mod laws;
