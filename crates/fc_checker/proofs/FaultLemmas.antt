@@ -1,6 +1,6 @@
 -- Each fault has a cause, which nothing that stands after it leaves.
 use Rattle.std.proofs.Common.{◌≡◌, ◌≢◌, ℕ, zero, suc, ◌+◌, ◌<◌, ◌≤◌, Some, None, Result, Ok, Err, List, [], ◌∷◌, length, take, refl, sym, ◌∙◌, ap, subst, ⊎_elim, arith}
-use Rattle.std.specs.Prelude.{Contains, slice_get}
+use Rattle.std.specs.Prelude.{slice_get, IfErr, IsErrAnd}
 use Rattle.std.proofs.lemmas.Bool.{cases_lt}
 use Rattle.std.proofs.lemmas.List.{take_all}
 use Rattle.std.proofs.lemmas.Option.{get_or_from_slice_get, slice_get_within}
@@ -101,3 +101,8 @@ run_more g b x y (h ∷ moves) zero m run there step =
 run_more g b x y (h ∷ moves) (suc i) m (mid, first, rest) there step =
     let one : suc (i + 1) ≡ suc i + 1 = omega arith in
     subst (λ n. Run g b (take n (h ∷ moves)) y) one (mid, first, run_more g mid x y moves i m rest there step)
+
+-- the exit of a `?` returns the fault that it met
+pub passed_on : {T E : Type 0} (P : E → Type 0) (r : Result T E) (f : E) → IsErrAnd r (λ e. e ≡ f) → P f → IfErr r P
+passed_on P (Ok x) f is p = tt
+passed_on P (Err e) f is p = subst P (sym is) p
