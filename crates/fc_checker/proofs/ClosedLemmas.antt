@@ -26,7 +26,7 @@ use Rattle.fc_checker.specs.Steps.{IsProof, claim_of}
 use Rattle.fc_checker.proofs.ListedLemmas.{row_key, row_listed}
 
 -- what stands at a place is a row
-row_there : (rows : List (List ℕ × ℕ)) (i : ℕ) (row : List ℕ × ℕ) → slice_get rows i ≡ Some row → Contains rows row
+pub row_there : (rows : List (List ℕ × ℕ)) (i : ℕ) (row : List ℕ × ℕ) → slice_get rows i ≡ Some row → Contains rows row
 row_there rows i row there = (i, slice_get_within rows i row there, get_or_from_slice_get rows i row row there)
 
 -- the key of a row is one of the game
