@@ -1,6 +1,6 @@
 -- Certificates have no fault, and bytes have one fault and prove one claim.
-use Rattle.std.proofs.Common.{◌≡◌, ◌≢◌, ℕ, zero, suc, ◌+◌, ◌<◌, ◌≤◌, Some, List, length, refl, sym, ◌∙◌, ap, subst, ⊎_elim, arith}
-use Rattle.std.specs.Prelude.{slice_get}
+use Rattle.std.proofs.Common.{◌≡◌, ◌≢◌, ◌⊎◌, ℕ, zero, suc, ◌+◌, ◌<◌, ◌≤◌, Some, List, length, Result, Ok, Err, refl, sym, ◌∙◌, ap, subst, inl, inr, ⊎_elim, arith}
+use Rattle.std.specs.Prelude.{slice_get, IfOk, IfErr, IsErrAnd}
 use Rattle.std.proofs.lemmas.Bool.{cases_lt}
 use Rattle.std.proofs.lemmas.Option.{same_Some, slice_get_within}
 use Rattle.fc_position.specs.Board.{Board}
@@ -238,3 +238,17 @@ faults_once g b bytes x y pb p q one two =
     (λ le. ⊎_elim (λ gt. absurd (no_earlier g b bytes y x gt q p two))
     (λ ge. same_stage g b bytes x y (omega (arith, le, ge)) p q one two) (cases_lt (stage y) (stage x)))
     (cases_lt (stage x) (stage y))
+
+-- ---- accepted exactly where the bytes are a certificate
+
+module _ (g : GameRules) (b : Board) (bytes : List ℕ) (claimed : Claim) where
+  -- a right answer is the claim of which the bytes are a certificate, or want of memory
+  pub exactly : (r : Result Claim CheckFault) → IfOk r (IsCertificate g b bytes) → IfErr r (IsCheckFault g b bytes)
+      → IsCertificate g b bytes claimed → (r ≡ Ok claimed) ⊎ (r ≡ Err Memory)
+  exactly (Ok other) accepted fault is = inl (ap Ok (claims_once g b bytes other claimed accepted is))
+  exactly (Err f) accepted fault is = inr (ap Err (certificate_clean g b bytes claimed f is fault))
+
+  pub exactly_passed : (r : Result Claim CheckFault) (f : CheckFault) → IsErrAnd r (λ e. e ≡ f) → IsCheckFault g b bytes f
+      → IsCertificate g b bytes claimed → (r ≡ Ok claimed) ⊎ (r ≡ Err Memory)
+  exactly_passed (Ok other) f passed fault is = absurd passed
+  exactly_passed (Err h) f passed fault is = inr (ap Err (passed ∙ certificate_clean g b bytes claimed f is fault))

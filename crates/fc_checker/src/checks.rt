@@ -39,7 +39,10 @@ pub fn check<G: Game>(
     ensures exact { (claimed : Claim) → IsCertificate (G.game game.now) position.now bytes.now claimed
         → (result ≡ Ok claimed) ⊎ (result ≡ Err CheckFault.Memory) }
 {
-    let certificate = Certificate::read(alloc, bytes).map_err(fault_of)?;
+    let certificate = match Certificate::read(alloc, bytes) {
+        Ok(certificate) => certificate,
+        Err(fault) => return Err(fault_of(fault)),
+    };
     check_content(game, &certificate, position)?;
     Ok(claim_of(&certificate))
 }
