@@ -21,7 +21,7 @@ use Rattle.fc_cert.specs.declared.contents.Kind.{Kind}
 use Rattle.fc_cert.specs.declared.contents.Kind.TheVariants.{Shortest, CannotWin}
 use Rattle.fc_cert.specs.Claim.{Shows, IsCertificate}
 use Rattle.fc_cert.specs.Content.{Content, IsContent, IsSpelled}
-use Rattle.fc_checker.specs.Check.{Holds, IsOfGame, MovesHold, RecordHolds, RecordsHold, StartHolds, StepsHold}
+use Rattle.fc_checker.specs.Check.{Holds, IsOfGame, MovesHold, RecordHolds, RecordsHold, StepsHold}
 use Rattle.fc_checker.specs.Steps.{IsProof, claim_of}
 use Rattle.fc_checker.proofs.ListedLemmas.{row_key, row_listed}
 

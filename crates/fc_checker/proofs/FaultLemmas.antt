@@ -1,24 +1,22 @@
 -- Each fault has a cause, which nothing that stands after it leaves.
-use Rattle.std.proofs.Common.{◌≡◌, ◌≢◌, ℕ, zero, suc, ◌+◌, ◌<◌, ◌≤◌, Some, None, Result, Ok, Err, List, [], ◌∷◌, length, take, refl, sym, ◌∙◌, ap, subst, ⊎_elim, arith}
+use Rattle.std.proofs.Common.{◌≡◌, ℕ, zero, suc, ◌+◌, ◌<◌, Some, Result, Ok, Err, List, [], ◌∷◌, length, take, refl, sym, ◌∙◌, subst, ⊎_elim, arith}
 use Rattle.std.specs.Prelude.{slice_get, IfErr, IsErrAnd}
 use Rattle.std.proofs.lemmas.Bool.{cases_lt}
 use Rattle.std.proofs.lemmas.List.{take_all}
-use Rattle.std.proofs.lemmas.Option.{get_or_from_slice_get, slice_get_within}
+use Rattle.std.proofs.lemmas.Option.{slice_get_within}
 use Rattle.fc_position.specs.Board.{Board}
-use Rattle.fc_position.specs.Position.{IsWon}
 use Rattle.fc_moves.specs.declared.steps.Move.{Move}
 use Rattle.fc_moves.specs.GameRules.{GameRules}
 use Rattle.fc_moves.specs.Run.{Run}
 use Rattle.fc_moves.specs.Step.{Allows, Step}
-use Rattle.fc_moves.proofs.StepLemmas.{run_once, step_once}
-use Rattle.fc_cert.specs.declared.contents.Kind.TheVariants.{Shortest}
+use Rattle.fc_moves.proofs.StepLemmas.{step_once}
 use Rattle.fc_cert.specs.declared.faults.CertFault.{CertFault}
 use Rattle.fc_cert.specs.declared.faults.CertFault.TheVariants as form
 use Rattle.fc_cert.specs.Content.{Content, IsSpelled}
 use Rattle.fc_cert.specs.Reading.{IsFormFault, IsReadFault}
 use Rattle.fc_cert.proofs.LawLemmas.{spelled_read}
 use Rattle.fc_cert.proofs.OnceLemmas.{reading_once}
-use Rattle.fc_checker.specs.Check.{HasContent, HasStart, IsOfGame, IsStopped, MovesHold, RecordHolds, RecordsHold, StartHolds}
+use Rattle.fc_checker.specs.Check.{IsStopped, RecordHolds, RecordsHold}
 
 -- reading gave a content, or a fault
 abbrev as_ok : Content → Result Content CertFault

@@ -1,18 +1,17 @@
 -- Certificates have no fault, and bytes have one fault and prove one claim.
-use Rattle.std.proofs.Common.{◌≡◌, ◌≢◌, ◌⊎◌, ℕ, zero, suc, ◌+◌, ◌<◌, ◌≤◌, Some, List, length, Result, Ok, Err, refl, sym, ◌∙◌, ap, subst, inl, inr, ⊎_elim, arith}
+use Rattle.std.proofs.Common.{◌≡◌, ◌≢◌, ◌⊎◌, ℕ, ◌+◌, ◌<◌, ◌≤◌, Some, List, Result, Ok, Err, refl, sym, ◌∙◌, ap, subst, inl, inr, ⊎_elim, arith}
 use Rattle.std.specs.Prelude.{slice_get, IfOk, IfErr, IsErrAnd}
 use Rattle.std.proofs.lemmas.Bool.{cases_lt}
 use Rattle.std.proofs.lemmas.Option.{same_Some, slice_get_within}
 use Rattle.fc_position.specs.Board.{Board}
 use Rattle.fc_position.specs.Position.{IsWon}
 use Rattle.fc_moves.specs.GameRules.{GameRules}
-use Rattle.fc_moves.specs.Run.{Run, Wins}
+use Rattle.fc_moves.specs.Run.{Run}
 use Rattle.fc_moves.proofs.StepLemmas.{run_once}
 use Rattle.fc_canonical.specs.Spelled.{spelled}
 use Rattle.fc_canonical.proofs.ClassLemmas.{class-refl}
 use Rattle.fc_cert.specs.declared.claims.Claim.{Claim}
 use Rattle.fc_cert.specs.declared.claims.Claim.TheVariants as claim
-use Rattle.fc_cert.specs.declared.contents.Kind.{Kind}
 use Rattle.fc_cert.specs.declared.contents.Kind.TheVariants as kind
 use Rattle.fc_cert.specs.Claim.{Shows, IsCertificate}
 use Rattle.fc_bound.specs.Bound.{bound}
@@ -20,7 +19,7 @@ use Rattle.fc_tables.specs.Table.{Covered, StepsCovered, as_boards}
 use Rattle.fc_cert.specs.Content.{Content, IsContent, IsSpelled}
 use Rattle.fc_checker.specs.declared.faults.CheckFault.{CheckFault}
 use Rattle.fc_checker.specs.declared.faults.CheckFault.TheVariants.{Form, OtherGame, NotAllowed, NotHome, StartOpen, WonListed, Open, Memory}
-use Rattle.fc_checker.specs.Check.{HasContent, HasStart, Holds, IsCheckFault, IsOfGame, IsStopped, MovesHold, RecordHolds, RecordsHold, StartHolds, StepsHold}
+use Rattle.fc_checker.specs.Check.{HasContent, HasStart, Holds, IsCheckFault, IsOfGame, IsStopped, MovesHold, StartHolds, StepsHold}
 use Rattle.fc_checker.specs.Laws.{CertificatesHaveNoFault, ClaimsAreOne, FaultsAreOne}
 use Rattle.fc_checker.specs.Steps.{IsProof}
 use Rattle.fc_checker.proofs.ClosedLemmas.{row_in, row_there}

@@ -1,5 +1,5 @@
 -- The class of a position is listed exactly where its key is found, at the cost that is found.
-use Rattle.std.proofs.Common.{◌≡◌, ℕ, zero, suc, ◌+◌, ◌<◌, ◌≤◌, ◌↔◌, Option, Some, None, List, [], ◌∷◌, length, get_or, IsTrue, refl, sym, ◌∙◌, ap, subst, inl, inr, ⊎_elim, nat_le, arith}
+use Rattle.std.proofs.Common.{◌≡◌, ℕ, zero, suc, ◌+◌, ◌≤◌, ◌↔◌, Option, Some, None, List, [], ◌∷◌, get_or, IsTrue, refl, sym, ◌∙◌, ap, subst, inr, ⊎_elim, nat_le, arith}
 use Rattle.std.specs.Prelude.{Contains, MatchOption}
 use Rattle.std.proofs.lemmas.Bool.{cases_lt}
 use Rattle.std.proofs.lemmas.Bool.Decides.{nat_tests}
@@ -96,5 +96,6 @@ covered_by n rows x moves cost other near lists same = (
   where
     tested : (a b : ℕ) → IsTrue (nat_le a b) → a ≤ b
     tested a b true = grind (arith, nat_tests)
+
     tested_back : (a b : ℕ) → a ≤ b → IsTrue (nat_le a b)
     tested_back a b le = grind (arith, nat_tests)

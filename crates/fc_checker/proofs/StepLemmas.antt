@@ -1,5 +1,5 @@
 -- Where moves lead, once settled: to look at one way, and at one move to each class, is enough.
-use Rattle.std.proofs.Common.{◌≡◌, ℕ, ◌+◌, ◌<◌, ◌≤◌, Bool, List, length, sym, ap, subst, inl, inr, ⊎_elim, arith, zero-add}
+use Rattle.std.proofs.Common.{◌≡◌, ℕ, ◌+◌, ◌≤◌, Bool, List, length, sym, subst, inl, inr, ⊎_elim, arith, zero-add}
 use Rattle.std.specs.Prelude.{IsTrue, ◌↔◌, Contains}
 use Rattle.fc_position.specs.Board.{Board}
 use Rattle.fc_position.specs.Position.{IsPosition}

@@ -1,5 +1,5 @@
 -- What is asked of where moves lead, once settled, and what all that is asked proves.
-use Rattle.std.specs.Prelude.{ℕ, ◌+◌, List, length}
+use Rattle.std.specs.Prelude.{◌≢◌, ℕ, ◌+◌, List, length}
 use Rattle.fc_position.specs.Board.{Board}
 use Rattle.fc_moves.specs.declared.steps.Move.{Move}
 use Rattle.fc_moves.specs.GameRules.{GameRules}
@@ -11,6 +11,7 @@ use Rattle.fc_cert.specs.declared.contents.Kind.{Kind}
 use Rattle.fc_cert.specs.declared.contents.Kind.TheVariants.{Shortest, CannotWin}
 use Rattle.fc_cert.specs.Content.{Content, IsSpelled}
 use Rattle.fc_checker.specs.declared.faults.CheckFault.{CheckFault}
+use Rattle.fc_checker.specs.declared.faults.CheckFault.TheVariants.{Memory}
 use Rattle.fc_checker.specs.Check.{Holds, HasContent, HasStart, IsCheckFault, IsOfGame, MovesHold, RecordsHold, StartHolds}
 
 -- where a board that d moves lead to settles to, it holds
@@ -21,17 +22,17 @@ SettledHolds g c y d = (z : Board) (k : ℕ) → Settles g c.head.rule y k z →
 abbrev pub StepHolds : GameRules → Content → Board → ℕ → Move → Type 0
 StepHolds g c x d m = (y : Board) → Step g x m y → SettledHolds g c y (d + 1)
 
--- the fault is that of any bytes with this content
+-- the fault is that of any bytes with this content, and no want of memory
 abbrev pub IsFaultOf : GameRules → Board → Content → CheckFault → Type 0
-IsFaultOf g b c fault = (bytes : List ℕ) → IsSpelled bytes c → IsCheckFault g b bytes fault
+IsFaultOf g b c fault = (fault ≢ Memory) × ((bytes : List ℕ) → IsSpelled bytes c → IsCheckFault g b bytes fault)
 
--- the fault is that of any bytes with this content, where it is of the game
+-- it is that of any bytes with this content, where it is of the game
 abbrev pub IsFaultOfMoves : GameRules → Board → Content → CheckFault → Type 0
-IsFaultOfMoves g b c fault = (bytes : List ℕ) → HasContent g bytes c → IsCheckFault g b bytes fault
+IsFaultOfMoves g b c fault = (fault ≢ Memory) × ((bytes : List ℕ) → HasContent g bytes c → IsCheckFault g b bytes fault)
 
--- the fault is that of any bytes with this content and any board, where its moves and its start hold
+-- it is that of any bytes with this content and of any board for which its moves and its start hold
 abbrev pub IsFaultOfRecords : GameRules → Content → CheckFault → Type 0
-IsFaultOfRecords g c fault = (b : Board) (bytes : List ℕ) → HasStart g b bytes c → IsCheckFault g b bytes fault
+IsFaultOfRecords g c fault = (fault ≢ Memory) × ((b : Board) (bytes : List ℕ) → HasStart g b bytes c → IsCheckFault g b bytes fault)
 
 -- the content proves a claim of the board: it is of the game, and its moves, its start and all its records hold
 pub record IsProof (g : GameRules) (b : Board) (c : Content) : Type 0 where

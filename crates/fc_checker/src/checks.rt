@@ -20,7 +20,8 @@ use fc_moves::{Game, allows, apply};
 use fc_position::Position;
 use std::alloc::Global;
 
-/// The claim of the position that the bytes prove, at most 1 GiB of them. The position fits the game.
+/// The claim that the bytes, at most 1 GiB of them, prove of a position that fits the game. They are accepted exactly where
+/// they are a certificate of it, but for want of memory.
 ///
 /// # Errors
 /// The first thing that is asked of a certificate and doesn't hold; `Memory` only for bytes that have the form of one,
@@ -139,7 +140,6 @@ fn replay<G: Game>(
 // Looks at each record in turn.
 fn check_records<G: Game>(game: &G, certificate: &Certificate) -> Result<(), CheckFault>
     requires content { IsContent certificate.now }
-    requires game { IsOfGame (G.game game.now) certificate.now }
     ensures records { OnOk result (RecordsHold (G.game game.now) certificate.now (length certificate.now.rows)) }
     ensures fault { IfErr result (IsFaultOfRecords (G.game game.now) certificate.now) }
 {
@@ -152,7 +152,6 @@ fn check_records<G: Game>(game: &G, certificate: &Certificate) -> Result<(), Che
 // Looks at a record, after those before it.
 fn check_record<G: Game>(game: &G, certificate: &Certificate, i: u32) -> Result<(), CheckFault>
     requires content { IsContent certificate.now }
-    requires game { IsOfGame (G.game game.now) certificate.now }
     requires within { i < length certificate.now.rows }
     requires before { RecordsHold (G.game game.now) certificate.now i }
     ensures records { OnOk result (RecordsHold (G.game game.now) certificate.now (i + 1)) }
@@ -184,7 +183,8 @@ fn record_steps_hold<G: Game>(
 {
     match kind(certificate) {
         Kind::Shortest => {
-            is_far(certificate, position, u64::from(cost)) || steps_hold(game, certificate, position, cost)
+            is_far(certificate, position, u64::from(cost))
+                || steps_hold(game, certificate, position, cost)
         }
         Kind::CannotWin => steps_hold(game, certificate, position, cost),
     }

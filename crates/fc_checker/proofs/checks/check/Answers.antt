@@ -22,13 +22,13 @@ pub returns-in_err-check_content-clause-fault : goal.returns-in_err-check_conten
 returns-in_err-check_content-clause-fault g c =
     passed_on (IsCheckFault (g.G.Game.game c.args.game.now) c.args.position.now c.args.bytes.now) c.from_residual.result
     c.in_err-check_content.field-0.0 c.from_residual.ensures.1
-    (c.in_err-check_content.ensures.fault c.args.bytes.now c.in-Ok.ensures.read)
+    (c.in_err-check_content.ensures.fault.1 c.args.bytes.now c.in-Ok.ensures.read)
 
 pub returns-in_err-check_content-clause-exact : goal.returns-in_err-check_content-clause-exact
 returns-in_err-check_content-clause-exact g c =
     λ claimed is. exactly_passed (g.G.Game.game c.args.game.now) c.args.position.now c.args.bytes.now claimed c.from_residual.result
     c.in_err-check_content.field-0.0 c.from_residual.ensures.1
-    (c.in_err-check_content.ensures.fault c.args.bytes.now c.in-Ok.ensures.read) is
+    (c.in_err-check_content.ensures.fault.1 c.args.bytes.now c.in-Ok.ensures.read) is
 
 pub returns-clause-accepted : goal.returns-clause-accepted
 returns-clause-accepted g c =

@@ -11,7 +11,7 @@ returns-then-is_won-clause-fault g c =
     let there = c.record_at-cost.ensures.value in
     let same = row_position content c.args.i row c.position_of-position.result c.requires.content there c.position_of-position.ensures.value in
     let won = subst IsWon same (c.is_won.ensures.value.0 c.if-is_won.true) in
-    λ b bytes start. (content, start, c.requires.before, (row, there, won))
+    (λ e. cc, λ b bytes start. (content, start, c.requires.before, (row, there, won)))
 
 pub returns-then-record_steps_hold-clause-records : goal.returns-then-record_steps_hold-clause-records
 returns-then-record_steps_hold-clause-records g c =
@@ -34,4 +34,4 @@ returns-else-record_steps_hold-clause-fault g c =
     let same = row_position content c.args.i row c.position_of-position.result c.requires.content there c.position_of-position.ensures.value in
     let wrong = refuted c.is_won.result c.is_won.ensures.value c.if-is_won.false in
     let stuck = refuted c.record_steps_hold.result (c.record_steps_hold.ensures.value row.0 same) c.if-record_steps_hold.false in
-    λ b bytes start. (content, start, c.requires.before, (row, there, subst (λ x. IsWon x → ⊥) same wrong, stuck))
+    (λ e. cc, λ b bytes start. (content, start, c.requires.before, (row, there, subst (λ x. IsWon x → ⊥) same wrong, stuck)))

@@ -1,4 +1,4 @@
-use Rattle.std.proofs.Common.{ℕ, List, subst, sym}
+use Rattle.std.proofs.Common.{ℕ, List, subst}
 use Rattle.std.specs.Prelude.{Contains, MatchOption}
 use Rattle.fc_checker.proofs.ListedLemmas.{found}
 use Rattle.fc_checker.proofs.steps.listed_cost.Goals as goal

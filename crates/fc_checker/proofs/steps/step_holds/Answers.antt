@@ -1,5 +1,5 @@
-use Rattle.std.proofs.Common.{ℕ, ◌+◌, ◌↔◌, IsTrue, subst, sym, ap}
-use Rattle.fc_moves.specs.Step.{Allows, Step}
+use Rattle.std.proofs.Common.{ℕ, ◌+◌, ◌↔◌, IsTrue, subst}
+use Rattle.fc_moves.specs.Step.{Step}
 use Rattle.fc_checker.specs.Steps.{SettledHolds}
 use Rattle.fc_checker.proofs.StepLemmas.{led_once}
 use Rattle.fc_checker.proofs.steps.step_holds.Goals as goal
