@@ -1,0 +1,5 @@
+pub mod ClosedLemmas
+pub mod FaultLemmas
+pub mod LawLemmas
+pub mod ListedLemmas
+pub mod StepLemmas

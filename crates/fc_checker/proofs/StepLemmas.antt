@@ -1,0 +1,92 @@
+-- Where moves lead, once settled: to look at one way, and at one move to each class, is enough.
+use Rattle.std.proofs.Common.{◌≡◌, ℕ, ◌+◌, ◌≤◌, Bool, List, length, sym, subst, inl, inr, ⊎_elim, arith, zero-add}
+use Rattle.std.specs.Prelude.{IsTrue, ◌↔◌, Contains}
+use Rattle.fc_position.specs.Board.{Board}
+use Rattle.fc_position.specs.Position.{IsPosition}
+use Rattle.fc_moves.specs.declared.steps.Move.{Move}
+use Rattle.fc_moves.specs.GameRules.{GameRules}
+use Rattle.fc_moves.specs.Step.{Step}
+use Rattle.fc_moves.proofs.StepLemmas.{step_once}
+use Rattle.fc_canonical.specs.Class.{SameClass}
+use Rattle.fc_canonical.specs.Distinct.{ListsClasses}
+use Rattle.fc_canonical.specs.Spelled.{spelled}
+use Rattle.fc_canonical.proofs.ClassLemmas.{class-trans}
+use Rattle.fc_home.specs.Settles.{Settles}
+use Rattle.fc_home.proofs.MateLemmas.{class_settle}
+use Rattle.fc_home.proofs.WayLemmas.{settles_once}
+use Rattle.fc_bound.specs.Bound.{bound}
+use Rattle.fc_bound.proofs.HeldLemmas.{class_bound}
+use Rattle.fc_tables.specs.Table.{StepsCovered, StepsListed, as_boards}
+use Rattle.fc_cert.specs.declared.contents.Kind.{Kind}
+use Rattle.fc_cert.specs.declared.contents.Kind.TheVariants.{Shortest, CannotWin}
+use Rattle.fc_cert.specs.Content.{Content}
+use Rattle.fc_checker.specs.Check.{Holds, StartHolds, StepsHold}
+use Rattle.fc_checker.specs.Steps.{SettledHolds, StepHolds}
+
+-- what holds of a board does so of its class-mates
+holds_alike : (c : Content) (kind : Kind) (x y : Board) (d : ℕ) → SameClass y x → Holds c kind x d → Holds c kind y d
+holds_alike c Shortest x y d same holds =
+    ⊎_elim (λ far. let equal = class_bound y x same in inl (omega (arith, far, equal)))
+    (λ (e, there, mate, le). inr (e, there, class-trans y x e.0 same mate, le)) holds
+holds_alike c CannotWin x y d same (e, there, mate) = (e, there, class-trans y x e.0 same mate)
+
+module _ (g : GameRules) (c : Content) where
+  -- a position settles in one way
+  pub settled_once : (b q : Board) (k d : ℕ) (t : Bool) → IsPosition b → Settles g c.head.rule b k q
+      → IsTrue t ↔ Holds c c.head.kind q (d + k) → IsTrue t ↔ SettledHolds g c b d
+  settled_once b q k d t position settles test = (
+    λ true z n also.
+        let once = settles_once g c.head.rule b q z k n position settles also in
+        subst (λ i. Holds c c.head.kind z (d + i)) once.0 (subst (λ w. Holds c c.head.kind w (d + k)) once.1 (test.0 true)),
+    λ all. test.1 (all q k settles),
+  )
+
+  -- a move leads to one board
+  pub led_once : (x y : Board) (m : Move) (d : ℕ) (t : Bool) → Step g x m y → IsTrue t ↔ SettledHolds g c y (d + 1)
+      → IsTrue t ↔ StepHolds g c x d m
+  led_once x y m d t step test = (
+    λ true w also. subst (λ b. SettledHolds g c b (d + 1)) (step_once g x m y w step also) (test.0 true),
+    λ all. test.1 (all y step),
+  )
+
+  -- of the moves to one class one is enough
+  pub one_each : (x : Board) (d : ℕ) (moves : List Move) → ListsClasses g x moves
+      → ((m : Move) → Contains moves m → StepHolds g c x d m) → (m : Move) → StepHolds g c x d m
+  one_each x d moves lists each m y step z k settles =
+      let other = lists.complete m y step in
+      let mate = class_settle g c.head.rule y other.1 z k other.4 settles in
+      holds_alike c c.head.kind mate.0 z (d + 1 + k) mate.2 (each other.0 other.2 other.1 other.3 mate.0 k mate.1)
+
+  -- what is asked of the start is asked of where it settles to, after no move
+  pub start_holds : (b : Board) → SettledHolds g c b 0 ↔ StartHolds g b c
+  start_holds b = (
+    λ holds q k settles. subst (Holds c c.head.kind q) (zero-add k) (holds q k settles),
+    λ holds q k settles. subst (Holds c c.head.kind q) (sym (zero-add k)) (holds q k settles),
+  )
+
+  -- what is asked of the steps from a record's board, in each kind, is asked of where each of its moves leads
+  pub near_steps : (x : Board) (key : List ℕ) (cost : ℕ) (t : Bool) → c.head.kind ≡ Shortest
+      → (length c.moves ≤ cost + bound x → ⊥) → IsTrue t ↔ ((m : Move) → StepHolds g c x cost m) → x ≡ spelled key
+      → IsTrue t ↔ StepsHold g c c.head.kind (key, cost)
+  near_steps x key cost t e near test same = (
+    λ true. subst (λ s. StepsHold g c s (key, cost)) (sym e)
+        (λ below. subst (λ b. StepsCovered bound g c.head.rule (length c.moves) (as_boards c.rows) b cost) same
+        (λ m y z k step settles. subst (λ s. Holds c s z (cost + 1 + k)) e (test.0 true m y step z k settles))),
+    λ holds.
+        let all = subst (λ s. StepsHold g c s (key, cost)) e holds in
+        let low = subst (λ b. length c.moves ≤ cost + bound b → ⊥) same near in
+        let covered = subst (λ b. StepsCovered bound g c.head.rule (length c.moves) (as_boards c.rows) b cost) (sym same) (all (omega (arith, low))) in
+        test.1 (λ m y step z k settles. subst (λ s. Holds c s z (cost + 1 + k)) (sym e) (covered m y z k step settles)),
+  )
+
+  pub listed_steps : (x : Board) (key : List ℕ) (cost : ℕ) (t : Bool) → c.head.kind ≡ CannotWin
+      → IsTrue t ↔ ((m : Move) → StepHolds g c x cost m) → x ≡ spelled key → IsTrue t ↔ StepsHold g c c.head.kind (key, cost)
+  listed_steps x key cost t e test same = (
+    λ true. subst (λ s. StepsHold g c s (key, cost)) (sym e)
+        (subst (StepsListed g c.head.rule (as_boards c.rows)) same
+        (λ m y z k step settles. subst (λ s. Holds c s z (cost + 1 + k)) e (test.0 true m y step z k settles))),
+    λ holds.
+        let all = subst (λ s. StepsHold g c s (key, cost)) e holds in
+        let listed = subst (StepsListed g c.head.rule (as_boards c.rows)) (sym same) all in
+        test.1 (λ m y step z k settles. subst (λ s. Holds c s z (cost + 1 + k)) (sym e) (listed m y z k step settles)),
+  )

@@ -1,0 +1,49 @@
+use Rattle.std.proofs.Common.{get_or, refl, sym, subst, arith}
+use Rattle.std.specs.Prelude.{Contains}
+use Rattle.std.proofs.lemmas.Bool.{false≢true}
+use Rattle.std.proofs.lemmas.List.Elements.{Contains-get_or}
+use Rattle.fc_cards.specs.declared.places.Place.TheVariants.{Column}
+use Rattle.fc_moves.specs.declared.steps.Move.{Move}
+use Rattle.fc_canonical.proofs.MoveLemmas.{one_more}
+use Rattle.fc_home.proofs.RuleLemmas.{refuted}
+use Rattle.fc_checker.specs.Steps.{StepHolds}
+use Rattle.fc_checker.proofs.StepLemmas.{one_each}
+use Rattle.fc_checker.proofs.steps.steps_hold.Goals as goal
+
+pub step_holds-requires-clause-allowed : goal.step_holds-requires-clause-allowed
+step_holds-requires-clause-allowed g c =
+    let items = c.as_slice-m-items.result.now in
+    let d : Move = record { from = Column 0; to = Column 0 } in
+    c.distinct_moves.ensures.classes.allowed (get_or items c.loop-m.m-index d)
+    (subst (λ l. Contains l (get_or items c.loop-m.m-index d)) c.as_slice-m-items.ensures.value
+    (Contains-get_or items c.loop-m.m-index d c.loop-m-test.true))
+
+pub returns-then-not-step_holds : goal.returns-then-not-step_holds
+returns-then-not-step_holds g c =
+    let d : Move = record { from = Column 0; to = Column 0 } in
+    let m = get_or c.as_slice-m-items.result.now c.loop-m.m-index d in
+    let wrong = refuted c.step_holds.result c.step_holds.ensures.value c.if-not-step_holds.true in
+    record { value = (λ yes. absurd (false≢true yes), λ all. absurd (wrong (all m))) }
+
+pub loop-m-preserved : goal.loop-m-preserved
+loop-m-preserved g c =
+    let d : Move = record { from = Column 0; to = Column 0 } in
+    one_more c.as_slice-m-items.result.now c.loop-m.m-index d
+    (StepHolds (g.G.Game.game c.args.game.now) c.args.certificate.now c.args.position.now c.args.cost) c.loop-m-test.true
+    c.loop-m.invariant (c.step_holds.ensures.value.0 c.if-not-step_holds.false)
+
+pub returns : goal.returns
+returns g c =
+    let rules = g.G.Game.game c.args.game.now in
+    let moves = c.distinct_moves.result.items in
+    let items = c.as_slice-m-items.result.now in
+    record {
+      value = (
+        λ true. one_each rules c.args.certificate.now c.args.position.now c.args.cost moves c.distinct_moves.ensures.classes
+            (λ m there.
+            let at = subst (λ l. Contains l m) (sym c.as_slice-m-items.ensures.value) there in
+            subst (StepHolds rules c.args.certificate.now c.args.position.now c.args.cost) at.2
+            (c.loop-m.invariant at.0 m (omega (arith, at.1, c.loop-m-test.false)))),
+        λ all. refl,
+      );
+    }

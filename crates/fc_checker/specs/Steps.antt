@@ -1,0 +1,47 @@
+-- What is asked of where moves lead, once settled, and what all that is asked proves.
+use Rattle.std.specs.Prelude.{◌≢◌, ℕ, ◌+◌, List, length}
+use Rattle.fc_position.specs.Board.{Board}
+use Rattle.fc_moves.specs.declared.steps.Move.{Move}
+use Rattle.fc_moves.specs.GameRules.{GameRules}
+use Rattle.fc_moves.specs.Step.{Step}
+use Rattle.fc_home.specs.Settles.{Settles}
+use Rattle.fc_cert.specs.declared.claims.Claim.{Claim}
+use Rattle.fc_cert.specs.declared.claims.Claim.TheVariants as claim
+use Rattle.fc_cert.specs.declared.contents.Kind.{Kind}
+use Rattle.fc_cert.specs.declared.contents.Kind.TheVariants.{Shortest, CannotWin}
+use Rattle.fc_cert.specs.Content.{Content, IsSpelled}
+use Rattle.fc_checker.specs.declared.faults.CheckFault.{CheckFault}
+use Rattle.fc_checker.specs.declared.faults.CheckFault.TheVariants.{Memory}
+use Rattle.fc_checker.specs.Check.{Holds, HasContent, HasStart, IsCheckFault, IsOfGame, MovesHold, RecordsHold, StartHolds}
+
+-- where a board that d moves lead to settles to, it holds
+abbrev pub SettledHolds : GameRules → Content → Board → ℕ → Type 0
+SettledHolds g c y d = (z : Board) (k : ℕ) → Settles g c.head.rule y k z → Holds c c.head.kind z (d + k)
+
+-- where the move leads from a board that d moves lead to, it holds, once settled
+abbrev pub StepHolds : GameRules → Content → Board → ℕ → Move → Type 0
+StepHolds g c x d m = (y : Board) → Step g x m y → SettledHolds g c y (d + 1)
+
+-- the fault is that of any bytes with this content, and no want of memory
+abbrev pub IsFaultOf : GameRules → Board → Content → CheckFault → Type 0
+IsFaultOf g b c fault = (fault ≢ Memory) × ((bytes : List ℕ) → IsSpelled bytes c → IsCheckFault g b bytes fault)
+
+-- it is that of any bytes with this content, where it is of the game
+abbrev pub IsFaultOfMoves : GameRules → Board → Content → CheckFault → Type 0
+IsFaultOfMoves g b c fault = (fault ≢ Memory) × ((bytes : List ℕ) → HasContent g bytes c → IsCheckFault g b bytes fault)
+
+-- it is that of any bytes with this content and of any board for which its moves and its start hold
+abbrev pub IsFaultOfRecords : GameRules → Content → CheckFault → Type 0
+IsFaultOfRecords g c fault = (fault ≢ Memory) × ((b : Board) (bytes : List ℕ) → HasStart g b bytes c → IsCheckFault g b bytes fault)
+
+-- the content proves a claim of the board: it is of the game, and its moves, its start and all its records hold
+pub record IsProof (g : GameRules) (b : Board) (c : Content) : Type 0 where
+  pub game : IsOfGame g c
+  pub moves : MovesHold g b c.head.kind c.moves
+  pub start : StartHolds g b c
+  pub records : RecordsHold g c (length c.rows)
+
+-- the claim of a content of this kind
+abbrev pub claim_of : Content → Kind → Claim
+claim_of c Shortest = claim.Shortest (length c.moves)
+claim_of c CannotWin = claim.CannotWin

@@ -1,0 +1,133 @@
+//! What is asked of a position that moves lead to, and of where its own steps lead.
+
+ghost use Rattle.std.specs.Prelude.{◌≡◌, ◌+◌, ◌<◌, ◌≤◌, ◌^◌, ◌↔◌, ℕ, length, IsTrue, MatchOption};
+ghost use Rattle.fc_position.specs.Position.{IsPosition};
+ghost use Rattle.fc_moves.specs.Step.{Allows};
+ghost use Rattle.fc_bound.specs.Bound.{bound as bound_of};
+ghost use Rattle.fc_tables.specs.Table.{Covered, Lists, ListsClass, as_boards};
+ghost use Rattle.fc_cert.specs.Content.{IsContent};
+ghost use Rattle.fc_checker.specs.Check.{Holds};
+ghost use Rattle.fc_checker.specs.Steps.{SettledHolds, StepHolds};
+
+use fc_bound::bound;
+use fc_canonical::{distinct_moves, key};
+use fc_cert::{Certificate, Kind};
+use fc_home::settle;
+use fc_moves::{Game, Move, apply};
+use fc_position::Position;
+
+// The kind of the certificate.
+pub(crate) fn kind(certificate: &Certificate) -> Kind
+    ensures value { result ≡ certificate.now.head.kind }
+{
+    if certificate.kind() == 1 {
+        Kind::Shortest
+    } else {
+        Kind::CannotWin
+    }
+}
+
+// Whether so many moves and the bound of the position to which they lead reach the number of listed moves.
+pub(crate) fn is_far(certificate: &Certificate, position: &Position, moves: u64) -> bool
+    requires few { moves < 2 ^ 33 }
+    ensures value { IsTrue result ↔ length certificate.now.moves ≤ moves + bound_of position.now }
+{
+    u64::from(certificate.move_count()) <= moves + u64::from(bound(position))
+}
+
+// The cost at which the position's class is listed, `None` where it isn't.
+fn listed_cost(certificate: &Certificate, position: &Position) -> Option<u32>
+    requires content { IsContent certificate.now }
+    ensures value { MatchOption result (ListsClass (as_boards certificate.now.rows) position.now → ⊥)
+        (λ cost. ListsClass (as_boards certificate.now.rows) position.now
+        × ((d : ℕ) → Lists (as_boards certificate.now.rows) position.now d ↔ cost ≤ d)) }
+{
+    certificate.find(key(position).as_slice())
+}
+
+// Whether the position's class is listed.
+fn is_listed(certificate: &Certificate, position: &Position) -> bool
+    requires content { IsContent certificate.now }
+    ensures value { IsTrue result ↔ ListsClass (as_boards certificate.now.rows) position.now }
+{
+    listed_cost(certificate, position).is_some()
+}
+
+// Whether the position, to which so many moves lead, is covered.
+fn is_covered(certificate: &Certificate, position: &Position, moves: u64) -> bool
+    requires content { IsContent certificate.now }
+    requires few { moves < 2 ^ 33 }
+    ensures value { IsTrue result ↔ Covered bound_of (length certificate.now.moves) (as_boards certificate.now.rows) position.now moves }
+{
+    if is_far(certificate, position, moves) {
+        return true;
+    }
+    match listed_cost(certificate, position) {
+        Some(cost) => u64::from(cost) <= moves,
+        None => false,
+    }
+}
+
+// Whether the position, to which so many moves lead, is covered, or where no list is to win, listed.
+fn holds(certificate: &Certificate, position: &Position, moves: u64) -> bool
+    requires content { IsContent certificate.now }
+    requires few { moves < 2 ^ 33 }
+    ensures value { IsTrue result ↔ Holds certificate.now certificate.now.head.kind position.now moves }
+{
+    match kind(certificate) {
+        Kind::Shortest => is_covered(certificate, position, moves),
+        Kind::CannotWin => is_listed(certificate, position),
+    }
+}
+
+// Whether what the position settles to holds, where so many moves lead to the position.
+pub(crate) fn settled_holds<G: Game>(
+    game: &G,
+    certificate: &Certificate,
+    position: Position,
+    moves: u64,
+) -> bool
+    requires content { IsContent certificate.now }
+    requires whole { IsPosition position }
+    requires few { moves ≤ 2 ^ 32 }
+    ensures value { IsTrue result ↔ SettledHolds (G.game game.now) certificate.now position moves }
+{
+    let mut position = position;
+    let settling = settle(game, &mut position, certificate.rule());
+    holds(certificate, &position, moves + settling.len() as u64)
+}
+
+// Whether where the move leads holds, once settled.
+fn step_holds<G: Game>(
+    game: &G,
+    certificate: &Certificate,
+    position: &Position,
+    cost: u32,
+    m: Move,
+) -> bool
+    requires content { IsContent certificate.now }
+    requires allowed { Allows (G.game game.now) position.now m }
+    ensures value { IsTrue result ↔ StepHolds (G.game game.now) certificate.now position.now cost m }
+{
+    let mut next = position.copy();
+    apply(game, &mut next, m);
+    settled_holds(game, certificate, next, u64::from(cost) + 1)
+}
+
+// Whether where each step of the position leads holds, once settled. Of the steps to one class, one is looked at.
+pub(crate) fn steps_hold<G: Game>(
+    game: &G,
+    certificate: &Certificate,
+    position: &Position,
+    cost: u32,
+) -> bool
+    requires content { IsContent certificate.now }
+    ensures value { IsTrue result ↔ ((m : Move) → StepHolds (G.game game.now) certificate.now position.now cost m) }
+{
+    for m in distinct_moves(game, position).as_slice() {
+        if !step_holds(game, certificate, position, cost, *m) {
+            return false;
+        }
+    }
+    true
+}
