@@ -264,6 +264,8 @@ fn measure(bytes: &[u8], rounds: usize) -> Result<(), Fault> {
     println!("records {count}");
     println!("read {:.1} ns", reading as f64 / records.max(1) as f64);
     println!("find {:.1} ns", finding as f64 / found.max(1) as f64);
+    let status = fs::read_to_string("/proc/self/status").unwrap_or_default();
+    println!("{}", status.lines().find(|line| line.starts_with("VmHWM:")).unwrap_or(""));
     Ok(())
 }
 

@@ -26,7 +26,19 @@ pub fn bench_certificate(rt: &HostRuntime, path: &str, rounds: u32) -> io::Resul
     let finding = began.elapsed(rt)?.as_nanos();
     println!(rt; "records {}", certificate.len())?;
     tell(rt, "read", reading, records)?;
-    tell(rt, "find", finding, found)
+    tell(rt, "find", finding, found)?;
+    tell_peak(rt)
+}
+
+/// Prints the line with the peak of resident memory, where the system tells it.
+fn tell_peak(rt: &HostRuntime) -> io::Result<()> {
+    let status = fs::read_to_string(rt, "/proc/self/status")?;
+    for line in status.lines() {
+        if line.starts_with("VmHWM:") {
+            println!(rt; "{line}")?;
+        }
+    }
+    Ok(())
 }
 
 /// Reads the bytes so often; how many records that were.

@@ -57,15 +57,15 @@ total_one x zero lt = absurd (omega (arith, lt))
 total_one x (suc n) lt =
     ⊎_elim
     (λ below.
-        let before = total_one x n below in
-        let other : (x == n) ≡ false = grind (arith, nat_tests) in
-        let last : ◌≡◌ {A = ℕ} (cond (x == n) 1 0) 0 = ap (λ t. cond t 1 0) other in
-        omega (arith, before, last))
+    let before = total_one x n below in
+    let other : (x == n) ≡ false = grind (arith, nat_tests) in
+    let last : ◌≡◌ {A = ℕ} (cond (x == n) 1 0) 0 = ap (λ t. cond t 1 0) other in
+    omega (arith, before, last))
     (λ le.
-        let before = total_none x n le in
-        let same : (x == n) ≡ true = grind (arith, nat_tests) in
-        let last : ◌≡◌ {A = ℕ} (cond (x == n) 1 0) 1 = ap (λ t. cond t 1 0) same in
-        omega (arith, before, last))
+    let before = total_none x n le in
+    let same : (x == n) ≡ true = grind (arith, nat_tests) in
+    let last : ◌≡◌ {A = ℕ} (cond (x == n) 1 0) 1 = ap (λ t. cond t 1 0) same in
+    omega (arith, before, last))
     (cases_lt x n)
 
 -- so the cards of a column are counted by their numbers, and those of all columns, and of the cells
@@ -127,15 +127,15 @@ total_rank h zero = omega arith
 total_rank h (suc k) =
     ⊎_elim
     (λ below.
-        let before = total_rank h k in
-        let home : nat_le (k + 1) h ≡ true = grind (arith, nat_tests) in
-        let last : ◌≡◌ {A = ℕ} (cond (nat_le (k + 1) h) 1 0) 1 = ap (λ t. cond t 1 0) home in
-        omega (arith, before, last, below))
+    let before = total_rank h k in
+    let home : nat_le (k + 1) h ≡ true = grind (arith, nat_tests) in
+    let last : ◌≡◌ {A = ℕ} (cond (nat_le (k + 1) h) 1 0) 1 = ap (λ t. cond t 1 0) home in
+    omega (arith, before, last, below))
     (λ le.
-        let before = total_rank h k in
-        let away : nat_le (k + 1) h ≡ false = grind (arith, nat_tests) in
-        let last : ◌≡◌ {A = ℕ} (cond (nat_le (k + 1) h) 1 0) 0 = ap (λ t. cond t 1 0) away in
-        omega (arith, before, last, le))
+    let before = total_rank h k in
+    let away : nat_le (k + 1) h ≡ false = grind (arith, nat_tests) in
+    let last : ◌≡◌ {A = ℕ} (cond (nat_le (k + 1) h) 1 0) 0 = ap (λ t. cond t 1 0) away in
+    omega (arith, before, last, le))
     (cases_lt k h)
 
 -- whether the card of this rank, from 0, and suit is home

@@ -1,6 +1,8 @@
-//! Tests of certificates: what is read, what is written, and which fault other bytes have.
+//! Tests of certificates and their checker: what is read, written and accepted, and which fault other bytes have.
 #![tactic(auto)]
 
+#[cfg(test)]
+mod checks;
 #[cfg(test)]
 mod contents;
 #[cfg(test)]
