@@ -85,10 +85,6 @@ bad_record_once g c i j p q =
     (λ le. ⊎_elim (λ gt. absurd (q.bad (p.before j q.row gt q.there))) (λ ge. omega (arith, le, ge)) (cases_lt j i))
     (cases_lt i j)
 
--- what stands at one place of a list is one thing
-pub row_once : (rows : List (List ℕ × ℕ)) (i : ℕ) (x y : List ℕ × ℕ) → slice_get rows i ≡ Some x → slice_get rows i ≡ Some y → x ≡ y
-row_once rows i x y p q = let same = sym p ∙ q in cc
-
 -- a run goes on with the next move
 pub run_more : (g : GameRules) (b x y : Board) (moves : List Move) (i : ℕ) (m : Move) → Run g b (take i moves) x
     → slice_get moves i ≡ Some m → Step g x m y → Run g b (take (i + 1) moves) y
