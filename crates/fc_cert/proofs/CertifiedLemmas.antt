@@ -21,7 +21,7 @@ use Rattle.fc_cert.specs.declared.claims.Claim.TheVariants as claim
 use Rattle.fc_cert.specs.declared.contents.Kind.{Kind}
 use Rattle.fc_cert.specs.declared.contents.Kind.TheVariants as kind
 use Rattle.fc_cert.specs.Claim.{Shows, IsTrueOf, IsWrittenAs, Claims, HasWinningMoves}
-use Rattle.fc_cert.specs.Content.{Content, IsContent, IsRecord, MayCost, MayList}
+use Rattle.fc_cert.specs.Content.{Content, IsContent, IsRecord, IsSpelled, MayCost, MayList, bytes_of}
 use Rattle.fc_cert.specs.Laws.{CertificatesAreTrue, BackedAnswersAreCertified}
 use Rattle.fc_cert.proofs.WritingLemmas.{content}
 
@@ -89,6 +89,13 @@ written_shows g b (answer.CannotWin table) c claimed game backed wins can same c
     subst (IsShowing g b claimed) (sym same)
     (subst (λ said. IsShowing g b said told) (sym claims) (has, refl, refl, (refl, backed.closed)))
 written_shows g b (answer.GaveUp told) c claimed game backed wins can same claims = absurd same
+
+-- its bytes are a certificate with it
+pub backed_spelled : (g : GameRules) (b : Board) (answered : Answer) (c : Content) (claimed : Claim) → IsGame g → IsBacked g b answered
+    → HasWinningMoves g b answered → CanBeWritten (verdict_of answered) → IsWrittenAs g answered c → Claims answered claimed
+    → IsSpelled (bytes_of c) c
+backed_spelled g b answered c claimed game backed wins can same claims =
+    record { content = (written_shows g b answered c claimed game backed wins can same claims).0; written = refl }
 
 pub backed_certified : BackedAnswersAreCertified
 backed_certified g b answered c claimed game position backed wins can same claims =

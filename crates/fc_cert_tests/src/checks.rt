@@ -9,17 +9,18 @@ use fc_io::ToArray;
 use fc_moves::{BakersGame, Game, Kings};
 use fc_search::solve;
 use fc_tests::boards::{ALL_HOME, FREE_KING, LOCKED, ONE_KING, THREE_SPADES, TWO_KINGS};
+use fc_tests::games::AnySuit;
 use std::alloc::Global;
 use std::process::Abort;
 
 // A board of FreeCell with four cells, bytes, and what the checker tells of them.
-struct Case {
-    board: &'static str,
-    bytes: &'static [u8],
-    told: Result<Claim, CheckFault>,
+pub struct Case {
+    pub board: &'static str,
+    pub bytes: &'static [u8],
+    pub told: Result<Claim, CheckFault>,
 }
 
-static CASES: [Case; 21] = [
+pub static CASES: [Case; 21] = [
     // the king of spades goes home
     Case {
         board: ONE_KING,
@@ -258,6 +259,30 @@ fn other_games_are_refused(rt: HostRuntime) {
     );
 }
 
+// The bytes with one of them changed to each other value have a fault, or the old claim.
+fn check_changes(rt: &impl Abort, alloc: Global, text: &str, bytes: &[u8], claim: Claim) {
+    let game = free_cell(rt, 4);
+    let start = board(rt, &game, text);
+    let mut copy = [0; 50];
+    let length = bytes.len().min(50);
+    for place in 0..length {
+        for value in 0..256u16 {
+            copy[..length].copy_from_slice(&bytes[..length]);
+            copy[place] = value as u8;
+            if let Ok(other) = check(alloc, &game, &start, &copy[..length]) {
+                assert!(rt; other == claim, "byte {place} changed to {value}");
+            }
+        }
+    }
+}
+
+#[test]
+fn changed_bytes_claim_nothing_else(rt: HostRuntime) {
+    let alloc = rt.alloc();
+    check_changes(&rt, alloc, TWO_KINGS, TWO_KINGS_BYTES, Claim::Shortest(5));
+    check_changes(&rt, alloc, LOCKED, LOCKED_BYTES, Claim::CannotWin);
+}
+
 // What is written of an answer is accepted, as this claim.
 fn check_written<G: Game + Drop>(
     rt: &impl Abort,
@@ -276,6 +301,22 @@ fn check_written<G: Game + Drop>(
         check(alloc, game, &start, out.held()) == Ok(claim),
         "rule {rule}"
     );
+}
+
+// What is written for a game of code 200 is accepted for it, and for no other game.
+#[test]
+fn a_game_of_ones_own_is_certified(rt: HostRuntime) {
+    let alloc = rt.alloc();
+    let start = board(&rt, &AnySuit, TWO_KINGS);
+    let answer = sure(&rt, solve(alloc, &AnySuit, 2, &start, 1000));
+    let mut out = ToArray::<500>::new();
+    assert!(rt; write_answer(&AnySuit, &answer, &mut out).is_ok(), "written");
+    assert!(rt; check(alloc, &AnySuit, &start, out.held()).is_ok(), "its own game");
+    let other = Err(CheckFault::OtherGame);
+    let bakers = BakersGame::new(4).expect(&rt, "four cells");
+    assert!(rt; check(alloc, &free_cell(&rt, 4), &start, out.held()) == other);
+    assert!(rt; check(alloc, &bakers, &start, out.held()) == other);
+    assert!(rt; check(alloc, &Kings::new(AnySuit), &start, out.held()) == other);
 }
 
 #[test]

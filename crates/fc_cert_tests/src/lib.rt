@@ -10,4 +10,6 @@ mod fields;
 #[cfg(test)]
 mod given;
 #[cfg(test)]
+mod runs;
+#[cfg(test)]
 mod written;

@@ -32,6 +32,11 @@ pub trait Source {
     /// Whether it has failed.
     fn failed(&self) -> bool
         ensures answer { result ≡ has_failed self.now };
+
+    /// About how many bytes it still gives, 0 where that isn't known. It is no promise: room is made by it, at once.
+    fn likely_len(&self) -> usize {
+        0
+    }
 }
 
 /// A device that bytes are written to.

@@ -45,6 +45,7 @@ impl<R: Read> Reading for R {
 pub struct FromReader<R> {
     reader: R,
     has_failed: bool,
+    likely_len: usize,
 }
 
 impl<R> Model for FromReader<R> {
@@ -61,9 +62,18 @@ impl<R> FromReader<R> {
         ensures over { result.inner ≡ reader }
         ensures sound { result.has_failed ≡ false }
     {
+        Self::with_likely_len(reader, 0)
+    }
+
+    /// A source that reads `reader`, which gives about so many bytes.
+    pub fn with_likely_len(reader: R, likely_len: usize) -> Self
+        ensures over { result.inner ≡ reader }
+        ensures sound { result.has_failed ≡ false }
+    {
         FromReader {
             reader,
             has_failed: false,
+            likely_len,
         }
     }
 }
@@ -100,5 +110,9 @@ impl<R: Reading> Source for FromReader<R> {
 
     fn failed(&self) -> bool {
         self.has_failed
+    }
+
+    fn likely_len(&self) -> usize {
+        self.likely_len
     }
 }

@@ -62,4 +62,8 @@ impl Source for FromSlice<'_> {
     fn failed(&self) -> bool {
         false
     }
+
+    fn likely_len(&self) -> usize {
+        self.rest.len()
+    }
 }

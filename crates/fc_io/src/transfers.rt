@@ -126,6 +126,10 @@ pub fn read_to_vec<S: Source>(
         if count > limit - bytes.len() {
             return Err(ReadFault::TooLong);
         }
+        if bytes.is_empty() && count == most {
+            // Room for all that is still to come, at once.
+            bytes.reserve_exact(count + source.likely_len().min(limit - count))?;
+        }
         bytes.extend_from_slice(&piece[..count])?;
         if count < most {
             return Ok(bytes);

@@ -1,2 +1,5 @@
+pub mod CertificateLemmas
 pub mod ListTextLemmas
+pub mod RefusalLemmas
 pub mod ReplayLemmas
+pub mod SolveLemmas

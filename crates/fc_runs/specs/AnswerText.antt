@@ -1,10 +1,12 @@
--- How an answer is printed.
+-- How an answer and a claim are printed.
 use Rattle.std.specs.Prelude.{ℕ, List, ◌++◌, length, map, codes, decimal}
 use Rattle.std.specs.List.{join_with_byte}
 use Rattle.fc_moves.specs.declared.steps.Move.{Move}
 use Rattle.fc_moves.specs.MoveText.{move_text}
 use Rattle.fc_answers.specs.declared.answers.Verdict.{Verdict}
 use Rattle.fc_answers.specs.declared.answers.Verdict.TheVariants.{Shortest, CannotWin, GaveUp}
+use Rattle.fc_cert.specs.declared.claims.Claim.{Claim}
+use Rattle.fc_cert.specs.declared.claims.Claim.TheVariants as claim
 
 -- the texts of moves, with a blank between two
 abbrev pub list_text : List Move → List ℕ
@@ -29,3 +31,8 @@ abbrev pub status_of : Verdict → ℕ
 status_of (Shortest moves) = 0
 status_of CannotWin = 1
 status_of (GaveUp budget) = 2
+
+-- what is printed of a claim that was accepted
+abbrev pub accepted_text : Claim → List ℕ
+accepted_text (claim.Shortest n) = codes "accepted: shortest " ++ decimal n ++ codes "\n"
+accepted_text claim.CannotWin = codes "accepted: can't be won\n"

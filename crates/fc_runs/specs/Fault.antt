@@ -2,31 +2,35 @@
 use Rattle.std.specs.Prelude.{ℕ, List, codes}
 use Rattle.fc_io.specs.declared.transfers.ReadFault.{ReadFault}
 use Rattle.fc_io.specs.declared.transfers.ReadFault.TheVariants.{Failed, TooLong as too_many, Memory as refused}
+use Rattle.fc_checker.specs.declared.faults.CheckFault.{CheckFault}
+use Rattle.fc_checker.specs.declared.faults.CheckFault.TheVariants as check
 use Rattle.fc_replay.specs.declared.faults.ReplayFault.{ReplayFault}
 use Rattle.fc_replay.specs.declared.faults.ReplayFault.TheVariants.{BadMove, NotAllowed, Write as unwritten}
 use Rattle.fc_runs.specs.declared.faults.Input.{Input}
-use Rattle.fc_runs.specs.declared.faults.Input.TheVariants.{Board as of_board, Moves as of_moves}
+use Rattle.fc_runs.specs.declared.faults.Input.TheVariants.{Board as of_board, Moves as of_moves, Cert as of_certificate}
 use Rattle.fc_runs.specs.declared.faults.Output.{Output}
-use Rattle.fc_runs.specs.declared.faults.Output.TheVariants.{Answer as of_answer}
+use Rattle.fc_runs.specs.declared.faults.Output.TheVariants.{Answer as of_answer, Cert as certificate_out}
 use Rattle.fc_runs.specs.declared.faults.ProgramFault.{ProgramFault}
-use Rattle.fc_runs.specs.declared.faults.ProgramFault.TheVariants.{Number, Budget, Board, TooLong, Moves, Read, Write, Memory}
+use Rattle.fc_runs.specs.declared.faults.ProgramFault.TheVariants.{Number, Range, Budget, Board, TooLong, Moves, Cert, Read, Write, Memory}
 
 -- 3 for what was asked, 4 for want of memory, 5 for a device
 abbrev pub fault_status : ProgramFault → ℕ
 fault_status (Number n) = 3
+fault_status Range = 3
 fault_status Budget = 3
 fault_status (Board fault) = 3
 fault_status (TooLong input) = 3
 fault_status (Moves fault) = 3
+fault_status (Cert fault) = 3
 fault_status (Read input) = 5
 fault_status (Write output) = 5
 fault_status Memory = 4
 
--- why a text of moves wasn't read, as a fault of the program
-abbrev pub moves_fault : ReadFault → ProgramFault
-moves_fault Failed = Read of_moves
-moves_fault too_many = TooLong of_moves
-moves_fault refused = Memory
+-- why an input wasn't read to its end, as a fault of the program
+abbrev pub read_fault : Input → ReadFault → ProgramFault
+read_fault input Failed = Read input
+read_fault input too_many = TooLong input
+read_fault input refused = Memory
 
 -- why moves weren't replayed to their end, as a fault of the program
 abbrev pub replay_fault : ReplayFault → ProgramFault
@@ -34,10 +38,17 @@ replay_fault (BadMove step) = Moves (BadMove step)
 replay_fault (NotAllowed step) = Moves (NotAllowed step)
 replay_fault unwritten = Write of_answer
 
+-- why bytes weren't accepted, as a fault of the program
+abbrev pub check_fault : CheckFault → ProgramFault
+check_fault check.Memory = Memory
+check_fault fault = Cert fault
+
 -- how an input and an output are named
 abbrev pub input_text : Input → List ℕ
 input_text of_board = codes "board"
 input_text of_moves = codes "moves"
+input_text of_certificate = codes "certificate"
 
 abbrev pub output_text : Output → List ℕ
 output_text of_answer = codes "answer"
+output_text certificate_out = codes "certificate"

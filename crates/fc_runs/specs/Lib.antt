@@ -1,3 +1,6 @@
 pub mod AnswerText
+pub mod Checking
+pub mod Devices
 pub mod Fault
 pub mod Runs
+pub mod Solving

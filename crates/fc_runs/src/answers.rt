@@ -1,12 +1,13 @@
-//! How a verdict is printed, and the exit status that goes with it.
+//! How a verdict, an answer and a claim are printed, and the exit status that goes with it.
 
 ghost use Rattle.std.specs.Prelude.{◌≡◌, ◌++◌, IfOk, OnOk, All};
 ghost use Rattle.fc_moves.specs.MoveText.{HasText};
-ghost use Rattle.fc_answers.specs.Verdict.{CanBeWritten};
-ghost use Rattle.fc_runs.specs.AnswerText.{answer_text, list_text, shortest_text, gave_up_text, status_of};
+ghost use Rattle.fc_answers.specs.Verdict.{CanBeWritten, verdict_of};
+ghost use Rattle.fc_runs.specs.AnswerText.{accepted_text, answer_text, list_text, shortest_text, gave_up_text, status_of};
 
+use fc_cert::Claim;
 use fc_moves::{Move, move_text};
-use fc_search::Verdict;
+use fc_search::{Answer, Verdict};
 use itoa::Buffer;
 use std::alloc::{AllocError, Global};
 
@@ -14,7 +15,7 @@ use std::alloc::{AllocError, Global};
 ///
 /// # Errors
 /// A growth of memory was refused.
-pub fn answer_text(alloc: Global, verdict: &Verdict) -> Result<Vec<u8>, AllocError>
+pub fn verdict_text(alloc: Global, verdict: &Verdict) -> Result<Vec<u8>, AllocError>
     requires texts { CanBeWritten verdict.now }
     ensures text { IfOk result (λ t. t.items ≡ answer_text verdict.now) }
 {
@@ -25,14 +26,59 @@ pub fn answer_text(alloc: Global, verdict: &Verdict) -> Result<Vec<u8>, AllocErr
     }
 }
 
+/// The same lines of an answer, whose table they don't tell.
+///
+/// # Errors
+/// A growth of memory was refused.
+pub fn answer_text(alloc: Global, answer: &Answer) -> Result<Vec<u8>, AllocError>
+    requires texts { CanBeWritten (verdict_of answer.now) }
+    ensures text { IfOk result (λ t. t.items ≡ answer_text (verdict_of answer.now)) }
+{
+    match answer {
+        Answer::Shortest(moves, _) => shortest_text(alloc, moves.as_slice()),
+        Answer::CannotWin(_) => Vec::from_slice(alloc, b"can't be won\n"),
+        Answer::GaveUp(budget) => gave_up_text(alloc, *budget),
+    }
+}
+
 /// The exit status that tells a verdict: 0 for moves, 1 where no list wins, 2 on giving up.
-pub fn status_of(verdict: &Verdict) -> u8
+pub fn verdict_status(verdict: &Verdict) -> u8
     ensures value { result ≡ status_of verdict.now }
 {
     match verdict {
         Verdict::Shortest(_) => 0,
         Verdict::CannotWin => 1,
         Verdict::GaveUp(_) => 2,
+    }
+}
+
+/// The exit status that tells an answer.
+pub fn answer_status(answer: &Answer) -> u8
+    ensures value { result ≡ status_of (verdict_of answer.now) }
+{
+    match answer {
+        Answer::Shortest(_, _) => 0,
+        Answer::CannotWin(_) => 1,
+        Answer::GaveUp(_) => 2,
+    }
+}
+
+/// The line that tells a claim that was accepted.
+///
+/// # Errors
+/// A growth of memory was refused.
+pub fn accepted_text(alloc: Global, claim: Claim) -> Result<Vec<u8>, AllocError>
+    ensures text { IfOk result (λ t. t.items ≡ accepted_text claim) }
+{
+    match claim {
+        Claim::Shortest(count) => {
+            let mut buffer = Buffer::new();
+            let mut text = Vec::from_slice(alloc, b"accepted: shortest ")?;
+            text.extend_from_slice(buffer.format(count).as_bytes())?;
+            text.extend_from_slice(b"\n")?;
+            Ok(text)
+        }
+        Claim::CannotWin => Vec::from_slice(alloc, b"accepted: can't be won\n"),
     }
 }
 

@@ -1,6 +1,8 @@
 ghost use Rattle.std.specs.Prelude.{◌≡◌, Some};
-ghost use Rattle.fc_runs.specs.Fault.{fault_status, input_text, output_text};
+ghost use Rattle.fc_runs.specs.Fault.{fault_status, input_text, output_text, read_fault};
 
+use fc_checker::CheckFault;
+use fc_io::ReadFault;
 use fc_replay::ReplayFault;
 use fc_text::BoardFault;
 use std::alloc::AllocError;
@@ -14,6 +16,8 @@ pub enum Input {
     Board,
     /// A text of moves, of at most 1,048,576 bytes.
     Moves,
+    /// A certificate, of at most 1,073,741,824 bytes.
+    Cert,
 }
 
 /// What the program writes.
@@ -21,6 +25,8 @@ pub enum Input {
 pub enum Output {
     /// The text that tells the answer.
     Answer,
+    /// The certificate of the answer.
+    Cert,
 }
 
 impl fmt::Display for Input {
@@ -30,6 +36,7 @@ impl fmt::Display for Input {
         match self {
             Input::Board => f.write_str("board"),
             Input::Moves => f.write_str("moves"),
+            Input::Cert => f.write_str("certificate"),
         }
     }
 }
@@ -40,6 +47,7 @@ impl fmt::Display for Output {
     fn fmt<W: fmt::Write>(&self, f: &mut fmt::Formatter<W>) -> fmt::Result {
         match self {
             Output::Answer => f.write_str("answer"),
+            Output::Cert => f.write_str("certificate"),
         }
     }
 }
@@ -50,6 +58,9 @@ pub enum ProgramFault {
     /// No deal has this number.
     #[error("deal number {0} is outside 1 to 1000000")]
     Number(u32),
+    /// The deals of a batch are none, or more than 32.
+    #[error("a batch is 1 to 32 deals")]
+    Range,
     /// The budget is 0 or above 4,000,000.
     #[error("the budget is outside 1 to 4000000")]
     Budget,
@@ -62,6 +73,9 @@ pub enum ProgramFault {
     /// A step is no move or isn't allowed; it is never a fault of the sink.
     #[error("{0}")]
     Moves(ReplayFault),
+    /// The bytes are no certificate of the board; it is never want of memory.
+    #[error("certificate refused: {0}")]
+    Cert(CheckFault),
     /// The device that is read has failed.
     #[error("cannot read the {0}")]
     Read(Input),
@@ -80,10 +94,12 @@ impl ProgramFault {
     {
         match self {
             ProgramFault::Number(_)
+            | ProgramFault::Range
             | ProgramFault::Budget
             | ProgramFault::Board(_)
             | ProgramFault::TooLong(_)
-            | ProgramFault::Moves(_) => 3,
+            | ProgramFault::Moves(_)
+            | ProgramFault::Cert(_) => 3,
             ProgramFault::Memory => 4,
             ProgramFault::Read(_) | ProgramFault::Write(_) => 5,
         }
@@ -97,5 +113,16 @@ impl From<AllocError> for ProgramFault {
 
     fn from(_refused: AllocError) -> ProgramFault {
         ProgramFault::Memory
+    }
+}
+
+// The fault of an input that wasn't read to its end.
+pub(crate) fn read_fault(input: Input, fault: ReadFault) -> ProgramFault
+    ensures value { result ≡ read_fault input fault }
+{
+    match fault {
+        ReadFault::Failed => ProgramFault::Read(input),
+        ReadFault::TooLong => ProgramFault::TooLong(input),
+        ReadFault::Memory => ProgramFault::Memory,
     }
 }

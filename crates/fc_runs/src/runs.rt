@@ -1,68 +1,28 @@
-//! The runs of the program, over any source and any sink.
+//! The runs of the program that deal and replay, over any source and any sink.
 
 ghost use Rattle.std.specs.Prelude.{◌≡◌, ◌+◌, ◌≤◌, IfOk, IfErr};
 ghost use Rattle.fc_io.specs.Moves.{GivesAtMost};
-ghost use Rattle.fc_runs.specs.Runs.{IsSolved, IsSolveFault, GivesBoard, IsReadFault, IsDealt, IsDealFault, IsReplayed, IsReplayFault};
-ghost use Rattle.fc_runs.specs.Fault.{moves_fault, replay_fault};
+ghost use Rattle.fc_runs.specs.Devices.{GivesBoard, IsReadFault};
+ghost use Rattle.fc_runs.specs.Fault.{replay_fault};
+ghost use Rattle.fc_runs.specs.Runs.{IsDealt, IsDealFault, IsReplayed, IsReplayFault};
 
-use crate::answers::{answer_text, status_of};
-use crate::faults::{Input, Output, ProgramFault};
+use crate::faults::{Input, Output, ProgramFault, read_fault};
 use fc_deal::{deal, deal_text};
-use fc_home::GREATEST_RULE;
-use fc_io::{ReadFault, Sink, Source, read_to_vec, read_up_to, write_all};
+use fc_io::{Sink, Source, read_to_vec, read_up_to, write_all};
 use fc_moves::Game;
 use fc_position::Position;
 use fc_replay::{ReplayFault, replay};
-use fc_search::{MOST_BUDGET, decide};
 use fc_text::read_board;
 use std::alloc::Global;
 
 /// The most bytes that a board's text may have.
-const LONGEST_BOARD: usize = 4096;
+pub(crate) const LONGEST_BOARD: usize = 4096;
 
 /// The most bytes that a text of moves may have.
 const LONGEST_MOVES: usize = 1_048_576;
 
-/// Reads a board of the game, searches under a home rule of at most 2 with at most `budget` stored classes, and writes the
-/// answer: the moves of a shortest list, that no list of moves wins, or that more than `budget` positions can be reached.
-/// The status tells which: 0, 1 or 2.
-///
-/// # Errors
-/// In this order: a budget outside 1 to 4,000,000; a board that can't be read; a text that is none of the game; want of
-/// memory; an answer that can't be written, of which a front may be written. After any other fault nothing is.
-pub fn run_solve<G: Game + Drop, S: Source, K: Sink>(
-    alloc: Global,
-    game: &G,
-    rule: u8,
-    board: &mut S,
-    budget: u32,
-    out: &mut K,
-) -> Result<u8, ProgramFault>
-    requires rule { rule ≤ GREATEST_RULE }
-    ensures answered { IfOk result (IsSolved (G.game game.now) rule budget
-        record { old = S.told board.old; new = S.told board.new; failed = S.has_failed board.new }
-        record { old = K.held out.old; new = K.held out.new; failed = K.has_failed out.new }) }
-    ensures fault { IfErr result (IsSolveFault (G.game game.now) rule budget
-        record { old = S.told board.old; new = S.told board.new; failed = S.has_failed board.new }
-        record { old = K.held out.old; new = K.held out.new; failed = K.has_failed out.new }) }
-    ensures taken { GivesAtMost (S.told board.old) (S.told board.new) (LONGEST_BOARD + 1) }
-{
-    if budget == 0 || budget > MOST_BUDGET {
-        return Err(ProgramFault::Budget);
-    }
-    let start = read_position(board, game.cells())?;
-    let Ok(verdict) = decide(alloc, game, rule, &start, budget) else {
-        return Err(ProgramFault::Memory);
-    };
-    let text = answer_text(alloc, &verdict)?;
-    match write_all(out, text.as_slice()) {
-        Ok(()) => Ok(status_of(&verdict)),
-        Err(_) => Err(ProgramFault::Write(Output::Answer)),
-    }
-}
-
 // Reads a board of a game with so many cells.
-fn read_position<S: Source>(board: &mut S, cells: u8) -> Result<Position, ProgramFault>
+pub(crate) fn read_position<S: Source>(board: &mut S, cells: u8) -> Result<Position, ProgramFault>
     requires game { cells ≤ 4 }
     ensures read { IfOk result (GivesBoard cells
         record { old = S.told board.old; new = S.told board.new; failed = S.has_failed board.new }) }
@@ -128,22 +88,11 @@ pub fn run_replay<G: Game, B: Source, M: Source, K: Sink>(
     let start = read_position(board, game.cells())?;
     let text = match read_to_vec(alloc, moves, LONGEST_MOVES) {
         Ok(text) => text,
-        Err(fault) => return Err(moves_fault(fault)),
+        Err(fault) => return Err(read_fault(Input::Moves, fault)),
     };
     match replay(game, &start, text.as_slice(), out) {
         Ok(_) => Ok(0),
         Err(fault) => Err(replay_fault(fault)),
-    }
-}
-
-// The fault of a text of moves that wasn't read.
-fn moves_fault(fault: ReadFault) -> ProgramFault
-    ensures value { result ≡ moves_fault fault }
-{
-    match fault {
-        ReadFault::Failed => ProgramFault::Read(Input::Moves),
-        ReadFault::TooLong => ProgramFault::TooLong(Input::Moves),
-        ReadFault::Memory => ProgramFault::Memory,
     }
 }
 

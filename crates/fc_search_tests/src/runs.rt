@@ -2,6 +2,8 @@
 
 use crate::given::{bakers_game, board, free_cell, make, sure};
 use fc_cards::Card;
+use fc_cert::CertFault;
+use fc_checker::CheckFault;
 use fc_io::testing::Failing;
 use fc_io::{FromReader, FromSlice, ToArray};
 use fc_moves::{Game, Kings, read_move};
@@ -64,7 +66,8 @@ fn check_printed<G: Game>(rt: &impl Abort, game: &G, row: &Row, text: &[u8]) {
 fn ends<G: Game + Drop>(rt: &impl Abort, alloc: Global, game: &G, row: &Row) {
     let mut source = FromSlice::new(row.board.as_bytes());
     let mut out = ToArray::<200>::new();
-    let result = run_solve(alloc, game, 1, &mut source, row.budget, &mut out);
+    let none: Option<&mut ToArray<1>> = None;
+    let result = run_solve(alloc, game, 1, &mut source, row.budget, &mut out, none);
     assert!(rt; result == row.wanted, "another answer");
     check_printed(rt, game, row, out.held());
 }
@@ -273,7 +276,9 @@ fn ends_over(
 ) {
     let mut source = Failing::new(FromSlice::new(ONE_KING.as_bytes()), calls.0);
     let mut out = Failing::new(ToArray::<200>::new(), calls.1);
-    let result = run_solve(alloc, &free_cell(rt, 4), 1, &mut source, 100, &mut out);
+    let none: Option<&mut ToArray<1>> = None;
+    let game = free_cell(rt, 4);
+    let result = run_solve(alloc, &game, 1, &mut source, 100, &mut out, none);
     assert!(rt; result == wanted, "another answer");
     assert!(rt; out.device.held() == printed, "another text");
 }
@@ -303,14 +308,9 @@ fn tells_failing_devices(rt: HostRuntime) {
 fn stops_a_reader_that_never_ends(rt: HostRuntime) {
     let mut source = FromReader::new(io::repeat(b' '));
     let mut out = ToArray::<200>::new();
-    let result = run_solve(
-        rt.alloc(),
-        &free_cell(&rt, 4),
-        1,
-        &mut source,
-        100,
-        &mut out,
-    );
+    let none: Option<&mut ToArray<1>> = None;
+    let game = free_cell(&rt, 4);
+    let result = run_solve(rt.alloc(), &game, 1, &mut source, 100, &mut out, none);
     let wanted = Err(ProgramFault::Board(BoardFault::TooLong));
     assert!(rt; result == wanted && out.held() == b"".as_slice());
 }
@@ -334,12 +334,13 @@ fn deals(rt: HostRuntime) {
     assert!(rt; result == wanted && short.held() == b"JD KD 2S 4".as_slice());
 }
 
-const FAULTS: [(ProgramFault, &str, u8); 15] = [
+const FAULTS: [(ProgramFault, &str, u8); 23] = [
     (
         ProgramFault::Number(0),
         "deal number 0 is outside 1 to 1000000",
         3,
     ),
+    (ProgramFault::Range, "a batch is 1 to 32 deals", 3),
     (
         ProgramFault::Budget,
         "the budget is outside 1 to 4000000",
@@ -385,6 +386,41 @@ const FAULTS: [(ProgramFault, &str, u8); 15] = [
         ProgramFault::Moves(ReplayFault::NotAllowed(3)),
         "step 3: not allowed",
         3,
+    ),
+    (
+        ProgramFault::TooLong(Input::Cert),
+        "certificate: too long",
+        3,
+    ),
+    (
+        ProgramFault::Cert(CheckFault::Form(CertFault::Order(1))),
+        "certificate refused: Order(1)",
+        3,
+    ),
+    (
+        ProgramFault::Cert(CheckFault::Form(CertFault::Short)),
+        "certificate refused: Short",
+        3,
+    ),
+    (
+        ProgramFault::Cert(CheckFault::NotAllowed(5)),
+        "certificate refused: NotAllowed(5)",
+        3,
+    ),
+    (
+        ProgramFault::Cert(CheckFault::OtherGame),
+        "certificate refused: OtherGame",
+        3,
+    ),
+    (
+        ProgramFault::Read(Input::Cert),
+        "cannot read the certificate",
+        5,
+    ),
+    (
+        ProgramFault::Write(Output::Cert),
+        "cannot write the certificate",
+        5,
     ),
     (ProgramFault::Read(Input::Moves), "cannot read the moves", 5),
     (ProgramFault::Read(Input::Board), "cannot read the board", 5),

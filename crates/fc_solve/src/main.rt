@@ -7,8 +7,8 @@ use clap::ArgMatches;
 use clap::error::ErrorKind;
 use fc_io::{FromReader, ToWriter};
 use fc_moves::{BakersGame, FreeCell, Game, Kings};
-use fc_runs::{Input, ProgramFault, run_deal, run_replay, run_solve};
-use std::fs::File;
+use fc_runs::{Input, Output, ProgramFault, run_check, run_deal, run_replay, run_solve};
+use std::fs::{self, File};
 use std::process::ExitCode;
 use std::{env, io};
 
@@ -59,6 +59,9 @@ fn follow_matches(rt: &HostRuntime, matches: &ArgMatches<'_>) -> Result<u8, Prog
     if let Some(words) = matches.subcommand_matches("solve") {
         return choose_game(rt, words, Task::Solve);
     }
+    if let Some(words) = matches.subcommand_matches("check") {
+        return choose_game(rt, words, Task::Check);
+    }
     match matches.subcommand_matches("replay") {
         Some(words) => choose_game(rt, words, Task::Replay),
         None => Ok(REFUSED),
@@ -69,6 +72,7 @@ fn follow_matches(rt: &HostRuntime, matches: &ArgMatches<'_>) -> Result<u8, Prog
 #[derive(Clone, Copy)]
 enum Task {
     Solve,
+    Check,
     Replay,
 }
 
@@ -96,6 +100,7 @@ fn perform<G: Game + Drop>(
 ) -> Result<u8, ProgramFault> {
     match task {
         Task::Solve => solve(rt, game, words),
+        Task::Check => check(rt, game, words),
         Task::Replay => replay(rt, game, words),
     }
 }
@@ -114,17 +119,32 @@ fn solve<G: Game + Drop>(
     if rule > words::DEFAULT_RULE {
         return Ok(REFUSED);
     }
+    let mut cert = match words.get_str("cert") {
+        Some(path) => Some(ToWriter::new(create(rt, path)?)),
+        None => None,
+    };
     let mut out = ToWriter::new(rt.stdout());
     match words.get_str("BOARD") {
         Some(path) => {
             let mut board = open(rt, path, Input::Board)?;
-            run_solve(alloc, game, rule, &mut board, budget, &mut out)
+            run_solve(alloc, game, rule, &mut board, budget, &mut out, cert.as_mut())
         }
         None => {
             let mut board = FromReader::new(rt.stdin());
-            run_solve(alloc, game, rule, &mut board, budget, &mut out)
+            run_solve(alloc, game, rule, &mut board, budget, &mut out, cert.as_mut())
         }
     }
+}
+
+// Checks the certificate of a file for the board of a file.
+fn check<G: Game>(rt: &HostRuntime, game: &G, words: &ArgMatches<'_>) -> Result<u8, ProgramFault> {
+    let (Some(board), Some(cert)) = (words.get_str("BOARD"), words.get_str("CERT")) else {
+        return Ok(REFUSED);
+    };
+    let mut board = open(rt, board, Input::Board)?;
+    let mut cert = open(rt, cert, Input::Cert)?;
+    let mut out = ToWriter::new(rt.stdout());
+    run_check(rt.alloc(), game, &mut board, &mut cert, &mut out)
 }
 
 // Replays the moves of a file on the board of a file.
@@ -140,9 +160,22 @@ fn replay<G: Game>(rt: &HostRuntime, game: &G, words: &ArgMatches<'_>) -> Result
 
 // The file with this path, to be read as this input.
 fn open(rt: &HostRuntime, path: &str, input: Input) -> Result<FromReader<File>, ProgramFault> {
+    let likely_len = match fs::metadata(rt, path) {
+        Ok(metadata) => metadata.len() as usize,
+        Err(_) => 0,
+    };
     match File::open(rt, path) {
-        Ok(file) => Ok(FromReader::new(file)),
+        Ok(file) => Ok(FromReader::with_likely_len(file, likely_len)),
         Err(error) if error.kind() == io::ErrorKind::OutOfMemory => Err(ProgramFault::Memory),
         Err(_) => Err(ProgramFault::Read(input)),
+    }
+}
+
+// The file with this path, made or emptied, for a certificate.
+fn create(rt: &HostRuntime, path: &str) -> Result<File, ProgramFault> {
+    match File::create(rt, path) {
+        Ok(file) => Ok(file),
+        Err(error) if error.kind() == io::ErrorKind::OutOfMemory => Err(ProgramFault::Memory),
+        Err(_) => Err(ProgramFault::Write(Output::Cert)),
     }
 }

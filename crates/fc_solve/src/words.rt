@@ -26,6 +26,8 @@ enum Kind {
     File,
     /// A file that may be named.
     OptionalFile,
+    /// An option with a file.
+    FileOption,
 }
 
 /// A word of a subcommand, and its help.
@@ -75,7 +77,7 @@ const DEAL: Subcommand = Subcommand {
     }],
 };
 
-// `solve [--budget B] [GAME] [--rule R] [BOARD]`.
+// `solve [--budget B] [--cert FILE] [GAME] [--rule R] [BOARD]`.
 const SOLVE: Subcommand = Subcommand {
     name: "solve",
     about: "Prints a shortest solution in one-card moves, or that the board can't be won, or that it gave up",
@@ -90,6 +92,11 @@ Example: fc_solve solve --game bakers --cells 3 boards/one-king.txt",
             kind: Kind::Number("B", "100000"),
             help: "How many classes of positions may be stored, 1 to 4000000",
         },
+        Word {
+            name: "cert",
+            kind: Kind::FileOption,
+            help: "Writes the certificate of the answer to this file, before the answer; giving up has none",
+        },
         GAME,
         KINGS,
         CELLS,
@@ -102,6 +109,31 @@ Example: fc_solve solve --game bakers --cells 3 boards/one-king.txt",
             name: "BOARD",
             kind: Kind::OptionalFile,
             help: "The file of the board's text; standard input where none is given",
+        },
+    ],
+};
+
+// `check [GAME] BOARD CERT`.
+const CHECK: Subcommand = Subcommand {
+    name: "check",
+    about: "Says what a certificate proves of a board, or why it proves nothing; it searches nothing",
+    after_help: "The status is 0 where the certificate is accepted, 3 where it is refused, 4 for want of memory, 5 where reading or
+writing failed.
+
+Example: fc_solve deal 11982 | tee lost.txt | fc_solve solve --cert lost.cert; fc_solve check lost.txt lost.cert",
+    words: &[
+        GAME,
+        KINGS,
+        CELLS,
+        Word {
+            name: "BOARD",
+            kind: Kind::File,
+            help: "The file of the board's text",
+        },
+        Word {
+            name: "CERT",
+            kind: Kind::File,
+            help: "The file of the certificate, as `solve --cert` writes it",
         },
     ],
 };
@@ -128,15 +160,15 @@ const REPLAY: Subcommand = Subcommand {
     ],
 };
 
-static SUBCOMMANDS: [Subcommand; 3] = [DEAL, SOLVE, REPLAY];
+static SUBCOMMANDS: [Subcommand; 4] = [DEAL, SOLVE, CHECK, REPLAY];
 
-/// The program's command line: `deal`, `solve` and `replay`.
+/// The program's command line: `deal`, `solve`, `check` and `replay`.
 pub fn command<'a>(alloc: Global) -> Result<Command<'a>, AllocError> {
     let mut command = Command::new(alloc, "fc_solve")
         .bin_name("fc_solve")?
         .version("0.1.0")
         .about(
-            "Deals FreeCell boards, solves them with answers that are proved, and replays moves.",
+            "Deals FreeCell boards, solves them with answers that are proved, checks certificates, and replays moves.",
         )
         .after_help("Example: fc_solve deal 1 | fc_solve solve --budget 1000")
         .subcommand_required(true)
@@ -179,6 +211,7 @@ fn arg_of<'a>(alloc: Global, word: &'static Word) -> Arg<'a> {
         Kind::DealNumber => arg.required(true).value_parser(value_parser!(u32)),
         Kind::File => arg.required(true),
         Kind::OptionalFile => arg,
+        Kind::FileOption => arg.long(word.name).value_name("FILE"),
     }
 }
 

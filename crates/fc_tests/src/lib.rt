@@ -1,7 +1,8 @@
-//! Tests of the public calls of the crates below the search, and the boards that all tests share.
+//! Tests of the public calls of the crates below the search, and the boards and the game that all tests share.
 #![tactic(auto)]
 
 pub mod boards;
+pub mod games;
 #[cfg(test)]
 mod bounds;
 #[cfg(test)]
@@ -14,8 +15,6 @@ mod deals;
 mod devices;
 #[cfg(test)]
 mod frontiers;
-#[cfg(test)]
-mod games;
 #[cfg(test)]
 mod given;
 #[cfg(test)]

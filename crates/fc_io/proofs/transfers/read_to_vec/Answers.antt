@@ -21,5 +21,8 @@ returns-then-count-limit-clause-taken g c = taken g (goal.at.returns-then-count-
 pub returns-in_err-extend_from_slice-clause-taken : goal.returns-in_err-extend_from_slice-clause-taken
 returns-in_err-extend_from_slice-clause-taken g c = taken g (goal.at.returns-in_err-extend_from_slice-clause-taken g c).After-read_up_to
 
-pub returns-then-count-most-clause-taken : goal.returns-then-count-most-clause-taken
-returns-then-count-most-clause-taken g c = taken g (goal.at.returns-then-count-most-clause-taken g c).After-read_up_to
+pub returns-then-count-most-2-clause-taken : goal.returns-then-count-most-2-clause-taken
+returns-then-count-most-2-clause-taken g c = taken g (goal.at.returns-then-count-most-2-clause-taken g c).After-read_up_to
+
+pub returns-in_err-reserve_exact-clause-taken : goal.returns-in_err-reserve_exact-clause-taken
+returns-in_err-reserve_exact-clause-taken g c = taken g (goal.at.returns-in_err-reserve_exact-clause-taken g c).After-read_up_to

@@ -1,7 +1,8 @@
 use Rattle.std.proofs.Common.{rules, ◌≡◌, Ok, IsTrue, refl, sym, ap, subst, ⊎_elim}
 use Rattle.fc_replay.specs.Played.{Replays, BeginsWithStep}
 use Rattle.fc_replay.specs.Token.{move_tokens}
-use Rattle.fc_runs.specs.Runs.{Device, GivesBoard, GivesMoves, IsReplayOf}
+use Rattle.fc_runs.specs.Devices.{Device, GivesBoard, GivesWhole}
+use Rattle.fc_runs.specs.Runs.{IsReplayOf}
 use Rattle.fc_runs.proofs.ReplayLemmas.{none_played}
 use Rattle.fc_runs.proofs.runs.run_replay.Goals as goal
 
@@ -25,7 +26,7 @@ returns-in-Ok-replay-clause-replayed g c =
     let replayed : Replays (g.G.Game.game c.args.game.now) c.in_ok-start.start (move_tokens c.in-Ok.text.items) sink.old sink.new (Ok c.in-Ok-replay.field-0) =
     search rules in
     let given : GivesBoard (g.G.Game.game c.args.game.now).cells board c.in_ok-start.start = search rules in
-    let read : GivesMoves moves c.in-Ok.text.items = search rules in
+    let read : GivesWhole moves c.in-Ok.text.items = search rules in
     let whole : IsReplayOf (g.G.Game.game c.args.game.now) board moves sink (Ok c.in-Ok-replay.field-0) = record {
       start = c.in_ok-start.start;
       given = given;

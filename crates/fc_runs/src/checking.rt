@@ -1,0 +1,66 @@
+//! Checking a certificate, over any sources and any sink.
+
+ghost use Rattle.std.specs.Prelude.{◌≡◌, ◌+◌, IfOk, IfErr};
+ghost use Rattle.fc_io.specs.Moves.{GivesAtMost};
+ghost use Rattle.fc_runs.specs.Checking.{IsChecked, IsRefusal};
+ghost use Rattle.fc_runs.specs.Fault.{check_fault};
+
+use crate::answers::accepted_text;
+use crate::faults::{Input, Output, ProgramFault, read_fault};
+use crate::runs::{LONGEST_BOARD, read_position};
+use fc_cert::LONGEST_CERTIFICATE;
+use fc_checker::{CheckFault, check};
+use fc_io::{Sink, Source, read_to_vec, write_all};
+use fc_moves::Game;
+use std::alloc::Global;
+
+/// Reads a board of the game and a certificate, and writes the claim that the certificate proves of the board. The status
+/// is 0. Nothing is searched.
+///
+/// # Errors
+/// In this order: a board that can't be read; a text that is none of the game; a certificate that can't be read, is longer
+/// than 1 GiB, or want of memory, whichever is met first; the first thing that is asked of a certificate and doesn't hold,
+/// or want of memory; a text that can't be written, of which a front may be. After any other fault nothing is written.
+pub fn run_check<G: Game, B: Source, C: Source, K: Sink>(
+    alloc: Global,
+    game: &G,
+    board: &mut B,
+    cert: &mut C,
+    out: &mut K,
+) -> Result<u8, ProgramFault>
+    ensures checked { IfOk result (IsChecked (G.game game.now)
+        record { old = B.told board.old; new = B.told board.new; failed = B.has_failed board.new }
+        record { old = C.told cert.old; new = C.told cert.new; failed = C.has_failed cert.new }
+        record { old = K.held out.old; new = K.held out.new; failed = K.has_failed out.new }) }
+    ensures fault { IfErr result (IsRefusal (G.game game.now)
+        record { old = B.told board.old; new = B.told board.new; failed = B.has_failed board.new }
+        record { old = C.told cert.old; new = C.told cert.new; failed = C.has_failed cert.new }
+        record { old = K.held out.old; new = K.held out.new; failed = K.has_failed out.new }) }
+    ensures taken_board { GivesAtMost (B.told board.old) (B.told board.new) (LONGEST_BOARD + 1) }
+    ensures taken_cert { GivesAtMost (C.told cert.old) (C.told cert.new) (LONGEST_CERTIFICATE + 1) }
+{
+    let start = read_position(board, game.cells())?;
+    let bytes = match read_to_vec(alloc, cert, LONGEST_CERTIFICATE) {
+        Ok(bytes) => bytes,
+        Err(fault) => return Err(read_fault(Input::Cert, fault)),
+    };
+    let claim = match check(alloc, game, &start, bytes.as_slice()) {
+        Ok(claim) => claim,
+        Err(fault) => return Err(check_fault(fault)),
+    };
+    let text = accepted_text(alloc, claim)?;
+    match write_all(out, text.as_slice()) {
+        Ok(()) => Ok(0),
+        Err(_) => Err(ProgramFault::Write(Output::Answer)),
+    }
+}
+
+// The fault of bytes that weren't accepted.
+fn check_fault(fault: CheckFault) -> ProgramFault
+    ensures value { result ≡ check_fault fault }
+{
+    match fault {
+        CheckFault::Memory => ProgramFault::Memory,
+        fault => ProgramFault::Cert(fault),
+    }
+}

@@ -1,0 +1,163 @@
+//! Solving, over any source and any sinks.
+
+ghost use Rattle.std.specs.Prelude.{◌≡◌, ◌+◌, ◌≤◌, ℕ, Some, None, IfOk, IfErr, OnOk, OnErr};
+ghost use Rattle.fc_io.specs.Moves.{GivesAtMost};
+ghost use Rattle.fc_position.specs.Board.{Board};
+ghost use Rattle.fc_position.specs.Position.{Fits};
+ghost use Rattle.fc_moves.specs.GameRules.{IsPositionOf};
+ghost use Rattle.fc_answers.specs.Verdict.{CanBeWritten, verdict_of};
+ghost use Rattle.fc_best_first.specs.Search.{IsBudget};
+ghost use Rattle.fc_search.specs.Search.{Answers};
+ghost use Rattle.fc_runs.specs.Devices.{GivesBoard, IsHandedBack, lent};
+ghost use Rattle.fc_runs.specs.Solving.{IsAnswered, IsCertified, IsCutShort, IsSolved, IsSolveFault, IsStartFault, IsUnanswered};
+
+use crate::answers::{answer_status, answer_text, verdict_status, verdict_text};
+use crate::faults::{Output, ProgramFault};
+use crate::runs::{LONGEST_BOARD, read_position};
+use fc_cert::{CertFault, write_answer};
+use fc_home::GREATEST_RULE;
+use fc_io::{Failed, Sink, Source, write_all};
+use fc_moves::Game;
+use fc_position::Position;
+use fc_search::{Answer, MOST_BUDGET, decide, solve};
+use std::alloc::Global;
+
+/// Reads a board of the game, searches under a home rule of at most 2 with at most `budget` stored classes, and writes the
+/// answer: the moves of a shortest list, that no list of moves wins, or that more than `budget` positions can be reached.
+/// The status tells which: 0, 1 or 2. Where `cert` is given, the certificate of the answer is written to it first, whole;
+/// giving up has none. Without it no table of classes is made.
+///
+/// # Errors
+/// In this order: a budget outside 1 to 4,000,000; a board that can't be read; a text that is none of the game; want of
+/// memory; a certificate that can't be written, of which a front may be written; an answer that can't be written, of which
+/// a front may be written after its whole certificate. After any other fault nothing is.
+pub fn run_solve<G: Game + Drop, S: Source, K: Sink, C: Sink>(
+    alloc: Global,
+    game: &G,
+    rule: u8,
+    board: &mut S,
+    budget: u32,
+    out: &mut K,
+    cert: Option<&mut C>,
+) -> Result<u8, ProgramFault>
+    requires rule { rule ≤ GREATEST_RULE }
+    ensures answered { IfOk result (IsSolved (G.game game.now) rule budget
+        record { old = S.told board.old; new = S.told board.new; failed = S.has_failed board.new }
+        (lent C.held C.has_failed cert.entry cert.exit)
+        record { old = K.held out.old; new = K.held out.new; failed = K.has_failed out.new }) }
+    ensures fault { IfErr result (IsSolveFault (G.game game.now) rule budget
+        record { old = S.told board.old; new = S.told board.new; failed = S.has_failed board.new }
+        (lent C.held C.has_failed cert.entry cert.exit)
+        record { old = K.held out.old; new = K.held out.new; failed = K.has_failed out.new }) }
+    ensures taken { GivesAtMost (S.told board.old) (S.told board.new) (LONGEST_BOARD + 1) }
+    ensures back { IsHandedBack cert.entry cert.exit }
+{
+    let start = read_start(game, board, budget)?;
+    match cert {
+        Some(cert) => certify(alloc, game, rule, &start, budget, out, cert),
+        None => tell(alloc, game, rule, &start, budget, out),
+    }
+}
+
+// Reads a board of the game that is to be solved with this budget.
+fn read_start<G: Game, S: Source>(
+    game: &G,
+    board: &mut S,
+    budget: u32,
+) -> Result<Position, ProgramFault>
+    ensures budgeted { OnOk result (IsBudget budget) }
+    ensures read { IfOk result (GivesBoard (G.game game.now).cells
+        record { old = S.told board.old; new = S.told board.new; failed = S.has_failed board.new }) }
+    ensures fault { IfErr result (IsStartFault (G.game game.now) budget
+        record { old = S.told board.old; new = S.told board.new; failed = S.has_failed board.new }) }
+    ensures taken { GivesAtMost (S.told board.old) (S.told board.new) (LONGEST_BOARD + 1) }
+{
+    if budget == 0 || budget > MOST_BUDGET {
+        return Err(ProgramFault::Budget);
+    }
+    read_position(board, game.cells())
+}
+
+// Writes the answer for a position, without a table.
+fn tell<G: Game + Drop, K: Sink>(
+    alloc: Global,
+    game: &G,
+    rule: u8,
+    start: &Position,
+    budget: u32,
+    out: &mut K,
+) -> Result<u8, ProgramFault>
+    requires rule { rule ≤ GREATEST_RULE }
+    requires fits { Fits (G.game game.now).cells start.now }
+    requires budgeted { IsBudget budget }
+    ensures answered { IfOk result (IsAnswered (G.game game.now) rule start.now budget None
+        record { old = K.held out.old; new = K.held out.new; failed = K.has_failed out.new }) }
+    ensures fault { IfErr result (IsUnanswered (G.game game.now) rule start.now budget None
+        record { old = K.held out.old; new = K.held out.new; failed = K.has_failed out.new }) }
+{
+    let Ok(verdict) = decide(alloc, game, rule, start, budget) else {
+        return Err(ProgramFault::Memory);
+    };
+    let text = verdict_text(alloc, &verdict)?;
+    match write_all(out, text.as_slice()) {
+        Ok(()) => Ok(verdict_status(&verdict)),
+        Err(_) => Err(ProgramFault::Write(Output::Answer)),
+    }
+}
+
+// Writes the certificate of the answer for a position, and then the answer.
+fn certify<G: Game + Drop, K: Sink, C: Sink>(
+    alloc: Global,
+    game: &G,
+    rule: u8,
+    start: &Position,
+    budget: u32,
+    out: &mut K,
+    cert: &mut C,
+) -> Result<u8, ProgramFault>
+    requires rule { rule ≤ GREATEST_RULE }
+    requires position { IsPositionOf (G.game game.now) start.now }
+    requires budgeted { IsBudget budget }
+    ensures answered { IfOk result (IsAnswered (G.game game.now) rule start.now budget
+        (Some record { old = C.held cert.old; new = C.held cert.new; failed = C.has_failed cert.new })
+        record { old = K.held out.old; new = K.held out.new; failed = K.has_failed out.new }) }
+    ensures fault { IfErr result (IsUnanswered (G.game game.now) rule start.now budget
+        (Some record { old = C.held cert.old; new = C.held cert.new; failed = C.has_failed cert.new })
+        record { old = K.held out.old; new = K.held out.new; failed = K.has_failed out.new }) }
+{
+    let Ok(answer) = solve(alloc, game, rule, start, budget) else {
+        return Err(ProgramFault::Memory);
+    };
+    let text = answer_text(alloc, &answer)?;
+    let Ok(()) = write_certificate(game, &answer, cert) else {
+        return Err(ProgramFault::Write(Output::Cert));
+    };
+    match write_all(out, text.as_slice()) {
+        Ok(()) => Ok(answer_status(&answer)),
+        Err(_) => Err(ProgramFault::Write(Output::Answer)),
+    }
+}
+
+// Writes the certificate of an answer; of a search that gave up, nothing.
+fn write_certificate<G: Game, C: Sink>(
+    game: &G,
+    answer: &Answer,
+    cert: &mut C,
+) -> Result<(), Failed>
+    requires written { CanBeWritten (verdict_of answer.now) }
+    ensures certified { (rule : ℕ) (start : Board) (budget : ℕ) → IsPositionOf (G.game game.now) start
+        → Answers (G.game game.now) rule start budget answer.now
+        → OnOk result (IsCertified (G.game game.now) rule start (verdict_of answer.now)
+        record { old = C.held cert.old; new = C.held cert.new; failed = C.has_failed cert.new }) }
+    ensures cut { (rule : ℕ) (start : Board) (budget : ℕ) → IsPositionOf (G.game game.now) start
+        → Answers (G.game game.now) rule start budget answer.now
+        → OnErr result (IsCutShort (G.game game.now) rule start (verdict_of answer.now)
+        record { old = C.held cert.old; new = C.held cert.new; failed = C.has_failed cert.new }) }
+{
+    match write_answer(game, answer, cert) {
+        Ok(()) => Ok(()),
+        Err(CertFault::Write) => Err(Failed),
+        // Giving up has no certificate.
+        Err(_) => Ok(()),
+    }
+}
