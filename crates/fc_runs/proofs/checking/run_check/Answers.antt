@@ -24,4 +24,4 @@ returns-in-Err-check-clause-fault g c =
     let given : GivesBoth (g.G.Game.game c.args.game.now) board cert c.in_ok-start.start c.as_slice.result.now = search rules in
     subst (IsRefusal (g.G.Game.game c.args.game.now) board cert sink) (sym c.check_fault.ensures.value)
     (refused (g.G.Game.game c.args.game.now) board cert sink c.in_ok-start.start c.as_slice.result.now c.in-Err-check.fault given refl
-        c.in-Err-check.ensures.fault)
+    c.in-Err-check.ensures.fault)

@@ -14,7 +14,7 @@ returns-in-Some-clause-answered g c =
     let sink : Device = record { old = g.K.Sink.held c.args.out.now; new = g.K.Sink.held c.certify.new.out; failed = g.K.Sink.has_failed c.certify.new.out } in
     rw c.in-Some.is
     (solved (g.G.Game.game c.args.game.now) c.args.rule c.args.budget source (Some cert) sink c.in_ok-start.start c.certify.result
-        c.in_ok-start.ensures.budgeted c.in_ok-start.ensures.read c.certify.ensures.answered)
+    c.in_ok-start.ensures.budgeted c.in_ok-start.ensures.read c.certify.ensures.answered)
 
 pub returns-in-Some-clause-fault : goal.returns-in-Some-clause-fault
 returns-in-Some-clause-fault g c =
@@ -23,4 +23,4 @@ returns-in-Some-clause-fault g c =
     let sink : Device = record { old = g.K.Sink.held c.args.out.now; new = g.K.Sink.held c.certify.new.out; failed = g.K.Sink.has_failed c.certify.new.out } in
     rw c.in-Some.is
     (unsolved (g.G.Game.game c.args.game.now) c.args.rule c.args.budget source (Some cert) sink c.in_ok-start.start c.certify.result
-        c.in_ok-start.ensures.budgeted c.in_ok-start.ensures.read c.certify.ensures.fault)
+    c.in_ok-start.ensures.budgeted c.in_ok-start.ensures.read c.certify.ensures.fault)
