@@ -5,6 +5,7 @@ ghost use Rattle.fc_cert.specs.Content.{Content, IsContent, IsRecord, IsSpelled,
 ghost use Rattle.fc_cert.specs.Layout.{AreRecords, ends_from, start_of};
 ghost use Rattle.fc_cert.specs.Reading.{IsFormFault, IsReadFault};
 
+use crate::comparisons::compare;
 use crate::contents::{Head, Kind};
 use crate::faults::CertFault;
 use crate::readers::{check_form, split_number};
@@ -154,7 +155,7 @@ impl<'a> Certificate<'a> {
         while low < high {
             let middle = low + (high - low) / 2;
             let (other, cost) = self.record_at(middle);
-            match key.cmp(other) {
+            match compare(key, other) {
                 Ordering::Less => high = middle,
                 Ordering::Equal => return Some(cost),
                 Ordering::Greater => low = middle + 1,
