@@ -59,12 +59,12 @@ fn check_content<G: Game>(
     ensures fault { IfErr result (IsFaultOf (G.game game.now) position.now certificate.now) }
     ensures whole { IsPosition position.now }
 {
-    let start = position.copy();
+    let mut start = position.copy();
     if !is_of_game(game, certificate) {
         return Err(CheckFault::OtherGame);
     }
     check_moves(game, certificate, position)?;
-    if !settled_holds(game, certificate, start, 0) {
+    if !settled_holds(game, certificate, &mut start, 0) {
         return Err(CheckFault::StartOpen);
     }
     check_records(game, certificate)

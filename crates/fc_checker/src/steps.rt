@@ -80,21 +80,20 @@ fn holds(certificate: &Certificate, position: &Position, moves: u64) -> bool
     }
 }
 
-// Whether what the position settles to holds, where so many moves lead to the position.
+// Settles the position, to which so many moves lead; whether it holds then.
 pub(crate) fn settled_holds<G: Game>(
     game: &G,
     certificate: &Certificate,
-    position: Position,
+    position: &mut Position,
     moves: u64,
 ) -> bool
     requires content { IsContent certificate.now }
-    requires whole { IsPosition position }
+    requires whole { IsPosition position.old }
     requires few { moves ≤ 2 ^ 32 }
-    ensures value { IsTrue result ↔ SettledHolds (G.game game.now) certificate.now position moves }
+    ensures value { IsTrue result ↔ SettledHolds (G.game game.now) certificate.now position.old moves }
 {
-    let mut position = position;
-    let settling = settle(game, &mut position, certificate.rule());
-    holds(certificate, &position, moves + settling.len() as u64)
+    let settling = settle(game, position, certificate.rule());
+    holds(certificate, position, moves + settling.len() as u64)
 }
 
 // Whether where the move leads holds, once settled.
@@ -111,7 +110,7 @@ fn step_holds<G: Game>(
 {
     let mut next = position.copy();
     apply(game, &mut next, m);
-    settled_holds(game, certificate, next, u64::from(cost) + 1)
+    settled_holds(game, certificate, &mut next, u64::from(cost) + 1)
 }
 
 // Whether where each step of the position leads holds, once settled. Of the steps to one class, one is looked at.
