@@ -1,9 +1,8 @@
 -- Equally long lists of bytes have the order of the numbers that they spell, the highest byte first.
-use Rattle.std.proofs.Common.{◌≡◌, ℕ, zero, suc, ◌+◌, ◌*◌, ◌<◌, ◌≤◌, List, [], ◌∷◌, length, take, drop, get_or, refl, sym, ◌∙◌, ap, subst, ⊎_elim, arith}
+use Rattle.std.proofs.Common.{◌≡◌, ℕ, suc, ◌+◌, ◌*◌, ◌<◌, List, [], ◌∷◌, length, get_or, refl, sym, ◌∙◌, ap, ⊎_elim, arith}
 use Rattle.std.specs.Int.{w64, from_be_bytes}
-use Rattle.std.specs.Ordering.{nat_cmp, ordering_then, MatchOrdering}
+use Rattle.std.specs.Ordering.{nat_cmp, ordering_then}
 use Rattle.std.specs.Cmp.Lexicographic.{slice_cmp}
-use Rattle.std.specs.declared.cmp.Ordering.{Ordering}
 use Rattle.std.specs.declared.cmp.Ordering.TheVariants.{Less, Equal, Greater}
 use Rattle.std.proofs.lemmas.Bool.{cases_order}
 use Rattle.std.proofs.lemmas.Bool.Decides.{nat_tests}
@@ -42,13 +41,13 @@ by_numbers a (x ∷ xs) (y ∷ ys) e small little =
     let more : length xs ≡ length ys = omega arith in
     ⊎_elim
     (λ same. ap (λ z. nat_cmp (number_after (a * 256 + x) xs) (number_after (a * 256 + z) ys)) (sym same)
-        ∙ by_numbers (a * 256 + x) xs ys more (λ k. small (suc k)) (λ k. little (suc k))
-        ∙ sym (ap (λ r. ordering_then r (slice_cmp nat_cmp xs ys)) (level x y same)))
+    ∙ by_numbers (a * 256 + x) xs ys more (λ k. small (suc k)) (λ k. little (suc k))
+    ∙ sym (ap (λ r. ordering_then r (slice_cmp nat_cmp xs ys)) (level x y same)))
     (⊎_elim
     (λ under. less _ _ (rises (a * 256 + x) (a * 256 + y) xs ys more (λ k. small (suc k)) (omega arith))
-        ∙ sym (ap (λ r. ordering_then r (slice_cmp nat_cmp xs ys)) (less x y under)))
+    ∙ sym (ap (λ r. ordering_then r (slice_cmp nat_cmp xs ys)) (less x y under)))
     (λ over. greater _ _ (rises (a * 256 + y) (a * 256 + x) ys xs (sym more) (λ k. little (suc k)) (omega arith))
-        ∙ sym (ap (λ r. ordering_then r (slice_cmp nat_cmp xs ys)) (greater x y over))))
+    ∙ sym (ap (λ r. ordering_then r (slice_cmp nat_cmp xs ys)) (greater x y over))))
     (cases_order x y)
 
 -- eight bytes spell the number that they are read as

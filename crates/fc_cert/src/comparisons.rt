@@ -14,9 +14,10 @@ pub fn compare(a: &[u8], b: &[u8]) -> Ordering
 {
     let mut left = a;
     let mut right = b;
-    while let (Some((x, after_x)), Some((y, after_y))) =
-        (left.split_first_chunk(), right.split_first_chunk())
-    {
+    while let (Some((x, after_x)), Some((y, after_y))) = (
+        left.split_first_chunk(),
+        right.split_first_chunk(),
+    ) {
         let order = compare_eight(x, y);
         if order.is_ne() {
             return order;

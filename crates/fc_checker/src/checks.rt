@@ -25,8 +25,8 @@ use std::alloc::Global;
 /// they are a certificate of it, but for want of memory.
 ///
 /// # Errors
-/// The first thing that is asked of a certificate and doesn't hold; `Memory` only for bytes that have the form of one,
-/// where the one growth of memory was refused.
+/// The first thing that is asked of a certificate and doesn't hold; `Memory` only for bytes that have the form of one and
+/// list some class, where the one growth of memory was refused.
 pub fn check<G: Game>(
     alloc: Global,
     game: &G,

@@ -1,4 +1,4 @@
-use Rattle.std.proofs.Common.{rules, ◌≡◌, ◌≢◌, ◌+◌, ◌↔◌, ℕ, IsTrue, true, false, sym, ◌∙◌, ap, subst, arith}
+use Rattle.std.proofs.Common.{rules, ◌≡◌, ◌≢◌, ◌+◌, ◌↔◌, ℕ, IsTrue, false, sym, ◌∙◌, subst}
 use Rattle.fc_cards.specs.declared.places.Place.TheVariants.{Home}
 use Rattle.fc_checker.specs.Steps.{SettledHolds}
 use Rattle.fc_checker.proofs.BackLemmas.{IsTakenBack, taken_back}

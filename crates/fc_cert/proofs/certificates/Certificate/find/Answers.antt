@@ -1,4 +1,4 @@
-use Rattle.std.proofs.Common.{◌≡◌, ◌+◌, ◌-◌, ◌/◌, ◌<◌, ◌≤◌, sym, ◌∙◌, ap, arith}
+use Rattle.std.proofs.Common.{◌+◌, ◌-◌, ◌/◌, sym, ◌∙◌, arith}
 use Rattle.fc_cert.proofs.FindLemmas.{above_more, below_more, key_found, none_found}
 use Rattle.fc_cert.proofs.certificates.Certificate.find.Goals as goal
 
