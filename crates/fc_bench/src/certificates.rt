@@ -31,7 +31,7 @@ pub fn bench_certificate(rt: &HostRuntime, path: &str, rounds: u32) -> io::Resul
 }
 
 /// Prints the line with the peak of resident memory, where the system tells it.
-fn tell_peak(rt: &HostRuntime) -> io::Result<()> {
+pub fn tell_peak(rt: &HostRuntime) -> io::Result<()> {
     let status = fs::read_to_string(rt, "/proc/self/status")?;
     for line in status.lines() {
         if line.starts_with("VmHWM:") {

@@ -1,11 +1,16 @@
 //! Measures calls of the library on the start of deal 1: nanoseconds a call, and how that compares with copying as many
-//! bytes as a position has. The argument is how often each call is made; at 0 nothing is measured. A second argument names
-//! a certificate's file: then reading it and finding its keys is measured, and nothing else.
+//! bytes as a position has. The argument is how often each call is made; at 0 nothing is measured.
+//!
+//! With two arguments, how often and a certificate's file, reading it and finding its keys is measured, and nothing else;
+//! with three, how often, a board's file and a certificate's, checking it. Five, a deal, a home rule, a budget and two
+//! files, measure nothing: the deal's board and its certificate are written into the files.
 #![tactic(auto)]
 
 mod certificates;
+mod checks;
 
 use crate::certificates::bench_certificate;
+use crate::checks::{bench_check, make_certificate};
 use arrayvec::ArrayVec;
 use fc_bound::bound;
 use fc_canonical::{Key, canonical, distinct_moves, key};
@@ -423,18 +428,34 @@ fn bench_settle(
     report(rt, "  settle, plainly", calls, settled, bytes, copies)
 }
 
+/// The number that a word says, 0 where it says none.
+fn number(word: &str) -> u32 {
+    word.parse().unwrap_or(0)
+}
+
 fn main(rt: HostRuntime) -> io::Result<()> {
-    let mut words = env::args(&rt)?;
-    words.next();
-    let rounds = words
-        .next()
-        .and_then(|word| word.parse::<u32>().ok())
-        .unwrap_or(0);
-    if let Some(path) = words.next() {
-        return bench_certificate(&rt, path.as_str(), rounds);
+    let words: Vec<String> = env::args(&rt)?.skip(1).collect(rt.alloc())?;
+    match words.as_slice() {
+        [rounds, path] => bench_certificate(&rt, path.as_str(), number(rounds.as_str())),
+        [rounds, board, path] => {
+            bench_check(&rt, number(rounds.as_str()), board.as_str(), path.as_str())
+        }
+        [deal, rule, budget, board, path] => {
+            let rule = u8::try_from(number(rule.as_str())).unwrap_or(u8::MAX);
+            let (deal, budget) = (number(deal.as_str()), number(budget.as_str()));
+            make_certificate(&rt, deal, rule, budget, board.as_str(), path.as_str())
+        }
+        words => {
+            let rounds = words.first().map_or(0, |word| number(word.as_str()));
+            bench_calls(&rt, rounds)
+        }
     }
+}
+
+/// Measures each call so often, on the start of deal 1.
+fn bench_calls(rt: &HostRuntime, rounds: u32) -> io::Result<()> {
     match (deal(1), FreeCell::new(4)) {
-        (Some(position), Some(game)) => bench(&rt, &position, &game, rounds),
+        (Some(position), Some(game)) => bench(rt, &position, &game, rounds),
         _ => println!(rt; "no deal"),
     }
 }

@@ -1,5 +1,5 @@
 -- Bytes are read as a content exactly where they are a certificate with it.
-use Rattle.std.proofs.Common.{◌≡◌, ℕ, zero, suc, ◌+◌, ◌<◌, ◌≤◌, ◌^◌, Option, Some, None, List, [], ◌∷◌, ◌++◌, length, get_or, Result, Ok, Err, refl, sym, ◌∙◌, ap, subst, append_assoc, arith}
+use Rattle.std.proofs.Common.{◌≡◌, ℕ, zero, suc, ◌+◌, ◌<◌, ◌≤◌, Option, Some, None, List, [], ◌∷◌, ◌++◌, length, get_or, Result, Ok, Err, refl, sym, ◌∙◌, ap, subst, append_assoc, arith}
 use Rattle.std.specs.Prelude.{All}
 use Rattle.std.specs.List.{flat_map}
 use Rattle.std.proofs.lemmas.List.{append-nil}
@@ -16,8 +16,8 @@ use Rattle.fc_cert.specs.declared.contents.Kind.TheVariants.{Shortest, CannotWin
 use Rattle.fc_cert.specs.declared.faults.CertFault.{CertFault}
 use Rattle.fc_cert.specs.Content.{Content, magic, game_bytes, kind_byte, four_bytes, head_bytes, moves_bytes, record_bytes, rows_bytes, bytes_of, MayName, MayList, IsRecord, IsContent, IsSpelled}
 use Rattle.fc_cert.specs.Laws.{CertificatesAreRead}
-use Rattle.fc_cert.specs.Reading.{MayRule, IsAfter, ReadsGame, ReadsHead, ReadsMoves, ReadsList, ReadsRecords, ReadsTable, Reads}
-use Rattle.fc_cert.proofs.SpelledLemmas.{read_as, pair_is, RisesFrom, moves_spelled, records_spelled}
+use Rattle.fc_cert.specs.Reading.{MayRule, ReadsGame, ReadsHead, ReadsMoves, ReadsList, ReadsRecords, Reads}
+use Rattle.fc_cert.proofs.SpelledLemmas.{pair_is, RisesFrom, moves_spelled, records_spelled}
 
 -- what a form names beside the home rule
 abbrev NamesGame : Form → ℕ × ℕ → Type 0

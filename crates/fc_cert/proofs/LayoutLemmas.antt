@@ -14,7 +14,7 @@ use Rattle.fc_moves.specs.MoveText.{place_letter, move_text, IsThere, HasText}
 use Rattle.fc_moves.proofs.StepLemmas.{move_same, source_is_there}
 use Rattle.fc_cert.specs.declared.contents.Kind.{Kind}
 use Rattle.fc_cert.specs.declared.contents.Kind.TheVariants.{Shortest, CannotWin}
-use Rattle.fc_cert.specs.Content.{Content, IsContent, IsRecord, MayCost, MayList, four_bytes, record_bytes}
+use Rattle.fc_cert.specs.Content.{Content, IsRecord, MayList, four_bytes, record_bytes}
 use Rattle.fc_cert.proofs.OnceLemmas.{cost_small}
 use Rattle.fc_cert.specs.Layout.{AreParts, content_of, ends_from, moves_of, place_of, row_of, rows_ending, start_of}
 

@@ -7,9 +7,9 @@ use Rattle.std.specs.Int.{w32, from_be_bytes}
 use Rattle.fc_cards.specs.declared.places.Place.{Place}
 use Rattle.fc_cards.specs.declared.places.Place.TheVariants.{Column, Cell, Home}
 use Rattle.fc_moves.specs.declared.steps.Move.{Move}
-use Rattle.fc_moves.specs.MoveText.{place_letter, move_text, IsThere, IsSource, HasText}
+use Rattle.fc_moves.specs.MoveText.{place_letter, IsThere}
 use Rattle.fc_moves.proofs.StepLemmas.{move_same, source_is_there}
-use Rattle.fc_canonical.specs.Key.{HasExtent, BeginsWithKey}
+use Rattle.fc_canonical.specs.Key.{HasExtent}
 use Rattle.fc_canonical.specs.Spelled.{IsKeyFor, spelled}
 use Rattle.fc_canonical.proofs.KeyLemmas.{same_fronts, key_extents}
 use Rattle.fc_canonical.proofs.SpelledLemmas.{extent_once}
@@ -19,10 +19,10 @@ use Rattle.fc_cert.specs.declared.contents.Head.{Head}
 use Rattle.fc_cert.specs.declared.contents.Kind.{Kind}
 use Rattle.fc_cert.specs.declared.contents.Kind.TheVariants.{Shortest, CannotWin}
 use Rattle.fc_cert.specs.declared.faults.CertFault.{CertFault}
-use Rattle.fc_cert.specs.declared.faults.CertFault.TheVariants.{Short, BadMagic, BadCells, BadRule, BadKind, BadMove, BadRecord, Order, Label, Trailing, Memory}
+use Rattle.fc_cert.specs.declared.faults.CertFault.TheVariants.{Short, BadMagic, BadCells, BadRule, BadKind, BadMove, BadRecord, Order, Label}
 use Rattle.fc_cert.specs.Content.{Content, magic, kind_byte, four_bytes, record_bytes, MayCost, IsRecord}
 use Rattle.fc_cert.specs.Laws.{ReadingComesToOneEnd}
-use Rattle.fc_cert.specs.Reading.{Field, Then, SaysByte, IsAny, SaysNumber, SaysMove, MayRule, IsAfter, HasRecord, ReadsGame, ReadsHead, ReadsMoves, ReadsList, ReadsRecord, ReadsRecords, ReadsTable, ReadsEnd, Reads}
+use Rattle.fc_cert.specs.Reading.{Field, SaysByte, IsAny, SaysNumber, SaysMove, MayRule, IsAfter, HasRecord, ReadsGame, ReadsHead, ReadsMoves, ReadsList, ReadsRecord, ReadsRecords, ReadsTable, ReadsEnd}
 use Rattle.fc_cert.proofs.FieldLemmas.{step_once}
 
 module _ {A : Type 0} where

@@ -1,14 +1,14 @@
 -- The parts of bytes that are a certificate.
-use Rattle.std.proofs.Common.{◌≡◌, ℕ, ◌+◌, ◌<◌, ◌≤◌, List, ◌++◌, length, sym, ◌∙◌, ap, subst, arith}
-use Rattle.std.specs.Prelude.{All, Err}
+use Rattle.std.proofs.Common.{◌≡◌, ℕ, ◌≤◌, List, ◌++◌, length, sym, ap, subst, arith}
+use Rattle.std.specs.Prelude.{All}
 use Rattle.std.specs.List.{flat_map}
 use Rattle.std.proofs.lemmas.List.{length-append}
 use Rattle.fc_cert.specs.declared.contents.Head.{Head}
 use Rattle.fc_cert.specs.declared.faults.CertFault.{CertFault}
 use Rattle.fc_cert.specs.declared.faults.CertFault.TheVariants as fault
-use Rattle.fc_cert.specs.Content.{Content, IsRecord, IsSpelled, bytes_of, four_bytes, head_bytes, moves_bytes, record_bytes, rows_bytes}
+use Rattle.fc_cert.specs.Content.{Content, IsRecord, IsSpelled, four_bytes, head_bytes, moves_bytes, record_bytes, rows_bytes}
 use Rattle.fc_cert.specs.Layout.{AreParts, AreRecords, HasParts, ends_from}
-use Rattle.fc_cert.specs.Reading.{IsFormFault, IsReadFault, Reads}
+use Rattle.fc_cert.specs.Reading.{IsFormFault, IsReadFault}
 use Rattle.fc_cert.proofs.ReadFaultLemmas.{never_memory}
 
 -- a fault of the form is why nothing was read

@@ -1,12 +1,11 @@
 -- No fault of the form is want of memory.
 use Rattle.std.proofs.Common.{◌≡◌, ◌≢◌, ℕ, zero, suc, ◌+◌, ◌≤◌, Option, Some, List, [], ◌∷◌, Result, Ok, Err, inl, inr}
-use Rattle.fc_moves.specs.declared.steps.Move.{Move}
 use Rattle.fc_cert.specs.declared.contents.Form.{Form}
 use Rattle.fc_cert.specs.declared.contents.Form.TheVariants.{First, Second}
 use Rattle.fc_cert.specs.declared.contents.Kind.{Kind}
 use Rattle.fc_cert.specs.declared.contents.Kind.TheVariants.{Shortest, CannotWin}
 use Rattle.fc_cert.specs.declared.faults.CertFault.{CertFault}
-use Rattle.fc_cert.specs.declared.faults.CertFault.TheVariants.{Short, BadMagic, BadCells, BadRule, BadKind, BadMove, Trailing, Memory}
+use Rattle.fc_cert.specs.declared.faults.CertFault.TheVariants.{Short, BadMagic, BadCells, BadRule, BadKind, BadMove, Memory}
 use Rattle.fc_cert.specs.Content.{Content, magic, kind_byte}
 use Rattle.fc_cert.specs.Reading.{Field, Then, SaysByte, IsAny, SaysNumber, SaysMove, MayRule, ReadsGame, ReadsHead, ReadsMoves, ReadsList, ReadsRecord, ReadsRecords, ReadsTable, ReadsEnd, Reads}
 

@@ -1,10 +1,10 @@
 -- Reading: moves and records one by one from the front.
-use Rattle.std.proofs.Common.{◌≡◌, ℕ, suc, ◌+◌, ◌-◌, ◌<◌, ◌≤◌, Option, Some, None, List, [], ◌∷◌, ◌++◌, length, Result, Ok, Err, refl, sym, ◌∙◌, ap, subst, arith}
+use Rattle.std.proofs.Common.{◌≡◌, ℕ, suc, ◌+◌, ◌-◌, ◌<◌, ◌≤◌, Option, Some, None, List, [], ◌∷◌, Ok, Err, refl, sym, subst, arith}
 use Rattle.fc_moves.specs.declared.steps.Move.{Move}
 use Rattle.fc_cert.specs.declared.contents.Kind.{Kind}
 use Rattle.fc_cert.specs.declared.faults.CertFault.{CertFault}
 use Rattle.fc_cert.specs.declared.faults.CertFault.TheVariants.{BadMove}
-use Rattle.fc_cert.specs.Reading.{Field, Then, SaysMove, ReadsMoves, ReadsRecord, ReadsRecords}
+use Rattle.fc_cert.specs.Reading.{Field, SaysMove, ReadsMoves, ReadsRecord, ReadsRecords}
 use Rattle.fc_cert.proofs.FieldLemmas.{LeadsTo, leads_on, leads_same}
 
 -- reading moves: from the start, behind one more, and at the end

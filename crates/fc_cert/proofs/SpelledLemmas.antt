@@ -1,22 +1,21 @@
 -- What is read is spelled by the bytes that were read.
-use Rattle.std.proofs.Common.{◌≡◌, ◌==◌, true, false, ℕ, zero, suc, ◌+◌, ◌-◌, ◌<◌, ◌≤◌, ◌^◌, Option, Some, None, List, [], ◌∷◌, ◌++◌, length, take, drop, Result, Ok, Err, refl, sym, ◌∙◌, ap, subst, append_assoc, arith}
+use Rattle.std.proofs.Common.{◌≡◌, ◌==◌, true, false, ℕ, zero, suc, ◌+◌, ◌-◌, ◌<◌, ◌^◌, Option, Some, None, List, [], ◌∷◌, ◌++◌, length, take, drop, Result, Ok, Err, refl, sym, ◌∙◌, ap, subst, append_assoc, arith}
 use Rattle.std.specs.Prelude.{All}
 use Rattle.std.specs.List.{flat_map}
 use Rattle.std.proofs.lemmas.Bool.{eqb-true, false≢true}
 use Rattle.std.proofs.lemmas.List.{append-nil, length-append, take_at, drop_at, nil_from_length}
-use Rattle.std.proofs.lemmas.List.Elements.{All-nil, All-cons, All-head, All-tail}
+use Rattle.std.proofs.lemmas.List.Elements.{All-nil, All-cons}
 use Rattle.fc_moves.specs.declared.steps.Move.{Move}
 use Rattle.fc_moves.specs.MoveText.{move_text, HasText}
 use Rattle.fc_canonical.specs.Key.{HasExtent}
 use Rattle.fc_canonical.proofs.KeyLemmas.{same_fronts}
 use Rattle.fc_cert.specs.declared.contents.Head.{Head}
 use Rattle.fc_cert.specs.declared.contents.Kind.{Kind}
-use Rattle.fc_cert.specs.declared.contents.Kind.TheVariants.{Shortest, CannotWin}
 use Rattle.fc_cert.specs.declared.faults.CertFault.{CertFault}
 use Rattle.fc_cert.specs.declared.faults.CertFault.TheVariants.{Short, Trailing}
-use Rattle.fc_cert.specs.Content.{Content, four_bytes, record_bytes, IsRecord}
+use Rattle.fc_cert.specs.Content.{four_bytes, record_bytes, IsRecord}
 use Rattle.fc_cert.specs.Layout.{HasParts}
-use Rattle.fc_cert.specs.Reading.{Field, Then, SaysNumber, IsAfter, HasRecord, ReadsHead, ReadsMoves, ReadsList, ReadsRecord, ReadsRecords, ReadsTable, ReadsEnd, Reads}
+use Rattle.fc_cert.specs.Reading.{Field, SaysNumber, IsAfter, HasRecord, ReadsHead, ReadsMoves, ReadsList, ReadsRecords, ReadsEnd, Reads}
 
 -- a reader's value and rest are told by its outcome
 abbrev pub read_as : {A : Type 0} → A → List ℕ → Result (A × List ℕ) CertFault

@@ -8,7 +8,6 @@ use Rattle.fc_bound.specs.Bound.{bound}
 use Rattle.fc_tables.specs.Table.{IsClosed, IsClosedBelow, as_boards}
 use Rattle.fc_answers.specs.declared.answers.Answer.{Answer}
 use Rattle.fc_answers.specs.declared.answers.Answer.TheVariants as answer
-use Rattle.fc_answers.specs.Table.{Listing}
 use Rattle.fc_cert.specs.declared.claims.Claim.{Claim}
 use Rattle.fc_cert.specs.declared.claims.Claim.TheVariants as claim
 use Rattle.fc_cert.specs.declared.contents.Form.TheVariants.{Second}

@@ -1,8 +1,7 @@
 -- What the laws of this crate state.
-use Rattle.std.specs.Prelude.{◌≡◌, ℕ, ◌↔◌, ◌<◌, ◌^◌, List, length, Result, Ok, Err, All}
+use Rattle.std.specs.Prelude.{◌≡◌, ℕ, ◌↔◌, List, Result, Ok}
 use Rattle.fc_position.specs.Board.{Board}
 use Rattle.fc_moves.specs.GameRules.{GameRules, IsGame, IsPositionOf}
-use Rattle.fc_moves.specs.MoveText.{HasText}
 use Rattle.fc_answers.specs.declared.answers.Answer.{Answer}
 use Rattle.fc_answers.specs.Answer.{IsBacked}
 use Rattle.fc_answers.specs.Verdict.{verdict_of, CanBeWritten}

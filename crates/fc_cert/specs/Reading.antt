@@ -1,5 +1,5 @@
 -- How certificates are read: field by field, up to the first that isn't all there, or is wrong.
-use Rattle.std.specs.Prelude.{◌≡◌, ℕ, ◌+◌, ◌<◌, ◌≤◌, ◌⊎◌, ◌^◌, suc, zero, List, [], ◌∷◌, ◌++◌, length, take, drop, Option, Some, None, Result, Ok, Err}
+use Rattle.std.specs.Prelude.{◌≡◌, ℕ, ◌+◌, ◌<◌, ◌≤◌, ◌⊎◌, ◌^◌, suc, zero, List, [], ◌∷◌, ◌++◌, length, take, Option, Some, None, Result, Ok, Err}
 use Rattle.fc_moves.specs.declared.steps.Move.{Move}
 use Rattle.fc_moves.specs.MoveText.{move_text, HasText}
 use Rattle.fc_canonical.specs.Key.{HasExtent}
@@ -12,7 +12,7 @@ use Rattle.fc_cert.specs.declared.contents.Head.{Head}
 use Rattle.fc_cert.specs.declared.contents.Kind.{Kind}
 use Rattle.fc_cert.specs.declared.contents.Kind.TheVariants.{Shortest, CannotWin}
 use Rattle.fc_cert.specs.declared.faults.CertFault.{CertFault}
-use Rattle.fc_cert.specs.declared.faults.CertFault.TheVariants.{Short, BadMagic, BadCells, BadRule, BadKind, BadMove, BadRecord, Order, Label, Trailing, NotCertified, Write, Memory}
+use Rattle.fc_cert.specs.declared.faults.CertFault.TheVariants.{Short, BadMagic, BadCells, BadRule, BadKind, BadMove, BadRecord, Order, Label, Trailing, Memory}
 use Rattle.fc_cert.specs.Content.{Content, IsSpelled, magic, kind_byte, four_bytes, record_bytes, MayCost, IsRecord}
 
 module _ {A : Type 0} where
@@ -144,6 +144,7 @@ abbrev pub IsFormFault : List ℕ → CertFault → Type 0
 IsFormFault bytes fault = Reads bytes (Err fault)
 
 -- why nothing was read of the bytes: the fault of their form, or a growth that was refused, where they are a certificate
+-- that lists some class
 abbrev pub IsReadFault : List ℕ → CertFault → Type 0
-IsReadFault bytes Memory = (c : Content) × IsSpelled bytes c
+IsReadFault bytes Memory = (c : Content) × IsSpelled bytes c × (0 < length c.rows)
 IsReadFault bytes fault = IsFormFault bytes fault

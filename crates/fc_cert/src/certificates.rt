@@ -1,10 +1,11 @@
 //! Certificates that were read.
 
-ghost use Rattle.std.specs.Prelude.{◌≡◌, ◌+◌, ◌<◌, ◌≤◌, ◌^◌, ◌↔◌, ℕ, List, [], ◌++◌, Some, length, slice_get, Contains, IsTrue, IfOk, IfErr, MatchOption};
+ghost use Rattle.std.specs.Prelude.{◌≡◌, ◌+◌, ◌<◌, ◌≤◌, ◌^◌, ◌↔◌, ℕ, List, [], ◌++◌, Some, length, slice_get, Contains, IsTrue, IfOk, IfErr, OnErr, MatchOption};
 ghost use Rattle.fc_cert.specs.Content.{Content, IsContent, IsRecord, IsSpelled, kind_byte, record_bytes};
 ghost use Rattle.fc_cert.specs.Layout.{AreRecords, ends_from, start_of};
 ghost use Rattle.fc_cert.specs.Reading.{IsFormFault, IsReadFault};
 
+use crate::comparisons::compare;
 use crate::contents::{Head, Kind};
 use crate::faults::CertFault;
 use crate::readers::{check_form, split_number};
@@ -42,8 +43,8 @@ impl<'a> Certificate<'a> {
     /// The certificate that the bytes are, at most 1 GiB of them.
     ///
     /// # Errors
-    /// The first fault of the form, field by field; `Memory` only once the whole form was checked, where the one growth was
-    /// refused.
+    /// The first fault of the form, field by field; `Memory` only once the whole form was checked, where some class is listed
+    /// and the one growth was refused.
     pub fn read(alloc: Global, bytes: &'a [u8]) -> Result<Self, CertFault>
         requires limit { length bytes.now ≤ LONGEST_CERTIFICATE }
         ensures read { IfOk result (IsSpelled bytes.now) }
@@ -154,7 +155,7 @@ impl<'a> Certificate<'a> {
         while low < high {
             let middle = low + (high - low) / 2;
             let (other, cost) = self.record_at(middle);
-            match key.cmp(other) {
+            match compare(key, other) {
                 Ordering::Less => high = middle,
                 Ordering::Equal => return Some(cost),
                 Ordering::Greater => low = middle + 1,
@@ -192,6 +193,7 @@ fn ends_of(alloc: Global, head: Head, records: &[u8], count: u32) -> Result<Vec<
     requires rows { (rows : List (List ℕ × ℕ)) × AreRecords head.cells head.kind records.now count rows }
     ensures value { IfOk result (λ ends. (rows : List (List ℕ × ℕ)) → AreRecords head.cells head.kind records.now count rows
         → ends.items ≡ ends_from 0 rows) }
+    ensures asked { OnErr result (0 < count) }
 {
     let mut ends = Vec::with_capacity(alloc, count as usize)?;
     let mut rest = records;

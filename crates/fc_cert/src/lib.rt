@@ -10,6 +10,7 @@ pub use writers::write_answer;
 
 mod certificates;
 mod claims;
+mod comparisons;
 mod contents;
 mod faults;
 pub mod laws;

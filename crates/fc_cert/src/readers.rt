@@ -11,6 +11,7 @@ ghost use Rattle.fc_cert.specs.Content.{Content, magic, kind_byte, four_bytes, r
 ghost use Rattle.fc_cert.specs.Layout.{HasParts};
 ghost use Rattle.fc_cert.specs.Reading.{Field, SaysByte, SaysNumber, SaysMove, MayRule, IsAfter, HasRecord, ReadsGame, ReadsHead, ReadsMoves, ReadsList, ReadsRecord, ReadsRecords, Reads, IsFormFault};
 
+use crate::comparisons::compare;
 use crate::contents::{Form, Head, Kind};
 use crate::faults::CertFault;
 use fc_canonical::{is_key, key_len};
@@ -286,7 +287,7 @@ fn is_after(before: Option<&[u8]>, key: &[u8]) -> bool
     ensures value { IsTrue result ↔ IsAfter (option_copied before.entry) key.now }
 {
     match before {
-        Some(other) => other.cmp(&key).is_lt(),
+        Some(other) => compare(other, key).is_lt(),
         None => true,
     }
 }

@@ -45,6 +45,13 @@ row_position c i row x is there read =
     let valid = row_key c row is (row_there c.rows i row there) in
     read (spelled row.0) valid.position ([], valid.bytes ∙ sym (append-nil (board_bytes (spelled row.0))))
 
+-- and its bytes stand at the front of the key
+pub row_begins : (c : Content) (i : ℕ) (row : List ℕ × ℕ) (x : Board) → IsContent c → slice_get c.rows i ≡ Some row → x ≡ spelled row.0
+    → BeginsWithBoard row.0 x
+row_begins c i row x is there same =
+    let valid = row_key c row is (row_there c.rows i row there) in
+    subst (BeginsWithBoard row.0) (sym same) ([], valid.bytes ∙ sym (append-nil (board_bytes (spelled row.0))))
+
 -- where the first records and the next hold, one more does
 pub records_more : (g : GameRules) (c : Content) (i : ℕ) (row : List ℕ × ℕ) → RecordsHold g c i → slice_get c.rows i ≡ Some row
     → RecordHolds g c row → RecordsHold g c (i + 1)

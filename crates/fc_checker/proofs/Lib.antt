@@ -1,3 +1,4 @@
+pub mod BackLemmas
 pub mod ClosedLemmas
 pub mod FaultLemmas
 pub mod LawLemmas

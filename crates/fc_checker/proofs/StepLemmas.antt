@@ -1,5 +1,5 @@
 -- Where moves lead, once settled: to look at one way, and at one move to each class, is enough.
-use Rattle.std.proofs.Common.{◌≡◌, ℕ, ◌+◌, ◌≤◌, Bool, List, length, sym, subst, inl, inr, ⊎_elim, arith, zero-add}
+use Rattle.std.proofs.Common.{◌≡◌, ℕ, ◌+◌, ◌≤◌, Bool, List, [], ◌∷◌, length, sym, subst, inl, inr, ⊎_elim, arith, zero-add}
 use Rattle.std.specs.Prelude.{IsTrue, ◌↔◌, Contains}
 use Rattle.fc_position.specs.Board.{Board}
 use Rattle.fc_position.specs.Position.{IsPosition}
@@ -11,7 +11,7 @@ use Rattle.fc_canonical.specs.Class.{SameClass}
 use Rattle.fc_canonical.specs.Distinct.{ListsClasses}
 use Rattle.fc_canonical.specs.Spelled.{spelled}
 use Rattle.fc_canonical.proofs.ClassLemmas.{class-trans}
-use Rattle.fc_home.specs.Settles.{Settles}
+use Rattle.fc_home.specs.Settles.{Settles, SettlesBy}
 use Rattle.fc_home.proofs.MateLemmas.{class_settle}
 use Rattle.fc_home.proofs.WayLemmas.{settles_once}
 use Rattle.fc_bound.specs.Bound.{bound}
@@ -29,6 +29,11 @@ holds_alike c Shortest x y d same holds =
     ⊎_elim (λ far. let equal = class_bound y x same in inl (omega (arith, far, equal)))
     (λ (e, there, mate, le). inr (e, there, class-trans y x e.0 same mate, le)) holds
 holds_alike c CannotWin x y d same (e, there, mate) = (e, there, class-trans y x e.0 same mate)
+
+-- a board that settles by no move stays
+pub stays : (g : GameRules) (rule : ℕ) (b q : Board) (ms : List Move) → length ms ≡ 0 → SettlesBy g rule b ms q → q ≡ b
+stays g rule b q [] none settles = settles.0
+stays g rule b q (m ∷ ms) none settles = absurd (omega arith)
 
 module _ (g : GameRules) (c : Content) where
   -- a position settles in one way

@@ -75,7 +75,7 @@ pub record IsStopped (g : GameRules) (b : Board) (moves : List Move) (step : ℕ
 
 -- why bytes are refused, each fault only where those before it have no cause: they have no content; they are of another
 -- game; a move isn't allowed; the moves don't win; the start doesn't hold; or a record's board is won, or its steps don't
--- hold, those before it holding. Memory is wanted only where they have a content
+-- hold, those before it holding. Memory is wanted only where they have a content that lists some class
 abbrev pub IsCheckFault : GameRules → Board → List ℕ → CheckFault → Type 0
 IsCheckFault g b bytes (Form fault) = IsFormFault bytes fault
 IsCheckFault g b bytes OtherGame = (c : Content) × IsSpelled bytes c × (IsOfGame g c → ⊥)
@@ -87,4 +87,4 @@ IsCheckFault g b bytes (WonListed i) = (c : Content) × HasStart g b bytes c × 
     × ((row : List ℕ × ℕ) × (slice_get c.rows i ≡ Some row) × IsWon (spelled row.0))
 IsCheckFault g b bytes (Open i) = (c : Content) × HasStart g b bytes c × RecordsHold g c i
     × ((row : List ℕ × ℕ) × (slice_get c.rows i ≡ Some row) × (IsWon (spelled row.0) → ⊥) × (StepsHold g c c.head.kind row → ⊥))
-IsCheckFault g b bytes Memory = (c : Content) × IsSpelled bytes c
+IsCheckFault g b bytes Memory = (c : Content) × IsSpelled bytes c × (0 < length c.rows)

@@ -5,6 +5,7 @@ ghost use Rattle.fc_position.specs.Board.{Board};
 ghost use Rattle.fc_position.specs.Position.{Fits, IsPosition};
 ghost use Rattle.fc_moves.specs.GameRules.{GameRules};
 ghost use Rattle.fc_moves.specs.Run.{Wins};
+ghost use Rattle.fc_canonical.specs.Key.{BeginsWithBoard};
 ghost use Rattle.fc_canonical.specs.Spelled.{spelled};
 ghost use Rattle.fc_cert.specs.Claim.{IsCertificate, IsTrueOf};
 ghost use Rattle.fc_cert.specs.Content.{IsContent};
@@ -24,8 +25,8 @@ use std::alloc::Global;
 /// they are a certificate of it, but for want of memory.
 ///
 /// # Errors
-/// The first thing that is asked of a certificate and doesn't hold; `Memory` only for bytes that have the form of one,
-/// where the one growth of memory was refused.
+/// The first thing that is asked of a certificate and doesn't hold; `Memory` only for bytes that have the form of one and
+/// list some class, where the one growth of memory was refused.
 pub fn check<G: Game>(
     alloc: Global,
     game: &G,
@@ -59,12 +60,13 @@ fn check_content<G: Game>(
     ensures fault { IfErr result (IsFaultOf (G.game game.now) position.now certificate.now) }
     ensures whole { IsPosition position.now }
 {
-    let start = position.copy();
+    let mut start = position.copy();
     if !is_of_game(game, certificate) {
         return Err(CheckFault::OtherGame);
     }
     check_moves(game, certificate, position)?;
-    if !settled_holds(game, certificate, start, 0) {
+    let (holds, _sent) = settled_holds(game, certificate, &mut start, 0);
+    if !holds {
         return Err(CheckFault::StartOpen);
     }
     check_records(game, certificate)
@@ -158,11 +160,11 @@ fn check_record<G: Game>(game: &G, certificate: &Certificate, i: u32) -> Result<
     ensures fault { IfErr result (IsFaultOfRecords (G.game game.now) certificate.now) }
 {
     let (key, cost) = certificate.record_at(i);
-    let position = position_of(key);
+    let mut position = position_of(key);
     if position.is_won() {
         return Err(CheckFault::WonListed(i));
     }
-    if record_steps_hold(game, certificate, &position, cost) {
+    if record_steps_hold(game, certificate, &mut position, key, cost) {
         Ok(())
     } else {
         Err(CheckFault::Open(i))
@@ -174,18 +176,21 @@ fn check_record<G: Game>(game: &G, certificate: &Certificate, i: u32) -> Result<
 fn record_steps_hold<G: Game>(
     game: &G,
     certificate: &Certificate,
-    position: &Position,
+    position: &mut Position,
+    key: &[u8],
     cost: u32,
 ) -> bool
     requires content { IsContent certificate.now }
-    ensures value { (key : List ℕ) → position.now ≡ spelled key
-        → (IsTrue result ↔ StepsHold (G.game game.now) certificate.now certificate.now.head.kind (key, cost)) }
+    requires whole { IsPosition position.old }
+    requires key { BeginsWithBoard key.now position.old }
+    ensures value { position.old ≡ spelled key.now
+        → (IsTrue result ↔ StepsHold (G.game game.now) certificate.now certificate.now.head.kind (key.now, cost)) }
 {
     match kind(certificate) {
         Kind::Shortest => {
             is_far(certificate, position, u64::from(cost))
-                || steps_hold(game, certificate, position, cost)
+                || steps_hold(game, certificate, position, key, cost)
         }
-        Kind::CannotWin => steps_hold(game, certificate, position, cost),
+        Kind::CannotWin => steps_hold(game, certificate, position, key, cost),
     }
 }

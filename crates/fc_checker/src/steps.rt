@@ -3,6 +3,7 @@
 ghost use Rattle.std.specs.Prelude.{◌≡◌, ◌+◌, ◌<◌, ◌≤◌, ◌^◌, ◌↔◌, ℕ, length, IsTrue, MatchOption};
 ghost use Rattle.fc_position.specs.Position.{IsPosition};
 ghost use Rattle.fc_moves.specs.Step.{Allows};
+ghost use Rattle.fc_canonical.specs.Key.{BeginsWithBoard};
 ghost use Rattle.fc_bound.specs.Bound.{bound as bound_of};
 ghost use Rattle.fc_tables.specs.Table.{Covered, Lists, ListsClass, as_boards};
 ghost use Rattle.fc_cert.specs.Content.{IsContent};
@@ -10,7 +11,8 @@ ghost use Rattle.fc_checker.specs.Check.{Holds};
 ghost use Rattle.fc_checker.specs.Steps.{SettledHolds, StepHolds};
 
 use fc_bound::bound;
-use fc_canonical::{distinct_moves, key};
+use fc_canonical::{distinct_moves, key, position_of};
+use fc_cards::Place;
 use fc_cert::{Certificate, Kind};
 use fc_home::settle;
 use fc_moves::{Game, Move, apply};
@@ -80,52 +82,67 @@ fn holds(certificate: &Certificate, position: &Position, moves: u64) -> bool
     }
 }
 
-// Whether what the position settles to holds, where so many moves lead to the position.
+// Settles the position, to which so many moves lead: whether it holds then, and how many cards went home.
 pub(crate) fn settled_holds<G: Game>(
     game: &G,
     certificate: &Certificate,
-    position: Position,
+    position: &mut Position,
     moves: u64,
-) -> bool
+) -> (bool, usize)
     requires content { IsContent certificate.now }
-    requires whole { IsPosition position }
+    requires whole { IsPosition position.old }
     requires few { moves ≤ 2 ^ 32 }
-    ensures value { IsTrue result ↔ SettledHolds (G.game game.now) certificate.now position moves }
+    ensures value { IsTrue result.0 ↔ SettledHolds (G.game game.now) certificate.now position.old moves }
+    ensures still { result.1 ≡ 0 → position.new ≡ position.old }
+    ensures whole { IsPosition position.new }
 {
-    let mut position = position;
-    let settling = settle(game, &mut position, certificate.rule());
-    holds(certificate, &position, moves + settling.len() as u64)
+    let settling = settle(game, position, certificate.rule());
+    let count = settling.len();
+    (holds(certificate, position, moves + count as u64), count)
 }
 
-// Whether where the move leads holds, once settled.
+// Whether where the move leads holds, once settled. The position is made as it was: the card is moved back, or where cards
+// went home, the position read again from the key that spells it.
 fn step_holds<G: Game>(
     game: &G,
     certificate: &Certificate,
-    position: &Position,
+    position: &mut Position,
+    key: &[u8],
     cost: u32,
     m: Move,
 ) -> bool
     requires content { IsContent certificate.now }
-    requires allowed { Allows (G.game game.now) position.now m }
-    ensures value { IsTrue result ↔ StepHolds (G.game game.now) certificate.now position.now cost m }
+    requires whole { IsPosition position.old }
+    requires key { BeginsWithBoard key.now position.old }
+    requires allowed { Allows (G.game game.now) position.old m }
+    ensures value { IsTrue result ↔ StepHolds (G.game game.now) certificate.now position.old cost m }
+    ensures same { position.new ≡ position.old }
 {
-    let mut next = position.copy();
-    apply(game, &mut next, m);
-    settled_holds(game, certificate, next, u64::from(cost) + 1)
+    apply(game, position, m);
+    let (holds, sent) = settled_holds(game, certificate, position, u64::from(cost) + 1);
+    if sent == 0 && m.to != Place::Home {
+        position.shift(m.to, m.from);
+    } else {
+        *position = position_of(key);
+    }
+    holds
 }
 
 // Whether where each step of the position leads holds, once settled. Of the steps to one class, one is looked at.
 pub(crate) fn steps_hold<G: Game>(
     game: &G,
     certificate: &Certificate,
-    position: &Position,
+    position: &mut Position,
+    key: &[u8],
     cost: u32,
 ) -> bool
     requires content { IsContent certificate.now }
-    ensures value { IsTrue result ↔ ((m : Move) → StepHolds (G.game game.now) certificate.now position.now cost m) }
+    requires whole { IsPosition position.old }
+    requires key { BeginsWithBoard key.now position.old }
+    ensures value { IsTrue result ↔ ((m : Move) → StepHolds (G.game game.now) certificate.now position.old cost m) }
 {
     for m in distinct_moves(game, position).as_slice() {
-        if !step_holds(game, certificate, position, cost, *m) {
+        if !step_holds(game, certificate, position, key, cost, *m) {
             return false;
         }
     }

@@ -1,4 +1,4 @@
-use Rattle.std.proofs.Common.{◌≤◌, length, sym, ◌∙◌, ap, subst}
+use Rattle.std.proofs.Common.{◌≤◌, length, sym, ◌∙◌, subst}
 use Rattle.fc_canonical.specs.Spelled.{spelled}
 use Rattle.fc_cert.proofs.RecordLemmas.{begins, behind_key, long_enough}
 use Rattle.fc_cert.proofs.certificates.after_record.Goals as goal

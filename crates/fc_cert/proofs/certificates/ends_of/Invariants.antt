@@ -1,4 +1,4 @@
-use Rattle.std.proofs.Common.{◌≡◌, ◌+◌, ◌-◌, ◌≤◌, ℕ, List, length, ◌++◌}
+use Rattle.std.proofs.Common.{◌≡◌, ◌-◌, ◌≤◌, ℕ, List, length, ◌++◌}
 use Rattle.fc_cert.specs.Layout.{AreRecords, ends_from}
 use Rattle.fc_cert.proofs.certificates.ends_of.Given as goal
 

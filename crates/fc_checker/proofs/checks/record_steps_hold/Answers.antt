@@ -11,12 +11,12 @@ returns-else-is_far g c =
     let near = subst (λ (n : ℕ). length content.moves ≤ n + bound x → ⊥) c.from.ensures
     (refuted c.is_far.result c.is_far.ensures.value c.if-is_far.false) in
     record {
-      value = λ key same. near_steps (g.G.Game.game c.args.game.now) content x key c.args.cost c.steps_hold.result
+      value = λ same. near_steps (g.G.Game.game c.args.game.now) content x c.args.key.now c.args.cost c.steps_hold.result
           (sym c.kind.ensures.value ∙ c.in-Shortest.is) near c.steps_hold.ensures.value same;
     }
 
 pub returns-in-CannotWin : goal.returns-in-CannotWin
 returns-in-CannotWin g c = record {
-  value = λ key same. listed_steps (g.G.Game.game c.args.game.now) c.args.certificate.now c.args.position.now key c.args.cost
+  value = λ same. listed_steps (g.G.Game.game c.args.game.now) c.args.certificate.now c.args.position.now c.args.key.now c.args.cost
       c.steps_hold-in-CannotWin.result (sym c.kind.ensures.value ∙ c.in-CannotWin.is) c.steps_hold-in-CannotWin.ensures.value same;
 }

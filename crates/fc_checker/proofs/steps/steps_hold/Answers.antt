@@ -1,9 +1,12 @@
-use Rattle.std.proofs.Common.{get_or, refl, sym, subst, arith}
+use Rattle.std.proofs.Common.{◌↔◌, IsTrue, get_or, refl, sym, ◌∙◌, subst, arith}
 use Rattle.std.specs.Prelude.{Contains}
 use Rattle.std.proofs.lemmas.Bool.{false≢true}
 use Rattle.std.proofs.lemmas.List.Elements.{Contains-get_or}
 use Rattle.fc_cards.specs.declared.places.Place.TheVariants.{Column}
 use Rattle.fc_moves.specs.declared.steps.Move.{Move}
+use Rattle.fc_moves.specs.Step.{Allows}
+use Rattle.fc_position.specs.Position.{IsPosition}
+use Rattle.fc_canonical.specs.Key.{BeginsWithBoard}
 use Rattle.fc_canonical.proofs.MoveLemmas.{one_more}
 use Rattle.fc_home.proofs.RuleLemmas.{refuted}
 use Rattle.fc_checker.specs.Steps.{StepHolds}
@@ -14,23 +17,32 @@ pub step_holds-requires-clause-allowed : goal.step_holds-requires-clause-allowed
 step_holds-requires-clause-allowed g c =
     let items = c.as_slice-m-items.result.now in
     let d : Move = record { from = Column 0; to = Column 0 } in
-    c.distinct_moves.ensures.classes.allowed (get_or items c.loop-m.m-index d)
+    subst (λ x. Allows (g.G.Game.game c.args.game.now) x (get_or items c.loop-m.m-index d)) (sym c.loop-m.invariant.same)
+    (c.distinct_moves.ensures.classes.allowed (get_or items c.loop-m.m-index d)
     (subst (λ l. Contains l (get_or items c.loop-m.m-index d)) c.as_slice-m-items.ensures.value
-    (Contains-get_or items c.loop-m.m-index d c.loop-m-test.true))
+    (Contains-get_or items c.loop-m.m-index d c.loop-m-test.true)))
 
 pub returns-then-not-step_holds : goal.returns-then-not-step_holds
 returns-then-not-step_holds g c =
     let d : Move = record { from = Column 0; to = Column 0 } in
     let m = get_or c.as_slice-m-items.result.now c.loop-m.m-index d in
-    let wrong = refuted c.step_holds.result c.step_holds.ensures.value c.if-not-step_holds.true in
+    let test = subst (λ x. IsTrue c.step_holds.result ↔ StepHolds (g.G.Game.game c.args.game.now) c.args.certificate.now x c.args.cost m)
+    c.loop-m.invariant.same c.step_holds.ensures.value in
+    let wrong = refuted c.step_holds.result test c.if-not-step_holds.true in
     record { value = (λ yes. absurd (false≢true yes), λ all. absurd (wrong (all m))) }
 
 pub loop-m-preserved : goal.loop-m-preserved
 loop-m-preserved g c =
     let d : Move = record { from = Column 0; to = Column 0 } in
-    one_more c.as_slice-m-items.result.now c.loop-m.m-index d
-    (StepHolds (g.G.Game.game c.args.game.now) c.args.certificate.now c.args.position.now c.args.cost) c.loop-m-test.true
-    c.loop-m.invariant (c.step_holds.ensures.value.0 c.if-not-step_holds.false)
+    let m = get_or c.as_slice-m-items.result.now c.loop-m.m-index d in
+    let test = subst (λ x. IsTrue c.step_holds.result ↔ StepHolds (g.G.Game.game c.args.game.now) c.args.certificate.now x c.args.cost m)
+    c.loop-m.invariant.same c.step_holds.ensures.value in
+    record {
+      same = c.step_holds.ensures.same ∙ c.loop-m.invariant.same;
+      held = one_more c.as_slice-m-items.result.now c.loop-m.m-index d
+          (StepHolds (g.G.Game.game c.args.game.now) c.args.certificate.now c.args.position.now c.args.cost) c.loop-m-test.true
+          c.loop-m.invariant.held (test.0 c.if-not-step_holds.false);
+    }
 
 pub returns : goal.returns
 returns g c =
@@ -43,7 +55,13 @@ returns g c =
             (λ m there.
             let at = subst (λ l. Contains l m) (sym c.as_slice-m-items.ensures.value) there in
             subst (StepHolds rules c.args.certificate.now c.args.position.now c.args.cost) at.2
-            (c.loop-m.invariant at.0 m (omega (arith, at.1, c.loop-m-test.false)))),
+            (c.loop-m.invariant.held at.0 m (omega (arith, at.1, c.loop-m-test.false)))),
         λ all. refl,
       );
     }
+
+pub step_holds-requires-clause-whole : goal.step_holds-requires-clause-whole
+step_holds-requires-clause-whole g c = subst IsPosition (sym c.loop-m.invariant.same) c.requires.whole
+
+pub step_holds-requires-clause-key : goal.step_holds-requires-clause-key
+step_holds-requires-clause-key g c = subst (BeginsWithBoard c.args.key.now) (sym c.loop-m.invariant.same) c.requires.key

@@ -1,9 +1,11 @@
-use Rattle.std.proofs.Common.{ℕ, ◌<◌, get_or}
+use Rattle.std.proofs.Common.{◌≡◌, ℕ, ◌<◌, get_or}
 use Rattle.fc_moves.specs.declared.steps.Move.{Move}
 use Rattle.fc_checker.specs.Steps.{StepHolds}
 use Rattle.fc_checker.proofs.steps.steps_hold.Given as goal
 
--- where the moves so far lead, it holds
+-- the position is as it was, and where the moves so far lead, it holds
 abbrev pub invariant-loop-m : goal.invariant-loop-m
-invariant-loop-m g l = (k : ℕ) (d : Move) → k < l.m-index
-    → StepHolds (g.G.Game.game l.game) l.certificate l.position l.cost (get_or l.m-items k d)
+invariant-loop-m g l = record {
+  same : l.position ≡ l.fn.position;
+  held : (k : ℕ) (d : Move) → k < l.m-index → StepHolds (g.G.Game.game l.game) l.certificate l.fn.position l.cost (get_or l.m-items k d);
+}

@@ -1,4 +1,4 @@
-use Rattle.std.proofs.Common.{◌≡◌, ◌+◌, ◌-◌, ◌/◌, ◌<◌, ◌≤◌, sym, ◌∙◌, ap, arith}
+use Rattle.std.proofs.Common.{◌+◌, ◌-◌, ◌/◌, sym, ◌∙◌, arith}
 use Rattle.fc_cert.proofs.FindLemmas.{above_more, below_more, key_found, none_found}
 use Rattle.fc_cert.proofs.certificates.Certificate.find.Goals as goal
 
@@ -12,7 +12,7 @@ loop-low-preserved-in-Less c =
       within = omega (arith, lt, within);
       below = c.loop-low.invariant.below;
       above = above_more c.args.self.now.rows c.len-high.ensures.content.rising c.args.key.now middle
-          (record_there.0.now, record_there.1) c.record_at-cost.ensures.value (sym c.cmp.ensures ∙ c.in-Less.is);
+          (record_there.0.now, record_there.1) c.record_at-cost.ensures.value (sym c.compare.ensures.value ∙ c.in-Less.is);
     }
 
 pub loop-low-preserved : goal.loop-low-preserved
@@ -23,7 +23,7 @@ loop-low-preserved c =
       order = omega (arith, lt);
       within = c.loop-low.invariant.within;
       below = below_more c.args.self.now.rows c.len-high.ensures.content.rising c.args.key.now middle
-          (record_there.0.now, record_there.1) c.record_at-cost.ensures.value (sym c.cmp.ensures ∙ c.in-Greater.is);
+          (record_there.0.now, record_there.1) c.record_at-cost.ensures.value (sym c.compare.ensures.value ∙ c.in-Greater.is);
       above = c.loop-low.invariant.above;
     }
 
@@ -32,7 +32,7 @@ returns-in-Equal c =
     let middle = c.loop-low.low + (c.loop-low.high - c.loop-low.low) / 2 in
     let record_there = c.record_at-cost.result in record {
       value = key_found c.args.self.now.rows c.len-high.ensures.content.rising c.args.key.now middle record_there.0.now record_there.1
-          c.record_at-cost.ensures.value (sym c.cmp.ensures ∙ c.in-Equal.is);
+          c.record_at-cost.ensures.value (sym c.compare.ensures.value ∙ c.in-Equal.is);
     }
 
 pub returns : goal.returns

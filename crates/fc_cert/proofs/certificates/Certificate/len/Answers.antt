@@ -1,4 +1,4 @@
-use Rattle.std.proofs.Common.{◌≡◌, ◌<◌, ◌^◌, length, sym, ◌∙◌, ap, subst}
+use Rattle.std.proofs.Common.{◌<◌, ◌^◌, length, sym, ◌∙◌, ap, subst}
 use Rattle.fc_cert.specs.Layout.{content_of}
 use Rattle.fc_cert.proofs.LayoutLemmas.{places_many, rows_few}
 use Rattle.fc_cert.proofs.certificates.Certificate.len.Goals as goal

@@ -1,7 +1,6 @@
-use Rattle.std.proofs.Common.{◌≡◌, ◌<◌, ◌≤◌, length, sym, ◌∙◌, ap, subst}
-use Rattle.std.specs.Prelude.{IfErr, Ok}
+use Rattle.std.proofs.Common.{◌<◌, sym, subst}
 use Rattle.fc_cert.specs.Content.{IsSpelled}
-use Rattle.fc_cert.specs.Layout.{AreParts, AreRecords, content_of}
+use Rattle.fc_cert.specs.Layout.{AreParts, content_of}
 use Rattle.fc_cert.proofs.LawLemmas.{read_spelled}
 use Rattle.fc_cert.proofs.LayoutLemmas.{content_back, parts_back}
 use Rattle.fc_cert.proofs.PartsLemmas.{form_fault, parts_of, records_of, records_short}
@@ -30,7 +29,7 @@ ends_of-requires-clause-rows c =
 pub returns-in_default-clause-fault : goal.returns-in_default-clause-fault
 returns-in_default-clause-fault c =
     let (content, read, has) = c.in_ok-parts.ensures.read in
-    (content, read_spelled c.args.bytes.now content read)
+    (content, read_spelled c.args.bytes.now content read, subst (λ n. 0 < n) has.count c.in_default.ensures.asked)
 
 pub invariant_of-result : goal.invariant_of-result
 invariant_of-result c =

@@ -1,5 +1,5 @@
 use Rattle.std.proofs.Common.{◌≡◌, ◌++◌, ◌<◌, ◌^◌, Some, sym, ◌∙◌, ap, subst}
-use Rattle.std.specs.Prelude.{IfSome, slice_get}
+use Rattle.std.specs.Prelude.{IfSome}
 use Rattle.fc_cert.specs.Content.{four_bytes}
 use Rattle.fc_cert.specs.Layout.{row_of}
 use Rattle.fc_cert.proofs.LayoutLemmas.{row_back}
