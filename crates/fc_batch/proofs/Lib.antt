@@ -1,0 +1,2 @@
+mod BatchLemmas
+mod LawLemmas
