@@ -1,6 +1,6 @@
 -- The searches of a batch as the entries of a map, and what turns do to them.
-use Rattle.std.proofs.Common.{◌≡◌, ◌≢◌, ℕ, ◌+◌, ◌<◌, false, cond, List, [], ◌∷◌, ◌++◌, refl, sym, ◌∙◌, ap, subst, ⊎_elim, arith}
-use Rattle.std.specs.Prelude.{Option, Some, None, MatchOption, Result, Err, nat_eq, sum_by}
+use Rattle.std.proofs.Common.{◌≡◌, ◌≢◌, ℕ, ◌+◌, ◌<◌, ◌≤◌, false, cond, List, [], ◌∷◌, ◌++◌, refl, sym, ◌∙◌, ap, subst, ⊎_elim, arith}
+use Rattle.std.specs.Prelude.{Option, Some, None, MatchOption, Result, Ok, Err, nat_eq, sum_by}
 use Rattle.std.specs.Cmp.{nat_eq_equiv}
 use Rattle.std.specs.Map.{lookup, values_of, set_value}
 use Rattle.std.proofs.lemmas.Bool.{cases_eq, ne_eqb}
@@ -9,9 +9,15 @@ use Rattle.std.proofs.lemmas.Map.Entries.{sum_by-set_value}
 use Rattle.fc_best_first.specs.declared.searches.SearchFault.{SearchFault}
 use Rattle.fc_best_first.specs.declared.searches.SearchFault.TheVariants.{NoSuch}
 use Rattle.fc_best_first.specs.declared.searches.Step.{Step}
+use Rattle.fc_best_first.specs.declared.searches.Step.TheVariants.{Running, Done}
+use Rattle.fc_best_first.specs.declared.turns.Status.{Status}
+use Rattle.fc_best_first.specs.declared.turns.Status.TheVariants as status
+use Rattle.fc_best_first.specs.Graph.{Graph}
+use Rattle.fc_best_first.specs.Search.{Turns}
+use Rattle.fc_best_first.specs.Store.{Store}
 use Rattle.fc_best_first.specs.Turn.{work_left as left_of}
-use Rattle.fc_search.specs.Search.{State}
-use Rattle.fc_batch.specs.Batch.{Batch, Stays, TurnsAt, TurnFor, TurnsFor, HasTurn, NumbersWereGiven, found, search_at, running, work_left}
+use Rattle.fc_search.specs.Search.{State, classes_of}
+use Rattle.fc_batch.specs.Batch.{Batch, Stays, TurnsAt, TurnFor, TurnsFor, HasTurn, NumbersWereGiven, found, search_at, running, while_running, work_of, work_left}
 
 -- the search with a number is what a look-up finds
 pub found_looked : (es : List (ℕ × State)) (i : ℕ) → found es i ≡ lookup (nat_eq i) es
@@ -90,6 +96,49 @@ one_more (j ∷ list) i old mid new count reply (next, told, others, first, rest
     let on = one_more list i next mid new others reply rest turn in
     (next, told, others + running reply, first, on, omega (arith, sum))
 
+few : (reply : Result Step SearchFault) → running reply ≤ 1
+few (Ok Running) = omega arith
+few (Ok Done) = omega arith
+few (Err fault) = omega arith
+
+by_status : (g : Graph (List ℕ)) (budget : ℕ) (old new : Store (List ℕ)) (before after : Status (List ℕ)) (reply : Result Step SearchFault)
+    → Turns g budget before old new after reply → (reply ≡ Ok Running → left_of budget new < left_of budget old)
+    → while_running after (left_of budget new) + running reply ≤ while_running before (left_of budget old)
+by_status g budget old new status.Running status.Running reply turn falls =
+    ⊎_elim
+    (λ (takes, told). let less = falls told in let one : running reply ≡ 1 = ap running told in omega (arith, less, one))
+    (λ (stopped, told). absurd cc)
+    turn
+by_status g budget old new status.Running (status.Shortest n) reply turn falls = omega (arith, few reply)
+by_status g budget old new status.Running status.CannotWin reply turn falls = omega (arith, few reply)
+by_status g budget old new status.Running (status.GaveUp y n) reply turn falls = omega (arith, few reply)
+by_status g budget old new status.Running status.Stopped reply turn falls = omega (arith, few reply)
+by_status g budget old new (status.Shortest n) after reply (same, stays, told) falls =
+    let none : running reply ≡ 0 = ap running told in
+    let nothing : while_running after (left_of budget new) ≡ 0 = ap (λ s. while_running s (left_of budget new)) stays in
+    omega (arith, none, nothing)
+by_status g budget old new status.CannotWin after reply (same, stays, told) falls =
+    let none : running reply ≡ 0 = ap running told in
+    let nothing : while_running after (left_of budget new) ≡ 0 = ap (λ s. while_running s (left_of budget new)) stays in
+    omega (arith, none, nothing)
+by_status g budget old new (status.GaveUp y n) after reply (same, stays, told) falls =
+    let none : running reply ≡ 0 = ap running told in
+    let nothing : while_running after (left_of budget new) ≡ 0 = ap (λ s. while_running s (left_of budget new)) stays in
+    omega (arith, none, nothing)
+by_status g budget old new status.Stopped after reply (same, stays, told) falls =
+    let none : running reply ≡ 0 = ap running told in
+    let nothing : while_running after (left_of budget new) ≡ 0 = ap (λ s. while_running s (left_of budget new)) stays in
+    omega (arith, none, nothing)
+
+-- a turn leaves its search less to do, where it runs on, and never more
+pub turn_falls : (before after : State) (reply : Result Step SearchFault) → HasTurn before after reply
+    → (reply ≡ Ok Running → left_of before.budget after.store < left_of before.budget before.store)
+    → work_of after + running reply ≤ work_of before
+turn_falls before after reply turn falls =
+    let less = by_status (classes_of before.question) before.budget before.store after.store before.status after.status reply turn.turned falls in
+    let same = ap (λ b. while_running after.status (left_of b after.store)) turn.budget in
+    omega (arith, less, same)
+
 -- what a map's entries are after its search with a number was written to
 module _ (i : ℕ) (es fs : List (ℕ × State)) (before after : State) (there : lookup (nat_eq i) es ≡ Some before) where
   -- the search with the number had a turn, and the others stay
@@ -118,12 +167,12 @@ module _ (i : ℕ) (es fs : List (ℕ × State)) (before after : State) (there :
       (cases_eq j i)
 
   -- what the searches may still do falls by what that one's falls by
-  pub work_falls : fs ≡ set_value (nat_eq i) es after → left_of after.budget after.store < left_of before.budget before.store
-      → (old new : ℕ) → work_left (record { searches = fs; added = new }) < work_left (record { searches = es; added = old })
-  work_falls written less old new =
-      let sum = sum_by-set_value (λ (s : State). left_of s.budget s.store) (nat_eq i) es before after there in
-      let same = ap (λ l. sum_by (λ (s : State). left_of s.budget s.store) (values_of l)) written in
-      omega (arith, sum, same, less)
+  pub work_falls : (less : ℕ) → fs ≡ set_value (nat_eq i) es after → work_of after + less ≤ work_of before
+      → (old new : ℕ) → work_left (record { searches = fs; added = new }) + less ≤ work_left (record { searches = es; added = old })
+  work_falls less written falls old new =
+      let sum = sum_by-set_value work_of (nat_eq i) es before after there in
+      let same = ap (λ l. sum_by work_of (values_of l)) written in
+      omega (arith, sum, same, falls)
 
 -- where no search has the number, nothing had a turn
 pub none_turned : (i added : ℕ) (es fs : List (ℕ × State)) → lookup (nat_eq i) es ≡ None → fs ≡ es

@@ -4,6 +4,8 @@ use Rattle.fc_best_first.specs.declared.searches.SearchFault.{SearchFault}
 use Rattle.fc_best_first.specs.declared.searches.SearchFault.TheVariants.{NoSuch}
 use Rattle.fc_best_first.specs.declared.searches.Step.{Step}
 use Rattle.fc_best_first.specs.declared.searches.Step.TheVariants.{Running}
+use Rattle.fc_best_first.specs.declared.turns.Status.{Status}
+use Rattle.fc_best_first.specs.declared.turns.Status.TheVariants.{Running as runs}
 use Rattle.fc_best_first.specs.Search.{Turns}
 use Rattle.fc_best_first.specs.Turn.{work_left as left_of}
 use Rattle.fc_search.specs.Search.{State, classes_of}
@@ -75,6 +77,15 @@ abbrev pub times : ℕ → List ℕ → ℕ
 times i [] = 0
 times i (j ∷ list) = (if i == j then 1 else 0) + times i list
 
--- how much the searches may still do, in all: it falls with each turn that leaves its search running
+-- one more than this for a search that runs, else nothing
+abbrev pub while_running : Status (List ℕ) → ℕ → ℕ
+while_running runs left = 1 + left
+while_running other left = 0
+
+-- how much a search may still do, by its status: nothing unless it runs
+abbrev pub work_of : State → ℕ
+work_of s = while_running s.status (left_of s.budget s.store)
+
+-- how much the searches of a batch may still do, in all
 abbrev pub work_left : Batch → ℕ
-work_left batch = sum_by (λ s. left_of s.budget s.store) (map (λ e. e.1) batch.searches)
+work_left batch = sum_by work_of (map (λ e. e.1) batch.searches)

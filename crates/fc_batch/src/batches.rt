@@ -71,6 +71,7 @@ impl<F: Frontier + Drop, G: Game + Drop> Batch<F, G> {
     pub fn turn(&mut self, i: usize) -> Result<Step, SearchFault>
         ensures turn { TurnFor i self.old self.new result }
         ensures falls { result ≡ Ok Step.Running → work_left self.new < work_left self.old }
+        ensures most { work_left self.new + running result ≤ work_left self.old }
     {
         let Some(search) = self.searches.get_mut(&i) else {
             return Err(SearchFault::NoSuch);
@@ -82,6 +83,7 @@ impl<F: Frontier + Drop, G: Game + Drop> Batch<F, G> {
     /// replied; how many of them replied `Running`.
     pub fn turns(&mut self, list: &[usize]) -> usize
         ensures turns { TurnsFor list.now self.old self.new result }
+        ensures falls { work_left self.new + result ≤ work_left self.old }
     {
         let mut running = 0;
         for i in list {
