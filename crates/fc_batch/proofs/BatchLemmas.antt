@@ -33,12 +33,14 @@ others_looked i es fs same j other =
     found_looked fs j ∙ same j (ne_eqb i j (λ e. other (sym e))) ∙ sym (found_looked es j)
 
 -- where only the search with one number comes or goes, the numbers of the others were given
-others_given : (i added : ℕ) (es fs : List (ℕ × State)) → ((j : ℕ) → nat_eq i j ≡ false → lookup (nat_eq j) fs ≡ lookup (nat_eq j) es)
+others_given : (i added : ℕ) (es fs : List (ℕ × State))
+    → ((j : ℕ) → nat_eq i j ≡ false → lookup (nat_eq j) fs ≡ lookup (nat_eq j) es)
     → NumbersWereGiven (record { searches = es; added = added }) → (j : ℕ) (s : State) → j ≢ i → found fs j ≡ Some s → j < added
 others_given i added es fs same given j s other at = given j s (sym (others_looked i es fs same j other) ∙ at)
 
 -- the next number is given with its search
-pub given_added : (added : ℕ) (es fs : List (ℕ × State)) → ((j : ℕ) → nat_eq added j ≡ false → lookup (nat_eq j) fs ≡ lookup (nat_eq j) es)
+pub given_added : (added : ℕ) (es fs : List (ℕ × State))
+    → ((j : ℕ) → nat_eq added j ≡ false → lookup (nat_eq j) fs ≡ lookup (nat_eq j) es)
     → NumbersWereGiven (record { searches = es; added = added }) → NumbersWereGiven (record { searches = fs; added = added + 1 })
 given_added added es fs same given j s at =
     ⊎_elim
@@ -47,7 +49,8 @@ given_added added es fs same given j s at =
     (cases_eq j added)
 
 -- a number whose search was taken out is held no more
-pub given_taken : (i added : ℕ) (es fs : List (ℕ × State)) → ((j : ℕ) → nat_eq i j ≡ false → lookup (nat_eq j) fs ≡ lookup (nat_eq j) es)
+pub given_taken : (i added : ℕ) (es fs : List (ℕ × State))
+    → ((j : ℕ) → nat_eq i j ≡ false → lookup (nat_eq j) fs ≡ lookup (nat_eq j) es)
     → lookup (nat_eq i) fs ≡ None → NumbersWereGiven (record { searches = es; added = added })
     → NumbersWereGiven (record { searches = fs; added = added })
 given_taken i added es fs same gone given j s at =
@@ -101,8 +104,8 @@ few (Ok Running) = omega arith
 few (Ok Done) = omega arith
 few (Err fault) = omega arith
 
-by_status : (g : Graph (List ℕ)) (budget : ℕ) (old new : Store (List ℕ)) (before after : Status (List ℕ)) (reply : Result Step SearchFault)
-    → Turns g budget before old new after reply → (reply ≡ Ok Running → left_of budget new < left_of budget old)
+by_status : (g : Graph (List ℕ)) (budget : ℕ) (old new : Store (List ℕ)) (before after : Status (List ℕ))
+    (reply : Result Step SearchFault) → Turns g budget before old new after reply → (reply ≡ Ok Running → left_of budget new < left_of budget old)
     → while_running after (left_of budget new) + running reply ≤ while_running before (left_of budget old)
 by_status g budget old new status.Running status.Running reply turn falls =
     ⊎_elim
@@ -131,11 +134,12 @@ by_status g budget old new status.Stopped after reply (same, stays, told) falls 
     omega (arith, none, nothing)
 
 -- a turn leaves its search less to do, where it runs on, and never more
-pub turn_falls : (before after : State) (reply : Result Step SearchFault) → HasTurn before after reply
+turn_falls : (before after : State) (reply : Result Step SearchFault) → HasTurn before after reply
     → (reply ≡ Ok Running → left_of before.budget after.store < left_of before.budget before.store)
     → work_of after + running reply ≤ work_of before
 turn_falls before after reply turn falls =
-    let less = by_status (classes_of before.question) before.budget before.store after.store before.status after.status reply turn.turned falls in
+    let less = by_status (classes_of before.question) before.budget before.store after.store before.status after.status reply
+    turn.turned falls in
     let same = ap (λ b. while_running after.status (left_of b after.store)) turn.budget in
     omega (arith, less, same)
 
@@ -155,7 +159,8 @@ module _ (i : ℕ) (es fs : List (ℕ × State)) (before after : State) (there :
         others = others_looked i es fs same;
         added = refl;
       } in
-      subst (λ o. MatchOption o ((reply ≡ Err NoSuch) × Stays old new) (λ b. TurnsAt i old new b reply)) (sym (found_looked es i ∙ there)) at
+      subst (λ o. MatchOption o ((reply ≡ Err NoSuch) × Stays old new) (λ b. TurnsAt i old new b reply))
+      (sym (found_looked es i ∙ there)) at
 
   -- the numbers that searches are held under were given
   pub given_kept : (added : ℕ) → ((j : ℕ) → nat_eq i j ≡ false → lookup (nat_eq j) fs ≡ lookup (nat_eq j) es)
@@ -166,13 +171,15 @@ module _ (i : ℕ) (es fs : List (ℕ × State)) (before after : State) (there :
       (λ other. others_given i added es fs same given j s other at)
       (cases_eq j i)
 
-  -- what the searches may still do falls by what that one's falls by
-  pub work_falls : (less : ℕ) → fs ≡ set_value (nat_eq i) es after → work_of after + less ≤ work_of before
-      → (old new : ℕ) → work_left (record { searches = fs; added = new }) + less ≤ work_left (record { searches = es; added = old })
-  work_falls less written falls old new =
+  -- what is left to do falls where the search runs on, and never rises
+  pub work_falls : (added : ℕ) (reply : Result Step SearchFault) → fs ≡ set_value (nat_eq i) es after → HasTurn before after reply
+      → (reply ≡ Ok Running → left_of before.budget after.store < left_of before.budget before.store)
+      → work_left (record { searches = fs; added = added }) + running reply ≤ work_left (record { searches = es; added = added })
+  work_falls added reply written turn falls =
+      let less = turn_falls before after reply turn falls in
       let sum = sum_by-set_value work_of (nat_eq i) es before after there in
       let same = ap (λ l. sum_by work_of (values_of l)) written in
-      omega (arith, sum, same, falls)
+      omega (arith, sum, same, less)
 
 -- where no search has the number, nothing had a turn
 pub none_turned : (i added : ℕ) (es fs : List (ℕ × State)) → lookup (nat_eq i) es ≡ None → fs ≡ es

@@ -46,7 +46,8 @@ turn_alone (j ∷ list) old new count (mid, reply, others, turn, rest, sum) i be
     let at : search_at mid i ≡ Some one.after = subst (λ k. search_at mid k ≡ Some one.after) (sym same) one.there in
     let on = turn_alone list mid new others rest i one.after at in
     let one_more : suc (times i list) ≡ 1 + times i list = omega arith in
-    let more : suc (times i list) ≡ times i (j ∷ list) = one_more ∙ ap (λ b. (if b then 1 else 0) + times i list) (sym (eq-eqb i j same)) in (
+    let more : suc (times i list) ≡ times i (j ∷ list) =
+    one_more ∙ ap (λ b. (if b then 1 else 0) + times i list) (sym (eq-eqb i j same)) in (
       on.0,
       on.1,
       subst (λ n. HasTurns n before on.0) more (one.after, reply, one.turn, on.2),
@@ -55,6 +56,7 @@ turn_alone (j ∷ list) old new count (mid, reply, others, turn, rest, sum) i be
     let at = (others_kept j (search_at old j) old mid reply turn).1 i other ∙ there in
     let on = turn_alone list mid new others rest i before at in
     let none_more : times i list ≡ 0 + times i list = omega arith in
-    let same : times i list ≡ times i (j ∷ list) = none_more ∙ ap (λ b. (if b then 1 else 0) + times i list) (sym (ne_eqb i j other)) in
+    let same : times i list ≡ times i (j ∷ list) =
+    none_more ∙ ap (λ b. (if b then 1 else 0) + times i list) (sym (ne_eqb i j other)) in
     (on.0, on.1, subst (λ n. HasTurns n before on.0) same on.2))
     (cases_eq i j)

@@ -47,7 +47,8 @@ pub record HasTurn (old new : State) (reply : Result Step SearchFault) : Type 0 
 -- so many turns of a search, one after the other
 abbrev pub HasTurns : ℕ → State → State → Type 0
 HasTurns zero old new = new ≡ old
-HasTurns (suc turns) old new = (mid : State) × (reply : Result Step SearchFault) × HasTurn old mid reply × HasTurns turns mid new
+HasTurns (suc turns) old new =
+    (mid : State) × (reply : Result Step SearchFault) × HasTurn old mid reply × HasTurns turns mid new
 
 -- the search with this number has one turn, and everything else stays as it is
 pub record TurnsAt (i : ℕ) (old new : Batch) (before : State) (reply : Result Step SearchFault) : Type 0 where
@@ -59,7 +60,8 @@ pub record TurnsAt (i : ℕ) (old new : Batch) (before : State) (reply : Result 
 
 -- one turn for a number: of the search with it; where there is none, `NoSuch`, and the batch stays as it is
 abbrev pub TurnFor : ℕ → Batch → Batch → Result Step SearchFault → Type 0
-TurnFor i old new reply = MatchOption (search_at old i) ((reply ≡ Err NoSuch) × Stays old new) (λ before. TurnsAt i old new before reply)
+TurnFor i old new reply =
+    MatchOption (search_at old i) ((reply ≡ Err NoSuch) × Stays old new) (λ before. TurnsAt i old new before reply)
 
 -- 1 for the reply of a search that is still running, else 0
 abbrev pub running : Result Step SearchFault → ℕ

@@ -28,14 +28,15 @@ module _ (g : GameRules) (rule : ℕ) (p : Board) (budget : ℕ) (s : Store (Lis
       → Stands s next x mark → mark.parent ≡ number → (number ≡ next → ⊥)
       → (ms : List Move) × (c : Board) × IsAtClass g s p next ms c
   one_more number next made b x mark walked at parent other =
-      let (room, (m, (count, (z, step, (q, settles, key)), few))) = leads_on g rule p budget s pp sound number next made b x mark walked at parent other in
+      let (room, (m, (count, (z, step, (q, settles, key)), few))) =
+      leads_on g rule p budget s pp sound number next made b x mark walked at parent other in
       let on : Run g b (m ∷ settles.0) q = (z, step, settles_run g rule z q settles.0 settles.2) in
       let pb = run_keeps g p b made pp walked.3 in
       let size : length settles.0 ≡ count = settles.1 in (
         made ++ m ∷ settles.0,
         q,
-        walked_on g rule p budget s pp number next made (m ∷ settles.0) b q x mark walked at room on (omega (arith, few, size)) key
-            (run_keeps g b q (m ∷ settles.0) pb on),
+        walked_on g rule p budget s pp number next made (m ∷ settles.0) b q x mark walked at room on (omega (arith, few, size))
+            key (run_keeps g b q (m ∷ settles.0) pb on),
       )
 
   -- moves lead to each stored class, no more than it costs

@@ -5,7 +5,8 @@ use Rattle.fc_batch.proofs.batches.Batch.add.Goals as goal
 
 pub invariant_of-self : goal.invariant_of-self
 invariant_of-self g c =
-    given_added c.self.inside.added c.self.inside.searches.entries c.insert.new.self.entries c.in-Ok.ensures.updates.2 c.self.invariant
+    given_added c.self.inside.added c.self.inside.searches.entries c.insert.new.self.entries c.in-Ok.ensures.updates.2
+    c.self.invariant
 
 pub returns-in-Ok-clause-there : goal.returns-in-Ok-clause-there
 returns-in-Ok-clause-there g c =

@@ -27,7 +27,8 @@ returns-in-GaveUp-clause-told g c =
     let inner = c.self.inside.search in
     let game = g.G.Game.game inner.space.game in
     let graph = classes bound game inner.space.rule inner.space.start in
-    let stands : inner.status ≡ status.GaveUp c.in-GaveUp.field-0 c.in-GaveUp.field-1 = sym c.status.ensures.value ∙ c.in-GaveUp.is in
+    let stands : inner.status ≡ status.GaveUp c.in-GaveUp.field-0 c.in-GaveUp.field-1 =
+    sym c.status.ensures.value ∙ c.in-GaveUp.is in
     let told = gave_up_verdict game inner.space.rule inner.space.start inner.budget inner.store
     inner.space.fits c.in-GaveUp.field-0 c.in-GaveUp.field-1 c.budget.result
     (subst (Shows graph inner.budget inner.store) stands c.status.ensures.shows) c.budget.ensures.value in
