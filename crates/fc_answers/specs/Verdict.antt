@@ -7,6 +7,8 @@ use Rattle.fc_moves.specs.Run.{IsShortest, CannotWin, ReachesMore}
 use Rattle.fc_answers.specs.declared.answers.TheConstants.{MOST_MOVES}
 use Rattle.fc_answers.specs.declared.answers.Answer.{Answer}
 use Rattle.fc_answers.specs.declared.answers.Answer.TheVariants as answer
+use Rattle.fc_answers.specs.declared.answers.Outcome.{Outcome}
+use Rattle.fc_answers.specs.declared.answers.Outcome.TheVariants as outcome
 use Rattle.fc_answers.specs.declared.answers.Verdict.{Verdict}
 use Rattle.fc_answers.specs.declared.answers.Verdict.TheVariants.{Shortest, CannotWin as cannot_win, GaveUp}
 
@@ -15,6 +17,12 @@ abbrev pub verdict_of : Answer → Verdict
 verdict_of (answer.Shortest moves table) = Shortest moves
 verdict_of (answer.CannotWin table) = cannot_win
 verdict_of (answer.GaveUp told) = GaveUp told
+
+-- what is told of a verdict without its moves: how many there are
+abbrev pub outcome_of : Verdict → Outcome
+outcome_of (Shortest moves) = outcome.Shortest (length moves)
+outcome_of cannot_win = outcome.CannotWin
+outcome_of (GaveUp told) = outcome.GaveUp told
 
 -- the verdict is right for a board and a budget: the moves win and none win in fewer, or no moves win, or the budget is
 -- told and more positions than that can be reached

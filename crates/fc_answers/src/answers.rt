@@ -29,6 +29,17 @@ pub enum Verdict {
     GaveUp(u32),
 }
 
+/// A verdict without its moves.
+#[derive(Clone, Copy, Debug, PartialEq, Eq)]
+pub enum Outcome {
+    /// So many moves win, and no fewer do.
+    Shortest(u32),
+    /// No list of moves wins.
+    CannotWin,
+    /// More positions than the budget, which is told, can be reached.
+    GaveUp(u32),
+}
+
 /// A list of moves.
 #[derive(Drop)]
 pub struct MoveList {

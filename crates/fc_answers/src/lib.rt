@@ -2,7 +2,7 @@
 //! classes that backs it. Nothing here searches.
 #![tactic(auto)]
 
-pub use answers::{Answer, MOST_MOVES, MoveList, Verdict};
+pub use answers::{Answer, MOST_MOVES, MoveList, Outcome, Verdict};
 pub use tables::{MOST_CLASSES, Row, Table};
 
 mod answers;

@@ -30,6 +30,7 @@ IsRefused budget fault.Budget = IsBudget budget → ⊥
 IsRefused budget fault.Memory = IsBudget budget
 IsRefused budget fault.Stopped = ⊥
 IsRefused budget fault.NotDone = ⊥
+IsRefused budget fault.NoSuch = ⊥
 
 module _ {K : Type 0} where
   -- the key that starts is stored under 0, as its own parent, and open at its cost plus bound

@@ -35,6 +35,9 @@ pub enum SearchFault {
     /// The search isn't done yet, so it has no answer; no turn says so.
     #[error("the search isn't done")]
     NotDone,
+    /// No search has this number; only a batch says so.
+    #[error("no such search")]
+    NoSuch,
 }
 
 /// A search of a space, with a budget of stored keys.

@@ -2,6 +2,7 @@ mod AnswerLemmas
 mod BackLemmas
 mod ChildLemmas
 mod NeedLemmas
+mod OutcomeLemmas
 mod RowLemmas
 mod ShiftLemmas
 mod StayLemmas

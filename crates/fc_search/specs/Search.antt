@@ -12,10 +12,11 @@ use Rattle.fc_best_first.specs.Search.{Begins, Runs}
 use Rattle.fc_best_first.specs.Store.{Store, Stands}
 use Rattle.fc_classes.specs.Classes.{classes}
 use Rattle.fc_answers.specs.declared.answers.Answer.{Answer}
+use Rattle.fc_answers.specs.declared.answers.Outcome.{Outcome}
 use Rattle.fc_answers.specs.declared.answers.Verdict.{Verdict}
 use Rattle.fc_answers.specs.declared.answers.Verdict.TheVariants as verdict
 use Rattle.fc_answers.specs.Answer.{IsBacked, IsByRule, CanBeBacked}
-use Rattle.fc_answers.specs.Verdict.{verdict_of, IsRight, CanBeWritten}
+use Rattle.fc_answers.specs.Verdict.{verdict_of, outcome_of, IsRight, CanBeWritten}
 use Rattle.fc_search.specs.Need.{IsEarned}
 use Rattle.fc_bound.specs.Bound.{bound}
 
@@ -64,6 +65,17 @@ abbrev pub IsUnanswered : Status (List ℕ) → SearchFault → Type 0
 IsUnanswered Running told = told ≡ fault.NotDone
 IsUnanswered Stopped told = told ≡ fault.Stopped
 IsUnanswered done told = told ≡ fault.Memory
+
+-- what is told of a search that is done: what its verdict tells but its moves
+abbrev pub IsOutcome : State → Outcome → Type 0
+IsOutcome s told = (verdict : Verdict) × IsVerdict s.question.game s.question.rule s.question.start s.budget verdict
+    × IsOfStatus s.store s.budget s.status verdict × (told ≡ outcome_of verdict)
+
+-- why nothing is told of a search: it is still running, or it was stopped
+abbrev pub IsUntold : Status (List ℕ) → SearchFault → Type 0
+IsUntold Running told = told ≡ fault.NotDone
+IsUntold Stopped told = told ≡ fault.Stopped
+IsUntold done told = ⊥
 
 -- a search that began ran on to this store and this status within the budget
 pub record HasRun (g : GameRules) (rule : ℕ) (b : Board) (budget : ℕ) (last : Store (List ℕ)) (status : Status (List ℕ)) : Type 0 where

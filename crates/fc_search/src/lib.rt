@@ -4,11 +4,12 @@
 //! game, and the search over its queue.
 #![tactic(auto)]
 
-pub use fc_answers::{Answer, MoveList, Table, Verdict};
+pub use fc_answers::{Answer, MoveList, Outcome, Table, Verdict};
 pub use fc_best_first::{MOST_BUDGET, SearchFault, Step};
 pub use positions::{Children, Positions};
 pub use searches::{Search, decide, solve};
 
+mod outcomes;
 mod positions;
 mod searches;
 mod tables;

@@ -1,0 +1,3 @@
+mod BatchLemmas
+mod EndLemmas
+mod LawLemmas

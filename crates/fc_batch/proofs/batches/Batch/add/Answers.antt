@@ -1,0 +1,18 @@
+use Rattle.std.proofs.Common.{◌∙◌, ap}
+use Rattle.fc_batch.specs.Batch.{search_at}
+use Rattle.fc_batch.proofs.BatchLemmas.{found_looked, others_looked, given_added}
+use Rattle.fc_batch.proofs.batches.Batch.add.Goals as goal
+
+pub invariant_of-self : goal.invariant_of-self
+invariant_of-self g c =
+    given_added c.self.inside.added c.self.inside.searches.entries c.insert.new.self.entries c.in-Ok.ensures.updates.2
+    c.self.invariant
+
+pub returns-in-Ok-clause-there : goal.returns-in-Ok-clause-there
+returns-in-Ok-clause-there g c =
+    found_looked c.insert.new.self.entries c.self.inside.added ∙ c.in-Ok.ensures.updates.1
+
+pub returns-in-Ok-clause-others : goal.returns-in-Ok-clause-others
+returns-in-Ok-clause-others g c = λ j other.
+    others_looked c.self.inside.added c.self.inside.searches.entries c.insert.new.self.entries c.in-Ok.ensures.updates.2 j other
+    ∙ ap (λ b. search_at b j) c.self.view_is

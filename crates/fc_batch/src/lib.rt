@@ -1,0 +1,7 @@
+//! Batches: several searches that take turns, each as if it were alone.
+#![tactic(auto)]
+
+pub use batches::Batch;
+
+mod batches;
+pub mod laws;

@@ -1,0 +1,79 @@
+-- What a search that is done holds tells how many moves a shortest list has, before any list is made.
+use Rattle.std.proofs.Common.{◌≡◌, ℕ, zero, suc, ◌+◌, ◌-◌, ◌<◌, ◌≤◌, List, [], ◌∷◌, ◌++◌, length, refl, sym, ◌∙◌, ap, subst, ⊎_elim, arith}
+use Rattle.fc_position.specs.Board.{Board}
+use Rattle.fc_moves.specs.declared.steps.Move.{Move}
+use Rattle.fc_moves.specs.GameRules.{GameRules, IsPositionOf}
+use Rattle.fc_moves.specs.Run.{Run}
+use Rattle.fc_moves.proofs.StepLemmas.{run_keeps}
+use Rattle.fc_home.proofs.SettleLemmas.{settles_keep, settles_run}
+use Rattle.fc_bound.specs.Bound.{bound}
+use Rattle.fc_best_first.specs.declared.books.Mark.{Mark}
+use Rattle.fc_best_first.specs.declared.turns.Status.TheVariants as status
+use Rattle.fc_best_first.specs.Kept.{IsSound}
+use Rattle.fc_best_first.specs.Shown.{IsFound, Shows}
+use Rattle.fc_best_first.specs.Store.{Store, Stands}
+use Rattle.fc_best_first.proofs.KeptLemmas.{same_entry}
+use Rattle.fc_classes.specs.Classes.{classes}
+use Rattle.fc_answers.specs.declared.answers.Outcome.TheVariants as outcome
+use Rattle.fc_answers.specs.declared.answers.Verdict.TheVariants as verdict
+use Rattle.fc_search.specs.Search.{State, classes_of, IsVerdict, IsOfStatus, IsOutcome}
+use Rattle.fc_search.specs.Walk.{IsAtClass}
+use Rattle.fc_search.proofs.AnswerLemmas.{won_length, shortest_verdict}
+use Rattle.fc_search.proofs.WalkLemmas.{walk_begins, walked_on, leads_on}
+
+module _ (g : GameRules) (rule : ℕ) (p : Board) (budget : ℕ) (s : Store (List ℕ)) (pp : IsPositionOf g p)
+    (sound : IsSound (classes bound g rule p) budget s) where
+  -- moves lead on from where moves to a class lead to a class that came from it
+  one_more : (number next : ℕ) (made : List Move) (b : Board) (x : List ℕ) (mark : Mark) → IsAtClass g s p number made b
+      → Stands s next x mark → mark.parent ≡ number → (number ≡ next → ⊥)
+      → (ms : List Move) × (c : Board) × IsAtClass g s p next ms c
+  one_more number next made b x mark walked at parent other =
+      let (room, (m, (count, (z, step, (q, settles, key)), few))) =
+      leads_on g rule p budget s pp sound number next made b x mark walked at parent other in
+      let on : Run g b (m ∷ settles.0) q = (z, step, settles_run g rule z q settles.0 settles.2) in
+      let pb = run_keeps g p b made pp walked.3 in
+      let size : length settles.0 ≡ count = settles.1 in (
+        made ++ m ∷ settles.0,
+        q,
+        walked_on g rule p budget s pp number next made (m ∷ settles.0) b q x mark walked at room on (omega (arith, few, size))
+            key (run_keeps g b q (m ∷ settles.0) pb on),
+      )
+
+  -- moves lead to each stored class, no more than it costs
+  way_there : (n number : ℕ) (x : List ℕ) (mark : Mark) → Stands s number x mark → mark.cost < n
+      → (ms : List Move) × (c : Board) × IsAtClass g s p number ms c
+  way_there zero number x mark at below = absurd (omega (arith, below))
+  way_there (suc n) number x mark at below =
+      ⊎_elim
+      (λ (own, (r, settles, key)). (
+        settles.0,
+        r,
+        walk_begins g rule p budget s pp sound number settles.0 r (x, mark, at, own) settles.2
+            (settles_keep g rule p r mark.cost pp settles).position,
+      ))
+      (λ (w, was, c, stands, (kw, (m, z, count, step, to, paid)), less).
+      let made = way_there n mark.parent w was stands (omega (arith, below, less, paid)) in
+      one_more mark.parent number made.0 made.1 x mark made.2 at refl
+      (λ same. let one = same_entry s number w x was mark (subst (λ k. Stands s k w was) same stands) at in
+          let cost : was.cost ≡ mark.cost = ap (λ k. k.cost) one.1 in
+          omega (arith, cost, less, paid)))
+      (sound.comes number x mark at)
+
+-- the cost of the won class is how many moves a shortest list has
+pub shortest_outcome : (s : State) (number : ℕ) (x : List ℕ) (mark : Mark) → IsPositionOf s.question.game s.question.start
+    → s.question.rule ≤ 2 → s.budget ≤ 4000000 → IsFound (classes_of s.question) s.budget s.store number
+    → Shows (classes_of s.question) s.budget s.store (status.Shortest number) → s.status ≡ status.Shortest number
+    → Stands s.store number x mark → IsOutcome s (outcome.Shortest mark.cost)
+shortest_outcome s number x mark pp known few found shows done at =
+    let g = s.question.game in
+    let rule = s.question.rule in
+    let p = s.question.start in
+    let way = way_there g rule p s.budget s.store pp found.0 (suc mark.cost) number x mark at (omega arith) in
+    let won = won_length g rule p s.budget s.store pp number way.0 way.1 found shows way.2 in
+    let one = same_entry s.store number x won.0 mark won.1 at won.2 in
+    let cost : mark.cost ≡ length way.0 = ap (λ k. k.cost) one.1 ∙ sym won.3 in (
+      verdict.Shortest way.0,
+      shortest_verdict g rule p s.budget s.store pp number way.0 way.1 known few found shows way.2,
+      subst (λ v. IsOfStatus s.store s.budget v (verdict.Shortest way.0)) (sym done) (won.0, won.1, won.2, won.3),
+      ap outcome.Shortest cost,
+    )
