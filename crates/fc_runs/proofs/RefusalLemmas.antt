@@ -32,7 +32,7 @@ refused g board cert sink b bytes NotHome given same here = (λ is. absurd (cc i
 refused g board cert sink b bytes StartOpen given same here = (λ is. absurd (cc is), (b, bytes, given, here), same)
 refused g board cert sink b bytes (WonListed i) given same here = (λ is. absurd (cc is), (b, bytes, given, here), same)
 refused g board cert sink b bytes (Open i) given same here = (λ is. absurd (cc is), (b, bytes, given, here), same)
-refused g board cert sink b bytes Memory given same (c, spelled) = (
+refused g board cert sink b bytes Memory given same (c, spelled, some) = (
   ((b, given.start), same),
   told_some cert.old bytes given.read.whole (subst (λ list. 1 ≤ length list) (sym spelled.written) (has_bytes c.head.form (game_bytes c.head.form c.head.game c.head.cells)
       (c.head.rule ∷ kind_byte c.head.kind ∷ []) (moves_bytes c.head.kind c.moves ++ rows_bytes c.rows))),

@@ -120,7 +120,7 @@ const CHECK: Subcommand = Subcommand {
     after_help: "The status is 0 where the certificate is accepted, 3 where it is refused, 4 for want of memory, 5 where reading or
 writing failed.
 
-Example: fc_solve deal 11982 | tee lost.txt | fc_solve solve --cert lost.cert; fc_solve check lost.txt lost.cert",
+Example: fc_solve check boards/locked.txt boards/locked.cert",
     words: &[
         GAME,
         KINGS,
