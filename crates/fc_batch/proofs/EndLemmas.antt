@@ -1,6 +1,6 @@
 -- Searches that have ended stay so, and a turn that doesn't reply that its search runs on finds or leaves it ended.
-use Rattle.std.proofs.Common.{◌≡◌, ℕ, zero, suc, ◌+◌, List, [], ◌∷◌, refl, sym, ◌∙◌, ap, subst, ⊎_elim, arith}
-use Rattle.std.specs.Prelude.{Option, Some, None, MatchOption, Result, Ok, Err, slice_get}
+use Rattle.std.proofs.Common.{◌≡◌, ℕ, zero, suc, List, [], ◌∷◌, refl, sym, ◌∙◌, ap, subst, ⊎_elim, arith}
+use Rattle.std.specs.Prelude.{Option, Some, None, MatchOption, Result, Err}
 use Rattle.std.proofs.lemmas.Option.{none-some, same_Some}
 use Rattle.fc_best_first.specs.declared.searches.SearchFault.{SearchFault}
 use Rattle.fc_best_first.specs.declared.searches.SearchFault.TheVariants.{NoSuch}
@@ -11,7 +11,7 @@ use Rattle.fc_best_first.specs.Graph.{Graph}
 use Rattle.fc_best_first.specs.Search.{Turns, reply_of}
 use Rattle.fc_best_first.specs.Store.{Store}
 use Rattle.fc_search.specs.Search.{State, classes_of}
-use Rattle.fc_batch.specs.Batch.{Batch, Stays, TurnsAt, TurnFor, TurnsFor, HasTurn, HasTurns, search_at, running}
+use Rattle.fc_batch.specs.Batch.{Batch, Stays, TurnsAt, TurnsFor, HasTurns, search_at, running}
 use Rattle.fc_batch.specs.Laws.{QuietTurnsEnd}
 use Rattle.fc_batch.proofs.LawLemmas.{numbers_stay, turn_alone}
 

@@ -1,5 +1,5 @@
 -- What a search that is done holds tells how many moves a shortest list has, before any list is made.
-use Rattle.std.proofs.Common.{◌≡◌, ℕ, zero, suc, ◌+◌, ◌-◌, ◌<◌, ◌≤◌, List, [], ◌∷◌, ◌++◌, length, refl, sym, ◌∙◌, ap, subst, ⊎_elim, arith}
+use Rattle.std.proofs.Common.{◌≡◌, ℕ, zero, suc, ◌<◌, ◌≤◌, List, ◌∷◌, ◌++◌, length, refl, sym, ◌∙◌, ap, subst, ⊎_elim, arith}
 use Rattle.fc_position.specs.Board.{Board}
 use Rattle.fc_moves.specs.declared.steps.Move.{Move}
 use Rattle.fc_moves.specs.GameRules.{GameRules, IsPositionOf}
@@ -16,7 +16,7 @@ use Rattle.fc_best_first.proofs.KeptLemmas.{same_entry}
 use Rattle.fc_classes.specs.Classes.{classes}
 use Rattle.fc_answers.specs.declared.answers.Outcome.TheVariants as outcome
 use Rattle.fc_answers.specs.declared.answers.Verdict.TheVariants as verdict
-use Rattle.fc_search.specs.Search.{State, classes_of, IsVerdict, IsOfStatus, IsOutcome}
+use Rattle.fc_search.specs.Search.{State, classes_of, IsOfStatus, IsOutcome}
 use Rattle.fc_search.specs.Walk.{IsAtClass}
 use Rattle.fc_search.proofs.AnswerLemmas.{won_length, shortest_verdict}
 use Rattle.fc_search.proofs.WalkLemmas.{walk_begins, walked_on, leads_on}

@@ -1,0 +1,184 @@
+//! Batches of searches: turns by numbers, what they reply, and what is told of each search.
+
+use crate::given::{board, free_cell, sure};
+use fc_batch::Batch;
+use fc_frontier::BucketFrontier;
+use fc_moves::FreeCell;
+use fc_search::{Answer, Outcome, Search, SearchFault, Step, Verdict};
+use fc_tests::boards::{LOCKED, QUEEN_UNDER_KING, THREE_KINGS, TWO_KINGS};
+use std::alloc::Global;
+use std::process::Abort;
+
+static BOARDS: [&str; 4] = [QUEEN_UNDER_KING, TWO_KINGS, LOCKED, THREE_KINGS];
+
+static OUTCOMES: [Outcome; 4] = [
+    Outcome::Shortest(3),
+    Outcome::Shortest(5),
+    Outcome::CannotWin,
+    Outcome::Shortest(5),
+];
+
+// A search of a board under the first home rule, with a budget of 100.
+fn search_of(rt: &impl Abort, alloc: Global, text: &str) -> Search<BucketFrontier, FreeCell> {
+    let game = free_cell(rt, 4);
+    sure(
+        rt,
+        Search::new(alloc, &game, 1, &board(rt, &game, text), 100),
+    )
+}
+
+// A batch of searches of boards, by their places in the list.
+fn batch_of(rt: &impl Abort, alloc: Global, boards: &[&str]) -> Batch<BucketFrontier, FreeCell> {
+    let mut batch = Batch::new(alloc);
+    for i in 0..boards.len() {
+        let number = sure(rt, batch.add(search_of(rt, alloc, boards[i])));
+        assert!(rt; number == i, "a number");
+    }
+    batch
+}
+
+// Whether the answer tells this.
+fn answers(answer: &Answer, told: Outcome) -> bool {
+    match (answer, told) {
+        (Answer::Shortest(list, _), Outcome::Shortest(count)) => list.len() == count as usize,
+        (Answer::CannotWin(_), Outcome::CannotWin) => true,
+        (Answer::GaveUp(budget), Outcome::GaveUp(least)) => *budget == least,
+        _ => false,
+    }
+}
+
+// Whether the verdict tells this.
+fn tells(verdict: &Verdict, told: Outcome) -> bool {
+    match (verdict, told) {
+        (Verdict::Shortest(list), Outcome::Shortest(count)) => list.len() == count as usize,
+        (Verdict::CannotWin, Outcome::CannotWin) => true,
+        (Verdict::GaveUp(budget), Outcome::GaveUp(least)) => *budget == least,
+        _ => false,
+    }
+}
+
+// The search with this number is done, and its answer, its verdict and its outcome tell this.
+fn check_told(
+    rt: &impl Abort,
+    batch: &Batch<BucketFrontier, FreeCell>,
+    number: usize,
+    told: Outcome,
+) {
+    let search = batch.get(number).expect(rt, "a search");
+    let outcome = sure(rt, search.outcome());
+    assert!(rt; outcome == told, "an outcome of {number}");
+    let verdict = sure(rt, search.verdict());
+    assert!(rt; tells(&verdict, told), "a verdict of {number}");
+    let answer = sure(rt, search.answer());
+    assert!(rt; answers(&answer, told), "an answer of {number}");
+}
+
+// Nothing is told of the search with this number, which isn't done.
+fn check_untold(rt: &impl Abort, batch: &Batch<BucketFrontier, FreeCell>, number: usize) {
+    let search = batch.get(number).expect(rt, "a search");
+    let fault = search.answer().err();
+    assert!(rt; fault == Some(SearchFault::NotDone), "an answer");
+    let fault = search.outcome().err();
+    assert!(rt; fault == Some(SearchFault::NotDone), "an outcome");
+}
+
+// A turn for a number, and its reply.
+struct Turn {
+    number: usize,
+    reply: Result<Step, SearchFault>,
+}
+
+static TURNS: [Turn; 7] = [
+    Turn {
+        number: 2,
+        reply: Ok(Step::Running),
+    },
+    Turn {
+        number: 2,
+        reply: Ok(Step::Done),
+    },
+    Turn {
+        number: 0,
+        reply: Ok(Step::Running),
+    },
+    Turn {
+        number: 1,
+        reply: Ok(Step::Running),
+    },
+    Turn {
+        number: 0,
+        reply: Ok(Step::Done),
+    },
+    Turn {
+        number: 1,
+        reply: Ok(Step::Running),
+    },
+    Turn {
+        number: 3,
+        reply: Err(SearchFault::NoSuch),
+    },
+];
+
+// Turns for the numbers of the list, again and again, until none of their searches runs.
+fn run_by(rt: &impl Abort, batch: &mut Batch<BucketFrontier, FreeCell>, list: &[usize]) {
+    for _ in 0..1000u32 {
+        if batch.turns(list) == 0 {
+            return;
+        }
+    }
+    assert!(rt; false, "searches that don't end");
+}
+
+#[test]
+fn searches_take_turns(rt: HostRuntime) {
+    let mut batch = batch_of(&rt, rt.alloc(), &BOARDS[..3]);
+    for number in 0..3 {
+        check_untold(&rt, &batch, number);
+    }
+    for turn in TURNS.as_slice() {
+        let reply = batch.turn(turn.number);
+        assert!(rt; reply == turn.reply, "a turn");
+    }
+    run_by(&rt, &mut batch, &[1]);
+    for number in 0..3 {
+        check_told(&rt, &batch, number, OUTCOMES[number]);
+    }
+    assert!(rt; batch.turn(2) == Ok(Step::Done), "one more");
+    check_told(&rt, &batch, 2, Outcome::CannotWin);
+}
+
+#[test]
+fn numbers_are_given_once(rt: HostRuntime) {
+    let mut batch = batch_of(&rt, rt.alloc(), &BOARDS[..3]);
+    assert!(rt; batch.take(0).is_some(), "the first search");
+    assert!(rt; batch.turn(0) == Err(SearchFault::NoSuch), "its turn");
+    assert!(rt; batch.take(0).is_none(), "once more");
+    let number = sure(&rt, batch.add(search_of(&rt, rt.alloc(), LOCKED)));
+    assert!(rt; number == 3, "the next number");
+    assert!(rt; batch.get(0).is_none(), "no search");
+}
+
+#[test]
+fn replies_are_counted(rt: HostRuntime) {
+    let mut batch = batch_of(&rt, rt.alloc(), &BOARDS[..3]);
+    assert!(rt;
+        batch.turns(&[2, 2, 0, 1, 7, 0, 1]) == 4,
+        "turns that replied Running"
+    );
+    assert!(rt; batch.turns(&[]) == 0, "no turn");
+}
+
+// By these turns each search ends with its own outcome.
+fn check_order(rt: &impl Abort, alloc: Global, list: &[usize]) {
+    let mut batch = batch_of(rt, alloc, BOARDS.as_slice());
+    run_by(rt, &mut batch, list);
+    for number in 0..4 {
+        check_told(rt, &batch, number, OUTCOMES[number]);
+    }
+}
+
+#[test]
+fn the_order_of_turns_changes_nothing(rt: HostRuntime) {
+    check_order(&rt, rt.alloc(), &[0, 1, 2, 3]);
+    check_order(&rt, rt.alloc(), &[3, 3, 1, 0, 2, 3]);
+}
