@@ -2,6 +2,7 @@
 
 ghost use Rattle.std.specs.Prelude.{◌≤◌, length};
 
+use crate::contents::DAMAGED;
 use crate::given::{LOCKED as LOCKED_BYTES, TWO_KINGS as TWO_KINGS_BYTES, board, free_cell, sure};
 use fc_cert::{CertFault, write_answer};
 use fc_checker::{CheckFault, Claim, check};
@@ -13,6 +14,12 @@ use fc_tests::games::AnySuit;
 use std::alloc::Global;
 use std::process::Abort;
 
+// The king of three spades may stand in each of seven columns, which is one class, and nothing else may move.
+const KINGS_BYTES: &[u8] = &[
+    0x46, 0x43, 0x43, 0x32, 2, 0, 1, 2, 0, 0, 0, 1, 0, 0, 0, 0, 13, 13, 13, 10, 0xFF, 0xFF, 0xFF, 0xFF, 2,
+    0x2B, 0x2F, 1, 0x33, 0, 0, 0, 0, 0, 0,
+];
+
 // A board of FreeCell with four cells, bytes, and what the checker tells of them.
 pub struct Case {
     pub board: &'static str,
@@ -20,7 +27,7 @@ pub struct Case {
     pub told: Result<Claim, CheckFault>,
 }
 
-pub static CASES: [Case; 21] = [
+pub static CASES: [Case; 25] = [
     // the king of spades goes home
     Case {
         board: ONE_KING,
@@ -118,6 +125,42 @@ pub static CASES: [Case; 21] = [
             0xFF, 2, 0x2E, 0x33, 2, 0x2F, 0x32, 0, 0, 0, 0, 0, 0,
         ],
         told: Err(CheckFault::Open(0)),
+    },
+    // a second class, which nothing needs, at the greatest cost
+    Case {
+        board: TWO_KINGS,
+        bytes: &[
+            0x46, 0x43, 0x43, 0x31, 0, 1, 0, 0, 0, 5, 0x31, 0x61, 0x31, 0x68, 0x32, 0x68, 0x32,
+            0x68, 0x61, 0x68, 0, 0, 0, 2, 0, 0, 0, 0, 13, 13, 11, 11, 0xFF, 0xFF, 0xFF, 0xFF, 2, 0x2E, 0x33, 2, 0x2F, 0x32, 0, 0, 0, 0, 0, 0, 0xFF, 0xFF, 0xFF, 0xFF, 13, 13, 11, 12, 0xFF, 0xFF, 0xFF, 0xFF, 2, 0x2E, 0x33, 1, 0x32, 0, 0, 0, 0, 0, 0,
+        ],
+        told: Ok(Claim::Shortest(5)),
+    },
+    // the two the other way round
+    Case {
+        board: TWO_KINGS,
+        bytes: &[
+            0x46, 0x43, 0x43, 0x31, 0, 1, 0, 0, 0, 5, 0x31, 0x61, 0x31, 0x68, 0x32, 0x68, 0x32,
+            0x68, 0x61, 0x68, 0, 0, 0, 2, 0xFF, 0xFF, 0xFF, 0xFF, 13, 13, 11, 12, 0xFF, 0xFF, 0xFF, 0xFF, 2, 0x2E, 0x33, 1, 0x32, 0, 0, 0, 0, 0, 0, 0, 0, 0, 0, 13, 13, 11, 11, 0xFF, 0xFF, 0xFF, 0xFF, 2, 0x2E, 0x33, 2, 0x2F, 0x32, 0, 0, 0, 0, 0, 0,
+        ],
+        told: Err(CheckFault::Form(CertFault::Order(1))),
+    },
+    // the second class at no cost
+    Case {
+        board: TWO_KINGS,
+        bytes: &[
+            0x46, 0x43, 0x43, 0x31, 0, 1, 0, 0, 0, 5, 0x31, 0x61, 0x31, 0x68, 0x32, 0x68, 0x32,
+            0x68, 0x61, 0x68, 0, 0, 0, 2, 0, 0, 0, 0, 13, 13, 11, 11, 0xFF, 0xFF, 0xFF, 0xFF, 2, 0x2E, 0x33, 2, 0x2F, 0x32, 0, 0, 0, 0, 0, 0, 0, 0, 0, 0, 13, 13, 11, 12, 0xFF, 0xFF, 0xFF, 0xFF, 2, 0x2E, 0x33, 1, 0x32, 0, 0, 0, 0, 0, 0,
+        ],
+        told: Err(CheckFault::Open(1)),
+    },
+    // the first class at the greatest cost
+    Case {
+        board: TWO_KINGS,
+        bytes: &[
+            0x46, 0x43, 0x43, 0x31, 0, 1, 0, 0, 0, 5, 0x31, 0x61, 0x31, 0x68, 0x32, 0x68, 0x32,
+            0x68, 0x61, 0x68, 0, 0, 0, 2, 0xFF, 0xFF, 0xFF, 0xFF, 13, 13, 11, 11, 0xFF, 0xFF, 0xFF, 0xFF, 2, 0x2E, 0x33, 2, 0x2F, 0x32, 0, 0, 0, 0, 0, 0, 0xFF, 0xFF, 0xFF, 0xFF, 13, 13, 11, 12, 0xFF, 0xFF, 0xFF, 0xFF, 2, 0x2E, 0x33, 1, 0x32, 0, 0, 0, 0, 0, 0,
+        ],
+        told: Err(CheckFault::StartOpen),
     },
     // one byte less
     Case {
@@ -239,6 +282,27 @@ fn what_is_accepted(rt: HostRuntime) {
             assert!(rt; result == case.told, "{} bytes", bytes.len());
         }
     }
+}
+
+#[test]
+fn what_has_no_form_is_refused(rt: HostRuntime) {
+    let game = free_cell(&rt, 4);
+    for damaged in DAMAGED.as_slice() {
+        let bytes = damaged.bytes;
+        let wanted = damaged.fault.map(|fault| CheckFault::Form(fault));
+        if bytes.len() <= 1000 {
+            let fault = told(&rt, rt.alloc(), &game, TWO_KINGS, bytes).err();
+            assert!(rt; wanted.is_none() || fault == wanted, "{} bytes", bytes.len());
+        }
+    }
+}
+
+// Only kings may go to an empty column, and there is no cell.
+#[test]
+fn a_closed_table_of_another_game_is_accepted(rt: HostRuntime) {
+    let game = Kings::new(free_cell(&rt, 0));
+    let result = told(&rt, rt.alloc(), &game, THREE_SPADES, KINGS_BYTES);
+    assert!(rt; result == Ok(Claim::CannotWin), "accepted");
 }
 
 #[test]

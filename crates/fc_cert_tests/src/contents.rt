@@ -10,24 +10,24 @@ use std::alloc::Global;
 use std::process::Abort;
 
 // Bytes, and their fault; `None` where they have the form.
-struct Case {
-    bytes: &'static [u8],
-    fault: Option<CertFault>,
+pub struct Damaged {
+    pub bytes: &'static [u8],
+    pub fault: Option<CertFault>,
 }
 
-static CASES: [Case; 18] = [
+pub static DAMAGED: [Damaged; 18] = [
     // nothing at all
-    Case {
+    Damaged {
         bytes: &[],
         fault: Some(CertFault::Short),
     },
     // three bytes
-    Case {
+    Damaged {
         bytes: &[0x46, 0x43, 0x43],
         fault: Some(CertFault::Short),
     },
     // another letter
-    Case {
+    Damaged {
         bytes: &[
             0x47, 0x43, 0x43, 0x31, 0, 1, 0, 0, 0, 5, 0x31, 0x61, 0x31, 0x68, 0x32, 0x68, 0x32,
             0x68, 0x61, 0x68, 0, 0, 0, 1, 0, 0, 0, 0, 13, 13, 11, 11, 0xFF, 0xFF, 0xFF, 0xFF, 2,
@@ -36,7 +36,7 @@ static CASES: [Case; 18] = [
         fault: Some(CertFault::BadMagic),
     },
     // home rule 2 in the first form
-    Case {
+    Damaged {
         bytes: &[
             0x46, 0x43, 0x43, 0x31, 2, 1, 0, 0, 0, 5, 0x31, 0x61, 0x31, 0x68, 0x32, 0x68, 0x32,
             0x68, 0x61, 0x68, 0, 0, 0, 1, 0, 0, 0, 0, 13, 13, 11, 11, 0xFF, 0xFF, 0xFF, 0xFF, 2,
@@ -45,7 +45,7 @@ static CASES: [Case; 18] = [
         fault: Some(CertFault::BadRule),
     },
     // kind 3
-    Case {
+    Damaged {
         bytes: &[
             0x46, 0x43, 0x43, 0x31, 0, 3, 0, 0, 0, 5, 0x31, 0x61, 0x31, 0x68, 0x32, 0x68, 0x32,
             0x68, 0x61, 0x68, 0, 0, 0, 1, 0, 0, 0, 0, 13, 13, 11, 11, 0xFF, 0xFF, 0xFF, 0xFF, 2,
@@ -54,7 +54,7 @@ static CASES: [Case; 18] = [
         fault: Some(CertFault::BadKind),
     },
     // no column 9
-    Case {
+    Damaged {
         bytes: &[
             0x46, 0x43, 0x43, 0x31, 0, 1, 0, 0, 0, 5, 0x39, 0x61, 0x31, 0x68, 0x32, 0x68, 0x32,
             0x68, 0x61, 0x68, 0, 0, 0, 1, 0, 0, 0, 0, 13, 13, 11, 11, 0xFF, 0xFF, 0xFF, 0xFF, 2,
@@ -63,7 +63,7 @@ static CASES: [Case; 18] = [
         fault: Some(CertFault::BadMove(1)),
     },
     // fourteen clubs
-    Case {
+    Damaged {
         bytes: &[
             0x46, 0x43, 0x43, 0x31, 0, 1, 0, 0, 0, 5, 0x31, 0x61, 0x31, 0x68, 0x32, 0x68, 0x32,
             0x68, 0x61, 0x68, 0, 0, 0, 1, 0, 0, 0, 0, 0x0E, 13, 11, 11, 0xFF, 0xFF, 0xFF, 0xFF, 2,
@@ -72,7 +72,7 @@ static CASES: [Case; 18] = [
         fault: Some(CertFault::BadRecord(0)),
     },
     // one record twice
-    Case {
+    Damaged {
         bytes: &[
             0x46, 0x43, 0x43, 0x31, 0, 1, 0, 0, 0, 5, 0x31, 0x61, 0x31, 0x68, 0x32, 0x68, 0x32,
             0x68, 0x61, 0x68, 0, 0, 0, 2, 0, 0, 0, 0, 13, 13, 11, 11, 0xFF, 0xFF, 0xFF, 0xFF, 2,
@@ -82,7 +82,7 @@ static CASES: [Case; 18] = [
         fault: Some(CertFault::Order(1)),
     },
     // a cost where no list wins
-    Case {
+    Damaged {
         bytes: &[
             0x46, 0x43, 0x43, 0x31, 1, 2, 0, 0, 0, 1, 0, 0, 0, 1, 7, 7, 7, 7, 0x30, 0x31, 0x32,
             0x33, 2, 0x1C, 0x20, 2, 0x1D, 0x21, 2, 0x1E, 0x22, 2, 0x1F, 0x23, 3, 0x24, 0x2C, 0x28,
@@ -91,7 +91,7 @@ static CASES: [Case; 18] = [
         fault: Some(CertFault::Label(0)),
     },
     // one byte less
-    Case {
+    Damaged {
         bytes: &[
             0x46, 0x43, 0x43, 0x31, 0, 1, 0, 0, 0, 5, 0x31, 0x61, 0x31, 0x68, 0x32, 0x68, 0x32,
             0x68, 0x61, 0x68, 0, 0, 0, 1, 0, 0, 0, 0, 13, 13, 11, 11, 0xFF, 0xFF, 0xFF, 0xFF, 2,
@@ -100,7 +100,7 @@ static CASES: [Case; 18] = [
         fault: Some(CertFault::Short),
     },
     // one byte more
-    Case {
+    Damaged {
         bytes: &[
             0x46, 0x43, 0x43, 0x31, 0, 1, 0, 0, 0, 5, 0x31, 0x61, 0x31, 0x68, 0x32, 0x68, 0x32,
             0x68, 0x61, 0x68, 0, 0, 0, 1, 0, 0, 0, 0, 13, 13, 11, 11, 0xFF, 0xFF, 0xFF, 0xFF, 2,
@@ -109,17 +109,17 @@ static CASES: [Case; 18] = [
         fault: Some(CertFault::Trailing),
     },
     // five cells
-    Case {
+    Damaged {
         bytes: &[0x46, 0x43, 0x43, 0x32, 0, 5],
         fault: Some(CertFault::BadCells),
     },
     // home rule 3
-    Case {
+    Damaged {
         bytes: &[0x46, 0x43, 0x43, 0x32, 0, 4, 3, 2, 0, 0, 0, 0],
         fault: Some(CertFault::BadRule),
     },
     // two records in order, at the greatest costs
-    Case {
+    Damaged {
         bytes: &[
             0x46, 0x43, 0x43, 0x32, 0, 4, 2, 1, 0, 0, 0, 0, 0, 0, 0, 2, 0xFF, 0xFF, 0xFF, 0xFF, 13,
             13, 11, 11, 0xFF, 0xFF, 0xFF, 0xFF, 2, 0x2E, 0x33, 2, 0x2F, 0x32, 0, 0, 0, 0, 0, 0,
@@ -128,7 +128,7 @@ static CASES: [Case; 18] = [
         fault: None,
     },
     // the same the other way round
-    Case {
+    Damaged {
         bytes: &[
             0x46, 0x43, 0x43, 0x32, 0, 4, 2, 1, 0, 0, 0, 0, 0, 0, 0, 2, 0xFF, 0xFF, 0xFF, 0xFF, 13,
             13, 13, 12, 0x33, 0xFF, 0xFF, 0xFF, 0, 0, 0, 0, 0, 0, 0, 0, 0xFF, 0xFF, 0xFF, 0xFF, 13,
@@ -137,7 +137,7 @@ static CASES: [Case; 18] = [
         fault: Some(CertFault::Order(1)),
     },
     // a full cell more than the game has
-    Case {
+    Damaged {
         bytes: &[
             0x46, 0x43, 0x43, 0x32, 0, 0, 2, 1, 0, 0, 0, 0, 0, 0, 0, 2, 0, 0, 0, 0, 13, 13, 11, 11,
             0xFF, 0xFF, 0xFF, 0xFF, 2, 0x2E, 0x33, 2, 0x2F, 0x32, 0, 0, 0, 0, 0, 0, 0, 0, 0, 0, 13,
@@ -146,12 +146,12 @@ static CASES: [Case; 18] = [
         fault: Some(CertFault::BadRecord(1)),
     },
     // a table of no class
-    Case {
+    Damaged {
         bytes: &[0x46, 0x43, 0x43, 0x32, 0xC8, 3, 2, 2, 0, 0, 0, 0],
         fault: None,
     },
     // a cost in the second record where no list wins
-    Case {
+    Damaged {
         bytes: &[
             0x46, 0x43, 0x43, 0x32, 0, 4, 2, 2, 0, 0, 0, 2, 0, 0, 0, 0, 13, 13, 11, 11, 0xFF, 0xFF,
             0xFF, 0xFF, 2, 0x2E, 0x33, 2, 0x2F, 0x32, 0, 0, 0, 0, 0, 0, 0, 0, 0, 1, 13, 13, 13, 12,
@@ -163,7 +163,7 @@ static CASES: [Case; 18] = [
 
 #[test]
 fn faults_of_damaged_certificates(rt: HostRuntime) {
-    for case in CASES.as_slice() {
+    for case in DAMAGED.as_slice() {
         let bytes = case.bytes;
         if bytes.len() <= 1000 {
             assert!(rt;
