@@ -218,6 +218,15 @@ def read(path):
         return it.read()
 
 
+def module_of_proof(crate, method):
+    """The module that a method's proof stands in: that of its type, which may be declared in another file than the method."""
+    proofs = f"{crate.folder}/proofs"
+    for folder, _, _ in os.walk(proofs):
+        if folder.endswith(f"/{'/'.join(method)}"):
+            return os.path.relpath(folder, proofs).split("/")[: -len(method)]
+    return None
+
+
 def add_copy(crate, texts, function, changes, number):
     """Adds a copy of a function to the texts, with its proof and these changes of its own text. Returns its name."""
     path = function.path
@@ -236,6 +245,8 @@ def add_copy(crate, texts, function, changes, number):
         new_owner = owner
     # (a method's name has no module, a function's has)
     module = [] if function.name.startswith(f"{function.module}::") else function.module.split("::") if function.module else []
+    if module:
+        module = module_of_proof(crate, [*owner, last]) or module
     was, now = [*module, *owner, last], [*module, *new_owner, f"{last}_copy{number}"]
     at = f"{crate.folder}/proofs/{'/'.join(was)}"
     own = rf"(Rattle\.{crate.name}\.(?:proofs|specs\.contracts)\.){re.escape('.'.join(was))}(?![\w-])"

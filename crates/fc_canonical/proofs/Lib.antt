@@ -1,3 +1,4 @@
+pub mod BackLemmas
 pub mod CheckLemmas
 pub mod ClassLemmas
 pub mod DistinctLemmas

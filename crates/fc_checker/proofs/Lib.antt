@@ -1,4 +1,3 @@
-pub mod BackLemmas
 pub mod ClosedLemmas
 pub mod FaultLemmas
 pub mod LawLemmas

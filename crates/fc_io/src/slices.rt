@@ -64,6 +64,6 @@ impl Source for FromSlice<'_> {
     }
 
     fn likely_len(&self) -> usize {
-        self.rest.len()
+        self.left().len()
     }
 }

@@ -1,5 +1,4 @@
 mod AnswerLemmas
-mod BackLemmas
 mod ChildLemmas
 mod NeedLemmas
 mod OutcomeLemmas

@@ -13,7 +13,7 @@ use Rattle.fc_bound.proofs.HeldLemmas.{step_moves, bound_small}
 use Rattle.fc_bound.proofs.MovedLemmas.{told_card}
 use Rattle.fc_best_first.specs.declared.spaces.Child.{Child}
 use Rattle.fc_search.specs.Children.{IsSettled, IsChildOf}
-use Rattle.fc_search.proofs.BackLemmas.{taken_back}
+use Rattle.fc_canonical.proofs.BackLemmas.{taken_back}
 
 byte_is : (t : Bool) → bool_byte t ≡ cond t 1 0
 byte_is true = refl

@@ -12,7 +12,7 @@ use Rattle.fc_moves.specs.Step.{Step}
 use Rattle.fc_home.specs.HomeRule.{GoesHome}
 use Rattle.fc_home.specs.Settles.{NoneGoesHome, Settles}
 use Rattle.fc_search.specs.Children.{OthersStay}
-use Rattle.fc_search.proofs.BackLemmas.{taken_back}
+use Rattle.fc_canonical.proofs.BackLemmas.{taken_back}
 
 -- two places are one or two
 places : (p q : Place) → (p ≡ q) ⊎ (p ≢ q)

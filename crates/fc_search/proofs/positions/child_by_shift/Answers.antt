@@ -1,6 +1,6 @@
 use Rattle.std.proofs.Common.{rules, ◌≡◌, ◌≢◌, true, ◌∙◌, arith}
 use Rattle.fc_cards.specs.declared.places.Place.TheVariants.{Home}
-use Rattle.fc_search.proofs.BackLemmas.{taken_back}
+use Rattle.fc_canonical.proofs.BackLemmas.{taken_back}
 use Rattle.fc_search.proofs.ShiftLemmas.{shifts, child_of_step}
 use Rattle.fc_search.proofs.StayLemmas.{others_stay}
 use Rattle.fc_search.proofs.positions.child_by_shift.Goals as goal
