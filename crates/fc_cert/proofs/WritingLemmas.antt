@@ -99,16 +99,6 @@ module _ {X : Type 0} (bytes_of_one : X → List ℕ) where
       ∙ flat_map-append bytes_of_one (take i xs) (x ∷ [])
       ∙ ap (λ l. flat_map bytes_of_one (take i xs) ++ l) (append-nil (bytes_of_one x))
 
-  -- the elements so far are written, and one more
-  pub whole_next : {a b c : SinkState} {piece : List ℕ} (head : List ℕ) (xs : List X) (i : ℕ) (x d : X) → i < length xs
-      → x ≡ get_or xs i d → piece ≡ bytes_of_one x → TakesWhole a b (head ++ flat_map bytes_of_one (take i xs))
-      → TakesWhole b c piece → TakesWhole a c (head ++ flat_map bytes_of_one (take (i + 1) xs))
-  whole_next {a} {b} {c} {piece} head xs i x d within here same so_far next =
-      let front : List ℕ = flat_map bytes_of_one (take i xs) in
-      subst (TakesWhole a c)
-      (append_assoc head front (bytes_of_one x) ∙ ap (λ l. head ++ l) (sym (one_more xs i x d within here)))
-      (whole_both so_far (subst (TakesWhole b c) same next))
-
   -- the elements so far are written, and the sink fails at one more
   pub cut_next : {a b c : SinkState} {piece : List ℕ} (head : List ℕ) (xs : List X) (i : ℕ) (x d : X) → i < length xs
       → x ≡ get_or xs i d → piece ≡ bytes_of_one x → TakesWhole a b (head ++ flat_map bytes_of_one (take i xs))
