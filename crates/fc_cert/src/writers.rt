@@ -20,7 +20,7 @@ use fc_moves::{Game, Move, move_text};
 /// The most bytes of a record: a cost and the longest key.
 const LONGEST_RECORD: usize = 72;
 
-/// How many bytes are gathered, at most, before they are written.
+/// The most bytes of records that are written at once.
 const PIECE: usize = 4096;
 
 impl From<Failed> for CertFault {
@@ -33,7 +33,7 @@ impl From<Failed> for CertFault {
     }
 }
 
-/// Writes the certificate of an answer for a game, field by field. No memory is asked for.
+/// Writes the certificate of an answer for a game, its records gathered in pieces. No memory is asked for.
 ///
 /// # Errors
 /// `NotCertified` for the answer of a search that gave up, and nothing is written; `Write` where the sink has failed, of

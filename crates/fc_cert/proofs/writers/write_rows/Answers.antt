@@ -2,7 +2,7 @@ use Rattle.std.proofs.Common.{ℕ, ◌≤◌, ◌∙◌, List, length, sym, ap, 
 use Rattle.std.specs.List.{flat_map}
 use Rattle.std.proofs.lemmas.Option.{get_or_from_slice_get, slice_get_within}
 use Rattle.fc_cert.specs.Content.{four_bytes, record_bytes}
-use Rattle.fc_cert.proofs.WritingLemmas.{whole_piece, cut_piece, cut_told, cut_at_head, gathers_on, gathers_end, gathers_next, gathers_cut_next, row_read}
+use Rattle.fc_cert.proofs.WritingLemmas.{cut_piece, cut_told, cut_at_head, gathers_on, gathers_end, gathers_next, gathers_cut_next, row_read}
 use Rattle.fc_cert.proofs.writers.write_rows.Goals as goal
 
 pub returns-in_err-write_all : goal.returns-in_err-write_all
