@@ -1,8 +1,8 @@
 -- Bytes that are written piece by piece.
-use Rattle.std.proofs.Common.{◌≡◌, ℕ, ◌+◌, ◌<◌, Bool, true, false, List, [], ◌∷◌, ◌++◌, length, get_or, take, drop, Option, refl, sym, ◌∙◌, ap, subst, append_assoc, append-nil, take-append-drop}
-use Rattle.std.specs.Prelude.{Result, Ok, Err, IsTrue, IsErr, IsErrAnd, Some, slice_get}
+use Rattle.std.proofs.Common.{◌≡◌, ℕ, ◌+◌, ◌<◌, ◌≤◌, Bool, true, false, List, [], ◌∷◌, ◌++◌, length, get_or, take, drop, Option, refl, sym, ◌∙◌, ap, subst, append_assoc, append-nil, take-append-drop}
+use Rattle.std.specs.Prelude.{Result, Ok, Err, OnOk, IsTrue, IsErr, IsErrAnd, ◌↔◌, Some, slice_get}
 use Rattle.std.specs.List.{flat_map}
-use Rattle.std.proofs.lemmas.List.{take_more}
+use Rattle.std.proofs.lemmas.List.{take_more, take_all}
 use Rattle.std.proofs.lemmas.List.Concat.{flat_map-append}
 use Rattle.std.proofs.lemmas.Option.{get_or_from_slice_get}
 use Rattle.fc_io.specs.declared.devices.Failed.{Failed}
@@ -20,7 +20,7 @@ use Rattle.fc_cert.specs.declared.faults.CertFault.{CertFault}
 use Rattle.fc_cert.specs.declared.faults.CertFault.TheVariants.{Write}
 use Rattle.fc_cert.specs.Claim.{IsWrittenAs}
 use Rattle.fc_cert.specs.Content.{Content, bytes_of}
-use Rattle.fc_cert.specs.Writing.{SinkState, TakesWhole, IsCutShort, Writes, WritesAnswer}
+use Rattle.fc_cert.specs.Writing.{SinkState, TakesWhole, IsCutShort, Gathers, Writes, WritesAnswer}
 
 -- what `write_all` says of a piece that was written
 pub whole_piece : {old new : Option (List ℕ)} {was is : Bool} {piece : List ℕ} → Takes old new piece → (IsTrue is → false ≡ true)
@@ -76,6 +76,20 @@ pub cut_at_head : {a b : SinkState} {piece : List ℕ} (head rest : List ℕ) �
     → IsCutShort a b (head ++ rest)
 cut_at_head {a} {b} {piece} head rest same cut = cut_before rest (subst (IsCutShort a b) same cut)
 
+-- a front of what was gathered is taken
+pub gathers_on : {a b c : SinkState} {gathered rest bytes : List ℕ} → Gathers a b gathered bytes → Gathers b c rest gathered
+    → Gathers a c rest bytes
+gathers_on {a} {b} {c} {gathered} {rest} {bytes} first second = record {
+  front = first.front ++ second.front;
+  parts = first.parts ∙ ap (λ l. first.front ++ l) second.parts ∙ sym (append_assoc first.front second.front rest);
+  whole = whole_both first.whole second.whole;
+}
+
+-- the sink fails at what was gathered
+pub gathers_cut : {a b c : SinkState} {gathered bytes : List ℕ} → Gathers a b gathered bytes → IsCutShort b c gathered
+    → IsCutShort a c bytes
+gathers_cut {a} {b} {c} {gathered} {bytes} first cut = subst (IsCutShort a c) (sym first.parts) (cut_later first.whole cut)
+
 module _ {X : Type 0} (bytes_of_one : X → List ℕ) where
   -- the bytes of one element more
   one_more : (xs : List X) (i : ℕ) (x d : X) → i < length xs → x ≡ get_or xs i d
@@ -84,16 +98,6 @@ module _ {X : Type 0} (bytes_of_one : X → List ℕ) where
       ap (flat_map bytes_of_one) (take_more xs i d within ∙ ap (λ y. take i xs ++ y ∷ []) (sym here))
       ∙ flat_map-append bytes_of_one (take i xs) (x ∷ [])
       ∙ ap (λ l. flat_map bytes_of_one (take i xs) ++ l) (append-nil (bytes_of_one x))
-
-  -- the elements so far are written, and one more
-  pub whole_next : {a b c : SinkState} {piece : List ℕ} (head : List ℕ) (xs : List X) (i : ℕ) (x d : X) → i < length xs
-      → x ≡ get_or xs i d → piece ≡ bytes_of_one x → TakesWhole a b (head ++ flat_map bytes_of_one (take i xs))
-      → TakesWhole b c piece → TakesWhole a c (head ++ flat_map bytes_of_one (take (i + 1) xs))
-  whole_next {a} {b} {c} {piece} head xs i x d within here same so_far next =
-      let front : List ℕ = flat_map bytes_of_one (take i xs) in
-      subst (TakesWhole a c)
-      (append_assoc head front (bytes_of_one x) ∙ ap (λ l. head ++ l) (sym (one_more xs i x d within here)))
-      (whole_both so_far (subst (TakesWhole b c) same next))
 
   -- the elements so far are written, and the sink fails at one more
   pub cut_next : {a b c : SinkState} {piece : List ℕ} (head : List ℕ) (xs : List X) (i : ℕ) (x d : X) → i < length xs
@@ -109,6 +113,50 @@ module _ {X : Type 0} (bytes_of_one : X → List ℕ) where
       subst (IsCutShort a c)
       (append_assoc head front (bytes_of_one x ++ flat_map bytes_of_one later) ∙ ap (λ l. head ++ l) whole)
       (cut_later so_far (cut_before (flat_map bytes_of_one later) (subst (IsCutShort b c) same cut)))
+
+  -- the bytes of one element more are gathered
+  pub gathers_next : {a b : SinkState} {gathered more : List ℕ} (head : List ℕ) (xs : List X) (i : ℕ) (x d : X) → i < length xs
+      → x ≡ get_or xs i d → more ≡ gathered ++ bytes_of_one x → Gathers a b gathered (head ++ flat_map bytes_of_one (take i xs))
+      → Gathers a b more (head ++ flat_map bytes_of_one (take (i + 1) xs))
+  gathers_next {a} {b} {gathered} {more} head xs i x d within here pushed so_far =
+      let front : List ℕ = flat_map bytes_of_one (take i xs) in
+      record {
+        front = so_far.front;
+        parts =
+            ap (λ l. head ++ l) (one_more xs i x d within here) ∙ sym (append_assoc head front (bytes_of_one x))
+            ∙ ap (λ l. l ++ bytes_of_one x) so_far.parts ∙ append_assoc so_far.front gathered (bytes_of_one x)
+            ∙ ap (λ l. so_far.front ++ l) (sym pushed);
+        whole = so_far.whole;
+      }
+
+  -- the sink fails before all the elements are gathered
+  pub gathers_cut_next : {a b c : SinkState} {gathered : List ℕ} (head : List ℕ) (xs : List X) (i : ℕ)
+      → Gathers a b gathered (head ++ flat_map bytes_of_one (take i xs)) → IsCutShort b c gathered
+      → IsCutShort a c (head ++ flat_map bytes_of_one xs)
+  gathers_cut_next {a} {b} {c} {gathered} head xs i so_far cut =
+      let front : List ℕ = flat_map bytes_of_one (take i xs) in
+      let later : List ℕ = flat_map bytes_of_one (drop i xs) in
+      subst (IsCutShort a c)
+      (append_assoc head front later
+      ∙ ap (λ l. head ++ l) (sym (flat_map-append bytes_of_one (take i xs) (drop i xs)) ∙ ap (flat_map bytes_of_one) (take-append-drop i xs)))
+      (cut_before later (gathers_cut so_far cut))
+
+  -- all the elements are gathered, and what `write_all` says of what was gathered becomes of all
+  pub gathers_end : {a b : SinkState} {held : Option (List ℕ)} {is : Bool} {gathered piece : List ℕ} (head : List ℕ) (xs : List X)
+      (i : ℕ) (told : Result (Unit {0}) Failed) → length xs ≤ i → piece ≡ gathered
+      → Gathers a b gathered (head ++ flat_map bytes_of_one (take i xs)) → TakesFront b.held held piece
+      → OnOk told (Takes b.held held piece) → (IsErr told ↔ IsTrue is) → (IsTrue b.has_failed → Stays b.held held)
+      → Writes a (record { held = held; has_failed = is }) (head ++ flat_map bytes_of_one xs) told
+  gathers_end {a} {b} {held} {is} {gathered} {piece} head xs i (Ok done) past same so_far front taken fault unmoved =
+      let all : List ℕ = head ++ flat_map bytes_of_one xs in
+      let c : SinkState = record { held = held; has_failed = is } in
+      let parts : all ≡ so_far.front ++ gathered =
+      ap (λ l. head ++ flat_map bytes_of_one l) (sym (take_all i xs past)) ∙ so_far.parts in
+      let next : TakesWhole b c piece = whole_piece taken fault.1 (λ failed. absurd (let e = so_far.whole.is_sound in cc)) in
+      subst (TakesWhole a c) (sym parts) (whole_both so_far.whole (subst (TakesWhole b c) same next))
+  gathers_end {a} {b} {held} {is} {gathered} {piece} head xs i (Err failed) past same so_far front taken fault unmoved =
+      let c : SinkState = record { held = held; has_failed = is } in
+      gathers_cut_next head xs i so_far (subst (IsCutShort b c) same (cut_piece front fault.0 unmoved))
 
 -- a row with this key and this cost, where each was read of the row with this number
 pub row_read : (rows : List (List ℕ × ℕ)) (i : ℕ) (key other : List ℕ) (cost told : ℕ) → slice_get rows i ≡ Some (key, told)

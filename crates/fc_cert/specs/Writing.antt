@@ -1,5 +1,5 @@
 -- What becomes of the sink that a certificate is written to.
-use Rattle.std.specs.Prelude.{◌≡◌, ℕ, Bool, false, List, Option, Result, Ok, Err, IsTrue}
+use Rattle.std.specs.Prelude.{◌≡◌, ℕ, Bool, false, List, ◌++◌, Option, Result, Ok, Err, IsTrue}
 use Rattle.fc_io.specs.declared.devices.Failed.{Failed}
 use Rattle.fc_io.specs.Moves.{Takes, TakesFront, Stays}
 use Rattle.fc_moves.specs.GameRules.{GameRules}
@@ -26,6 +26,12 @@ pub record IsCutShort (old new : SinkState) (bytes : List ℕ) : Type 0 where
   pub front : TakesFront old.held new.held bytes
   pub failed : IsTrue new.has_failed
   pub unmoved : IsTrue old.has_failed → Stays old.held new.held
+
+-- the sink took a front of these bytes, and the others are gathered, still to be written
+pub record Gathers (old new : SinkState) (gathered bytes : List ℕ) : Type 0 where
+  pub front : List ℕ
+  pub parts : bytes ≡ front ++ gathered
+  pub whole : TakesWhole old new front
 
 -- bytes were written, or the sink failed on the way
 abbrev pub Writes : SinkState → SinkState → List ℕ → Result (Unit {0}) Failed → Type 0

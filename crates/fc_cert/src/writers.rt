@@ -1,12 +1,13 @@
 //! How certificates are written.
 
-ghost use Rattle.std.specs.Prelude.{◌≡◌, ◌<◌, ◌^◌, length, All};
+ghost use Rattle.std.specs.Prelude.{◌≡◌, ◌+◌, ◌<◌, ◌≤◌, ◌^◌, ◌++◌, false, length, All, OnOk, OnErr};
+ghost use Rattle.arrayvec.specs.ArrayVec.{array_vec_len};
 ghost use Rattle.fc_moves.specs.MoveText.{HasText};
 ghost use Rattle.fc_answers.specs.Verdict.{CanBeWritten, verdict_of};
 ghost use Rattle.fc_cert.specs.declared.contents.Form.TheVariants.{Second};
 ghost use Rattle.fc_cert.specs.declared.contents.Kind.TheVariants as kind;
 ghost use Rattle.fc_cert.specs.Content.{head_bytes, moves_bytes, record_bytes, rows_bytes};
-ghost use Rattle.fc_cert.specs.Writing.{Writes, WritesAnswer};
+ghost use Rattle.fc_cert.specs.Writing.{Gathers, IsCutShort, Writes, WritesAnswer};
 
 use crate::contents::Kind;
 use crate::faults::CertFault;
@@ -19,6 +20,9 @@ use fc_moves::{Game, Move, move_text};
 /// The most bytes of a record: a cost and the longest key.
 const LONGEST_RECORD: usize = 72;
 
+/// The most bytes of records that are written at once.
+const PIECE: usize = 4096;
+
 impl From<Failed> for CertFault {
     ghost use Rattle.fc_cert.specs.declared.faults.CertFault.TheVariants.{Write};
 
@@ -29,7 +33,7 @@ impl From<Failed> for CertFault {
     }
 }
 
-/// Writes the certificate of an answer for a game, field by field. No memory is asked for.
+/// Writes the certificate of an answer for a game, its records gathered in pieces. No memory is asked for.
 ///
 /// # Errors
 /// `NotCertified` for the answer of a search that gave up, and nothing is written; `Write` where the sink has failed, of
@@ -114,18 +118,40 @@ fn write_rows<K: Sink>(table: &Table, sink: &mut K) -> Result<(), Failed>
         (rows_bytes table.now.rows) result }
 {
     write_all(sink, &(table.len() as u32).to_be_bytes())?;
+    let mut piece = ArrayVec::new();
     for i in 0..table.len() {
-        write_all(sink, record_of(table.cost(i), table.key(i)).as_slice())?;
+        make_room(&mut piece, sink)?;
+        push_record(&mut piece, table.cost(i), table.key(i));
     }
+    write_all(sink, piece.as_slice())
+}
+
+// Writes the piece and empties it, unless there is room in it for any record.
+fn make_room<K: Sink>(piece: &mut ArrayVec<u8, PIECE>, sink: &mut K) -> Result<(), Failed>
+    requires sound { K.has_failed sink.old ≡ false }
+    ensures room { OnOk result (array_vec_len piece.new + LONGEST_RECORD ≤ PIECE) }
+    ensures moved { OnOk result (Gathers
+        record { held = K.held sink.old; has_failed = K.has_failed sink.old }
+        record { held = K.held sink.new; has_failed = K.has_failed sink.new }
+        piece.new.items piece.old.items) }
+    ensures cut { OnErr result (IsCutShort
+        record { held = K.held sink.old; has_failed = K.has_failed sink.old }
+        record { held = K.held sink.new; has_failed = K.has_failed sink.new }
+        piece.old.items) }
+{
+    if piece.remaining_capacity() >= LONGEST_RECORD {
+        return Ok(());
+    }
+    write_all(sink, piece.as_slice())?;
+    piece.clear();
     Ok(())
 }
 
-// The bytes of a class's record.
-fn record_of(cost: u32, key: &Key) -> ArrayVec<u8, LONGEST_RECORD>
-    ensures value { result.items ≡ record_bytes (key.now.items, cost) }
+// Adds the bytes of a class's record to the piece.
+fn push_record(piece: &mut ArrayVec<u8, PIECE>, cost: u32, key: &Key)
+    requires room { array_vec_len piece.old + LONGEST_RECORD ≤ PIECE }
+    ensures value { piece.new.items ≡ piece.old.items ++ record_bytes (key.now.items, cost) }
 {
-    let mut record = ArrayVec::new();
-    let _ = record.try_extend_from_slice(&cost.to_be_bytes());
-    let _ = record.try_extend_from_slice(key.as_slice());
-    record
+    let _ = piece.try_extend_from_slice(&cost.to_be_bytes());
+    let _ = piece.try_extend_from_slice(key.as_slice());
 }
