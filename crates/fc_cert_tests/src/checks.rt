@@ -16,8 +16,8 @@ use std::process::Abort;
 
 // The king of three spades may stand in each of seven columns, which is one class, and nothing else may move.
 const KINGS_BYTES: &[u8] = &[
-    0x46, 0x43, 0x43, 0x32, 2, 0, 1, 2, 0, 0, 0, 1, 0, 0, 0, 0, 13, 13, 13, 10, 0xFF, 0xFF, 0xFF, 0xFF, 2,
-    0x2B, 0x2F, 1, 0x33, 0, 0, 0, 0, 0, 0,
+    0x46, 0x43, 0x43, 0x32, 2, 0, 1, 2, 0, 0, 0, 1, 0, 0, 0, 0, 13, 13, 13, 10, 0xFF, 0xFF, 0xFF,
+    0xFF, 2, 0x2B, 0x2F, 1, 0x33, 0, 0, 0, 0, 0, 0,
 ];
 
 // A board of FreeCell with four cells, bytes, and what the checker tells of them.
@@ -131,7 +131,9 @@ pub static CASES: [Case; 25] = [
         board: TWO_KINGS,
         bytes: &[
             0x46, 0x43, 0x43, 0x31, 0, 1, 0, 0, 0, 5, 0x31, 0x61, 0x31, 0x68, 0x32, 0x68, 0x32,
-            0x68, 0x61, 0x68, 0, 0, 0, 2, 0, 0, 0, 0, 13, 13, 11, 11, 0xFF, 0xFF, 0xFF, 0xFF, 2, 0x2E, 0x33, 2, 0x2F, 0x32, 0, 0, 0, 0, 0, 0, 0xFF, 0xFF, 0xFF, 0xFF, 13, 13, 11, 12, 0xFF, 0xFF, 0xFF, 0xFF, 2, 0x2E, 0x33, 1, 0x32, 0, 0, 0, 0, 0, 0,
+            0x68, 0x61, 0x68, 0, 0, 0, 2, 0, 0, 0, 0, 13, 13, 11, 11, 0xFF, 0xFF, 0xFF, 0xFF, 2,
+            0x2E, 0x33, 2, 0x2F, 0x32, 0, 0, 0, 0, 0, 0, 0xFF, 0xFF, 0xFF, 0xFF, 13, 13, 11, 12,
+            0xFF, 0xFF, 0xFF, 0xFF, 2, 0x2E, 0x33, 1, 0x32, 0, 0, 0, 0, 0, 0,
         ],
         told: Ok(Claim::Shortest(5)),
     },
@@ -140,7 +142,9 @@ pub static CASES: [Case; 25] = [
         board: TWO_KINGS,
         bytes: &[
             0x46, 0x43, 0x43, 0x31, 0, 1, 0, 0, 0, 5, 0x31, 0x61, 0x31, 0x68, 0x32, 0x68, 0x32,
-            0x68, 0x61, 0x68, 0, 0, 0, 2, 0xFF, 0xFF, 0xFF, 0xFF, 13, 13, 11, 12, 0xFF, 0xFF, 0xFF, 0xFF, 2, 0x2E, 0x33, 1, 0x32, 0, 0, 0, 0, 0, 0, 0, 0, 0, 0, 13, 13, 11, 11, 0xFF, 0xFF, 0xFF, 0xFF, 2, 0x2E, 0x33, 2, 0x2F, 0x32, 0, 0, 0, 0, 0, 0,
+            0x68, 0x61, 0x68, 0, 0, 0, 2, 0xFF, 0xFF, 0xFF, 0xFF, 13, 13, 11, 12, 0xFF, 0xFF, 0xFF,
+            0xFF, 2, 0x2E, 0x33, 1, 0x32, 0, 0, 0, 0, 0, 0, 0, 0, 0, 0, 13, 13, 11, 11, 0xFF, 0xFF,
+            0xFF, 0xFF, 2, 0x2E, 0x33, 2, 0x2F, 0x32, 0, 0, 0, 0, 0, 0,
         ],
         told: Err(CheckFault::Form(CertFault::Order(1))),
     },
@@ -149,7 +153,9 @@ pub static CASES: [Case; 25] = [
         board: TWO_KINGS,
         bytes: &[
             0x46, 0x43, 0x43, 0x31, 0, 1, 0, 0, 0, 5, 0x31, 0x61, 0x31, 0x68, 0x32, 0x68, 0x32,
-            0x68, 0x61, 0x68, 0, 0, 0, 2, 0, 0, 0, 0, 13, 13, 11, 11, 0xFF, 0xFF, 0xFF, 0xFF, 2, 0x2E, 0x33, 2, 0x2F, 0x32, 0, 0, 0, 0, 0, 0, 0, 0, 0, 0, 13, 13, 11, 12, 0xFF, 0xFF, 0xFF, 0xFF, 2, 0x2E, 0x33, 1, 0x32, 0, 0, 0, 0, 0, 0,
+            0x68, 0x61, 0x68, 0, 0, 0, 2, 0, 0, 0, 0, 13, 13, 11, 11, 0xFF, 0xFF, 0xFF, 0xFF, 2,
+            0x2E, 0x33, 2, 0x2F, 0x32, 0, 0, 0, 0, 0, 0, 0, 0, 0, 0, 13, 13, 11, 12, 0xFF, 0xFF,
+            0xFF, 0xFF, 2, 0x2E, 0x33, 1, 0x32, 0, 0, 0, 0, 0, 0,
         ],
         told: Err(CheckFault::Open(1)),
     },
@@ -158,7 +164,9 @@ pub static CASES: [Case; 25] = [
         board: TWO_KINGS,
         bytes: &[
             0x46, 0x43, 0x43, 0x31, 0, 1, 0, 0, 0, 5, 0x31, 0x61, 0x31, 0x68, 0x32, 0x68, 0x32,
-            0x68, 0x61, 0x68, 0, 0, 0, 2, 0xFF, 0xFF, 0xFF, 0xFF, 13, 13, 11, 11, 0xFF, 0xFF, 0xFF, 0xFF, 2, 0x2E, 0x33, 2, 0x2F, 0x32, 0, 0, 0, 0, 0, 0, 0xFF, 0xFF, 0xFF, 0xFF, 13, 13, 11, 12, 0xFF, 0xFF, 0xFF, 0xFF, 2, 0x2E, 0x33, 1, 0x32, 0, 0, 0, 0, 0, 0,
+            0x68, 0x61, 0x68, 0, 0, 0, 2, 0xFF, 0xFF, 0xFF, 0xFF, 13, 13, 11, 11, 0xFF, 0xFF, 0xFF,
+            0xFF, 2, 0x2E, 0x33, 2, 0x2F, 0x32, 0, 0, 0, 0, 0, 0, 0xFF, 0xFF, 0xFF, 0xFF, 13, 13,
+            11, 12, 0xFF, 0xFF, 0xFF, 0xFF, 2, 0x2E, 0x33, 1, 0x32, 0, 0, 0, 0, 0, 0,
         ],
         told: Err(CheckFault::StartOpen),
     },
@@ -292,7 +300,11 @@ fn what_has_no_form_is_refused(rt: HostRuntime) {
         let wanted = damaged.fault.map(|fault| CheckFault::Form(fault));
         if bytes.len() <= 1000 {
             let fault = told(&rt, rt.alloc(), &game, TWO_KINGS, bytes).err();
-            assert!(rt; wanted.is_none() || fault == wanted, "{} bytes", bytes.len());
+            assert!(rt;
+                wanted.is_none() || fault == wanted,
+                "{} bytes",
+                bytes.len()
+            );
         }
     }
 }
@@ -374,13 +386,19 @@ fn a_game_of_ones_own_is_certified(rt: HostRuntime) {
     let start = board(&rt, &AnySuit, TWO_KINGS);
     let answer = sure(&rt, solve(alloc, &AnySuit, 2, &start, 1000));
     let mut out = ToArray::<500>::new();
-    assert!(rt; write_answer(&AnySuit, &answer, &mut out).is_ok(), "written");
-    assert!(rt; check(alloc, &AnySuit, &start, out.held()).is_ok(), "its own game");
+    assert!(rt;
+        write_answer(&AnySuit, &answer, &mut out).is_ok(),
+        "written"
+    );
+    assert!(rt;
+        check(alloc, &AnySuit, &start, out.held()).is_ok(),
+        "its own game"
+    );
     let other = Err(CheckFault::OtherGame);
     let bakers = BakersGame::new(4).expect(&rt, "four cells");
-    assert!(rt; check(alloc, &free_cell(&rt, 4), &start, out.held()) == other);
-    assert!(rt; check(alloc, &bakers, &start, out.held()) == other);
-    assert!(rt; check(alloc, &Kings::new(AnySuit), &start, out.held()) == other);
+    assert!(rt; told(&rt, alloc, &free_cell(&rt, 4), TWO_KINGS, out.held()) == other);
+    assert!(rt; told(&rt, alloc, &bakers, TWO_KINGS, out.held()) == other);
+    assert!(rt; told(&rt, alloc, &Kings::new(AnySuit), TWO_KINGS, out.held()) == other);
 }
 
 #[test]

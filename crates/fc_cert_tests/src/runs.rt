@@ -18,9 +18,10 @@ const ONE_KING_BYTES: &[u8] = &[
 
 // A certificate of two kings over queens, in the second form: these bytes, five moves, and the record of the start.
 const HEAD: &[u8] = &[0x46, 0x43, 0x43, 0x32, 0, 4, 1, 1, 0, 0, 0, 5];
+
 const RECORD: &[u8] = &[
-    0, 0, 0, 1, 0, 0, 0, 0, 13, 13, 11, 11, 0xFF, 0xFF, 0xFF, 0xFF, 2, 0x2E, 0x33, 2, 0x2F, 0x32, 0,
-    0, 0, 0, 0, 0,
+    0, 0, 0, 1, 0, 0, 0, 0, 13, 13, 11, 11, 0xFF, 0xFF, 0xFF, 0xFF, 2, 0x2E, 0x33, 2, 0x2F, 0x32,
+    0, 0, 0, 0, 0, 0,
 ];
 
 // What is printed of a claim.
@@ -94,7 +95,13 @@ fn tells_which_device_failed(rt: HostRuntime) {
     }
     for count in 0..ACCEPTED.len() {
         let unwritten = Err(ProgramFault::Write(Output::Answer));
-        check_over(&rt, alloc, (1000, 1000, count as u32), unwritten, &ACCEPTED[..count]);
+        check_over(
+            &rt,
+            alloc,
+            (1000, 1000, count as u32),
+            unwritten,
+            &ACCEPTED[..count],
+        );
     }
 }
 
@@ -103,8 +110,17 @@ fn refuses_a_board_before_its_certificate(rt: HostRuntime) {
     let mut source = FromSlice::new(b"KX");
     let mut cert = Failing::new(FromSlice::new(LOCKED_BYTES), 0);
     let mut out = ToArray::<40>::new();
-    let result = run_check(rt.alloc(), &free_cell(&rt, 4), &mut source, &mut cert, &mut out);
-    assert!(rt; result == Err(ProgramFault::Board(BoardFault::BadCard(1))), "another answer");
+    let result = run_check(
+        rt.alloc(),
+        &free_cell(&rt, 4),
+        &mut source,
+        &mut cert,
+        &mut out,
+    );
+    assert!(rt;
+        result == Err(ProgramFault::Board(BoardFault::BadCard(1))),
+        "another answer"
+    );
     assert!(rt; cert.device.left() == LOCKED_BYTES, "bytes were read");
 }
 
@@ -122,7 +138,15 @@ fn solved(rt: &impl Abort, alloc: Global, text: &str, budget: u32, calls: (u32, 
     let mut cert = Failing::new(ToArray::<500>::new(), calls.0);
     let mut out = Failing::new(ToArray::<200>::new(), calls.1);
     let game = free_cell(rt, 4);
-    let result = run_solve(alloc, &game, 1, &mut source, budget, &mut out, Some(&mut cert));
+    let result = run_solve(
+        alloc,
+        &game,
+        1,
+        &mut source,
+        budget,
+        &mut out,
+        Some(&mut cert),
+    );
     Left { result, cert, out }
 }
 
@@ -130,14 +154,26 @@ fn solved(rt: &impl Abort, alloc: Global, text: &str, budget: u32, calls: (u32, 
 fn writes_a_certificate_and_the_answer(rt: HostRuntime) {
     let left = solved(&rt, rt.alloc(), ONE_KING, 100, (1000, 1000));
     assert!(rt; left.result == Ok(0), "solved");
-    assert!(rt; left.cert.device.held() == ONE_KING_BYTES, "the certificate");
-    assert!(rt; left.out.device.held() == b"shortest 1\nah\n".as_slice(), "the answer");
+    assert!(rt;
+        left.cert.device.held() == ONE_KING_BYTES,
+        "the certificate"
+    );
+    assert!(rt;
+        left.out.device.held() == b"shortest 1\nah\n".as_slice(),
+        "the answer"
+    );
     let left = solved(&rt, rt.alloc(), LOCKED, 1, (1000, 1000));
     assert!(rt; left.result == Ok(1), "a locked board");
     let bytes = left.cert.device.held();
-    assert!(rt; bytes.starts_with(&[0x46, 0x43, 0x43, 0x32, 0, 4, 1, 2]), "its head");
+    assert!(rt;
+        bytes.starts_with(&[0x46, 0x43, 0x43, 0x32, 0, 4, 1, 2]),
+        "its head"
+    );
     assert!(rt; bytes.get(8..) == LOCKED_BYTES.get(6..), "its record");
-    assert!(rt; left.out.device.held() == b"can't be won\n".as_slice(), "its answer");
+    assert!(rt;
+        left.out.device.held() == b"can't be won\n".as_slice(),
+        "its answer"
+    );
 }
 
 // Which five moves are found is left open.
@@ -147,7 +183,10 @@ fn writes_the_moves_that_it_prints(rt: HostRuntime) {
     let bytes = left.cert.device.held();
     let text = left.out.device.held();
     assert!(rt; bytes.starts_with(HEAD) && bytes.ends_with(RECORD) && bytes.len() == 50);
-    assert!(rt; text.starts_with(b"shortest 5\n") && text.len() == 26, "the answer");
+    assert!(rt;
+        text.starts_with(b"shortest 5\n") && text.len() == 26,
+        "the answer"
+    );
     for step in 0..5usize {
         let listed = bytes.get(12 + 2 * step..14 + 2 * step);
         assert!(rt; listed.is_some() && listed == text.get(11 + 3 * step..13 + 3 * step));
@@ -171,14 +210,26 @@ fn giving_up_has_no_certificate(rt: HostRuntime) {
 fn tells_failing_sinks(rt: HostRuntime) {
     for count in 0..ONE_KING_BYTES.len() {
         let left = solved(&rt, rt.alloc(), ONE_KING, 100, (count as u32, 1000));
-        assert!(rt; left.result == Err(ProgramFault::Write(Output::Cert)), "{count} bytes");
-        assert!(rt; left.cert.device.held() == &ONE_KING_BYTES[..count], "a front");
+        assert!(rt;
+            left.result == Err(ProgramFault::Write(Output::Cert)),
+            "{count} bytes"
+        );
+        assert!(rt;
+            left.cert.device.held() == &ONE_KING_BYTES[..count],
+            "a front"
+        );
         assert!(rt; left.out.device.held().is_empty(), "no answer");
     }
     for count in 0..14u32 {
         let left = solved(&rt, rt.alloc(), ONE_KING, 100, (1000, count));
-        assert!(rt; left.result == Err(ProgramFault::Write(Output::Answer)), "{count} bytes");
-        assert!(rt; left.cert.device.held() == ONE_KING_BYTES, "the certificate");
+        assert!(rt;
+            left.result == Err(ProgramFault::Write(Output::Answer)),
+            "{count} bytes"
+        );
+        assert!(rt;
+            left.cert.device.held() == ONE_KING_BYTES,
+            "the certificate"
+        );
         assert!(rt; left.out.device.held().len() == count as usize, "a front");
     }
 }

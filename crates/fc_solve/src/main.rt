@@ -127,11 +127,27 @@ fn solve<G: Game + Drop>(
     match words.get_str("BOARD") {
         Some(path) => {
             let mut board = open(rt, path, Input::Board)?;
-            run_solve(alloc, game, rule, &mut board, budget, &mut out, cert.as_mut())
+            run_solve(
+                alloc,
+                game,
+                rule,
+                &mut board,
+                budget,
+                &mut out,
+                cert.as_mut(),
+            )
         }
         None => {
             let mut board = FromReader::new(rt.stdin());
-            run_solve(alloc, game, rule, &mut board, budget, &mut out, cert.as_mut())
+            run_solve(
+                alloc,
+                game,
+                rule,
+                &mut board,
+                budget,
+                &mut out,
+                cert.as_mut(),
+            )
         }
     }
 }
