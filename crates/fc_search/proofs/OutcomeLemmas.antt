@@ -55,8 +55,8 @@ module _ (g : GameRules) (rule : ℕ) (p : Board) (budget : ℕ) (s : Store (Lis
       let made = way_there n mark.parent w was stands (omega (arith, below, less, paid)) in
       one_more mark.parent number made.0 made.1 x mark made.2 at refl
       (λ same. let one = same_entry s number w x was mark (subst (λ k. Stands s k w was) same stands) at in
-          let cost : was.cost ≡ mark.cost = ap (λ k. k.cost) one.1 in
-          omega (arith, cost, less, paid)))
+      let cost : was.cost ≡ mark.cost = ap (λ k. k.cost) one.1 in
+      omega (arith, cost, less, paid)))
       (sound.comes number x mark at)
 
 -- the cost of the won class is how many moves a shortest list has

@@ -2,7 +2,6 @@
 #![tactic(auto)]
 
 pub mod boards;
-pub mod games;
 #[cfg(test)]
 mod bounds;
 #[cfg(test)]
@@ -15,6 +14,7 @@ mod deals;
 mod devices;
 #[cfg(test)]
 mod frontiers;
+pub mod games;
 #[cfg(test)]
 mod given;
 #[cfg(test)]

@@ -32,8 +32,7 @@ returns-in-GaveUp-clause-told g c =
     let told = gave_up_verdict game inner.space.rule inner.space.start inner.budget inner.store
     inner.space.fits c.in-GaveUp.field-0 c.in-GaveUp.field-1 c.budget.result
     (subst (Shows graph inner.budget inner.store) stands c.status.ensures.shows) c.budget.ensures.value in
-    subst (λ s. IsOutcome s (outcome.GaveUp c.budget.result)) c.self.view_is
-    (
+    subst (λ s. IsOutcome s (outcome.GaveUp c.budget.result)) c.self.view_is (
       verdict.GaveUp c.budget.result,
       told,
       subst (λ s. IsOfStatus inner.store inner.budget s (verdict.GaveUp c.budget.result)) (sym stands) c.budget.ensures.value,
