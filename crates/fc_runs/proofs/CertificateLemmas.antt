@@ -1,5 +1,5 @@
 -- What is written of an answer of a search certifies its verdict.
-use Rattle.std.proofs.Common.{◌≡◌, ◌≢◌, ◌∙◌, ℕ, List, Some, length, refl, ap, subst, Ok, Err, IsTrue, false}
+use Rattle.std.proofs.Common.{◌≡◌, ◌∙◌, ℕ, List, Some, length, refl, ap, subst, Ok, Err, IsTrue, false}
 use Rattle.fc_io.specs.Moves.{Takes, TakesFront}
 use Rattle.fc_position.specs.Board.{Board}
 use Rattle.fc_moves.specs.GameRules.{GameRules, IsGame, IsPositionOf}
@@ -12,8 +12,7 @@ use Rattle.fc_cert.specs.declared.claims.Claim.TheVariants as claim
 use Rattle.fc_cert.specs.Claim.{IsWrittenAs}
 use Rattle.fc_cert.specs.Content.{Content, bytes_of}
 use Rattle.fc_cert.proofs.CertifiedLemmas.{backed_certified, backed_spelled}
-use Rattle.fc_cert.specs.declared.faults.CertFault.{CertFault}
-use Rattle.fc_cert.specs.declared.faults.CertFault.TheVariants.{NotCertified, Write, Short, BadMagic, BadCells, BadRule, BadKind, BadMove, BadRecord, Order, Label, Trailing, Memory}
+use Rattle.fc_cert.specs.declared.faults.CertFault.TheVariants.{Write}
 use Rattle.fc_cert.specs.Writing.{SinkState, WritesAnswer}
 use Rattle.fc_runs.specs.Devices.{Device}
 use Rattle.fc_search.specs.Search.{IsRunToEnd}
@@ -79,25 +78,6 @@ written_short g rule b budget answered old new game position answers (c, same, s
   (bytes_of c, certifies g rule b budget answered c game position answers same, short.front),
   short.failed,
 )
-
--- the sink of an answer that isn't written for another cause than the sink's stays as it was, and the answer gave up
-pub not_written : (g : GameRules) (rule : ℕ) (b : Board) (answered : Answer) (old new : SinkState) (fault : CertFault) → fault ≢ Write
-    → WritesAnswer g answered old new (Err fault) → IsCertified g rule b (verdict_of answered) (device_of old new)
-not_written g rule b (Shortest moves table) old new NotCertified other (giving, same) = absurd giving
-not_written g rule b (CannotWin table) old new NotCertified other (giving, same) = absurd giving
-not_written g rule b (GaveUp told) old new NotCertified other (giving, same) = ap (λ s. s.held) same
-not_written g rule b answered old new Write other written = absurd (other refl)
-not_written g rule b answered old new Short other written = absurd written
-not_written g rule b answered old new BadMagic other written = absurd written
-not_written g rule b answered old new BadCells other written = absurd written
-not_written g rule b answered old new BadRule other written = absurd written
-not_written g rule b answered old new BadKind other written = absurd written
-not_written g rule b answered old new (BadMove i) other written = absurd written
-not_written g rule b answered old new (BadRecord i) other written = absurd written
-not_written g rule b answered old new (Order i) other written = absurd written
-not_written g rule b answered old new (Label i) other written = absurd written
-not_written g rule b answered old new Trailing other written = absurd written
-not_written g rule b answered old new Memory other written = absurd written
 
 -- a certificate that is cut short leaves the board unanswered
 pub uncertified : (g : GameRules) (rule : ℕ) (b : Board) (budget : ℕ) (answered : Answer) (cert sink : Device) → Answers g rule b budget answered
