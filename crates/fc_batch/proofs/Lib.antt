@@ -1,3 +1,3 @@
 mod BatchLemmas
-mod EndLemmas
-mod LawLemmas
+pub mod EndLemmas
+pub mod LawLemmas

@@ -1,3 +1,4 @@
+pub mod BatchLemmas
 pub mod CertificateLemmas
 pub mod ListTextLemmas
 pub mod RefusalLemmas

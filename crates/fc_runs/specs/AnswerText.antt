@@ -3,6 +3,8 @@ use Rattle.std.specs.Prelude.{ℕ, List, ◌++◌, length, map, codes, decimal}
 use Rattle.std.specs.List.{join_with_byte}
 use Rattle.fc_moves.specs.declared.steps.Move.{Move}
 use Rattle.fc_moves.specs.MoveText.{move_text}
+use Rattle.fc_answers.specs.declared.answers.Outcome.{Outcome}
+use Rattle.fc_answers.specs.declared.answers.Outcome.TheVariants as outcome
 use Rattle.fc_answers.specs.declared.answers.Verdict.{Verdict}
 use Rattle.fc_answers.specs.declared.answers.Verdict.TheVariants.{Shortest, CannotWin, GaveUp}
 use Rattle.fc_cert.specs.declared.claims.Claim.{Claim}
@@ -31,6 +33,18 @@ abbrev pub status_of : Verdict → ℕ
 status_of (Shortest moves) = 0
 status_of CannotWin = 1
 status_of (GaveUp budget) = 2
+
+-- what is printed of an answer without its moves, on one line
+abbrev pub outcome_text : Outcome → List ℕ
+outcome_text (outcome.Shortest count) = codes "shortest " ++ decimal count ++ codes "\n"
+outcome_text outcome.CannotWin = codes "can't be won\n"
+outcome_text (outcome.GaveUp budget) = gave_up_text budget
+
+-- and the exit status that goes with it
+abbrev pub outcome_status : Outcome → ℕ
+outcome_status (outcome.Shortest count) = 0
+outcome_status outcome.CannotWin = 1
+outcome_status (outcome.GaveUp budget) = 2
 
 -- what is printed of a claim that was accepted
 abbrev pub accepted_text : Claim → List ℕ

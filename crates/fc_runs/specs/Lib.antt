@@ -1,4 +1,5 @@
 pub mod AnswerText
+pub mod Batches
 pub mod Checking
 pub mod Devices
 pub mod Fault

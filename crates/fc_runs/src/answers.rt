@@ -1,10 +1,14 @@
 //! How a verdict, an answer and a claim are printed, and the exit status that goes with it.
 
-ghost use Rattle.std.specs.Prelude.{◌≡◌, ◌++◌, IfOk, OnOk, All};
+ghost use Rattle.std.specs.Prelude.{◌≡◌, ◌≤◌, ◌++◌, IfOk, OnOk, All};
 ghost use Rattle.fc_moves.specs.MoveText.{HasText};
 ghost use Rattle.fc_answers.specs.Verdict.{CanBeWritten, verdict_of};
+ghost use Rattle.arrayvec.specs.ArrayString.{array_string_len};
+ghost use Rattle.fc_runs.specs.Batches.{line_text, told_status, told_text};
 ghost use Rattle.fc_runs.specs.AnswerText.{accepted_text, answer_text, list_text, shortest_text, gave_up_text, status_of};
 
+use arrayvec::ArrayString;
+use fc_answers::Outcome;
 use fc_cert::Claim;
 use fc_moves::{Move, move_text};
 use fc_search::{Answer, Verdict};
@@ -79,6 +83,52 @@ pub fn accepted_text(alloc: Global, claim: Claim) -> Result<Vec<u8>, AllocError>
             Ok(text)
         }
         Claim::CannotWin => Vec::from_slice(alloc, b"accepted: can't be won\n"),
+    }
+}
+
+/// The line of a deal in a batch: its number, and its answer without moves, or `want of memory` where nothing is told.
+pub fn line_text(deal: u32, told: Option<Outcome>) -> ArrayString<128>
+    ensures text { result.bytes ≡ line_text record { deal = deal; told = told } }
+{
+    let mut buffer = Buffer::new();
+    let mut text = ArrayString::new();
+    text.push_str(buffer.format(deal));
+    text.push_str(" ");
+    push_told(&mut text, told);
+    text
+}
+
+/// The exit status that tells what is told of a deal in a batch.
+pub fn told_status(told: Option<Outcome>) -> u8
+    ensures value { result ≡ told_status told }
+{
+    match told {
+        Some(Outcome::Shortest(_)) => 0,
+        Some(Outcome::CannotWin) => 1,
+        Some(Outcome::GaveUp(_)) => 2,
+        None => 4,
+    }
+}
+
+// Appends what is told of a deal.
+fn push_told(text: &mut ArrayString<128>, told: Option<Outcome>)
+    requires room { array_string_len text.old ≤ 41 }
+    ensures text { text.new.bytes ≡ text.old.bytes ++ told_text told }
+{
+    let mut buffer = Buffer::new();
+    match told {
+        Some(Outcome::Shortest(count)) => {
+            text.push_str("shortest ");
+            text.push_str(buffer.format(count));
+            text.push_str("\n");
+        }
+        Some(Outcome::CannotWin) => text.push_str("can't be won\n"),
+        Some(Outcome::GaveUp(budget)) => {
+            text.push_str("gave up ");
+            text.push_str(buffer.format(budget));
+            text.push_str("\n");
+        }
+        None => text.push_str("want of memory\n"),
     }
 }
 

@@ -1,12 +1,14 @@
 //! The runs of the program, over any source and any sink: what they read and write, their faults and their statuses.
 #![tactic(auto)]
 
+pub use batches::{MOST_DEALS, run_batch};
 pub use checking::run_check;
 pub use faults::{Input, Output, ProgramFault};
 pub use runs::{run_deal, run_replay};
 pub use solving::run_solve;
 
 mod answers;
+mod batches;
 mod checking;
 mod faults;
 mod runs;

@@ -2,6 +2,8 @@
 #![tactic(auto)]
 
 #[cfg(test)]
+mod batch_runs;
+#[cfg(test)]
 mod batches;
 #[cfg(test)]
 mod best_first;

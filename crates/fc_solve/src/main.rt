@@ -7,7 +7,7 @@ use clap::ArgMatches;
 use clap::error::ErrorKind;
 use fc_io::{FromReader, ToWriter};
 use fc_moves::{BakersGame, FreeCell, Game, Kings};
-use fc_runs::{Input, Output, ProgramFault, run_check, run_deal, run_replay, run_solve};
+use fc_runs::{Input, Output, ProgramFault, run_batch, run_check, run_deal, run_replay, run_solve};
 use std::fs::{self, File};
 use std::process::ExitCode;
 use std::{env, io};
@@ -62,18 +62,22 @@ fn follow_matches(rt: &HostRuntime, matches: &ArgMatches<'_>) -> Result<u8, Prog
     if let Some(words) = matches.subcommand_matches("check") {
         return choose_game(rt, words, Task::Check);
     }
-    match matches.subcommand_matches("replay") {
-        Some(words) => choose_game(rt, words, Task::Replay),
+    if let Some(words) = matches.subcommand_matches("replay") {
+        return choose_game(rt, words, Task::Replay);
+    }
+    match matches.subcommand_matches("batch") {
+        Some(words) => choose_game(rt, words, Task::Batch),
         None => Ok(REFUSED),
     }
 }
 
-/// What is done with a board of a game.
+/// What is done with boards of a game.
 #[derive(Clone, Copy)]
 enum Task {
     Solve,
     Check,
     Replay,
+    Batch,
 }
 
 // Does the task with the game that the words name.
@@ -102,6 +106,7 @@ fn perform<G: Game + Drop>(
         Task::Solve => solve(rt, game, words),
         Task::Check => check(rt, game, words),
         Task::Replay => replay(rt, game, words),
+        Task::Batch => batch(rt, game, words),
     }
 }
 
@@ -112,13 +117,9 @@ fn solve<G: Game + Drop>(
     words: &ArgMatches<'_>,
 ) -> Result<u8, ProgramFault> {
     let alloc = rt.alloc();
-    let budget = words
-        .get_one::<u32>("budget")
-        .unwrap_or(words::DEFAULT_BUDGET);
-    let rule = words.get_one::<u8>("rule").unwrap_or(words::DEFAULT_RULE);
-    if rule > words::DEFAULT_RULE {
+    let Some((budget, rule)) = budget_and_rule(words) else {
         return Ok(REFUSED);
-    }
+    };
     let mut cert = match words.get_str("cert") {
         Some(path) => Some(ToWriter::new(create(rt, path)?)),
         None => None,
@@ -150,6 +151,33 @@ fn solve<G: Game + Drop>(
             )
         }
     }
+}
+
+// The budget and the home rule that the words give; `None` where there is no such rule.
+fn budget_and_rule(words: &ArgMatches<'_>) -> Option<(u32, u8)>
+    ensures rule { IfSome result (λ asked. asked.1 ≤ words.DEFAULT_RULE) }
+{
+    let budget = words
+        .get_one::<u32>("budget")
+        .unwrap_or(words::DEFAULT_BUDGET);
+    let rule = words.get_one::<u8>("rule").unwrap_or(words::DEFAULT_RULE);
+    (rule <= words::DEFAULT_RULE).then_some((budget, rule))
+}
+
+// Searches the numbered deals that the words name.
+fn batch<G: Game + Drop>(
+    rt: &HostRuntime,
+    game: &G,
+    words: &ArgMatches<'_>,
+) -> Result<u8, ProgramFault> {
+    let (Some(from), Some(to)) = (words.get_one::<u32>("FROM"), words.get_one::<u32>("TO")) else {
+        return Ok(REFUSED);
+    };
+    let Some((budget, rule)) = budget_and_rule(words) else {
+        return Ok(REFUSED);
+    };
+    let mut out = ToWriter::new(rt.stdout());
+    run_batch(rt.alloc(), game, rule, from, to, budget, &mut out)
 }
 
 // Checks the certificate of a file for the board of a file.

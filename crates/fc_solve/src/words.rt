@@ -65,6 +65,18 @@ const CELLS: Word = Word {
     help: "How many cells there are, 0 to 4",
 };
 
+const BUDGET: Word = Word {
+    name: "budget",
+    kind: Kind::Number("B", "100000"),
+    help: "How many classes of positions may be stored, 1 to 4000000",
+};
+
+const RULE: Word = Word {
+    name: "rule",
+    kind: Kind::UpTo(2, "R", "2"),
+    help: "Which cards go home at once: none (0), those on which no card left can stand (1), or all free cards (2)",
+};
+
 // `deal N`.
 const DEAL: Subcommand = Subcommand {
     name: "deal",
@@ -87,11 +99,7 @@ isn't right, 4 for want of memory, 5 where reading or writing failed.
 
 Example: fc_solve solve --game bakers --cells 3 boards/one-king.txt",
     words: &[
-        Word {
-            name: "budget",
-            kind: Kind::Number("B", "100000"),
-            help: "How many classes of positions may be stored, 1 to 4000000",
-        },
+        BUDGET,
         Word {
             name: "cert",
             kind: Kind::FileOption,
@@ -100,11 +108,7 @@ Example: fc_solve solve --game bakers --cells 3 boards/one-king.txt",
         GAME,
         KINGS,
         CELLS,
-        Word {
-            name: "rule",
-            kind: Kind::UpTo(2, "R", "2"),
-            help: "Which cards go home at once: none (0), those on which no card left can stand (1), or all free cards (2)",
-        },
+        RULE,
         Word {
             name: "BOARD",
             kind: Kind::OptionalFile,
@@ -160,9 +164,36 @@ const REPLAY: Subcommand = Subcommand {
     ],
 };
 
-static SUBCOMMANDS: [Subcommand; 4] = [DEAL, SOLVE, CHECK, REPLAY];
+// `batch FROM TO [--budget B] [GAME] [--rule R]`.
+const BATCH: Subcommand = Subcommand {
+    name: "batch",
+    about: "Searches up to 32 numbered deals in turns, and prints a line for each: its number and its answer, without moves",
+    after_help: "The status is the greatest of the lines': 0 for a solution, 1 where a deal can't be won, 2 on giving up, 4 for want of
+memory; and 3 for what was asked and isn't right, 5 where writing failed.
 
-/// The program's command line: `deal`, `solve`, `check` and `replay`.
+Example: fc_solve batch 11982 11982",
+    words: &[
+        Word {
+            name: "FROM",
+            kind: Kind::DealNumber,
+            help: "The number of the first deal, 1 to 1000000",
+        },
+        Word {
+            name: "TO",
+            kind: Kind::DealNumber,
+            help: "The number of the last deal",
+        },
+        BUDGET,
+        GAME,
+        KINGS,
+        CELLS,
+        RULE,
+    ],
+};
+
+static SUBCOMMANDS: [Subcommand; 5] = [DEAL, SOLVE, CHECK, REPLAY, BATCH];
+
+/// The program's command line: `deal`, `solve`, `check`, `replay` and `batch`.
 pub fn command<'a>(alloc: Global) -> Result<Command<'a>, AllocError> {
     let mut command = Command::new(alloc, "fc_solve")
         .bin_name("fc_solve")?

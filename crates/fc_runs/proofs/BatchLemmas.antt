@@ -1,0 +1,208 @@
+-- Batches of deals: their searches, and the lines that tell of them.
+use Rattle.std.proofs.Common.{◌≡◌, ◌≢◌, ◌∙◌, ⊎_elim, ℕ, zero, suc, ◌+◌, ◌<◌, List, [], ◌∷◌, ◌++◌, length, Option, Some, Result, refl, sym, ap, subst, arith, IsTrue}
+use Rattle.std.specs.Prelude.{max, slice_get}
+use Rattle.std.specs.List.{flat_map, range_with_len}
+use Rattle.std.proofs.Math.Nat.{max-zero, suc-max-suc, zero-max}
+use Rattle.std.proofs.lemmas.Bool.{cases_eq}
+use Rattle.std.proofs.lemmas.List.{flat_map_more, length-append, map-id}
+use Rattle.std.proofs.lemmas.Option.{slice_get-get_or}
+use Rattle.std.proofs.lemmas.List.FromFn.{get_or-range_with_len, length-range_with_len, map-range_with_len_more}
+use Rattle.fc_io.specs.Moves.{Takes, TakesFront}
+use Rattle.fc_io.proofs.MoveLemmas.{Takes-none, Takes-both, takes_then_front}
+use Rattle.fc_position.specs.Position.{Fits}
+use Rattle.fc_moves.specs.GameRules.{GameRules}
+use Rattle.fc_deal.specs.Deal.{dealt_board}
+use Rattle.fc_answers.specs.declared.answers.Outcome.{Outcome}
+use Rattle.fc_best_first.specs.declared.searches.SearchFault.{SearchFault}
+use Rattle.fc_best_first.specs.declared.searches.Step.{Step}
+use Rattle.fc_best_first.specs.declared.turns.Status.{Status}
+use Rattle.fc_best_first.specs.declared.turns.Status.TheVariants.{Running}
+use Rattle.fc_best_first.specs.Graph.{Graph}
+use Rattle.fc_best_first.specs.Search.{Turns, TurnsOn}
+use Rattle.fc_best_first.specs.Store.{Store}
+use Rattle.fc_search.specs.Search.{State, classes_of}
+use Rattle.fc_batch.specs.Batch.{Batch, HasTurn, HasTurns, OthersStay, TurnsFor, search_at, times}
+use Rattle.fc_batch.proofs.EndLemmas.{quiet_turns_end}
+use Rattle.fc_batch.proofs.LawLemmas.{turn_alone}
+use Rattle.fc_runs.specs.Batches.{AreCutShort, AreLines, AreTold, HaveEnded, HoldsDeals, IsRightOf, IsSearchOf, Line, greatest_status, line_text, told_status}
+use Rattle.fc_runs.specs.Devices.{Device}
+
+-- no card of a deal stands in a cell, so it is of every game
+pub dealt_fits : (n deal : ℕ) → Fits n (dealt_board deal)
+unfolding dealt_board
+dealt_fits n deal zero past = refl
+dealt_fits n deal (suc zero) past = refl
+dealt_fits n deal (suc (suc zero)) past = refl
+dealt_fits n deal (suc (suc (suc zero))) past = refl
+dealt_fits n deal (suc (suc (suc (suc i)))) past = refl
+
+module _ {K : Type 0} (g : Graph K) (budget : ℕ) where
+  -- one more turn after some
+  turns_more : (turns : ℕ) (before between after : Status K) (old mid new : Store K) (reply : Result Step SearchFault)
+      → TurnsOn turns g budget before old mid between → Turns g budget between mid new after reply
+      → TurnsOn (suc turns) g budget before old new after
+  turns_more zero before between after old mid new reply (same, stays) turn =
+      (new, after, reply,
+      subst (λ s. Turns g budget s old new after reply) stays (subst (λ s. Turns g budget between s new after reply) same turn),
+      (refl, refl))
+  turns_more (suc turns) before between after old mid new reply (next, then, told, one, rest) turn =
+      (next, then, told, one, turns_more turns then between after next mid new reply rest turn)
+
+-- a search of a deal that has one more turn is the search of that deal still
+one_turn_on : (g : GameRules) (rule budget deal : ℕ) (old new : State) (reply : Result Step SearchFault) → HasTurn old new reply
+    → IsSearchOf g rule budget deal old → IsSearchOf g rule budget deal new
+one_turn_on g rule budget deal old new reply turn search = record {
+  question = turn.question ∙ search.question;
+  budgeted = turn.budget ∙ search.budgeted;
+  ran = record {
+    first = search.ran.first;
+    begins = search.ran.begins;
+    runs = (suc search.ran.runs.0,
+        turns_more _ budget search.ran.runs.0 Running old.status new.status search.ran.first old.store new.store reply search.ran.runs.1
+        (subst (λ q. Turns (classes_of q) budget old.status old.store new.store new.status reply) search.question
+        (subst (λ b. Turns (classes_of old.question) b old.status old.store new.store new.status reply) search.budgeted turn.turned)));
+  };
+}
+
+turns_on : (g : GameRules) (rule budget deal : ℕ) (turns : ℕ) (old new : State) → HasTurns turns old new
+    → IsSearchOf g rule budget deal old → IsSearchOf g rule budget deal new
+turns_on g rule budget deal zero old new same search = subst (IsSearchOf g rule budget deal) (sym same) search
+turns_on g rule budget deal (suc turns) old new (mid, reply, turn, rest) search =
+    turns_on g rule budget deal turns mid new rest (one_turn_on g rule budget deal old mid reply turn search)
+
+-- turns of the searches of a batch leave it with the searches of its deals
+pub held_on : (g : GameRules) (rule budget from count : ℕ) (list : List ℕ) (old new : Batch) (running : ℕ) → TurnsFor list old new running
+    → HoldsDeals g rule budget from count old → HoldsDeals g rule budget from count new
+held_on g rule budget from count list old new running turns holds i within =
+    let before = holds i within in
+    let on = turn_alone list old new running turns i before.0 before.1 in
+    (on.0, on.1, turns_on g rule budget (from + i) (times i list) before.0 on.0 on.2 before.2)
+
+-- one number more
+pub range_more : (count : ℕ) → range_with_len 0 (count + 1) ≡ range_with_len 0 count ++ count ∷ []
+range_more count =
+    sym (map-id (range_with_len 0 (count + 1))) ∙ map-range_with_len_more (λ n. n) 0 count count (omega arith)
+    ∙ ap (λ numbers. numbers ++ count ∷ []) (map-id (range_with_len 0 count))
+
+-- once no turn of the first numbers replied that its search runs on, these have ended
+pub ended_all : (count : ℕ) (old new : Batch) (running : ℕ) → TurnsFor (range_with_len 0 count) old new running → running ≡ 0
+    → HaveEnded count new
+ended_all count old new running turns none i s within at runs =
+    let long = length-range_with_len 0 count in
+    let from_none : 0 + i ≡ i = omega arith in
+    quiet_turns_end (range_with_len 0 count) old new running turns none i i s
+    (slice_get-get_or (range_with_len 0 count) i 0 (omega (arith, within, long)) ∙ ap Some (get_or-range_with_len 0 count i 0 within ∙ from_none))
+    at runs
+
+-- a line after others
+last_line : (lines : List Line) (line : Line) (P : ℕ → Line → Type 0) → ((i : ℕ) (x : Line) → slice_get lines i ≡ Some x → P i x)
+    → P (length lines) line → (i : ℕ) (x : Line) → slice_get (lines ++ line ∷ []) i ≡ Some x → P i x
+last_line [] line P all last zero x at = subst (P 0) (cc at) last
+last_line [] line P all last (suc i) x at = absurd (cc at)
+last_line (y ∷ lines) line P all last zero x at = all 0 x at
+last_line (y ∷ lines) line P all last (suc i) x at =
+    last_line lines line (λ j z. P (suc j) z) (λ j z there. all (suc j) z there) last i x at
+
+-- one more line that is right
+pub one_more_line : (g : GameRules) (rule budget from deal : ℕ) (lines : List Line) (told : Option Outcome) → AreLines g rule budget from lines
+    → deal ≡ from + length lines → IsRightOf g rule budget deal told
+    → AreLines g rule budget from (lines ++ record { deal = deal; told = told } ∷ [])
+one_more_line g rule budget from deal lines told right next here = record {
+  rising = last_line lines (record { deal = deal; told = told }) (λ i line. line.deal ≡ from + i) right.rising next;
+  right = last_line lines (record { deal = deal; told = told }) (λ i line. IsRightOf g rule budget line.deal line.told) right.right here;
+}
+
+max_assoc : (a b c : ℕ) → max (max a b) c ≡ max a (max b c)
+max_assoc zero b c = ap (λ m. max m c) (zero-max b) ∙ sym (zero-max (max b c))
+max_assoc (suc a) zero c = ap (λ m. max m c) (max-zero (suc a)) ∙ sym (ap (λ m. max (suc a) m) (zero-max c))
+max_assoc (suc a) (suc b) zero = max-zero (max (suc a) (suc b)) ∙ sym (ap (λ m. max (suc a) m) (max-zero (suc b)))
+max_assoc (suc a) (suc b) (suc c) =
+    ap (λ m. max m (suc c)) (suc-max-suc a b) ∙ suc-max-suc (max a b) c ∙ ap suc (max_assoc a b c)
+    ∙ sym (ap (λ m. max (suc a) m) (suc-max-suc b c) ∙ suc-max-suc a (max b c))
+
+-- the greatest status with one line more
+pub greatest_more : (lines : List Line) (line : Line) → greatest_status (lines ++ line ∷ []) ≡ max (greatest_status lines) (told_status line.told)
+greatest_more [] line = max-zero (told_status line.told) ∙ sym (zero-max (told_status line.told))
+greatest_more (first ∷ lines) line =
+    ap (λ m. max (told_status first.told) m) (greatest_more lines line)
+    ∙ sym (max_assoc (told_status first.told) (greatest_status lines) (told_status line.told))
+
+-- so many lines were written, and this is the greatest of their statuses
+pub record AreWritten (g : GameRules) (rule budget from count : ℕ) (old new : Option (List ℕ)) (status : ℕ) : Type 0 where
+  pub lines : List Line
+  pub right : AreLines g rule budget from lines
+  pub whole : length lines ≡ count
+  pub written : Takes old new (flat_map line_text lines)
+  pub greatest : status ≡ greatest_status lines
+
+pub none_written : (g : GameRules) (rule budget from : ℕ) (held : Option (List ℕ)) → AreWritten g rule budget from 0 held held 0
+none_written g rule budget from held = record {
+  lines = [];
+  right = record { rising = λ i line at. absurd (cc at); right = λ i line at. absurd (cc at) };
+  whole = refl;
+  written = Takes-none held;
+  greatest = refl;
+}
+
+-- the text of one line more
+text_more : (lines : List Line) (line : Line) → flat_map line_text lines ++ line_text line ≡ flat_map line_text (lines ++ line ∷ [])
+text_more lines line = flat_map_more line_text [] lines line
+
+pub one_more_written : (g : GameRules) (rule budget from count : ℕ) (old mid new : Option (List ℕ)) (status : ℕ) (told : Option Outcome)
+    (text : List ℕ) (next : ℕ) → AreWritten g rule budget from count old mid status → IsRightOf g rule budget (from + count) told
+    → text ≡ line_text (record { deal = from + count; told = told }) → Takes mid new text → next ≡ max status (told_status told)
+    → AreWritten g rule budget from (count + 1) old new next
+one_more_written g rule budget from count old mid new status told text next so_far here same taken greater =
+    let line : Line = record { deal = from + count; told = told } in
+    let whole = so_far.whole in
+    record {
+      lines = so_far.lines ++ line ∷ [];
+      right = one_more_line g rule budget from (from + count) so_far.lines told so_far.right (omega (arith, whole)) here;
+      whole = omega (arith, whole, length-append so_far.lines (line ∷ []));
+      written = subst (Takes old new) (text_more so_far.lines line)
+          (Takes-both old mid new (flat_map line_text so_far.lines) (line_text line) so_far.written (subst (Takes mid new) same taken));
+      greatest = greater ∙ ap (λ s. max s (told_status told)) so_far.greatest ∙ sym (greatest_more so_far.lines line);
+    }
+
+-- and one whose text was cut short
+pub cut_short : (g : GameRules) (rule budget from count most : ℕ) (mid : Option (List ℕ)) (sink : Device) (status : ℕ) (told : Option Outcome)
+    (text : List ℕ) → AreWritten g rule budget from count sink.old mid status → IsRightOf g rule budget (from + count) told
+    → text ≡ line_text (record { deal = from + count; told = told }) → TakesFront mid sink.new text → count < most → IsTrue sink.failed
+    → AreCutShort g rule budget from most sink
+cut_short g rule budget from count most mid sink status told text so_far here same front within failed =
+    let line : Line = record { deal = from + count; told = told } in
+    let whole = so_far.whole in
+    record {
+      lines = so_far.lines ++ line ∷ [];
+      right = one_more_line g rule budget from (from + count) so_far.lines told so_far.right (omega (arith, whole)) here;
+      some = omega (arith, whole, within, length-append so_far.lines (line ∷ []));
+      front = subst (TakesFront sink.old sink.new) (text_more so_far.lines line)
+          (takes_then_front sink.old mid sink.new (flat_map line_text so_far.lines) (line_text line) so_far.written (subst (TakesFront mid sink.new) same front));
+      failed = failed;
+    }
+
+-- all lines are written to a sink that hasn't failed
+pub all_told : (g : GameRules) (rule budget from count : ℕ) (sink : Device) (status : ℕ)
+    → AreWritten g rule budget from count sink.old sink.new status → (IsTrue sink.failed → ⊥) → AreTold g rule budget from count sink status
+all_told g rule budget from count sink status all sound = record {
+  lines = all.lines;
+  right = all.right;
+  whole = all.whole;
+  written = all.written;
+  sound = sound;
+  greatest = all.greatest;
+}
+
+-- a batch to which the search of the next deal was added
+pub held_more : (g : GameRules) (rule budget from count : ℕ) (old new : Batch) (search : State) → HoldsDeals g rule budget from count old
+    → OthersStay count old new → search_at new count ≡ Some search → IsSearchOf g rule budget (from + count) search
+    → HoldsDeals g rule budget from (count + 1) new
+held_more g rule budget from count old new search holds others there here i within =
+    ⊎_elim
+    (λ (same : i ≡ count).
+    (search, subst (λ k. search_at new k ≡ Some search) (sym same) there,
+    subst (λ k. IsSearchOf g rule budget (from + k) search) (sym same) here))
+    (λ (other : i ≢ count).
+    let before = holds i (omega (arith, within, other)) in
+    (before.0, others i other ∙ before.1, before.2))
+    (cases_eq i count)

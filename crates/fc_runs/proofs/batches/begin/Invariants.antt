@@ -1,0 +1,10 @@
+use Rattle.std.proofs.Common.{◌≡◌}
+use Rattle.fc_runs.specs.Batches.{HoldsDeals}
+use Rattle.fc_runs.proofs.batches.begin.Given as goal
+
+-- so many searches were added
+abbrev pub invariant-loop-i : goal.invariant-loop-i
+invariant-loop-i g l = record {
+  held : HoldsDeals (g.G.Game.game l.fn.game) l.fn.rule l.fn.budget l.fn.from l.i l.batch;
+  added : l.batch.added ≡ l.i;
+}

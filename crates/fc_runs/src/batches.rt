@@ -1,0 +1,191 @@
+//! Several numbered deals, whose searches take turns, over any sink.
+
+ghost use Rattle.std.specs.Prelude.{◌≡◌, ◌+◌, ◌≤◌, ◌↔◌, ℕ, Some, IfOk, IfErr, OnErr, IsTrue};
+ghost use Rattle.std.specs.List.{range_with_len};
+ghost use Rattle.fc_moves.specs.GameRules.{GameRules};
+ghost use Rattle.fc_deal.specs.Deal.{IsDealNumber};
+ghost use Rattle.fc_best_first.specs.Search.{IsBudget};
+ghost use Rattle.fc_search.specs.Search.{State};
+ghost use Rattle.fc_batch.specs.Batch.{search_at};
+ghost use Rattle.fc_runs.specs.Batches.{AreCutShort, AreTold, HaveEnded, HoldsDeals, IsAsked, IsBatched, IsBatchFault, IsRightOf, IsSearchOf, IsUnasked};
+
+use crate::answers::{line_text, told_status};
+use crate::faults::{Output, ProgramFault};
+use arrayvec::ArrayVec;
+use fc_answers::Outcome;
+use fc_batch::Batch;
+use fc_best_first::Status;
+use fc_deal::deal;
+use fc_frontier::BucketFrontier;
+use fc_home::GREATEST_RULE;
+use fc_io::{Failed, Sink, write_all};
+use fc_moves::Game;
+use fc_search::{MOST_BUDGET, Search};
+use std::alloc::Global;
+
+/// The most deals of a batch.
+pub const MOST_DEALS: u32 = 32;
+
+/// Searches the deals `from` to `to` of the game in turns, each under a home rule of at most 2 with at most `budget` stored
+/// classes, and writes a line for each, rising: its number, and its answer without moves or `want of memory`. The status is
+/// the greatest of theirs: 0 for a solution, 1 where a deal can't be won, 2 on giving up, 4 for want of memory.
+///
+/// # Errors
+/// In this order: a number outside 1 to 1,000,000, `from` before `to`; no deal or more than 32; a budget outside 1 to
+/// 4,000,000; want of memory before the first turn; lines that can't be written, of which a front may be. After any other
+/// fault nothing is written.
+pub fn run_batch<G: Game + Drop, K: Sink>(
+    alloc: Global,
+    game: &G,
+    rule: u8,
+    from: u32,
+    to: u32,
+    budget: u32,
+    out: &mut K,
+) -> Result<u8, ProgramFault>
+    requires rule { rule ≤ GREATEST_RULE }
+    ensures batched { IfOk result (IsBatched (G.game game.now) rule from to budget
+        record { old = K.held out.old; new = K.held out.new; failed = K.has_failed out.new }) }
+    ensures fault { IfErr result (IsBatchFault (G.game game.now) rule from to budget
+        record { old = K.held out.old; new = K.held out.new; failed = K.has_failed out.new }) }
+{
+    let count = deals_of(from, to, budget)?;
+    let mut batch = begin(alloc, game, rule, from, count, budget)?;
+    run_to_end(&mut batch, count as usize);
+    match write_lines(&batch, from, count, out) {
+        Ok(status) => Ok(status),
+        Err(_) => Err(ProgramFault::Write(Output::Answer)),
+    }
+}
+
+// How many deals are asked for.
+fn deals_of(from: u32, to: u32, budget: u32) -> Result<u32, ProgramFault>
+    ensures asked { IfOk result (IsAsked from to budget) }
+    ensures fault { IfErr result (IsUnasked from to budget) }
+{
+    if !is_deal(from) {
+        return Err(ProgramFault::Number(from));
+    }
+    if !is_deal(to) {
+        return Err(ProgramFault::Number(to));
+    }
+    if from > to || to - from >= MOST_DEALS {
+        return Err(ProgramFault::Range);
+    }
+    if budget == 0 || budget > MOST_BUDGET {
+        return Err(ProgramFault::Budget);
+    }
+    Ok(to - from + 1)
+}
+
+// Whether a deal has this number.
+fn is_deal(n: u32) -> bool
+    ensures value { IsTrue result ↔ IsDealNumber n }
+{
+    (1..=1_000_000).contains(&n)
+}
+
+// A batch of the searches of so many deals, rising from this one, which have had no turn.
+fn begin<G: Game + Drop>(
+    alloc: Global,
+    game: &G,
+    rule: u8,
+    from: u32,
+    count: u32,
+    budget: u32,
+) -> Result<Batch<BucketFrontier, G>, ProgramFault>
+    requires rule { rule ≤ GREATEST_RULE }
+    requires first { 1 ≤ from }
+    requires last { from + count ≤ 1000001 }
+    requires budgeted { IsBudget budget }
+    ensures holds { IfOk result (HoldsDeals (G.game game.now) rule budget from count) }
+    ensures fault { IfErr result (λ fault. fault ≡ ProgramFault.Memory) }
+{
+    let mut batch = Batch::new(alloc);
+    for i in 0..count {
+        let search = search_of(alloc, game, rule, from + i, budget)?;
+        let Ok(_) = batch.add(search) else {
+            return Err(ProgramFault::Memory);
+        };
+    }
+    Ok(batch)
+}
+
+// The search of a deal, which has had no turn.
+fn search_of<G: Game + Drop>(
+    alloc: Global,
+    game: &G,
+    rule: u8,
+    number: u32,
+    budget: u32,
+) -> Result<Search<BucketFrontier, G>, ProgramFault>
+    requires rule { rule ≤ GREATEST_RULE }
+    requires deal { IsDealNumber number }
+    requires budgeted { IsBudget budget }
+    ensures search { IfOk result (IsSearchOf (G.game game.now) rule budget number) }
+    ensures fault { IfErr result (λ fault. fault ≡ ProgramFault.Memory) }
+{
+    let position = deal(number).unwrap();
+    match Search::new(alloc, game, rule, &position, budget) {
+        Ok(search) => Ok(search),
+        Err(_) => Err(ProgramFault::Memory),
+    }
+}
+
+// Turns of the searches with the first numbers, in rising order again and again, until none of them runs.
+fn run_to_end<G: Game + Drop>(batch: &mut Batch<BucketFrontier, G>, count: usize)
+    requires few { count ≤ MOST_DEALS }
+    ensures held { (g : GameRules) (rule budget from : ℕ) → HoldsDeals g rule budget from count batch.old
+        → HoldsDeals g rule budget from count batch.new }
+    ensures ended { HaveEnded count batch.new }
+{
+    let numbers = first_numbers(count);
+    while batch.turns(numbers.as_slice()) > 0 {}
+}
+
+// The first numbers, from 0.
+fn first_numbers(count: usize) -> ArrayVec<usize, 32>
+    requires few { count ≤ MOST_DEALS }
+    ensures value { result.items ≡ range_with_len 0 count }
+{
+    let mut numbers = ArrayVec::new();
+    for i in 0..count {
+        numbers.push(i);
+    }
+    numbers
+}
+
+// Writes a line for each of the deals, whose searches have ended; the greatest status of the lines.
+fn write_lines<G: Game + Drop, K: Sink>(
+    batch: &Batch<BucketFrontier, G>,
+    from: u32,
+    count: u32,
+    out: &mut K,
+) -> Result<u8, Failed>
+    requires some { 1 ≤ count }
+    requires numbers { from + count ≤ 1000001 }
+    ensures told { (g : GameRules) (rule budget : ℕ) → HoldsDeals g rule budget from count batch.now → HaveEnded count batch.now
+        → IfOk result (AreTold g rule budget from count
+        record { old = K.held out.old; new = K.held out.new; failed = K.has_failed out.new }) }
+    ensures cut { (g : GameRules) (rule budget : ℕ) → HoldsDeals g rule budget from count batch.now → HaveEnded count batch.now
+        → OnErr result (AreCutShort g rule budget from count
+        record { old = K.held out.old; new = K.held out.new; failed = K.has_failed out.new }) }
+{
+    let mut greatest = 0;
+    for i in 0..count {
+        let told = told_of(batch, i as usize);
+        let Ok(()) = write_all(out, line_text(from + i, told).as_bytes()) else {
+            return Err(Failed);
+        };
+        greatest = greatest.max(told_status(told));
+    }
+    Ok(greatest)
+}
+
+// What is told of the search with this number, which has ended.
+fn told_of<G: Game + Drop>(batch: &Batch<BucketFrontier, G>, number: usize) -> Option<Outcome>
+    ensures told { (g : GameRules) (rule budget deal : ℕ) (search : State) → search_at batch.now number ≡ Some search
+        → IsSearchOf g rule budget deal search → (search.status ≡ Status.Running → ⊥) → IsRightOf g rule budget deal result }
+{
+    batch.get(number)?.outcome().ok()
+}

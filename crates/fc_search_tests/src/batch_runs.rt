@@ -1,0 +1,93 @@
+//! Batches of numbered deals: what they print, their statuses and their faults.
+
+use crate::given::free_cell;
+use fc_io::ToArray;
+use fc_io::testing::Failing;
+use fc_runs::{MOST_DEALS, Output, ProgramFault, run_batch};
+use std::alloc::Global;
+use std::process::Abort;
+
+// The first deal and the last, a budget, how the batch ends, and what it prints.
+struct Row {
+    from: u32,
+    to: u32,
+    budget: u32,
+    wanted: Result<u8, ProgramFault>,
+    printed: &'static str,
+}
+
+// What is asked for and refused, and how.
+const fn refused(from: u32, to: u32, budget: u32, fault: ProgramFault) -> Row {
+    Row {
+        from,
+        to,
+        budget,
+        wanted: Err(fault),
+        printed: "",
+    }
+}
+
+// Deals that give up.
+const fn given_up(from: u32, to: u32, budget: u32, printed: &'static str) -> Row {
+    Row {
+        from,
+        to,
+        budget,
+        wanted: Ok(2),
+        printed,
+    }
+}
+
+const ROWS: [Row; 14] = [
+    given_up(1, 1, 1, "1 gave up 1\n"),
+    given_up(24, 24, 1, "24 gave up 1\n"),
+    given_up(1_000_000, 1_000_000, 1, "1000000 gave up 1\n"),
+    given_up(24, 26, 50, "24 gave up 50\n25 gave up 50\n26 gave up 50\n"),
+    refused(0, 1, 1, ProgramFault::Number(0)),
+    refused(1, 1_000_001, 1, ProgramFault::Number(1_000_001)),
+    refused(0, 1_000_001, 1, ProgramFault::Number(0)),
+    refused(2, 1, 1, ProgramFault::Range),
+    refused(1, 33, 1, ProgramFault::Range),
+    refused(1, 1, 0, ProgramFault::Budget),
+    refused(1, 1, 4_000_001, ProgramFault::Budget),
+    refused(0, 33, 0, ProgramFault::Number(0)),
+    refused(2, 1, 0, ProgramFault::Range),
+    refused(968_000, 1_000_000, 0, ProgramFault::Range),
+];
+
+// A batch of FreeCell by the last home rule ends as the row says.
+fn check_row(rt: &impl Abort, alloc: Global, row: &Row) {
+    let mut out = ToArray::<100>::new();
+    let game = free_cell(rt, 4);
+    let result = run_batch(alloc, &game, 2, row.from, row.to, row.budget, &mut out);
+    assert!(rt; result == row.wanted, "deals {row.from} to {row.to}");
+    assert!(rt; out.held() == row.printed.as_bytes(), "deals {row.from} to {row.to}");
+}
+
+#[test]
+fn batches_are_told_or_refused(rt: HostRuntime) {
+    for row in &ROWS {
+        check_row(&rt, rt.alloc(), row);
+    }
+}
+
+#[test]
+fn the_longest_batch_has_a_line_for_each_deal(rt: HostRuntime) {
+    let mut out = ToArray::<500>::new();
+    let game = free_cell(&rt, 4);
+    let result = run_batch(rt.alloc(), &game, 2, 1, MOST_DEALS, 1, &mut out);
+    let lines = out.held().split(|byte| *byte == b'\n').count();
+    assert!(rt; result == Ok(2) && lines == 33);
+}
+
+#[test]
+fn lines_are_cut_where_the_sink_fails(rt: HostRuntime) {
+    let printed = b"24 gave up 1\n25 gave up 1\n";
+    let game = free_cell(&rt, 4);
+    for count in 0..printed.len() {
+        let mut out = Failing::new(ToArray::<100>::new(), count as u32);
+        let result = run_batch(rt.alloc(), &game, 2, 24, 25, 1, &mut out);
+        let wanted = Err(ProgramFault::Write(Output::Answer));
+        assert!(rt; result == wanted && out.device.held() == &printed[..count]);
+    }
+}
