@@ -41,10 +41,13 @@ module _ {K : Type 0} (g : Graph K) (budget : ℕ) where
   turns_more : (turns : ℕ) (before between after : Status K) (old mid new : Store K) (reply : Result Step SearchFault)
       → TurnsOn turns g budget before old mid between → Turns g budget between mid new after reply
       → TurnsOn (suc turns) g budget before old new after
-  turns_more zero before between after old mid new reply (same, stays) turn =
-      (new, after, reply,
-      subst (λ s. Turns g budget s old new after reply) stays (subst (λ s. Turns g budget between s new after reply) same turn),
-      (refl, refl))
+  turns_more zero before between after old mid new reply (same, stays) turn = (
+    new,
+    after,
+    reply,
+    subst (λ s. Turns g budget s old new after reply) stays (subst (λ s. Turns g budget between s new after reply) same turn),
+    (refl, refl),
+  )
   turns_more (suc turns) before between after old mid new reply (next, then, told, one, rest) turn =
       (next, then, told, one, turns_more turns then between after next mid new reply rest turn)
 
@@ -57,10 +60,12 @@ one_turn_on g rule budget deal old new reply turn search = record {
   ran = record {
     first = search.ran.first;
     begins = search.ran.begins;
-    runs = (suc search.ran.runs.0,
-        turns_more _ budget search.ran.runs.0 Running old.status new.status search.ran.first old.store new.store reply search.ran.runs.1
-        (subst (λ q. Turns (classes_of q) budget old.status old.store new.store new.status reply) search.question
-        (subst (λ b. Turns (classes_of old.question) b old.status old.store new.store new.status reply) search.budgeted turn.turned)));
+    runs = (
+      suc search.ran.runs.0,
+      turns_more _ budget search.ran.runs.0 Running old.status new.status search.ran.first old.store new.store reply search.ran.runs.1
+          (subst (λ q. Turns (classes_of q) budget old.status old.store new.store new.status reply) search.question
+          (subst (λ b. Turns (classes_of old.question) b old.status old.store new.store new.status reply) search.budgeted turn.turned)),
+    );
   };
 }
 
@@ -199,9 +204,11 @@ pub held_more : (g : GameRules) (rule budget from count : ℕ) (old new : Batch)
     → HoldsDeals g rule budget from (count + 1) new
 held_more g rule budget from count old new search holds others there here i within =
     ⊎_elim
-    (λ (same : i ≡ count).
-    (search, subst (λ k. search_at new k ≡ Some search) (sym same) there,
-    subst (λ k. IsSearchOf g rule budget (from + k) search) (sym same) here))
+    (λ (same : i ≡ count). (
+      search,
+      subst (λ k. search_at new k ≡ Some search) (sym same) there,
+      subst (λ k. IsSearchOf g rule budget (from + k) search) (sym same) here,
+    ))
     (λ (other : i ≢ count).
     let before = holds i (omega (arith, within, other)) in
     (before.0, others i other ∙ before.1, before.2))

@@ -5,7 +5,6 @@ use Rattle.fc_io.specs.Moves.{Takes, TakesFront}
 use Rattle.fc_moves.specs.GameRules.{GameRules}
 use Rattle.fc_deal.specs.Deal.{IsDealNumber, dealt_board}
 use Rattle.fc_answers.specs.declared.answers.Outcome.{Outcome}
-use Rattle.fc_answers.specs.declared.answers.Outcome.TheVariants.{Shortest, CannotWin, GaveUp}
 use Rattle.fc_answers.specs.declared.answers.Verdict.{Verdict}
 use Rattle.fc_answers.specs.Verdict.{outcome_of}
 use Rattle.fc_best_first.specs.Search.{IsBudget}

@@ -3,6 +3,8 @@
 
 mod words;
 
+ghost use Rattle.std.specs.Prelude.{◌≤◌, IfSome};
+
 use clap::ArgMatches;
 use clap::error::ErrorKind;
 use fc_io::{FromReader, ToWriter};
@@ -11,6 +13,7 @@ use fc_runs::{Input, Output, ProgramFault, run_batch, run_check, run_deal, run_r
 use std::fs::{self, File};
 use std::process::ExitCode;
 use std::{env, io};
+use words::{DEFAULT_BUDGET, DEFAULT_RULE};
 
 /// The exit status of a command line that is refused.
 const REFUSED: u8 = 3;
@@ -155,13 +158,11 @@ fn solve<G: Game + Drop>(
 
 // The budget and the home rule that the words give; `None` where there is no such rule.
 fn budget_and_rule(words: &ArgMatches<'_>) -> Option<(u32, u8)>
-    ensures rule { IfSome result (λ asked. asked.1 ≤ words.DEFAULT_RULE) }
+    ensures rule { IfSome result (λ asked. asked.1 ≤ DEFAULT_RULE) }
 {
-    let budget = words
-        .get_one::<u32>("budget")
-        .unwrap_or(words::DEFAULT_BUDGET);
-    let rule = words.get_one::<u8>("rule").unwrap_or(words::DEFAULT_RULE);
-    (rule <= words::DEFAULT_RULE).then_some((budget, rule))
+    let budget = words.get_one::<u32>("budget").unwrap_or(DEFAULT_BUDGET);
+    let rule = words.get_one::<u8>("rule").unwrap_or(DEFAULT_RULE);
+    (rule <= DEFAULT_RULE).then_some((budget, rule))
 }
 
 // Searches the numbered deals that the words name.

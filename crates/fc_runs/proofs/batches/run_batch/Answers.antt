@@ -1,4 +1,3 @@
-use Rattle.fc_runs.specs.Batches.{HoldsDeals}
 use Rattle.fc_runs.proofs.batches.run_batch.Goals as goal
 
 pub returns-in-Ok-clause-batched : goal.returns-in-Ok-clause-batched

@@ -1,6 +1,4 @@
-use Rattle.std.proofs.Common.{rules, ◌≡◌, ◌+◌, ◌∙◌, ap, arith, subst, IsTrue}
-use Rattle.std.specs.Prelude.{max}
-use Rattle.fc_runs.specs.Batches.{line_text, told_status}
+use Rattle.std.proofs.Common.{rules, ◌≡◌, ◌+◌, arith, subst, IsTrue}
 use Rattle.fc_runs.specs.Devices.{Device}
 use Rattle.fc_runs.proofs.BatchLemmas.{AreWritten, all_told, cut_short, one_more_written}
 use Rattle.fc_runs.proofs.batches.write_lines.Goals as goal
