@@ -9,9 +9,9 @@ use fc_tests::boards::{LOCKED, QUEEN_UNDER_KING, THREE_KINGS, TWO_KINGS};
 use std::alloc::Global;
 use std::process::Abort;
 
-static BOARDS: [&str; 4] = [QUEEN_UNDER_KING, TWO_KINGS, LOCKED, THREE_KINGS];
+pub(crate) static BOARDS: [&str; 4] = [QUEEN_UNDER_KING, TWO_KINGS, LOCKED, THREE_KINGS];
 
-static OUTCOMES: [Outcome; 4] = [
+pub(crate) static OUTCOMES: [Outcome; 4] = [
     Outcome::Shortest(3),
     Outcome::Shortest(5),
     Outcome::CannotWin,
@@ -38,7 +38,7 @@ fn batch_of(rt: &impl Abort, alloc: Global, boards: &[&str]) -> Batch<BucketFron
 }
 
 // Whether the answer tells this.
-fn answers(answer: &Answer, told: Outcome) -> bool {
+pub(crate) fn answers(answer: &Answer, told: Outcome) -> bool {
     match (answer, told) {
         (Answer::Shortest(list, _), Outcome::Shortest(count)) => list.len() == count as usize,
         (Answer::CannotWin(_), Outcome::CannotWin) => true,
