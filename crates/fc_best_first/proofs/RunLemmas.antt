@@ -1,7 +1,7 @@
 -- Lemmas on turns that are made one after the other.
 use Rattle.std.proofs.Common.{◌≡◌, ℕ, suc, Result, Ok, refl, subst, inl, inr}
 use Rattle.fc_best_first.specs.declared.turns.Status.{Status}
-use Rattle.fc_best_first.specs.declared.turns.Status.TheVariants.{Running, Shortest, CannotWin, GaveUp, Stopped}
+use Rattle.fc_best_first.specs.declared.turns.Status.TheVariants.{Running, Won, CannotWin, GaveUp, Stopped}
 use Rattle.fc_best_first.specs.declared.searches.Step.{Step}
 use Rattle.fc_best_first.specs.declared.searches.Step.TheVariants.{Running as running}
 use Rattle.fc_best_first.specs.declared.searches.SearchFault.{SearchFault}
@@ -19,7 +19,7 @@ module _ {K : Type 0} (g : Graph K) (budget : ℕ) where
 
   running_replies : (after : Status K) → Ok running ≡ reply_of after → after ≡ Running
   running_replies Running h = refl
-  running_replies (Shortest number) h = absurd (cc)
+  running_replies (Won number) h = absurd (cc)
   running_replies CannotWin h = absurd (cc)
   running_replies (GaveUp y number) h = absurd (cc)
   running_replies Stopped h = absurd (cc)
@@ -29,7 +29,7 @@ module _ {K : Type 0} (g : Graph K) (budget : ℕ) where
       → after ≡ before
   running_stays Running after old new (inl t) = running_replies after t.1
   running_stays Running after old new (inr t) = absurd (let h = t.1 in cc)
-  running_stays (Shortest number) after old new t = t.1
+  running_stays (Won number) after old new t = t.1
   running_stays CannotWin after old new t = t.1
   running_stays (GaveUp y number) after old new t = t.1
   running_stays Stopped after old new t = t.1

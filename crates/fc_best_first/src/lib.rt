@@ -5,7 +5,7 @@ pub use books::{Book, Mark, Offered};
 pub use keys::ExactKey;
 pub use searches::{Search, SearchFault, Step};
 pub use spaces::{Child, Space};
-pub use turns::{MOST_BUDGET, MOST_COST, Status};
+pub use turns::{MOST_BUDGET, MOST_COST, MOST_WEIGHT, Status};
 
 mod books;
 mod keys;
