@@ -9,12 +9,12 @@ use Rattle.fc_best_first.specs.Graph.{Graph}
 use Rattle.fc_best_first.specs.Store.{Store}
 use Rattle.fc_best_first.specs.Search.{Turns, Runs, reply_of}
 
-module _ {K : Type 0} (g : Graph K) (budget : ℕ) where
+module _ {K : Type 0} (g : Graph K) (weight budget : ℕ) where
   pub runs_on : (before between after : Status K) (old mid new : Store K) (reply : Result Step SearchFault)
-      → Turns g budget before old mid between reply → Runs g budget between mid new after → Runs g budget before old new after
+      → Turns g weight budget before old mid between reply → Runs g weight budget between mid new after → Runs g weight budget before old new after
   runs_on before between after old mid new reply t r = (suc r.0, (mid, between, reply, t, r.1))
 
-  pub runs_none : (before : Status K) (old : Store K) → Runs g budget before old old before
+  pub runs_none : (before : Status K) (old : Store K) → Runs g weight budget before old old before
   runs_none before old = (0, (refl, refl))
 
   running_replies : (after : Status K) → Ok running ≡ reply_of after → after ≡ Running
@@ -25,7 +25,7 @@ module _ {K : Type 0} (g : Graph K) (budget : ℕ) where
   running_replies Stopped h = absurd (cc)
 
   -- where there is more to do, the search runs as before
-  pub running_stays : (before after : Status K) (old new : Store K) → Turns g budget before old new after (Ok running)
+  pub running_stays : (before after : Status K) (old new : Store K) → Turns g weight budget before old new after (Ok running)
       → after ≡ before
   running_stays Running after old new (inl t) = running_replies after t.1
   running_stays Running after old new (inr t) = absurd (let h = t.1 in cc)
@@ -34,10 +34,11 @@ module _ {K : Type 0} (g : Graph K) (budget : ℕ) where
   running_stays (GaveUp y number) after old new t = t.1
   running_stays Stopped after old new t = t.1
 
--- a turn of a search that is still of the space and the budget with which it began
-pub turns_along : {K S : Type 0} (graph : S → Graph K) (now first : S) (budget most : ℕ) (before after : Status K)
-    (old new : Store K) (reply : Result Step SearchFault) → now ≡ first → budget ≡ most
-    → Turns (graph now) budget before old new after reply → Turns (graph first) most before old new after reply
-turns_along graph now first budget most before after old new reply e f t =
-    subst (λ s. Turns (graph s) most before old new after reply) e
-    (subst (λ b. Turns (graph now) b before old new after reply) f t)
+-- a turn of a search that is still of the space, the weight and the budget with which it began
+pub turns_along : {K S : Type 0} (graph : S → Graph K) (now first : S) (weight heavy budget most : ℕ) (before after : Status K)
+    (old new : Store K) (reply : Result Step SearchFault) → now ≡ first → weight ≡ heavy → budget ≡ most
+    → Turns (graph now) weight budget before old new after reply → Turns (graph first) heavy most before old new after reply
+turns_along graph now first weight heavy budget most before after old new reply e w f t =
+    subst (λ s. Turns (graph s) heavy most before old new after reply) e
+    (subst (λ v. Turns (graph now) v most before old new after reply) w
+    (subst (λ b. Turns (graph now) weight b before old new after reply) f t))
