@@ -1,12 +1,13 @@
 -- Lemmas on turns that are made one after the other.
-use Rattle.std.proofs.Common.{◌≡◌, ℕ, suc, Result, Ok, refl, subst, inl, inr}
+use Rattle.std.proofs.Common.{◌≡◌, ℕ, suc, Result, Ok, refl, sym, subst, inl, inr}
 use Rattle.fc_best_first.specs.declared.turns.Status.{Status}
 use Rattle.fc_best_first.specs.declared.turns.Status.TheVariants.{Running, Won, CannotWin, GaveUp, Stopped}
 use Rattle.fc_best_first.specs.declared.searches.Step.{Step}
-use Rattle.fc_best_first.specs.declared.searches.Step.TheVariants.{Running as running}
+use Rattle.fc_best_first.specs.declared.searches.Step.TheVariants.{Running as running, Done}
 use Rattle.fc_best_first.specs.declared.searches.SearchFault.{SearchFault}
 use Rattle.fc_best_first.specs.Graph.{Graph}
 use Rattle.fc_best_first.specs.Store.{Store}
+use Rattle.fc_best_first.specs.Turn.{Takes}
 use Rattle.fc_best_first.specs.Search.{Turns, Runs, reply_of}
 
 module _ {K : Type 0} (g : Graph K) (weight budget : ℕ) where
@@ -16,6 +17,22 @@ module _ {K : Type 0} (g : Graph K) (weight budget : ℕ) where
 
   pub runs_none : (before : Status K) (old : Store K) → Runs g weight budget before old old before
   runs_none before old = (0, (refl, refl))
+
+  -- a turn that took a pair replies by the status that it leaves
+  pub taken_turns : (before after : Status K) (old new : Store K) (step : Step) → before ≡ Running
+      → Takes g weight budget old new after → Ok step ≡ reply_of after
+      → Turns g weight budget before old new after (Ok step)
+  taken_turns before after old new step is takes replies =
+      subst (λ s. Turns g weight budget s old new after (Ok step)) (sym is) (inl (takes, replies))
+
+  -- one that doesn't leave the search running says that it is done
+  pub done_replies : (after : Status K) (old new : Store K) → (after ≡ Running → ⊥) → Takes g weight budget old new after
+      → Ok Done ≡ reply_of after
+  done_replies Running old new other takes = absurd (other refl)
+  done_replies (Won number) old new other takes = refl
+  done_replies CannotWin old new other takes = refl
+  done_replies (GaveUp y number) old new other takes = refl
+  done_replies Stopped old new other takes = absurd takes
 
   running_replies : (after : Status K) → Ok running ≡ reply_of after → after ≡ Running
   running_replies Running h = refl

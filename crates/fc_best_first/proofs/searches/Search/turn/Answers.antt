@@ -1,6 +1,8 @@
-use Rattle.std.proofs.Common.{◌<◌, subst}
+use Rattle.std.proofs.Common.{◌≡◌, ◌<◌, Ok, ◌∙◌, ap, subst}
 use Rattle.fc_best_first.specs.Shown.{Holds}
+use Rattle.fc_best_first.specs.Search.{Turns, reply_of}
 use Rattle.fc_best_first.specs.Turn.{Takes, work_left}
+use Rattle.fc_best_first.proofs.RunLemmas.{done_replies, taken_turns}
 use Rattle.fc_best_first.proofs.SearchLemmas.{takes_floor, takes_holds, takes_less}
 use Rattle.fc_best_first.proofs.searches.Search.turn.Goals as goal
 use Rattle.fc_best_first.proofs.searches.Search.turn.Goals.{in-Running-status, in_default-status}
@@ -42,3 +44,18 @@ returns-after-status-clause-falls g c =
           (subst (Takes graph c.self.inside.weight c.self.inside.budget c.self.inside.book c.advance.new.book) w.in-Running-status.is c.in-Ok.ensures.takes))
       | in_default-status w ↦ λ e. absurd (cc)
     ]
+
+pub returns-after-status-clause-turns : goal.returns-after-status-clause-turns
+returns-after-status-clause-turns g c =
+    let graph = g.S.Space.graph c.self.inside.space in
+    let old = c.self.inside.book in
+    let new = c.advance.new.book in
+    let after = c.in-Ok.status in
+    let replies : Ok c.match-status.step ≡ reply_of after = elim c.match-status.branch [
+      | in-Running-status w ↦ cc
+      | in_default-status w ↦ ap Ok w.step-is ∙ done_replies graph c.self.inside.weight c.self.inside.budget after old new
+          w.in_default-status.not-Running c.in-Ok.ensures.takes
+    ] in
+    subst (λ p. Turns (g.S.Space.graph p.space) p.weight p.budget p.status p.store new after (Ok c.match-status.step)) c.self.view_is
+    (taken_turns graph c.self.inside.weight c.self.inside.budget c.self.inside.status after old new c.match-status.step
+    c.in-Running.is c.in-Ok.ensures.takes replies)
