@@ -1,4 +1,5 @@
-//! The search for a cheapest answer, over any space of keys: best first, in turns, within a budget of stored keys.
+//! The search for a cheapest answer, or one that is cheapest up to a weight, over any space of keys: best first, in turns,
+//! within a budget of stored keys.
 #![tactic(auto)]
 
 pub use books::{Book, Mark, Offered};

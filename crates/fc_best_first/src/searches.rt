@@ -136,8 +136,8 @@ impl<K: ExactKey, F: Frontier + Drop, S: Space<K> + Drop> Search<K, F, S> {
         &self.status
     }
 
-    /// What no answer, times the weight, is below: the cost plus weighed bound of the pair that was taken last, and before
-    /// that of the key that starts. It can fall. It stays so where the search is done or was stopped.
+    /// A number that no answer, times the weight, is below: the f of the pair that was taken last, and before the first
+    /// turn the f of the key that starts. It may fall. It is true of a search that is done or was stopped, too.
     pub fn floor(&self) -> u32
         ensures value { result ≡ self.now.floor }
         ensures floor { IsFloor (S.graph self.now.space) self.now.weight self.now.floor }
@@ -159,8 +159,9 @@ impl<K: ExactKey, F: Frontier + Drop, S: Space<K> + Drop> Search<K, F, S> {
         self.book.entry(number)
     }
 
-    /// One turn: a running search takes one open pair. A search that is done answers `Done` and stays as it is. At
-    /// `Memory` a growth was refused and the search is stopped; one that is stopped answers `Stopped` from then on.
+    /// One turn: a running search takes one open pair, whose f is its floor from then on. A search that is done answers
+    /// `Done` and stays as it is. At `Memory` a growth was refused and the search is stopped; one that is stopped answers
+    /// `Stopped` from then on.
     pub fn turn(&mut self) -> Result<Step, SearchFault>
         ensures space { self.new.space ≡ self.old.space }
         ensures weight { self.new.weight ≡ self.old.weight }
@@ -174,12 +175,13 @@ impl<K: ExactKey, F: Frontier + Drop, S: Space<K> + Drop> Search<K, F, S> {
             Status::Stopped => return Err(SearchFault::Stopped),
             _ => return Ok(Step::Done),
         }
+        let (weight, budget) = (self.weight, self.budget);
         match advance(
             &self.space,
             &mut self.book,
             &mut self.walk,
-            self.weight,
-            self.budget,
+            weight,
+            budget,
             &mut self.floor,
         ) {
             Ok(status) => {

@@ -11,4 +11,4 @@ pub returns-clause-shows : goal.returns-clause-shows
 returns-clause-shows g c =
     subst (λ p. Shows (g.S.Space.graph p.space) p.weight p.budget p.store p.status) c.self.view_is
     (holds_shows (g.S.Space.graph c.self.inside.space) c.self.inside.weight c.self.inside.budget (g.met.S.Space.lawful c.self.inside.space)
-    c.self.invariant.0.least     c.self.inside.book c.self.inside.status c.self.invariant.2)
+    c.self.invariant.0.least c.self.inside.book c.self.inside.status c.self.invariant.2)

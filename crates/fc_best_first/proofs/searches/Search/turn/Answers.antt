@@ -33,7 +33,6 @@ invariant_of-self-in-Err g c =
           c.self.invariant.3 c.in-Err.ensures.floor,
     )
 
-
 pub returns-after-status-clause-falls : goal.returns-after-status-clause-falls
 returns-after-status-clause-falls g c =
     let graph = g.S.Space.graph c.self.inside.space in
