@@ -36,7 +36,7 @@ key_cases (e ∷ es) y (suc i) x at = elim (key_cases es y i x at) [
   | inr last ↦ inr (ap suc last.0, last.1)
 ]
 
--- what is below an answer's next number is, weighed, below what the answer, times the weight, is below
+-- a cost and a bound that come to n at most, the bound weighed, stay below what n, times the weight, is below
 weighed_below : (weight cost bound n f : ℕ) → 1 ≤ weight → cost + bound < suc n → weight * n < f → cost + weight * bound < f
 weighed_below weight cost bound n f heavy lt over =
     let all : weight * (cost + bound) ≤ weight * n = mul-le weight (cost + bound) weight n (omega arith) (omega (arith, lt)) in
