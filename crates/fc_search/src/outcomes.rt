@@ -40,9 +40,8 @@ impl<F: Frontier + Drop, G: Game + Drop> Search<F, G> {
         ensures floor { (moves : List Move) → Wins self.now.question.game self.now.question.start moves → result ≤ length moves }
         ensures value { (self.now.floor ≤ self.now.question.weight * result) × (self.now.question.weight * result < self.now.floor + self.now.question.weight) }
     {
-        self.search
-            .floor()
-            .div_ceil(u32::from(self.search.weight()))
+        let weight = u32::from(self.search.weight());
+        self.search.floor().div_ceil(weight)
     }
 
     // What is told where the class with this number is won: only by weight 1 its cost is known to be the least.

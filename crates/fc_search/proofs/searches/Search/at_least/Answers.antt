@@ -9,8 +9,8 @@ returns-clause-floor g c = λ moves wins.
     let inner = c.self.inside.search in
     let own : Wins (g.G.Game.game inner.space.game) inner.space.start moves =
     subst (λ s. Wins s.question.game s.question.start moves) (sym c.self.view_is) wins in
-    let by : c.from.result ≡ inner.weight = c.from.ensures ∙ c.weight.ensures.value in
-    let near = ceiling c.floor.result inner.weight c.from.result c.div_ceil.result by c.weight.ensures.range.least c.div_ceil.ensures in
+    let by : c.from-weight.result ≡ inner.weight = c.from-weight.ensures ∙ c.weight.ensures.value in
+    let near = ceiling c.floor.result inner.weight c.from-weight.result c.div_ceil.result by c.weight.ensures.range.least c.div_ceil.ensures in
     let under : c.floor.result ≤ inner.weight * length moves =
     subst (λ n. n ≤ inner.weight * length moves) (sym c.floor.ensures.value) (c.floor.ensures.floor (length moves) (moves, refl, own)) in
     floor_below inner.weight c.floor.result c.div_ceil.result (length moves) under near.1
