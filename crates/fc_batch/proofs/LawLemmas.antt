@@ -11,7 +11,7 @@ use Rattle.fc_batch.specs.Batch.{Batch, Stays, TurnsAt, TurnFor, HasTurns, searc
 use Rattle.fc_batch.specs.Laws.{SearchesTurnAlone, NumbersStay}
 
 -- a turn for one number leaves the search with another as it is, and the count
-others_kept : (i : ℕ) (o : Option State) (old new : Batch) (reply : Result Step SearchFault)
+pub others_kept : (i : ℕ) (o : Option State) (old new : Batch) (reply : Result Step SearchFault)
     → MatchOption o ((reply ≡ Err NoSuch) × Stays old new) (λ before. TurnsAt i old new before reply)
     → (new.added ≡ old.added) × ((j : ℕ) → j ≢ i → search_at new j ≡ search_at old j)
 others_kept i None old new reply (told, stays) = (stays.added, λ j other. stays.searches j)

@@ -1,3 +1,3 @@
-mod BatchLemmas
+pub mod BatchLemmas
 pub mod EndLemmas
 pub mod LawLemmas

@@ -1,12 +1,10 @@
 -- Batches of deals: their searches, and the lines that tell of them.
 use Rattle.std.proofs.Common.{◌≡◌, ◌≢◌, ◌∙◌, ⊎_elim, ℕ, zero, suc, ◌+◌, ◌<◌, List, [], ◌∷◌, ◌++◌, length, Option, Some, Result, refl, sym, ap, subst, arith, IsTrue}
 use Rattle.std.specs.Prelude.{max, slice_get}
-use Rattle.std.specs.List.{flat_map, range_with_len}
+use Rattle.std.specs.List.{flat_map}
 use Rattle.std.proofs.Math.Nat.{max-zero, suc-max-suc, zero-max}
 use Rattle.std.proofs.lemmas.Bool.{cases_eq}
-use Rattle.std.proofs.lemmas.List.{flat_map_more, length-append, map-id}
-use Rattle.std.proofs.lemmas.Option.{slice_get-get_or}
-use Rattle.std.proofs.lemmas.List.FromFn.{get_or-range_with_len, length-range_with_len, map-range_with_len_more}
+use Rattle.std.proofs.lemmas.List.{flat_map_more, length-append}
 use Rattle.fc_io.specs.Moves.{Takes, TakesFront}
 use Rattle.fc_io.proofs.MoveLemmas.{Takes-none, Takes-both, takes_then_front}
 use Rattle.fc_position.specs.Position.{Fits}
@@ -21,9 +19,10 @@ use Rattle.fc_best_first.specs.Graph.{Graph}
 use Rattle.fc_best_first.specs.Search.{Turns, TurnsOn}
 use Rattle.fc_best_first.specs.Store.{Store}
 use Rattle.fc_search.specs.Search.{State, classes_of}
-use Rattle.fc_batch.specs.Batch.{Batch, HasTurn, HasTurns, OthersStay, TurnsFor, search_at, times}
+use Rattle.fc_batch.specs.Batch.{Batch, HasTurn, HasTurns, OthersStay, TurnFor, TurnsFor, running, search_at, times}
+use Rattle.fc_batch.proofs.BatchLemmas.{stays_self}
 use Rattle.fc_batch.proofs.EndLemmas.{quiet_turns_end}
-use Rattle.fc_batch.proofs.LawLemmas.{turn_alone}
+use Rattle.fc_batch.proofs.LawLemmas.{others_kept, turn_alone}
 use Rattle.fc_runs.specs.Batches.{AreCutShort, AreLines, AreTold, HaveEnded, HoldsDeals, IsRightOf, IsSearchOf, Line, greatest_status, line_text, told_status}
 use Rattle.fc_runs.specs.Devices.{Device}
 
@@ -76,28 +75,42 @@ turns_on g rule budget deal (suc turns) old new (mid, reply, turn, rest) search 
     turns_on g rule budget deal turns mid new rest (one_turn_on g rule budget deal old mid reply turn search)
 
 -- turns of the searches of a batch leave it with the searches of its deals
-pub held_on : (g : GameRules) (rule budget from count : ℕ) (list : List ℕ) (old new : Batch) (running : ℕ) → TurnsFor list old new running
+pub held_on : (g : GameRules) (rule budget from count : ℕ) (list : List ℕ) (old new : Batch) (replies : ℕ) → TurnsFor list old new replies
     → HoldsDeals g rule budget from count old → HoldsDeals g rule budget from count new
-held_on g rule budget from count list old new running turns holds i within =
+held_on g rule budget from count list old new replies turns holds i within =
     let before = holds i within in
-    let on = turn_alone list old new running turns i before.0 before.1 in
+    let on = turn_alone list old new replies turns i before.0 before.1 in
     (on.0, on.1, turns_on g rule budget (from + i) (times i list) before.0 on.0 on.2 before.2)
 
--- one number more
-pub range_more : (count : ℕ) → range_with_len 0 (count + 1) ≡ range_with_len 0 count ++ count ∷ []
-range_more count =
-    sym (map-id (range_with_len 0 (count + 1))) ∙ map-range_with_len_more (λ n. n) 0 count count (omega arith)
-    ∙ ap (λ numbers. numbers ++ count ∷ []) (map-id (range_with_len 0 count))
+-- one turn, as turns for a list of one number
+one_turn : (number : ℕ) (old new : Batch) (reply : Result Step SearchFault) → TurnFor number old new reply
+    → TurnsFor (number ∷ []) old new (running reply + 0)
+one_turn number old new reply turn = (new, reply, 0, turn, (stays_self new, refl), refl)
 
--- once no turn of the first numbers replied that its search runs on, these have ended
-pub ended_all : (count : ℕ) (old new : Batch) (running : ℕ) → TurnsFor (range_with_len 0 count) old new running → running ≡ 0
-    → HaveEnded count new
-ended_all count old new running turns none i s within at runs =
-    let long = length-range_with_len 0 count in
-    let from_none : 0 + i ≡ i = omega arith in
-    quiet_turns_end (range_with_len 0 count) old new running turns none i i s
-    (slice_get-get_or (range_with_len 0 count) i 0 (omega (arith, within, long)) ∙ ap Some (get_or-range_with_len 0 count i 0 within ∙ from_none))
-    at runs
+pub one_held : (g : GameRules) (rule budget from count number : ℕ) (old new : Batch) (reply : Result Step SearchFault)
+    → TurnFor number old new reply → HoldsDeals g rule budget from count old → HoldsDeals g rule budget from count new
+one_held g rule budget from count number old new reply turn =
+    held_on g rule budget from count (number ∷ []) old new (running reply + 0) (one_turn number old new reply turn)
+
+-- after a turn that doesn't reply that its search runs on, this has ended
+pub one_ended : (number : ℕ) (old new : Batch) (reply : Result Step SearchFault) (s : State) → TurnFor number old new reply
+    → running reply ≡ 0 → search_at new number ≡ Some s → s.status ≡ Running → ⊥
+one_ended number old new reply s turn none at runs =
+    quiet_turns_end (number ∷ []) old new (running reply + 0) (one_turn number old new reply turn) (omega (arith, none)) 0 number s refl at runs
+
+-- and the others are as they were
+pub one_others : (number : ℕ) (old mid new : Batch) (reply : Result Step SearchFault) → TurnFor number mid new reply
+    → OthersStay number old mid → OthersStay number old new
+one_others number old mid new reply turn others j other = (others_kept number (search_at mid number) mid new reply turn).1 j other ∙ others j other
+
+-- with the search of the next number, all below it have ended
+pub ended_more : (count : ℕ) (old new : Batch) → HaveEnded count old → OthersStay count old new
+    → ((s : State) → search_at new count ≡ Some s → s.status ≡ Running → ⊥) → HaveEnded (count + 1) new
+ended_more count old new ended others last i s within at runs =
+    ⊎_elim
+    (λ (same : i ≡ count). last s (subst (λ k. search_at new k ≡ Some s) same at) runs)
+    (λ (other : i ≢ count). ended i s (omega (arith, within, other)) (sym (others i other) ∙ at) runs)
+    (cases_eq i count)
 
 -- a line after others
 last_line : (lines : List Line) (line : Line) (P : ℕ → Line → Type 0) → ((i : ℕ) (x : Line) → slice_get lines i ≡ Some x → P i x)

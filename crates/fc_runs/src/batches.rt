@@ -1,20 +1,18 @@
 //! Several numbered deals, whose searches take turns, over any sink.
 
-ghost use Rattle.std.specs.Prelude.{◌≡◌, ◌+◌, ◌≤◌, ◌↔◌, ℕ, Some, IfOk, IfErr, OnErr, IsTrue};
-ghost use Rattle.std.specs.List.{range_with_len};
+ghost use Rattle.std.specs.Prelude.{◌≡◌, ◌+◌, ◌<◌, ◌≤◌, ◌↔◌, ℕ, Some, IfOk, IfErr, OnErr, IsTrue, true, false};
 ghost use Rattle.fc_moves.specs.GameRules.{GameRules};
 ghost use Rattle.fc_deal.specs.Deal.{IsDealNumber};
 ghost use Rattle.fc_best_first.specs.Search.{IsBudget};
 ghost use Rattle.fc_search.specs.Search.{State};
-ghost use Rattle.fc_batch.specs.Batch.{search_at};
+ghost use Rattle.fc_batch.specs.Batch.{OthersStay, search_at, work_left};
 ghost use Rattle.fc_runs.specs.Batches.{AreCutShort, AreTold, HaveEnded, HoldsDeals, IsAsked, IsBatched, IsBatchFault, IsRightOf, IsSearchOf, IsUnasked};
 
 use crate::answers::{line_text, told_status};
 use crate::faults::{Output, ProgramFault};
-use arrayvec::ArrayVec;
 use fc_answers::Outcome;
 use fc_batch::Batch;
-use fc_best_first::Status;
+use fc_best_first::{Status, Step};
 use fc_deal::deal;
 use fc_frontier::BucketFrontier;
 use fc_home::GREATEST_RULE;
@@ -25,6 +23,10 @@ use std::alloc::Global;
 
 /// The most deals of a batch.
 pub const MOST_DEALS: u32 = 32;
+
+// So many turns a search has in a row, as what it stores is then at hand: with one turn each, eight searches took up to half
+// as long again as one after the other.
+const STRETCH: u32 = 4096;
 
 /// Searches the deals `from` to `to` of the game in turns, each under a home rule of at most 2 with at most `budget` stored
 /// classes, and writes a line for each, rising: its number, and its answer without moves or `want of memory`. The status is
@@ -134,25 +136,45 @@ fn search_of<G: Game + Drop>(
 
 // Turns of the searches with the first numbers, in rising order again and again, until none of them runs.
 fn run_to_end<G: Game + Drop>(batch: &mut Batch<BucketFrontier, G>, count: usize)
-    requires few { count ≤ MOST_DEALS }
     ensures held { (g : GameRules) (rule budget from : ℕ) → HoldsDeals g rule budget from count batch.old
         → HoldsDeals g rule budget from count batch.new }
     ensures ended { HaveEnded count batch.new }
 {
-    let numbers = first_numbers(count);
-    while batch.turns(numbers.as_slice()) > 0 {}
+    while run_each(batch, count) {}
 }
 
-// The first numbers, from 0.
-fn first_numbers(count: usize) -> ArrayVec<usize, 32>
-    requires few { count ≤ MOST_DEALS }
-    ensures value { result.items ≡ range_with_len 0 count }
+// A stretch of turns of each of them; whether one may still run.
+fn run_each<G: Game + Drop>(batch: &mut Batch<BucketFrontier, G>, count: usize) -> bool
+    ensures held { (g : GameRules) (rule budget from : ℕ) → HoldsDeals g rule budget from count batch.old
+        → HoldsDeals g rule budget from count batch.new }
+    ensures ended { result ≡ false → HaveEnded count batch.new }
+    ensures most { work_left batch.new ≤ work_left batch.old }
+    ensures falls { result ≡ true → work_left batch.new < work_left batch.old }
 {
-    let mut numbers = ArrayVec::new();
-    for i in 0..count {
-        numbers.push(i);
+    let mut is_running = false;
+    for number in 0..count {
+        if run_on(batch, number) {
+            is_running = true;
+        }
     }
-    numbers
+    is_running
+}
+
+// A stretch of turns of one search; whether it may still run.
+fn run_on<G: Game + Drop>(batch: &mut Batch<BucketFrontier, G>, number: usize) -> bool
+    ensures held { (g : GameRules) (rule budget from count : ℕ) → HoldsDeals g rule budget from count batch.old
+        → HoldsDeals g rule budget from count batch.new }
+    ensures others { OthersStay number batch.old batch.new }
+    ensures ended { result ≡ false → (s : State) → search_at batch.new number ≡ Some s → s.status ≡ Status.Running → ⊥ }
+    ensures most { work_left batch.new ≤ work_left batch.old }
+    ensures falls { result ≡ true → work_left batch.new < work_left batch.old }
+{
+    for _ in 0..STRETCH {
+        let Ok(Step::Running) = batch.turn(number) else {
+            return false;
+        };
+    }
+    true
 }
 
 // Writes a line for each of the deals, whose searches have ended; the greatest status of the lines.

@@ -8,60 +8,33 @@ use std::alloc::Global;
 use std::process::Abort;
 
 // The first deal and the last, a budget, how the batch ends, and what it prints.
-struct Row {
-    from: u32,
-    to: u32,
-    budget: u32,
-    wanted: Result<u8, ProgramFault>,
-    printed: &'static str,
-}
-
-// What is asked for and refused, and how.
-const fn refused(from: u32, to: u32, budget: u32, fault: ProgramFault) -> Row {
-    Row {
-        from,
-        to,
-        budget,
-        wanted: Err(fault),
-        printed: "",
-    }
-}
-
-// Deals that give up.
-const fn given_up(from: u32, to: u32, budget: u32, printed: &'static str) -> Row {
-    Row {
-        from,
-        to,
-        budget,
-        wanted: Ok(2),
-        printed,
-    }
-}
+struct Row(u32, u32, u32, Result<u8, ProgramFault>, &'static str);
 
 const ROWS: [Row; 14] = [
-    given_up(1, 1, 1, "1 gave up 1\n"),
-    given_up(24, 24, 1, "24 gave up 1\n"),
-    given_up(1_000_000, 1_000_000, 1, "1000000 gave up 1\n"),
-    given_up(24, 26, 50, "24 gave up 50\n25 gave up 50\n26 gave up 50\n"),
-    refused(0, 1, 1, ProgramFault::Number(0)),
-    refused(1, 1_000_001, 1, ProgramFault::Number(1_000_001)),
-    refused(0, 1_000_001, 1, ProgramFault::Number(0)),
-    refused(2, 1, 1, ProgramFault::Range),
-    refused(1, 33, 1, ProgramFault::Range),
-    refused(1, 1, 0, ProgramFault::Budget),
-    refused(1, 1, 4_000_001, ProgramFault::Budget),
-    refused(0, 33, 0, ProgramFault::Number(0)),
-    refused(2, 1, 0, ProgramFault::Range),
-    refused(968_000, 1_000_000, 0, ProgramFault::Range),
+    Row(1, 1, 1, Ok(2), "1 gave up 1\n"),
+    Row(24, 24, 1, Ok(2), "24 gave up 1\n"),
+    Row(1_000_000, 1_000_000, 1, Ok(2), "1000000 gave up 1\n"),
+    Row(24, 26, 50, Ok(2), "24 gave up 50\n25 gave up 50\n26 gave up 50\n"),
+    Row(0, 1, 1, Err(ProgramFault::Number(0)), ""),
+    Row(1, 1_000_001, 1, Err(ProgramFault::Number(1_000_001)), ""),
+    Row(0, 1_000_001, 1, Err(ProgramFault::Number(0)), ""),
+    Row(2, 1, 1, Err(ProgramFault::Range), ""),
+    Row(1, 33, 1, Err(ProgramFault::Range), ""),
+    Row(1, 1, 0, Err(ProgramFault::Budget), ""),
+    Row(1, 1, 4_000_001, Err(ProgramFault::Budget), ""),
+    Row(0, 33, 0, Err(ProgramFault::Number(0)), ""),
+    Row(2, 1, 0, Err(ProgramFault::Range), ""),
+    Row(968_000, 1_000_000, 0, Err(ProgramFault::Range), ""),
 ];
 
 // A batch of FreeCell by the last home rule ends as the row says.
 fn check_row(rt: &impl Abort, alloc: Global, row: &Row) {
     let mut out = ToArray::<100>::new();
     let game = free_cell(rt, 4);
-    let result = run_batch(alloc, &game, 2, row.from, row.to, row.budget, &mut out);
-    assert!(rt; result == row.wanted, "deals {row.from} to {row.to}");
-    assert!(rt; out.held() == row.printed.as_bytes(), "deals {row.from} to {row.to}");
+    let Row(from, to, budget, wanted, printed) = *row;
+    let result = run_batch(alloc, &game, 2, from, to, budget, &mut out);
+    assert!(rt; result == wanted, "deals {from} to {to}: another end");
+    assert!(rt; out.held() == printed.as_bytes(), "deals {from} to {to}: another text");
 }
 
 #[test]
