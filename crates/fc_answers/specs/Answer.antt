@@ -6,7 +6,7 @@ use Rattle.fc_bound.specs.Bound.{bound}
 use Rattle.fc_tables.specs.Table.{IsClosed, IsClosedBelow, as_boards}
 use Rattle.fc_canonical.specs.Spelled.{spelled}
 use Rattle.fc_answers.specs.declared.answers.Answer.{Answer}
-use Rattle.fc_answers.specs.declared.answers.Answer.TheVariants.{Shortest, CannotWin, GaveUp}
+use Rattle.fc_answers.specs.declared.answers.Answer.TheVariants.{Shortest, Won, CannotWin, GaveUp}
 use Rattle.fc_answers.specs.declared.answers.Verdict.{Verdict}
 use Rattle.fc_answers.specs.Table.{Listing, IsTable}
 use Rattle.fc_answers.specs.Verdict.{verdict_of}
@@ -25,15 +25,18 @@ pub record IsBackedWhole (g : GameRules) (b : Board) (table : Listing) : Type 0 
   pub closed : IsClosed g table.rule b (as_boards table.rows)
   pub free : (e : List ℕ × ℕ) → Contains table.rows e → e.1 ≡ 0
 
--- the answer is backed: its table shows that no list is shorter, or that there is none
+-- the answer is backed: its table shows that no list is shorter, or that there is none; of a list that wins within a weight
+-- of the shortest nothing is claimed by a table
 abbrev pub IsBacked : GameRules → Board → Answer → Type 0
 IsBacked g b (Shortest moves table) = IsBackedBelow g b (length moves) table
+IsBacked g b (Won moves) = Unit {0}
 IsBacked g b (CannotWin table) = IsBackedWhole g b table
 IsBacked g b (GaveUp told) = Unit {0}
 
 -- what an answer lists was searched by this home rule
 abbrev pub IsByRule : ℕ → Answer → Type 0
 IsByRule rule (Shortest moves table) = table.rule ≡ rule
+IsByRule rule (Won moves) = Unit {0}
 IsByRule rule (CannotWin table) = table.rule ≡ rule
 IsByRule rule (GaveUp told) = Unit {0}
 

@@ -1,38 +1,49 @@
 -- What is told of a position and a budget, and when that is right.
-use Rattle.std.specs.Prelude.{◌≡◌, ℕ, ◌≤◌, length, All}
+use Rattle.std.specs.Prelude.{◌≡◌, ℕ, ◌*◌, ◌≤◌, List, length, All}
 use Rattle.fc_position.specs.Board.{Board}
+use Rattle.fc_moves.specs.declared.steps.Move.{Move}
 use Rattle.fc_moves.specs.GameRules.{GameRules}
 use Rattle.fc_moves.specs.MoveText.{HasText}
-use Rattle.fc_moves.specs.Run.{IsShortest, CannotWin, ReachesMore}
+use Rattle.fc_moves.specs.Run.{Wins, IsShortest, CannotWin, ReachesMore}
 use Rattle.fc_answers.specs.declared.answers.TheConstants.{MOST_MOVES}
 use Rattle.fc_answers.specs.declared.answers.Answer.{Answer}
 use Rattle.fc_answers.specs.declared.answers.Answer.TheVariants as answer
 use Rattle.fc_answers.specs.declared.answers.Outcome.{Outcome}
 use Rattle.fc_answers.specs.declared.answers.Outcome.TheVariants as outcome
 use Rattle.fc_answers.specs.declared.answers.Verdict.{Verdict}
-use Rattle.fc_answers.specs.declared.answers.Verdict.TheVariants.{Shortest, CannotWin as cannot_win, GaveUp}
+use Rattle.fc_answers.specs.declared.answers.Verdict.TheVariants.{Shortest, Won, CannotWin as cannot_win, GaveUp}
 
 -- the verdict of an answer: all but its table
 abbrev pub verdict_of : Answer → Verdict
 verdict_of (answer.Shortest moves table) = Shortest moves
+verdict_of (answer.Won moves) = Won moves
 verdict_of (answer.CannotWin table) = cannot_win
 verdict_of (answer.GaveUp told) = GaveUp told
 
 -- what is told of a verdict without its moves: how many there are
 abbrev pub outcome_of : Verdict → Outcome
 outcome_of (Shortest moves) = outcome.Shortest (length moves)
+outcome_of (Won moves) = outcome.Won (length moves)
 outcome_of cannot_win = outcome.CannotWin
 outcome_of (GaveUp told) = outcome.GaveUp told
 
--- the verdict is right for a board and a budget: the moves win and none win in fewer, or no moves win, or the budget is
--- told and more positions than that can be reached
-abbrev pub IsRight : GameRules → Board → ℕ → Verdict → Type 0
-IsRight g b budget (Shortest moves) = IsShortest g b moves
-IsRight g b budget cannot_win = CannotWin g b
-IsRight g b budget (GaveUp told) = (told ≡ budget) × ReachesMore g b budget
+-- the list wins, and is no longer than the weight, which is 2 at least, times any list that wins
+pub record IsWithin (g : GameRules) (weight : ℕ) (b : Board) (moves : List Move) : Type 0 where
+  pub above : 2 ≤ weight
+  pub wins : Wins g b moves
+  pub least : (other : List Move) → Wins g b other → length moves ≤ weight * length other
+
+-- the verdict of a search by a weight is right for a board and a budget: the moves win and none win in fewer, or the moves
+-- win within the weight, or no moves win, or the budget is told and more positions than that can be reached
+abbrev pub IsRight : GameRules → ℕ → Board → ℕ → Verdict → Type 0
+IsRight g weight b budget (Shortest moves) = IsShortest g b moves
+IsRight g weight b budget (Won moves) = IsWithin g weight b moves
+IsRight g weight b budget cannot_win = CannotWin g b
+IsRight g weight b budget (GaveUp told) = (told ≡ budget) × ReachesMore g b budget
 
 -- the moves of a list can be written: each has a text, and they are no more than a list may have
 abbrev pub CanBeWritten : Verdict → Type 0
 CanBeWritten (Shortest moves) = All HasText moves × (length moves ≤ MOST_MOVES)
+CanBeWritten (Won moves) = All HasText moves × (length moves ≤ MOST_MOVES)
 CanBeWritten cannot_win = Unit {0}
 CanBeWritten (GaveUp told) = Unit {0}

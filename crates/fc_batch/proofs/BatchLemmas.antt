@@ -104,31 +104,31 @@ few (Ok Running) = omega arith
 few (Ok Done) = omega arith
 few (Err fault) = omega arith
 
-by_status : (g : Graph (List ℕ)) (budget : ℕ) (old new : Store (List ℕ)) (before after : Status (List ℕ))
-    (reply : Result Step SearchFault) → Turns g budget before old new after reply → (reply ≡ Ok Running → left_of budget new < left_of budget old)
+by_status : (g : Graph (List ℕ)) (weight budget : ℕ) (old new : Store (List ℕ)) (before after : Status (List ℕ))
+    (reply : Result Step SearchFault) → Turns g weight budget before old new after reply → (reply ≡ Ok Running → left_of budget new < left_of budget old)
     → while_running after (left_of budget new) + running reply ≤ while_running before (left_of budget old)
-by_status g budget old new status.Running status.Running reply turn falls =
+by_status g weight budget old new status.Running status.Running reply turn falls =
     ⊎_elim
     (λ (takes, told). let less = falls told in let one : running reply ≡ 1 = ap running told in omega (arith, less, one))
     (λ (stopped, told). absurd cc)
     turn
-by_status g budget old new status.Running (status.Shortest n) reply turn falls = omega (arith, few reply)
-by_status g budget old new status.Running status.CannotWin reply turn falls = omega (arith, few reply)
-by_status g budget old new status.Running (status.GaveUp y n) reply turn falls = omega (arith, few reply)
-by_status g budget old new status.Running status.Stopped reply turn falls = omega (arith, few reply)
-by_status g budget old new (status.Shortest n) after reply (same, stays, told) falls =
+by_status g weight budget old new status.Running (status.Won n) reply turn falls = omega (arith, few reply)
+by_status g weight budget old new status.Running status.CannotWin reply turn falls = omega (arith, few reply)
+by_status g weight budget old new status.Running (status.GaveUp y n) reply turn falls = omega (arith, few reply)
+by_status g weight budget old new status.Running status.Stopped reply turn falls = omega (arith, few reply)
+by_status g weight budget old new (status.Won n) after reply (same, stays, told) falls =
     let none : running reply ≡ 0 = ap running told in
     let nothing : while_running after (left_of budget new) ≡ 0 = ap (λ s. while_running s (left_of budget new)) stays in
     omega (arith, none, nothing)
-by_status g budget old new status.CannotWin after reply (same, stays, told) falls =
+by_status g weight budget old new status.CannotWin after reply (same, stays, told) falls =
     let none : running reply ≡ 0 = ap running told in
     let nothing : while_running after (left_of budget new) ≡ 0 = ap (λ s. while_running s (left_of budget new)) stays in
     omega (arith, none, nothing)
-by_status g budget old new (status.GaveUp y n) after reply (same, stays, told) falls =
+by_status g weight budget old new (status.GaveUp y n) after reply (same, stays, told) falls =
     let none : running reply ≡ 0 = ap running told in
     let nothing : while_running after (left_of budget new) ≡ 0 = ap (λ s. while_running s (left_of budget new)) stays in
     omega (arith, none, nothing)
-by_status g budget old new status.Stopped after reply (same, stays, told) falls =
+by_status g weight budget old new status.Stopped after reply (same, stays, told) falls =
     let none : running reply ≡ 0 = ap running told in
     let nothing : while_running after (left_of budget new) ≡ 0 = ap (λ s. while_running s (left_of budget new)) stays in
     omega (arith, none, nothing)
@@ -138,7 +138,7 @@ turn_falls : (before after : State) (reply : Result Step SearchFault) → HasTur
     → (reply ≡ Ok Running → left_of before.budget after.store < left_of before.budget before.store)
     → work_of after + running reply ≤ work_of before
 turn_falls before after reply turn falls =
-    let less = by_status (classes_of before.question) before.budget before.store after.store before.status after.status reply
+    let less = by_status (classes_of before.question) before.question.weight before.budget before.store after.store before.status after.status reply
     turn.turned falls in
     let same = ap (λ b. while_running after.status (left_of b after.store)) turn.budget in
     omega (arith, less, same)

@@ -6,7 +6,7 @@ use Rattle.fc_best_first.specs.declared.searches.Step.{Step}
 use Rattle.fc_best_first.specs.declared.searches.Step.TheVariants.{Running}
 use Rattle.fc_best_first.specs.declared.turns.Status.{Status}
 use Rattle.fc_best_first.specs.declared.turns.Status.TheVariants.{Running as runs}
-use Rattle.fc_best_first.specs.Search.{Turns}
+use Rattle.fc_best_first.specs.Search.{FloorAfter, Turns}
 use Rattle.fc_best_first.specs.Turn.{work_left as left_of}
 use Rattle.fc_search.specs.Search.{State, classes_of}
 
@@ -42,7 +42,8 @@ OthersStay i old new = (j : ℕ) → j ≢ i → search_at new j ≡ search_at o
 pub record HasTurn (old new : State) (reply : Result Step SearchFault) : Type 0 where
   pub question : new.question ≡ old.question
   pub budget : new.budget ≡ old.budget
-  pub turned : Turns (classes_of old.question) old.budget old.status old.store new.store new.status reply
+  pub turned : Turns (classes_of old.question) old.question.weight old.budget old.status old.store new.store new.status reply
+  pub floor : FloorAfter old.status old.store.waiting old.floor new.floor
 
 -- so many turns of a search, one after the other
 abbrev pub HasTurns : ℕ → State → State → Type 0

@@ -32,7 +32,7 @@ pub fn make_certificate(
         return println!(rt; "no rule");
     }
     fs::write(rt, board, print_board(&position, 4).as_str())?;
-    let Ok(answer) = solve(rt.alloc(), &game, rule, &position, budget) else {
+    let Ok(answer) = solve(rt.alloc(), &game, rule, 1, &position, budget) else {
         return println!(rt; "no answer");
     };
     let mut bytes = Vec::new(rt.alloc());

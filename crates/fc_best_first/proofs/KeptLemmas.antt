@@ -10,6 +10,7 @@ use Rattle.fc_best_first.specs.declared.books.Mark.{Mark}
 use Rattle.fc_best_first.specs.declared.books.Offered.TheVariants.{Lowered, Added}
 use Rattle.fc_best_first.specs.Graph.{Graph, Reached}
 use Rattle.fc_best_first.specs.Store.{Store, Stands, IsNew, Offers}
+use Rattle.fc_best_first.specs.Turn.{TakesFloor}
 use Rattle.fc_best_first.specs.Kept.{HasAt, IsExpanded, IsSettled, IsNeeded, Comes, IsSound}
 use Rattle.fc_best_first.proofs.StoreLemmas.{set_here, set_elsewhere, push_here, push_elsewhere}
 
@@ -30,6 +31,10 @@ pub added_cases : (old new : List (ℕ × ℕ)) (p q : ℕ × ℕ) → Adds old 
 added_cases old new p q h there =
     front_cases p q old (Contains-permutation new (p ∷ old) q (IsPermutation-sym (p ∷ old) new h) there)
 
+-- the f of a pair of least f that is taken is the floor
+pub taken_floor : (old new : List (ℕ × ℕ)) (f i floor : ℕ) → Adds new old (f, i) → IsLeast (f, i) old → TakesFloor old floor f
+taken_floor old new f i floor taken least = inr (i, added_there new old (f, i) taken, least)
+
 pub least_below : (f i d j : ℕ) (ps : List (ℕ × ℕ)) → IsLeast (f, i) ps → Contains ps (d, j) → f ≤ d
 least_below f i d j ps least (k, lt, e) =
     subst (λ p. f ≤ p.0) e (least k (d, j) lt)
@@ -41,13 +46,13 @@ module _ {K : Type 0} where
   pub stands_within : (s : Store K) (i : ℕ) (x : K) (m : Mark) → Stands s i x m → i < length s.stored
   stands_within s i x m at = slice_get_within s.stored i (x, m) at
 
-module _ {K : Type 0} (g : Graph K) (budget : ℕ) where
+module _ {K : Type 0} (g : Graph K) (weight budget : ℕ) where
   -- a pair that is taken is of a stored key
-  pub taken_stands : (old : Store K) (f i : ℕ) (rest : List (ℕ × ℕ)) → IsSound g budget old → Adds rest old.waiting (f, i)
-      → (x : K) × (m : Mark) × Stands old i x m × (m.cost + g.bound x ≤ f)
+  pub taken_stands : (old : Store K) (f i : ℕ) (rest : List (ℕ × ℕ)) → IsSound g weight budget old → Adds rest old.waiting (f, i)
+      → (x : K) × (m : Mark) × Stands old i x m × (m.cost + weight * g.bound x ≤ f)
   taken_stands old f i rest sound taken = sound.pairs f i (added_there rest old.waiting (f, i) taken)
 
-  pub taken_within : (old new : Store K) (f i : ℕ) → IsSound g budget old → Adds new.waiting old.waiting (f, i)
+  pub taken_within : (old new : Store K) (f i : ℕ) → IsSound g weight budget old → Adds new.waiting old.waiting (f, i)
       → new.stored ≡ old.stored → i < length new.stored
   taken_within old new f i sound taken kept =
       let there = taken_stands old f i new.waiting sound taken in
@@ -58,11 +63,11 @@ module _ {K : Type 0} (g : Graph K) (budget : ℕ) where
   stands_back : (old new : Store K) (i : ℕ) (x : K) (m : Mark) → new.stored ≡ old.stored → Stands new i x m → Stands old i x m
   stands_back old new i x m kept at = subst (λ es. slice_get es i ≡ Some (x, m)) kept at
 
-  pub entry_reached : (old new : Store K) (i : ℕ) (x : K) (m : Mark) → IsSound g budget old → new.stored ≡ old.stored
+  pub entry_reached : (old new : Store K) (i : ℕ) (x : K) (m : Mark) → IsSound g weight budget old → new.stored ≡ old.stored
       → Stands new i x m → (d : ℕ) × Reached g x d
   entry_reached old new i x m sound kept at = (m.cost, sound.reached i x m (stands_back old new i x m kept at))
 
-  pub entry_low : (old new : Store K) (i : ℕ) (x : K) (m : Mark) → IsSound g budget old → budget ≤ 4000000
+  pub entry_low : (old new : Store K) (i : ℕ) (x : K) (m : Mark) → IsSound g weight budget old → budget ≤ 4000000
       → new.stored ≡ old.stored → Stands new i x m → m.cost ≤ 212000000
   entry_low old new i x m sound most kept at =
       let there = stands_back old new i x m kept at in
@@ -155,9 +160,9 @@ module _ {K : Type 0} where
           inr (w, there.0, c, there.1, edge, low)
     ]
 
-    module _ (g : Graph K) (budget : ℕ) (sound : IsSound g budget old) (room : length new.stored ≤ budget)
-        (reached : Reached g y e.cost) (low : e.cost ≤ 53 * i + 53) (comes : Comes g old i y e) (needed : IsNeeded g y)
-        (high : e.cost + g.bound y ≤ f) where
+    module _ (g : Graph K) (weight budget : ℕ) (sound : IsSound g weight budget old) (room : length new.stored ≤ budget)
+        (reached : Reached g y e.cost) (low : e.cost ≤ 53 * i + 53) (comes : Comes g old i y e) (needed : IsNeeded g weight y)
+        (high : e.cost + weight * g.bound y ≤ f) where
       once : (j k : ℕ) (x : K) (m n : Mark) → Stands new j x m → Stands new k x n → j ≡ k
       once j k x m n a b =
           ⊎_elim
@@ -183,40 +188,40 @@ module _ {K : Type 0} where
           (λ ne. rest j x m (puts.back j x m ne at))
           (cases_eq j i)
 
-      pub still_sound : IsSound g budget new
+      pub still_sound : IsSound g weight budget new
       still_sound = record {
         room = room;
         once = once;
         reached = each (λ j x m. Reached g x m.cost) reached sound.reached;
         low = each (λ j x m. m.cost ≤ 53 * j + 53) low sound.low;
         comes = each (Comes g new) (still_comes g i y e comes) (λ j x m at. still_comes g j x m (sound.comes j x m at));
-        needed = each (λ j x m. IsNeeded g x) needed sound.needed;
+        needed = each (λ j x m. IsNeeded g weight x) needed sound.needed;
         starts = λ x d start. still_has x d (sound.starts x d start);
         pairs = λ h j there. ⊎_elim
             (λ same.
             let here : Stands new j y e = subst (λ k. Stands new k y e) (ap (λ p. p.1) same) puts.here in
-            let le : e.cost + g.bound y ≤ h = subst (λ k. e.cost + g.bound y ≤ k) (ap (λ p. p.0) same) high in
+            let le : e.cost + weight * g.bound y ≤ h = subst (λ k. e.cost + weight * g.bound y ≤ k) (ap (λ p. p.0) same) high in
             (y, e, here, le))
             (λ before.
             let was = sound.pairs h j before in
             let now = still j was.0 was.1 was.2 in
-            let le : now.0.cost + g.bound was.0 ≤ h = (let a = was.3 in omega (arith, now.2, a)) in
+            let le : now.0.cost + weight * g.bound was.0 ≤ h = (let a = was.3 in omega (arith, now.2, a)) in
             (was.0, now.0, now.1, le))
             (added_cases old.waiting new.waiting (f, i) (h, j) puts.opened there);
       }
 
-      pub still_settled : (exact : f ≡ e.cost + g.bound y) (busy : ℕ)
-          → ((j : ℕ) (x : K) (m : Mark) → (j ≡ busy → ⊥) → Stands old j x m → IsSettled g old j x m)
-          → (j : ℕ) (x : K) (m : Mark) → (j ≡ busy → ⊥) → Stands new j x m → IsSettled g new j x m
+      pub still_settled : (exact : f ≡ e.cost + weight * g.bound y) (busy : ℕ)
+          → ((j : ℕ) (x : K) (m : Mark) → (j ≡ busy → ⊥) → Stands old j x m → IsSettled g weight old j x m)
+          → (j : ℕ) (x : K) (m : Mark) → (j ≡ busy → ⊥) → Stands new j x m → IsSettled g weight new j x m
       still_settled exact busy settled j x m ne at =
           ⊎_elim
           (λ same. let both = at_here j x m same at in
-          inl (subst (λ k. Contains new.waiting (m.cost + g.bound x, k)) (sym same)
-          (subst (λ v. Contains new.waiting (m.cost + g.bound v, i)) (sym both.0)
-          (subst (λ n. Contains new.waiting (n.cost + g.bound y, i)) (sym both.1)
+          inl (subst (λ k. Contains new.waiting (m.cost + weight * g.bound x, k)) (sym same)
+          (subst (λ v. Contains new.waiting (m.cost + weight * g.bound v, i)) (sym both.0)
+          (subst (λ n. Contains new.waiting (n.cost + weight * g.bound y, i)) (sym both.1)
           (subst (λ h. Contains new.waiting (h, i)) exact (added_there old.waiting new.waiting (f, i) puts.opened))))))
           (λ other. ⊎_elim
-          (λ waits. inl (added_stays old.waiting new.waiting (f, i) (m.cost + g.bound x, j) puts.opened waits))
+          (λ waits. inl (added_stays old.waiting new.waiting (f, i) (m.cost + weight * g.bound x, j) puts.opened waits))
           (λ done. inr (still_expanded g x m.cost done))
           (settled j x m ne (puts.back j x m other at)))
           (cases_eq j i)

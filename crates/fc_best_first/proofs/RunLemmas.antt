@@ -1,43 +1,61 @@
 -- Lemmas on turns that are made one after the other.
-use Rattle.std.proofs.Common.{◌≡◌, ℕ, suc, Result, Ok, refl, subst, inl, inr}
+use Rattle.std.proofs.Common.{◌≡◌, ℕ, suc, Result, Ok, refl, sym, subst, inl, inr}
 use Rattle.fc_best_first.specs.declared.turns.Status.{Status}
-use Rattle.fc_best_first.specs.declared.turns.Status.TheVariants.{Running, Shortest, CannotWin, GaveUp, Stopped}
+use Rattle.fc_best_first.specs.declared.turns.Status.TheVariants.{Running, Won, CannotWin, GaveUp, Stopped}
 use Rattle.fc_best_first.specs.declared.searches.Step.{Step}
-use Rattle.fc_best_first.specs.declared.searches.Step.TheVariants.{Running as running}
+use Rattle.fc_best_first.specs.declared.searches.Step.TheVariants.{Running as running, Done}
 use Rattle.fc_best_first.specs.declared.searches.SearchFault.{SearchFault}
 use Rattle.fc_best_first.specs.Graph.{Graph}
 use Rattle.fc_best_first.specs.Store.{Store}
+use Rattle.fc_best_first.specs.Turn.{Takes}
 use Rattle.fc_best_first.specs.Search.{Turns, Runs, reply_of}
 
-module _ {K : Type 0} (g : Graph K) (budget : ℕ) where
+module _ {K : Type 0} (g : Graph K) (weight budget : ℕ) where
   pub runs_on : (before between after : Status K) (old mid new : Store K) (reply : Result Step SearchFault)
-      → Turns g budget before old mid between reply → Runs g budget between mid new after → Runs g budget before old new after
+      → Turns g weight budget before old mid between reply → Runs g weight budget between mid new after → Runs g weight budget before old new after
   runs_on before between after old mid new reply t r = (suc r.0, (mid, between, reply, t, r.1))
 
-  pub runs_none : (before : Status K) (old : Store K) → Runs g budget before old old before
+  pub runs_none : (before : Status K) (old : Store K) → Runs g weight budget before old old before
   runs_none before old = (0, (refl, refl))
+
+  -- a turn that took a pair replies by the status that it leaves
+  pub taken_turns : (before after : Status K) (old new : Store K) (step : Step) → before ≡ Running
+      → Takes g weight budget old new after → Ok step ≡ reply_of after
+      → Turns g weight budget before old new after (Ok step)
+  taken_turns before after old new step is takes replies =
+      subst (λ s. Turns g weight budget s old new after (Ok step)) (sym is) (inl (takes, replies))
+
+  -- one that doesn't leave the search running says that it is done
+  pub done_replies : (after : Status K) (old new : Store K) → (after ≡ Running → ⊥) → Takes g weight budget old new after
+      → Ok Done ≡ reply_of after
+  done_replies Running old new other takes = absurd (other refl)
+  done_replies (Won number) old new other takes = refl
+  done_replies CannotWin old new other takes = refl
+  done_replies (GaveUp y number) old new other takes = refl
+  done_replies Stopped old new other takes = absurd takes
 
   running_replies : (after : Status K) → Ok running ≡ reply_of after → after ≡ Running
   running_replies Running h = refl
-  running_replies (Shortest number) h = absurd (cc)
+  running_replies (Won number) h = absurd (cc)
   running_replies CannotWin h = absurd (cc)
   running_replies (GaveUp y number) h = absurd (cc)
   running_replies Stopped h = absurd (cc)
 
   -- where there is more to do, the search runs as before
-  pub running_stays : (before after : Status K) (old new : Store K) → Turns g budget before old new after (Ok running)
+  pub running_stays : (before after : Status K) (old new : Store K) → Turns g weight budget before old new after (Ok running)
       → after ≡ before
   running_stays Running after old new (inl t) = running_replies after t.1
   running_stays Running after old new (inr t) = absurd (let h = t.1 in cc)
-  running_stays (Shortest number) after old new t = t.1
+  running_stays (Won number) after old new t = t.1
   running_stays CannotWin after old new t = t.1
   running_stays (GaveUp y number) after old new t = t.1
   running_stays Stopped after old new t = t.1
 
--- a turn of a search that is still of the space and the budget with which it began
-pub turns_along : {K S : Type 0} (graph : S → Graph K) (now first : S) (budget most : ℕ) (before after : Status K)
-    (old new : Store K) (reply : Result Step SearchFault) → now ≡ first → budget ≡ most
-    → Turns (graph now) budget before old new after reply → Turns (graph first) most before old new after reply
-turns_along graph now first budget most before after old new reply e f t =
-    subst (λ s. Turns (graph s) most before old new after reply) e
-    (subst (λ b. Turns (graph now) b before old new after reply) f t)
+-- a turn of a search that is still of the space, the weight and the budget with which it began
+pub turns_along : {K S : Type 0} (graph : S → Graph K) (now first : S) (weight heavy budget most : ℕ) (before after : Status K)
+    (old new : Store K) (reply : Result Step SearchFault) → now ≡ first → weight ≡ heavy → budget ≡ most
+    → Turns (graph now) weight budget before old new after reply → Turns (graph first) heavy most before old new after reply
+turns_along graph now first weight heavy budget most before after old new reply e w f t =
+    subst (λ s. Turns (graph s) heavy most before old new after reply) e
+    (subst (λ v. Turns (graph now) v most before old new after reply) w
+    (subst (λ b. Turns (graph now) weight b before old new after reply) f t))

@@ -1,24 +1,26 @@
 -- Lemmas on turns: what a search keeps stays, and what one that is done shows.
 use Rattle.std.proofs.Common.{◌≡◌, ℕ, ◌+◌, ◌*◌, ◌<◌, ◌≤◌, ◌⊎◌, suc, zero, Some, None, Option, List, [], ◌∷◌, ◌++◌, length, map, refl, sym, ◌∙◌, ap, subst, inl, inr, ⊎_elim, arith}
-use Rattle.std.specs.Prelude.{slice_get, Contains}
-use Rattle.std.proofs.lemmas.Bool.{cases_eq}
+use Rattle.std.specs.Prelude.{slice_get, slice_index_or, Contains}
+use Rattle.std.proofs.lemmas.Bool.{cases_eq, cases_lt}
+use Rattle.std.proofs.lemmas.Nat.{mul-le}
 use Rattle.std.proofs.lemmas.Option.{none-some, some_pair_parts}
 use Rattle.std.proofs.lemmas.List.Elements.{Contains-append_right}
 use Rattle.std.specs.Map.{keys_of}
 use Rattle.std.proofs.lemmas.Map.Entries.{length-keys_of}
 use Rattle.std.proofs.lemmas.List.{length_push}
-use Rattle.fc_frontier.specs.Queue.{Adds}
+use Rattle.std.proofs.lemmas.List.Sorted.{All-permutation}
+use Rattle.fc_frontier.specs.Queue.{Adds, IsLeast}
 use Rattle.fc_best_first.specs.declared.books.Mark.{Mark}
 use Rattle.fc_best_first.specs.declared.books.Offered.{Offered}
 use Rattle.fc_best_first.specs.declared.books.Offered.TheVariants.{Known, Lowered, Added, Full}
 use Rattle.fc_best_first.specs.declared.spaces.Child.{Child}
 use Rattle.fc_best_first.specs.declared.turns.Status.{Status}
-use Rattle.fc_best_first.specs.declared.turns.Status.TheVariants.{Running, Shortest, CannotWin, GaveUp, Stopped}
+use Rattle.fc_best_first.specs.declared.turns.Status.TheVariants.{Running, Won, CannotWin, GaveUp, Stopped}
 use Rattle.fc_best_first.specs.Graph.{Graph, Reached, IsLawful, IsClosedInside, Lists}
 use Rattle.fc_best_first.specs.Store.{Store, Stands, Offers, IsTaken}
-use Rattle.fc_best_first.specs.Turn.{Expands, ExpandsTaken, DropsTaken, Takes, mark_of, work_left}
+use Rattle.fc_best_first.specs.Turn.{Expands, ExpandsTaken, DropsTaken, Takes, TakesFloor, mark_of, work_left}
 use Rattle.fc_best_first.specs.Kept.{HasAt, IsExpanded, IsSettled, IsNeeded, Comes, IsSound, IsKept}
-use Rattle.fc_best_first.specs.Shown.{IsFound, IsExhausted, IsGivenUp, Holds, Shows}
+use Rattle.fc_best_first.specs.Shown.{IsFloor, IsFound, IsExhausted, IsGivenUp, Holds, Shows}
 use Rattle.fc_best_first.proofs.KeptLemmas.{front_there, front_cases, added_there, added_stays, added_cases, least_below, same_entry, stands_within, taken_stands, Puts, puts_lowered, puts_added, still_has, other_number, still_sound, still_settled}
 use Rattle.fc_best_first.proofs.TurnLemmas.{offers_room}
 use Rattle.fc_best_first.proofs.WorkLemmas.{lowered_work, added_work, taken_work}
@@ -34,11 +36,18 @@ key_cases (e ∷ es) y (suc i) x at = elim (key_cases es y i x at) [
   | inr last ↦ inr (ap suc last.0, last.1)
 ]
 
-module _ {K : Type 0} (g : Graph K) (budget : ℕ) where
+-- a cost and a bound that come to n at most, the bound weighed, stay below what n, times the weight, is below
+weighed_below : (weight cost bound n f : ℕ) → 1 ≤ weight → cost + bound < suc n → weight * n < f → cost + weight * bound < f
+weighed_below weight cost bound n f heavy lt over =
+    let all : weight * (cost + bound) ≤ weight * n = mul-le weight (cost + bound) weight n (omega arith) (omega (arith, lt)) in
+    let part : 1 * cost ≤ weight * cost = mul-le 1 cost weight cost heavy (omega arith) in
+    omega (arith, all, part, over)
+
+module _ {K : Type 0} (g : Graph K) (weight budget : ℕ) where
   -- the same stored keys, and fewer pairs
   fewer_pairs : (stored : List (K × Mark)) (old new : List (ℕ × ℕ))
       → ((p : ℕ × ℕ) → Contains new p → Contains old p)
-      → IsSound g budget (record { stored = stored; waiting = old }) → IsSound g budget (record { stored = stored; waiting = new })
+      → IsSound g weight budget (record { stored = stored; waiting = old }) → IsSound g weight budget (record { stored = stored; waiting = new })
   fewer_pairs stored old new fewer h = record {
     room = h.room;
     once = h.once;
@@ -50,10 +59,10 @@ module _ {K : Type 0} (g : Graph K) (budget : ℕ) where
     pairs = λ f i there. h.pairs f i (fewer (f, i) there);
   }
 
-  taken_sound : (old new : Store K) (f i : ℕ) → IsSound g budget old → new.stored ≡ old.stored
-      → Adds new.waiting old.waiting (f, i) → IsSound g budget new
+  taken_sound : (old new : Store K) (f i : ℕ) → IsSound g weight budget old → new.stored ≡ old.stored
+      → Adds new.waiting old.waiting (f, i) → IsSound g weight budget new
   taken_sound old new f i sound kept taken =
-      subst (λ stored. IsSound g budget (record { stored = stored; waiting = new.waiting })) (sym kept)
+      subst (λ stored. IsSound g weight budget (record { stored = stored; waiting = new.waiting })) (sym kept)
       (fewer_pairs old.stored old.waiting new.waiting (λ p there. added_stays new.waiting old.waiting (f, i) p taken there) sound)
 
   kept_has : (old new : Store K) (x : K) (d : ℕ) → new.stored ≡ old.stored → HasAt old x d → HasAt new x d
@@ -65,32 +74,32 @@ module _ {K : Type 0} (g : Graph K) (budget : ℕ) where
   kept_back : (old new : Store K) (i : ℕ) (x : K) (m : Mark) → new.stored ≡ old.stored → Stands new i x m → Stands old i x m
   kept_back old new i x m kept at = subst (λ es. slice_get es i ≡ Some (x, m)) kept at
 
-  -- the pair that is taken has an f no less than the cost plus bound of its key
-  taken_high : (old new : Store K) (f i : ℕ) (x : K) (m : Mark) → IsSound g budget old → IsTaken old new f i x m
-      → m.cost + g.bound x ≤ f
+  -- the pair that is taken has an f no less than the cost plus weighed bound of its key
+  taken_high : (old new : Store K) (f i : ℕ) (x : K) (m : Mark) → IsSound g weight budget old → IsTaken old new f i x m
+      → m.cost + weight * g.bound x ≤ f
   taken_high old new f i x m sound t =
-      let there = taken_stands g budget old f i new.waiting sound t.taken in
+      let there = taken_stands g weight budget old f i new.waiting sound t.taken in
       let both = same_entry old i there.0 x there.1 m there.2 t.stands in
-      subst (λ v. m.cost + g.bound v ≤ f) both.0 (subst (λ n. n.cost + g.bound there.0 ≤ f) both.1 there.3)
+      subst (λ v. m.cost + weight * g.bound v ≤ f) both.0 (subst (λ n. n.cost + weight * g.bound there.0 ≤ f) both.1 there.3)
 
-  -- a key whose cost plus bound is below the least f is expanded
-  below_least : (old new : Store K) (f i : ℕ) (x : K) (m : Mark) → IsKept g budget old → IsTaken old new f i x m
-      → (j : ℕ) (y : K) (l : Mark) → Stands old j y l → l.cost + g.bound y < f → IsExpanded g old y l.cost
-  below_least old new f i x m kept t j y l at lt =
+  -- a key whose cost plus weighed bound is below the least f is expanded
+  below_least : (s : Store K) (f i : ℕ) → IsKept g weight budget s → IsLeast (f, i) s.waiting
+      → (j : ℕ) (y : K) (l : Mark) → Stands s j y l → l.cost + weight * g.bound y < f → IsExpanded g s y l.cost
+  below_least s f i kept least j y l at lt =
       ⊎_elim
-      (λ waits. absurd (let le = least_below f i (l.cost + g.bound y) j old.waiting t.least waits in omega (arith, le, lt)))
+      (λ waits. absurd (let le = least_below f i (l.cost + weight * g.bound y) j s.waiting least waits in omega (arith, le, lt)))
       (λ done. done)
       (kept.settled j y l at)
 
   -- a key other than the one that is taken stays open, or expanded
-  others_settled : (old new : Store K) (f i : ℕ) (x : K) (m : Mark) → IsKept g budget old → IsTaken old new f i x m
-      → (j : ℕ) (y : K) (l : Mark) → (l.cost + g.bound y ≡ f → j ≡ i → ⊥) → Stands new j y l → IsSettled g new j y l
+  others_settled : (old new : Store K) (f i : ℕ) (x : K) (m : Mark) → IsKept g weight budget old → IsTaken old new f i x m
+      → (j : ℕ) (y : K) (l : Mark) → (l.cost + weight * g.bound y ≡ f → j ≡ i → ⊥) → Stands new j y l → IsSettled g weight new j y l
   others_settled old new f i x m kept t j y l other at =
       ⊎_elim
       (λ waits. ⊎_elim
       (λ same. absurd (other (sym (ap (λ p. p.0) same)) (sym (ap (λ p. p.1) same))))
       (λ there. inl there)
-      (added_cases new.waiting old.waiting (f, i) (l.cost + g.bound y, j) t.taken waits))
+      (added_cases new.waiting old.waiting (f, i) (l.cost + weight * g.bound y, j) t.taken waits))
       (λ done. inr (kept_expanded old new y l.cost t.kept done))
       (kept.settled j y l (kept_back old new j y l t.kept at))
 
@@ -120,7 +129,7 @@ module _ {K : Type 0} (g : Graph K) (budget : ℕ) where
   has_lists s x d (i, m, at, le) = (m.cost, stand_rows s.stored i x m at, le)
 
   -- where each key below n is expanded, the stored keys leave no answer below n
-  pub closed_inside : (s : Store K) (n : ℕ) → IsSound g budget s
+  pub closed_inside : (s : Store K) (n : ℕ) → IsSound g weight budget s
       → ((i : ℕ) (x : K) (m : Mark) → Stands s i x m → m.cost + g.bound x < n → IsExpanded g s x m.cost)
       → IsClosedInside g n (rows s)
   closed_inside s n sound done = record {
@@ -134,44 +143,61 @@ module _ {K : Type 0} (g : Graph K) (budget : ℕ) where
         ((done r.0 x r.1 r.2 (subst (λ k. k + g.bound x < n) (sym r.3) lt)).1 c y edge)));
   }
 
-  module _ (lawful : IsLawful g) where
-    -- no answer is below the least f
-    none_below_least : (old new : Store K) (f i : ℕ) (x : K) (m : Mark) → IsKept g budget old → IsTaken old new f i x m
-        → (n : ℕ) → g.wins n → f ≤ n
-    none_below_least old new f i x m kept t n wins =
-        lawful.closed f (rows old) (closed_inside old f kept.sound (below_least old new f i x m kept t)) n wins
+  module _ (lawful : IsLawful g) (heavy : 1 ≤ weight) where
+    -- where each key whose cost plus weighed bound is below f is expanded, no answer, times the weight, is below f: else
+    -- the stored keys leave none below the next number
+    none_below : (s : Store K) (f : ℕ) → IsSound g weight budget s
+        → ((i : ℕ) (x : K) (m : Mark) → Stands s i x m → m.cost + weight * g.bound x < f → IsExpanded g s x m.cost)
+        → IsFloor g weight f
+    none_below s f sound done n wins = ⊎_elim
+        (λ over.
+        let closed = closed_inside s (suc n) sound
+        (λ i x m at lt. done i x m at (weighed_below weight m.cost (g.bound x) n f heavy lt over)) in
+        absurd (let le = lawful.closed (suc n) (rows s) closed n wins in omega (arith, le)))
+        (λ within. within)
+        (cases_lt (weight * n) f)
 
-  module _ (busy : ℕ) (xb : K) (mb : Mark) (least : (n : ℕ) → g.wins n → mb.cost + g.bound xb ≤ n) where
+    -- no answer, times the weight, is below the least f
+    pub least_floor : (s : Store K) (f i : ℕ) → IsKept g weight budget s → IsLeast (f, i) s.waiting → IsFloor g weight f
+    least_floor s f i kept least = none_below s f kept.sound (below_least s f i kept least)
+
+    -- a floor that a turn leaves is one
+    pub takes_floor : (s : Store K) (old new : ℕ) → IsKept g weight budget s → IsFloor g weight old
+        → TakesFloor s.waiting old new → IsFloor g weight new
+    takes_floor s old new kept floor (inl none) = subst (IsFloor g weight) (sym none.1) floor
+    takes_floor s old new kept floor (inr (i, there, least)) = least_floor s new i kept least
+
+  module _ (busy : ℕ) (xb : K) (mb : Mark) (least : (n : ℕ) → g.wins n → mb.cost + weight * g.bound xb ≤ weight * n) where
     -- what holds while the key with the number busy is expanded
     pub record Doing (s : Store K) : Type 0 where
-      pub sound : IsSound g budget s
-      pub settled : (j : ℕ) (y : K) (l : Mark) → (j ≡ busy → ⊥) → Stands s j y l → IsSettled g s j y l
+      pub sound : IsSound g weight budget s
+      pub settled : (j : ℕ) (y : K) (l : Mark) → (j ≡ busy → ⊥) → Stands s j y l → IsSettled g weight s j y l
       pub stands : Stands s busy xb mb
 
     abbrev IsChild : Child K → Type 0
     IsChild child = g.edge xb child.cost child.key × (child.bound ≡ g.bound child.key)
 
-    child_needed : (s : Store K) (child : Child K) → IsChild child → Doing s → IsNeeded g child.key
+    child_needed : (s : Store K) (child : Child K) → IsChild child → Doing s → IsNeeded g weight child.key
     child_needed s child edge d =
         inr (xb, mb.cost, child.cost, d.sound.reached busy xb mb d.stands, edge.0, least)
 
     puts_doing : (old new : Store K) (child : Child K) (i : ℕ) → IsChild child → Doing old → length new.stored ≤ budget
-        → Puts old new child.key (mark_of busy mb.cost child) (mb.cost + child.cost + child.bound) i
+        → Puts old new child.key (mark_of busy mb.cost child) (mb.cost + child.cost + weight * child.bound) i
         → mb.cost + child.cost ≤ 53 * i + 53 → Doing new
     puts_doing old new child i edge d room puts low =
         let e : Mark = mark_of busy mb.cost child in
-        let f : ℕ = mb.cost + child.cost + child.bound in
+        let f : ℕ = mb.cost + child.cost + weight * child.bound in
         let before = d.sound.reached busy xb mb d.stands in
         let reached : Reached g child.key (mb.cost + child.cost) = (suc before.0, (xb, mb.cost, child.cost, before.1, edge.0, refl)) in
         let self : mb.cost + child.cost ≤ mb.cost + child.cost = omega arith in
         let comes : Comes g old i child.key e = inr (xb, mb, child.cost, d.stands, edge.0, self) in
         let needed = child_needed old child edge d in
-        let exact : f ≡ mb.cost + child.cost + g.bound child.key = ap (λ b. mb.cost + child.cost + b) edge.1 in
-        let high : mb.cost + child.cost + g.bound child.key ≤ f = omega (arith, exact) in
+        let exact : f ≡ mb.cost + child.cost + weight * g.bound child.key = ap (λ b. mb.cost + child.cost + weight * b) edge.1 in
+        let high : mb.cost + child.cost + weight * g.bound child.key ≤ f = omega (arith, exact) in
         let more : mb.cost ≤ e.cost = omega arith in
         record {
-          sound = still_sound old new child.key e f i puts g budget d.sound room reached low comes needed high;
-          settled = still_settled old new child.key e f i puts g budget d.sound room reached low comes needed high exact busy d.settled;
+          sound = still_sound old new child.key e f i puts g weight budget d.sound room reached low comes needed high;
+          settled = still_settled old new child.key e f i puts g weight budget d.sound room reached low comes needed high exact busy d.settled;
           stands = puts.on busy xb mb (other_number old new child.key e f i puts busy xb mb d.stands more) d.stands;
         }
 
@@ -181,18 +207,18 @@ module _ {K : Type 0} (g : Graph K) (budget : ℕ) where
         × HasAt new child.key (mb.cost + child.cost) × (work_left budget new ≤ work_left budget old)
 
     placed_known : (old new : Store K) (child : Child K) → Doing old
-        → Offers budget old new child.key (mark_of busy mb.cost child) (mb.cost + child.cost + child.bound) Known
+        → Offers budget old new child.key (mark_of busy mb.cost child) (mb.cost + child.cost + weight * child.bound) Known
         → Placed old new child
     placed_known old new child d (i, was, at, (le, same)) =
         let still_left : work_left budget old ≤ work_left budget old = omega arith in
         subst (λ s. Placed old s child) (sym same) (d, λ x c h. h, (i, was, at, le), still_left)
 
     placed_lowered : (old new : Store K) (child : Child K) → IsChild child → Doing old
-        → Offers budget old new child.key (mark_of busy mb.cost child) (mb.cost + child.cost + child.bound) Lowered
+        → Offers budget old new child.key (mark_of busy mb.cost child) (mb.cost + child.cost + weight * child.bound) Lowered
         → Placed old new child
     placed_lowered old new child edge d h =
         let e : Mark = mark_of busy mb.cost child in
-        let f : ℕ = mb.cost + child.cost + child.bound in
+        let f : ℕ = mb.cost + child.cost + weight * child.bound in
         let p = puts_lowered budget old new child.key e f h in
         let was = d.sound.low h.0 child.key h.1 h.2 in
         let less : mb.cost + child.cost < h.1.cost = h.3.0 in
@@ -206,11 +232,11 @@ module _ {K : Type 0} (g : Graph K) (budget : ℕ) where
         )
 
     placed_added : IsLawful g → (old new : Store K) (child : Child K) → IsChild child → Doing old
-        → Offers budget old new child.key (mark_of busy mb.cost child) (mb.cost + child.cost + child.bound) Added
+        → Offers budget old new child.key (mark_of busy mb.cost child) (mb.cost + child.cost + weight * child.bound) Added
         → Placed old new child
     placed_added lawful old new child edge d h =
         let e : Mark = mark_of busy mb.cost child in
-        let f : ℕ = mb.cost + child.cost + child.bound in
+        let f : ℕ = mb.cost + child.cost + weight * child.bound in
         let p = puts_added budget old new child.key e f h in
         let was = d.sound.low busy xb mb d.stands in
         let step = (lawful.edges xb child.cost child.key edge.0).1 in
@@ -230,7 +256,7 @@ module _ {K : Type 0} (g : Graph K) (budget : ℕ) where
         ((left_out ≡ None) × Doing new × ((x : K) (d : ℕ) → HasAt old x d → HasAt new x d)
         × ((child : Child K) → Contains children child → HasAt new child.key (mb.cost + child.cost))
         × (work_left budget new ≤ work_left budget old))
-        ⊎ ((y : K) × (left_out ≡ Some y) × IsGivenUp g budget new y busy)
+        ⊎ ((y : K) × (left_out ≡ Some y) × IsGivenUp g weight budget new y busy)
 
     done_on : (child : Child K) (children : List (Child K)) (old mid new : Store K) (left_out : Option K)
         → Placed old mid child → Done children mid new left_out → Done (child ∷ children) old new left_out
@@ -249,7 +275,7 @@ module _ {K : Type 0} (g : Graph K) (budget : ℕ) where
 
     expands_done : IsLawful g → (children : List (Child K)) (old new : Store K) (left_out : Option K)
         → ((child : Child K) → Contains children child → IsChild child) → Doing old
-        → Expands budget busy mb.cost children old new left_out → Done children old new left_out
+        → Expands weight budget busy mb.cost children old new left_out → Done children old new left_out
     expands_done lawful [] old new left_out edges d (same, none) =
         let left : work_left budget new ≡ work_left budget old = ap (work_left budget) same in
         inl (
@@ -264,7 +290,7 @@ module _ {K : Type 0} (g : Graph K) (budget : ℕ) where
         inr (
           child.key,
           out,
-          subst (λ s. IsGivenUp g budget s child.key busy) (sym full.3)
+          subst (λ s. IsGivenUp g weight budget s child.key busy) (sym full.3)
               (d.sound, full.2, full.1, child_needed old child edge d, (xb, mb, child.cost, d.stands, edge.0)),
         )
     expands_done lawful (child ∷ children) old new left_out edges d (inr (mid, how, rest)) =
@@ -277,14 +303,14 @@ module _ {K : Type 0} (g : Graph K) (budget : ℕ) where
         (expands_done lawful children mid new left_out
         (λ c there. edges c (Contains-append_right (child ∷ []) children c there)) placed.0 rest)
 
-  module _ (lawful : IsLawful g) (old new : Store K) (kept : IsKept g budget old) where
+  module _ (lawful : IsLawful g) (heavy : 1 ≤ weight) (old new : Store K) (kept : IsKept g weight budget old) where
     abbrev Work : ℕ → Option K → Type 0
-    Work number left_out = ExpandsTaken g budget old new number left_out
+    Work number left_out = ExpandsTaken g weight budget old new number left_out
 
     work_least : (number : ℕ) (left_out : Option K) (t : Work number left_out) (n : ℕ) → g.wins n
-        → t.2.cost + g.bound t.1 ≤ n
+        → t.2.cost + weight * g.bound t.1 ≤ weight * n
     work_least number left_out (f, x, mark, mid, taken, not_won, le, work) n wins =
-        let below = none_below_least lawful old mid f number x mark kept taken n wins in
+        let below = least_floor lawful heavy old f number kept taken.least n wins in
         let high = taken_high old mid f number x mark kept.sound taken in
         omega (arith, below, high)
 
@@ -300,7 +326,7 @@ module _ {K : Type 0} (g : Graph K) (budget : ℕ) where
         })
         expands
 
-    work_kept : (number : ℕ) → Work number None → IsKept g budget new
+    work_kept : (number : ℕ) → Work number None → IsKept g weight budget new
     work_kept number t = elim (work_done number None t) [
       | inr (y, out, gave_up) ↦ absurd (none-some y out)
       | inl (none, doing, stays, all, less) ↦ record {
@@ -321,14 +347,14 @@ module _ {K : Type 0} (g : Graph K) (budget : ℕ) where
       }
     ]
 
-    work_given_up : (number : ℕ) (y : K) → Work number (Some y) → IsGivenUp g budget new y number
+    work_given_up : (number : ℕ) (y : K) → Work number (Some y) → IsGivenUp g weight budget new y number
     work_given_up number y t = elim (work_done number (Some y) t) [
       | inl (none, doing, stays, all, less) ↦ absurd (none-some y (sym none))
-      | inr (z, same, gave_up) ↦ subst (λ v. IsGivenUp g budget new v number) (let e : z ≡ y = cc in e) gave_up
+      | inr (z, same, gave_up) ↦ subst (λ v. IsGivenUp g weight budget new v number) (let e : z ≡ y = cc in e) gave_up
     ]
 
     -- a turn that leaves the search running leaves less to do
-    pub takes_less : Takes g budget old new Running → work_left budget new < work_left budget old
+    pub takes_less : Takes g weight budget old new Running → work_left budget new < work_left budget old
     takes_less t = ⊎_elim
         (λ dropped. taken_work budget old new (dropped.0, dropped.1) dropped.4.kept dropped.4.taken)
         (λ work. work_less work.0 work.1)
@@ -346,19 +372,19 @@ module _ {K : Type 0} (g : Graph K) (budget : ℕ) where
             let taken = taken_work budget old t.3 (t.0, number) t.4.kept t.4.taken in
             omega (arith, le, taken)
 
-    drop_kept : DropsTaken g old new → IsKept g budget new
+    drop_kept : DropsTaken g weight old new → IsKept g weight budget new
     drop_kept (f, number, x, mark, taken, not_won, lt) = record {
       sound = taken_sound old new f number kept.sound taken.kept taken.taken;
       settled = λ j y l at. others_settled old new f number x mark kept taken j y l
           (λ e same.
           let there = kept_back old new j y l taken.kept at in
           let both = same_entry old number y x l mark (subst (λ k. Stands old k y l) same there) taken.stands in
-          let at_least : mark.cost + g.bound x ≡ f = subst (λ v. mark.cost + g.bound v ≡ f) both.0
-          (subst (λ m. m.cost + g.bound y ≡ f) both.1 e) in
+          let at_least : mark.cost + weight * g.bound x ≡ f = subst (λ v. mark.cost + weight * g.bound v ≡ f) both.0
+          (subst (λ m. m.cost + weight * g.bound y ≡ f) both.1 e) in
           omega (arith, at_least, lt)) at;
     }
 
-    won_found : (number : ℕ) → Takes g budget old new (Shortest number) → IsFound g budget new number
+    won_found : (number : ℕ) → Takes g weight budget old new (Won number) → IsFound g weight budget new number
     won_found number (f, x, mark, taken, won) =
         let high = taken_high old new f number x mark kept.sound taken in (
           taken_sound old new f number kept.sound taken.kept taken.taken,
@@ -368,31 +394,31 @@ module _ {K : Type 0} (g : Graph K) (budget : ℕ) where
             subst (λ es. slice_get es number ≡ Some (x, mark)) (sym taken.kept) taken.stands,
             won,
             λ i y m at lt. kept_expanded old new y m.cost taken.kept
-                (below_least old new f number x mark kept taken i y m (kept_back old new i y m taken.kept at) (omega (arith, lt, high))),
+                (below_least old f number kept taken.least i y m (kept_back old new i y m taken.kept at) (omega (arith, lt, high))),
           ),
         )
 
-    none_exhausted : Takes g budget old new CannotWin → IsExhausted g budget new
-    none_exhausted (empty, same) = subst (IsExhausted g budget) (sym same) (
+    none_exhausted : Takes g weight budget old new CannotWin → IsExhausted g weight budget new
+    none_exhausted (empty, same) = subst (IsExhausted g weight budget) (sym same) (
       kept.sound,
       λ i y m at. ⊎_elim
-          (λ waits. absurd (let p = subst (λ ps. Contains ps (m.cost + g.bound y, i)) empty waits in omega (arith, p.1)))
+          (λ waits. absurd (let p = subst (λ ps. Contains ps (m.cost + weight * g.bound y, i)) empty waits in omega (arith, p.1)))
           (λ done. done)
           (kept.settled i y m at),
     )
 
     -- what a search holds after a turn
-    pub takes_holds : (status : Status K) → Takes g budget old new status → Holds g budget new status
+    pub takes_holds : (status : Status K) → Takes g weight budget old new status → Holds g weight budget new status
     takes_holds Running t = ⊎_elim (λ dropped. drop_kept dropped) (λ work. work_kept work.0 work.1) t
-    takes_holds (Shortest number) t = won_found number t
+    takes_holds (Won number) t = won_found number t
     takes_holds CannotWin t = none_exhausted t
     takes_holds (GaveUp y number) t = work_given_up number y t
     takes_holds Stopped t = absurd t
 
   -- what a search that is done shows
-  pub holds_shows : IsLawful g → (s : Store K) (status : Status K) → Holds g budget s status → Shows g budget s status
-  holds_shows lawful s Running h = tt
-  holds_shows lawful s (Shortest number) (sound, (x, mark, at, won, done)) =
+  pub holds_shows : IsLawful g → 1 ≤ weight → (s : Store K) (status : Status K) → Holds g weight budget s status → Shows g weight budget s status
+  holds_shows lawful heavy s Running h = tt
+  holds_shows lawful heavy s (Won number) (sound, (x, mark, at, won, done)) =
       let reached = sound.reached number x mark at in (
         x,
         mark,
@@ -400,12 +426,12 @@ module _ {K : Type 0} (g : Graph K) (budget : ℕ) where
         won,
         reached,
         lawful.answers x mark.cost reached won,
-        λ n wins. lawful.closed mark.cost (rows s) (closed_inside s mark.cost sound done) n wins,
+        none_below lawful heavy s mark.cost sound done,
       )
-  holds_shows lawful s CannotWin (sound, done) = λ n wins.
+  holds_shows lawful heavy s CannotWin (sound, done) = λ n wins.
       let over = lawful.closed (suc n) (rows s) (closed_inside s (suc n) sound (λ i x m at lt. done i x m at)) n wins in
       omega (arith, over)
-  holds_shows lawful s (GaveUp y number) (sound, full, fresh, needed, rest) =
+  holds_shows lawful heavy s (GaveUp y number) (sound, full, fresh, needed, rest) =
       let keys : List K = keys_of s.stored ++ y ∷ [] in
       let many : length keys ≡ budget + 1 = (let room = sound.room in let l = length-keys_of s.stored in omega (arith, length_push (keys_of s.stored) y, room, l, full)) in (
         keys,
@@ -423,11 +449,11 @@ module _ {K : Type 0} (g : Graph K) (budget : ℕ) where
               (key_cases s.stored y i x a);
           needed = λ i x a. ⊎_elim
               (λ one. sound.needed i x one.0 one.1)
-              (λ last. subst (IsNeeded g) (sym last.1) needed)
+              (λ last. subst (IsNeeded g weight) (sym last.1) needed)
               (key_cases s.stored y i x a);
         },
       )
-  holds_shows lawful s Stopped h = tt
+  holds_shows lawful heavy s Stopped h = tt
 
 -- what offering the first key leaves
 pub first_offered : {K : Type 0} (budget : ℕ) (empty new : Store K) (x : K) (m : Mark) (f : ℕ) (o : Offered K)
@@ -444,7 +470,7 @@ first_offered budget empty new x m f Added none quiet some_room (fresh, lt, stor
 first_offered budget empty new x m f (Full y) none quiet some_room (same, fresh, full, kept) =
     absurd (let size = ap length none in omega (arith, size, full, some_room))
 
-module _ {K : Type 0} (g : Graph K) (budget : ℕ) (s : Store K) (x : K) (e : Mark) (f : ℕ)
+module _ {K : Type 0} (g : Graph K) (weight budget : ℕ) (s : Store K) (x : K) (e : Mark) (f : ℕ)
     (stored : s.stored ≡ (x, e) ∷ []) (opened : Adds [] s.waiting (f, 0)) where
   first_alone : (i : ℕ) (y : K) (n : Mark) → Stands s i y n → (i ≡ 0) × (x ≡ y) × (e ≡ n)
   first_alone i y n at = by i (subst (λ es. slice_get es i ≡ Some (y, n)) stored at)
@@ -463,10 +489,10 @@ module _ {K : Type 0} (g : Graph K) (budget : ℕ) (s : Store K) (x : K) (e : Ma
 
   -- a search keeps from its beginning what it keeps
   pub begins_kept : IsLawful g → 1 ≤ budget → g.starts x e.cost → ((y : K) (d : ℕ) → g.starts y d → (y ≡ x) × (e.cost ≤ d))
-      → e.parent ≡ 0 → f ≡ e.cost + g.bound x → IsKept g budget s
+      → e.parent ≡ 0 → f ≡ e.cost + weight * g.bound x → IsKept g weight budget s
   begins_kept lawful some_room start alone own exact =
       let low : e.cost ≤ 53 * 0 + 53 = (let h = lawful.starts x e.cost start in omega (arith, h)) in
-      let high : e.cost + g.bound x ≤ f = omega (arith, exact) in
+      let high : e.cost + weight * g.bound x ≤ f = omega (arith, exact) in
       record {
         sound = record {
           room = (let size = ap length stored in omega (arith, size, some_room));
@@ -474,16 +500,25 @@ module _ {K : Type 0} (g : Graph K) (budget : ℕ) (s : Store K) (x : K) (e : Ma
           reached = first_each (λ i y n. Reached g y n.cost) (0, start);
           low = first_each (λ i y n. n.cost ≤ 53 * i + 53) low;
           comes = first_each (Comes g s) (inl (own, start));
-          needed = first_each (λ i y n. IsNeeded g y) (inl (e.cost, start));
+          needed = first_each (λ i y n. IsNeeded g weight y) (inl (e.cost, start));
           starts = λ y d h. (0, e, subst (λ v. Stands s 0 v e) (sym (alone y d h).0) first_here, (alone y d h).1);
           pairs = λ h i there. ⊎_elim
               (λ same.
               let here : Stands s i x e = subst (λ k. Stands s k x e) (ap (λ p. p.1) same) first_here in
-              let le : e.cost + g.bound x ≤ h = subst (λ k. e.cost + g.bound x ≤ k) (ap (λ p. p.0) same) high in
+              let le : e.cost + weight * g.bound x ≤ h = subst (λ k. e.cost + weight * g.bound x ≤ k) (ap (λ p. p.0) same) high in
               (x, e, here, le))
               (λ none. absurd (omega (arith, none.1)))
               (added_cases [] s.waiting (f, 0) (h, i) opened there);
         };
-        settled = first_each (IsSettled g s)
+        settled = first_each (IsSettled g weight s)
             (inl (subst (λ h. Contains s.waiting (h, 0)) exact (added_there [] s.waiting (f, 0) opened)));
       }
+
+  -- what a search that begins is open at is a floor
+  pub begins_floor : IsLawful g → 1 ≤ weight → IsKept g weight budget s → IsFloor g weight f
+  begins_floor lawful heavy kept = least_floor g weight budget lawful heavy s f 0 kept
+      (All-permutation (λ other. f ≤ other.0) ((f, 0) ∷ []) s.waiting opened (λ k d lt. alone k d lt))
+    where
+      alone : (k : ℕ) (d : ℕ × ℕ) → k < 1 → f ≤ (slice_index_or ((f, 0) ∷ []) k d).0
+      alone zero d lt = omega arith
+      alone (suc k) d lt = absurd (omega (arith, lt))

@@ -1,5 +1,5 @@
 -- Lemmas on offering the children of a key one after the other.
-use Rattle.std.proofs.Common.{◌≡◌, ℕ, ◌+◌, ◌≤◌, ◌⊎◌, Option, Some, List, ◌∷◌, length, refl, sym, ◌∙◌, ap, subst, inl, inr, arith}
+use Rattle.std.proofs.Common.{◌≡◌, ℕ, ◌+◌, ◌*◌, ◌≤◌, ◌⊎◌, Option, Some, List, ◌∷◌, length, refl, sym, ◌∙◌, ap, subst, inl, inr, arith}
 use Rattle.std.proofs.lemmas.List.{length_push}
 use Rattle.indexmap.specs.Layout.{length-set_value_at}
 use Rattle.fc_best_first.specs.declared.books.Mark.{Mark}
@@ -23,40 +23,36 @@ module _ {K : Type 0} where
   offers_room budget old new x m f (Full y) room h = subst (λ s. length s.stored ≤ budget) (sym h.3) room
 
   -- a child that found its place, and the others after it
-  pub expands_on : (budget number cost : ℕ) (child : Child K) (children : List (Child K)) (old mid new : Store K)
-      (left_out : Option K) (r b : ℕ) (o : Offered K) → r ≡ child.cost → b ≡ child.bound
+  pub expands_on : (weight budget number cost : ℕ) (child : Child K) (children : List (Child K)) (old mid new : Store K)
+      (left_out : Option K) (r f : ℕ) (o : Offered K) → r ≡ child.cost → f ≡ cost + r + weight * child.bound
       → ((y : K) → o ≡ Full y → ⊥)
-      → Offers budget old mid child.key (record { cost = cost + r; parent = number }) (cost + r + b) o
-      → Expands budget number cost children mid new left_out
-      → Expands budget number cost (child ∷ children) old new left_out
-  expands_on budget number cost child children old mid new left_out r b o e f placed offers rest =
+      → Offers budget old mid child.key (record { cost = cost + r; parent = number }) f o
+      → Expands weight budget number cost children mid new left_out
+      → Expands weight budget number cost (child ∷ children) old new left_out
+  expands_on weight budget number cost child children old mid new left_out r f o e weighed placed offers rest =
       inr (mid, by o placed at_child, rest)
     where
-      at_child : Offers budget old mid child.key (mark_of number cost child) (cost + child.cost + child.bound) o
-      at_child = subst (λ v. Offers budget old mid child.key (mark_of number cost child) (cost + child.cost + v) o) f
-          (subst (λ v. Offers budget old mid child.key (record { cost = cost + v; parent = number }) (cost + v + b) o) e offers)
+      at_child : Offers budget old mid child.key (mark_of number cost child) (cost + child.cost + weight * child.bound) o
+      at_child =
+          subst (λ v. Offers budget old mid child.key (record { cost = cost + v; parent = number })
+          (cost + v + weight * child.bound) o) e
+          (subst (λ h. Offers budget old mid child.key (record { cost = cost + r; parent = number }) h o) weighed offers)
 
       by : (p : Offered K) → ((y : K) → p ≡ Full y → ⊥)
-          → Offers budget old mid child.key (mark_of number cost child) (cost + child.cost + child.bound) p
-          → Offers budget old mid child.key (mark_of number cost child) (cost + child.cost + child.bound) Known
-          ⊎ (Offers budget old mid child.key (mark_of number cost child) (cost + child.cost + child.bound) Lowered
-          ⊎ Offers budget old mid child.key (mark_of number cost child) (cost + child.cost + child.bound) Added)
+          → Offers budget old mid child.key (mark_of number cost child) (cost + child.cost + weight * child.bound) p
+          → Offers budget old mid child.key (mark_of number cost child) (cost + child.cost + weight * child.bound) Known
+          ⊎ (Offers budget old mid child.key (mark_of number cost child) (cost + child.cost + weight * child.bound) Lowered
+          ⊎ Offers budget old mid child.key (mark_of number cost child) (cost + child.cost + weight * child.bound) Added)
       by Known q h = inl h
       by Lowered q h = inr (inl h)
       by Added q h = inr (inr h)
       by (Full y) q h = absurd (q y refl)
 
   -- a child that found no place, whatever others are after it
-  pub expands_full : (budget number cost : ℕ) (child : Child K) (children : List (Child K)) (old new : Store K) (key : K)
-      (r b : ℕ) (o : Offered K) → r ≡ child.cost → b ≡ child.bound → o ≡ Full key
-      → Offers budget old new child.key (record { cost = cost + r; parent = number }) (cost + r + b) o
-      → Expands budget number cost (child ∷ children) old new (Some key)
-  expands_full budget number cost child children old new key r b o e f is offers =
-      let full = subst (Offers budget old new child.key (record { cost = cost + r; parent = number }) (cost + r + b)) is offers in
-      let named = subst (λ y. Offers budget old new child.key (record { cost = cost + r; parent = number }) (cost + r + b) (Full y))
-      full.0 full in
-      inl (
-        subst (λ v. Offers budget old new child.key (mark_of number cost child) (cost + child.cost + v) (Full child.key)) f
-            (subst (λ v. Offers budget old new child.key (record { cost = cost + v; parent = number }) (cost + v + b) (Full child.key)) e named),
-        ap Some full.0,
-      )
+  pub expands_full : (weight budget number cost : ℕ) (child : Child K) (children : List (Child K)) (old new : Store K) (key : K)
+      (r f : ℕ) (o : Offered K) → r ≡ child.cost → o ≡ Full key
+      → Offers budget old new child.key (record { cost = cost + r; parent = number }) f o
+      → Expands weight budget number cost (child ∷ children) old new (Some key)
+  expands_full weight budget number cost child children old new key r f o e is offers =
+      let full = subst (Offers budget old new child.key (record { cost = cost + r; parent = number }) f) is offers in
+      inl ((refl, full.1, full.2, full.3), ap Some full.0)

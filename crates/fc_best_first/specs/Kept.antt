@@ -14,15 +14,17 @@ module _ {K : Type 0} where
   abbrev pub IsExpanded : Graph K → Store K → K → ℕ → Type 0
   IsExpanded g s x cost = (g.won x → ⊥) × ((c : ℕ) (y : K) → g.edge x c y → HasAt s y (cost + c))
 
-  -- the key is open at its cost plus bound, or expanded
-  abbrev pub IsSettled : Graph K → Store K → ℕ → K → Mark → Type 0
-  IsSettled g s number x mark =
-      Contains s.waiting (mark.cost + g.bound x, number) ⊎ IsExpanded g s x mark.cost
+  -- the key is open at its cost plus its weighed bound, or expanded
+  abbrev pub IsSettled : Graph K → ℕ → Store K → ℕ → K → Mark → Type 0
+  IsSettled g weight s number x mark =
+      Contains s.waiting (mark.cost + weight * g.bound x, number) ⊎ IsExpanded g s x mark.cost
 
-  -- the key came by needed work: it starts, or an edge leads to it from a key whose cost plus bound no answer is below
-  abbrev pub IsNeeded : Graph K → K → Type 0
-  IsNeeded g y = ((d : ℕ) × g.starts y d)
-      ⊎ ((x : K) × (d : ℕ) × (c : ℕ) × Reached g x d × g.edge x c y × ((n : ℕ) → g.wins n → d + g.bound x ≤ n))
+  -- the key came by needed work: it starts, or an edge leads to it from a key whose cost plus weighed bound no answer,
+  -- times the weight, is below
+  abbrev pub IsNeeded : Graph K → ℕ → K → Type 0
+  IsNeeded g weight y = ((d : ℕ) × g.starts y d)
+      ⊎ ((x : K) × (d : ℕ) × (c : ℕ) × Reached g x d × g.edge x c y
+      × ((n : ℕ) → g.wins n → d + weight * g.bound x ≤ weight * n))
 
   -- the key starts under this number, its own parent, or an edge leads to it from its parent, at no more than its cost
   abbrev pub Comes : Graph K → Store K → ℕ → K → Mark → Type 0
@@ -30,18 +32,18 @@ module _ {K : Type 0} where
       ⊎ ((w : K) × (was : Mark) × (c : ℕ) × Stands s mark.parent w was × g.edge w c x × (was.cost + c ≤ mark.cost))
 
   -- what holds of the stored keys and the open pairs, whichever keys are expanded
-  pub record IsSound (g : Graph K) (budget : ℕ) (s : Store K) : Type 0 where
+  pub record IsSound (g : Graph K) (weight : ℕ) (budget : ℕ) (s : Store K) : Type 0 where
     pub room : length s.stored ≤ budget
     pub once : (i j : ℕ) (x : K) (m n : Mark) → Stands s i x m → Stands s j x n → i ≡ j
     pub reached : (i : ℕ) (x : K) (m : Mark) → Stands s i x m → Reached g x m.cost
     pub low : (i : ℕ) (x : K) (m : Mark) → Stands s i x m → m.cost ≤ MOST_COST * i + MOST_COST
     pub comes : (i : ℕ) (x : K) (m : Mark) → Stands s i x m → Comes g s i x m
-    pub needed : (i : ℕ) (x : K) (m : Mark) → Stands s i x m → IsNeeded g x
+    pub needed : (i : ℕ) (x : K) (m : Mark) → Stands s i x m → IsNeeded g weight x
     pub starts : (x : K) (d : ℕ) → g.starts x d → HasAt s x d
     pub pairs : (f i : ℕ) → Contains s.waiting (f, i)
-        → (x : K) × (m : Mark) × Stands s i x m × (m.cost + g.bound x ≤ f)
+        → (x : K) × (m : Mark) × Stands s i x m × (m.cost + weight * g.bound x ≤ f)
 
   -- what holds between the turns of a running search
-  pub record IsKept (g : Graph K) (budget : ℕ) (s : Store K) : Type 0 where
-    pub sound : IsSound g budget s
-    pub settled : (i : ℕ) (x : K) (m : Mark) → Stands s i x m → IsSettled g s i x m
+  pub record IsKept (g : Graph K) (weight : ℕ) (budget : ℕ) (s : Store K) : Type 0 where
+    pub sound : IsSound g weight budget s
+    pub settled : (i : ℕ) (x : K) (m : Mark) → Stands s i x m → IsSettled g weight s i x m

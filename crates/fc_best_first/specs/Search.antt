@@ -1,7 +1,7 @@
 -- A search as a whole: what it is of, where it stands, and what a turn does to it.
-use Rattle.std.specs.Prelude.{◌≡◌, ℕ, ◌+◌, ◌≤◌, ◌⊎◌, suc, zero, [], ◌∷◌, Result, Ok, Err}
+use Rattle.std.specs.Prelude.{◌≡◌, ℕ, ◌+◌, ◌*◌, ◌≤◌, ◌⊎◌, List, suc, zero, [], ◌∷◌, Result, Ok, Err}
 use Rattle.fc_frontier.specs.Queue.{Adds}
-use Rattle.fc_best_first.specs.declared.turns.TheConstants.{MOST_BUDGET}
+use Rattle.fc_best_first.specs.declared.turns.TheConstants.{MOST_BUDGET, MOST_WEIGHT}
 use Rattle.fc_best_first.specs.declared.turns.Status.{Status}
 use Rattle.fc_best_first.specs.declared.turns.Status.TheVariants.{Running, Stopped}
 use Rattle.fc_best_first.specs.declared.searches.Step.{Step}
@@ -10,14 +10,22 @@ use Rattle.fc_best_first.specs.declared.searches.SearchFault.{SearchFault}
 use Rattle.fc_best_first.specs.declared.searches.SearchFault.TheVariants as fault
 use Rattle.fc_best_first.specs.Graph.{Graph}
 use Rattle.fc_best_first.specs.Store.{Store}
-use Rattle.fc_best_first.specs.Turn.{Takes}
+use Rattle.fc_best_first.specs.Turn.{Takes, TakesFloor}
 
--- a search: the space that it is of, its budget, what it stores and has open, and where it stands
+-- a search: the space that it is of, its weight and budget, what it stores and has open, where it stands, and the f of
+-- the pair that was taken last
 pub record Progress (S : Type 0) (K : Type 0) : Type 0 where
   pub space : S
+  pub weight : ℕ
   pub budget : ℕ
   pub store : Store K
   pub status : Status K
+  pub floor : ℕ
+
+-- the bounds may count so many times
+pub record IsWeight (weight : ℕ) : Type 0 where
+  pub least : 1 ≤ weight
+  pub greatest : weight ≤ MOST_WEIGHT
 
 -- so many keys may be stored
 pub record IsBudget (budget : ℕ) : Type 0 where
@@ -33,10 +41,10 @@ IsRefused budget fault.NotDone = ⊥
 IsRefused budget fault.NoSuch = ⊥
 
 module _ {K : Type 0} where
-  -- the key that starts is stored under 0, as its own parent, and open at its cost plus bound
-  abbrev pub Begins : Graph K → Store K → Type 0
-  Begins g s = (x : K) × (cost : ℕ) × g.starts x cost × (s.stored ≡ (x, record { cost = cost; parent = 0 }) ∷ [])
-      × Adds [] s.waiting (cost + g.bound x, 0)
+  -- the key that starts is stored under 0, as its own parent, and open at its cost plus weighed bound
+  abbrev pub Begins : Graph K → ℕ → Store K → Type 0
+  Begins g weight s = (x : K) × (cost : ℕ) × g.starts x cost × (s.stored ≡ (x, record { cost = cost; parent = 0 }) ∷ [])
+      × Adds [] s.waiting (cost + weight * g.bound x, 0)
 
   -- what a turn answers, by the status that it leaves
   abbrev pub reply_of : Status K → Result Step SearchFault
@@ -46,17 +54,22 @@ module _ {K : Type 0} where
 
   -- one turn of a search, by its status: a running one takes a pair, or a growth was refused and it is stopped; one that
   -- is done or stopped stays as it is
-  abbrev pub Turns : Graph K → ℕ → Status K → Store K → Store K → Status K → Result Step SearchFault → Type 0
-  Turns g budget Running old new after reply =
-      (Takes g budget old new after × (reply ≡ reply_of after)) ⊎ ((after ≡ Stopped) × (reply ≡ Err fault.Memory))
-  Turns g budget before old new after reply = (new ≡ old) × (after ≡ before) × (reply ≡ reply_of before)
+  abbrev pub Turns : Graph K → ℕ → ℕ → Status K → Store K → Store K → Status K → Result Step SearchFault → Type 0
+  Turns g weight budget Running old new after reply =
+      (Takes g weight budget old new after × (reply ≡ reply_of after)) ⊎ ((after ≡ Stopped) × (reply ≡ Err fault.Memory))
+  Turns g weight budget before old new after reply = (new ≡ old) × (after ≡ before) × (reply ≡ reply_of before)
+
+  -- the floor that a turn leaves, also where a growth was refused: that of a turn of a running search, else the same
+  abbrev pub FloorAfter : Status K → List (ℕ × ℕ) → ℕ → ℕ → Type 0
+  FloorAfter Running waiting old new = TakesFloor waiting old new
+  FloorAfter _ waiting old new = new ≡ old
 
   -- so many turns, one after the other
-  abbrev pub TurnsOn : ℕ → Graph K → ℕ → Status K → Store K → Store K → Status K → Type 0
-  TurnsOn zero g budget before old new after = (new ≡ old) × (after ≡ before)
-  TurnsOn (suc turns) g budget before old new after = (mid : Store K) × (between : Status K) × (reply : Result Step SearchFault)
-      × Turns g budget before old mid between reply × TurnsOn turns g budget between mid new after
+  abbrev pub TurnsOn : ℕ → Graph K → ℕ → ℕ → Status K → Store K → Store K → Status K → Type 0
+  TurnsOn zero g weight budget before old new after = (new ≡ old) × (after ≡ before)
+  TurnsOn (suc turns) g weight budget before old new after = (mid : Store K) × (between : Status K) × (reply : Result Step SearchFault)
+      × Turns g weight budget before old mid between reply × TurnsOn turns g weight budget between mid new after
 
   -- some number of turns
-  abbrev pub Runs : Graph K → ℕ → Status K → Store K → Store K → Status K → Type 0
-  Runs g budget before old new after = (turns : ℕ) × TurnsOn turns g budget before old new after
+  abbrev pub Runs : Graph K → ℕ → ℕ → Status K → Store K → Store K → Status K → Type 0
+  Runs g weight budget before old new after = (turns : ℕ) × TurnsOn turns g weight budget before old new after

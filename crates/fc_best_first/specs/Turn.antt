@@ -1,13 +1,19 @@
 -- One turn of a search.
 use Rattle.std.specs.Prelude.{◌≡◌, ℕ, ◌+◌, ◌-◌, ◌*◌, ◌<◌, ◌≤◌, ◌⊎◌, List, [], ◌∷◌, length, sum_by, Contains, Option, Some, None}
+use Rattle.fc_frontier.specs.Queue.{IsLeast}
 use Rattle.fc_best_first.specs.declared.books.Mark.{Mark}
 use Rattle.fc_best_first.specs.declared.books.Offered.TheVariants.{Known, Lowered, Added, Full}
 use Rattle.fc_best_first.specs.declared.spaces.Child.{Child}
 use Rattle.fc_best_first.specs.declared.turns.Status.{Status}
-use Rattle.fc_best_first.specs.declared.turns.Status.TheVariants.{Running, Shortest, CannotWin, GaveUp, Stopped}
+use Rattle.fc_best_first.specs.declared.turns.Status.TheVariants.{Running, Won, CannotWin, GaveUp, Stopped}
 use Rattle.fc_best_first.specs.declared.turns.TheConstants.{MOST_COST}
 use Rattle.fc_best_first.specs.Graph.{Graph}
 use Rattle.fc_best_first.specs.Store.{Store, Offers, IsTaken}
+
+-- the floor that a turn of a running search leaves: the same where no pair is open, else the least f of the open pairs
+abbrev pub TakesFloor : List (ℕ × ℕ) → ℕ → ℕ → Type 0
+TakesFloor waiting old new = ((waiting ≡ []) × (new ≡ old))
+    ⊎ ((number : ℕ) × Contains waiting (new, number) × IsLeast (new, number) waiting)
 
 module _ {K : Type 0} where
   -- the children of a key: each is at the end of an edge, and each edge's end is one, at no more
@@ -22,40 +28,40 @@ module _ {K : Type 0} where
   mark_of number cost child = record { cost = cost + child.cost; parent = number }
 
   -- the children are offered one after the other; the first that finds no place ends it
-  abbrev pub Expands : ℕ → ℕ → ℕ → List (Child K) → Store K → Store K → Option K → Type 0
-  Expands budget number cost [] old new left_out = (new ≡ old) × (left_out ≡ None)
-  Expands budget number cost (child ∷ children) old new left_out =
-      (Offers budget old new child.key (mark_of number cost child) (cost + child.cost + child.bound) (Full child.key)
+  abbrev pub Expands : ℕ → ℕ → ℕ → ℕ → List (Child K) → Store K → Store K → Option K → Type 0
+  Expands weight budget number cost [] old new left_out = (new ≡ old) × (left_out ≡ None)
+  Expands weight budget number cost (child ∷ children) old new left_out =
+      (Offers budget old new child.key (mark_of number cost child) (cost + child.cost + weight * child.bound) (Full child.key)
       × (left_out ≡ Some child.key))
       ⊎ ((mid : Store K)
-      × (Offers budget old mid child.key (mark_of number cost child) (cost + child.cost + child.bound) Known
-      ⊎ (Offers budget old mid child.key (mark_of number cost child) (cost + child.cost + child.bound) Lowered
-      ⊎ Offers budget old mid child.key (mark_of number cost child) (cost + child.cost + child.bound) Added))
-      × Expands budget number cost children mid new left_out)
+      × (Offers budget old mid child.key (mark_of number cost child) (cost + child.cost + weight * child.bound) Known
+      ⊎ (Offers budget old mid child.key (mark_of number cost child) (cost + child.cost + weight * child.bound) Lowered
+      ⊎ Offers budget old mid child.key (mark_of number cost child) (cost + child.cost + weight * child.bound) Added))
+      × Expands weight budget number cost children mid new left_out)
 
-  -- a key that isn't won, taken at its cost plus bound, is expanded
-  abbrev pub ExpandsTaken : Graph K → ℕ → Store K → Store K → ℕ → Option K → Type 0
-  ExpandsTaken g budget old new number left_out =
+  -- a key that isn't won, taken at its cost plus weighed bound, is expanded
+  abbrev pub ExpandsTaken : Graph K → ℕ → ℕ → Store K → Store K → ℕ → Option K → Type 0
+  ExpandsTaken g weight budget old new number left_out =
       (f : ℕ) × (x : K) × (mark : Mark) × (mid : Store K) × IsTaken old mid f number x mark
-      × (g.won x → ⊥) × (f ≤ mark.cost + g.bound x)
+      × (g.won x → ⊥) × (f ≤ mark.cost + weight * g.bound x)
       × ((children : List (Child K)) × AreChildren g x children
-      × Expands budget number mark.cost children mid new left_out)
+      × Expands weight budget number mark.cost children mid new left_out)
 
   -- a key that isn't won was met at a smaller cost since the pair was opened: the pair is dropped
-  abbrev pub DropsTaken : Graph K → Store K → Store K → Type 0
-  DropsTaken g old new =
+  abbrev pub DropsTaken : Graph K → ℕ → Store K → Store K → Type 0
+  DropsTaken g weight old new =
       (f : ℕ) × (number : ℕ) × (x : K) × (mark : Mark) × IsTaken old new f number x mark
-      × (g.won x → ⊥) × (mark.cost + g.bound x < f)
+      × (g.won x → ⊥) × (mark.cost + weight * g.bound x < f)
 
   -- one turn of a running search, and the status that it leaves
-  abbrev pub Takes : Graph K → ℕ → Store K → Store K → Status K → Type 0
-  Takes g budget old new Running =
-      DropsTaken g old new ⊎ ((number : ℕ) × ExpandsTaken g budget old new number None)
-  Takes g budget old new (Shortest number) =
+  abbrev pub Takes : Graph K → ℕ → ℕ → Store K → Store K → Status K → Type 0
+  Takes g weight budget old new Running =
+      DropsTaken g weight old new ⊎ ((number : ℕ) × ExpandsTaken g weight budget old new number None)
+  Takes g weight budget old new (Won number) =
       (f : ℕ) × (x : K) × (mark : Mark) × IsTaken old new f number x mark × g.won x
-  Takes g budget old new CannotWin = (old.waiting ≡ []) × (new ≡ old)
-  Takes g budget old new (GaveUp x number) = ExpandsTaken g budget old new number (Some x)
-  Takes g budget old new Stopped = ⊥
+  Takes g weight budget old new CannotWin = (old.waiting ≡ []) × (new ≡ old)
+  Takes g weight budget old new (GaveUp x number) = ExpandsTaken g weight budget old new number (Some x)
+  Takes g weight budget old new Stopped = ⊥
 
   -- how much a search may still do: it falls with each turn that leaves the search running
   abbrev pub work_left : ℕ → Store K → ℕ

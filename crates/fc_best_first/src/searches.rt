@@ -1,13 +1,14 @@
-ghost use Rattle.std.specs.Prelude.{◌≡◌, ◌<◌, ◌≤◌, ◌↔◌, ◌⊎◌, length, IfOk, IfErr, OnOk, OnErr, MatchOption};
-ghost use Rattle.fc_best_first.specs.Search.{Begins, IsBudget, IsRefused, Turns, Runs, reply_of};
-ghost use Rattle.fc_best_first.specs.Shown.{Holds, Shows};
+ghost use Rattle.std.specs.Prelude.{◌≡◌, ◌<◌, ◌≤◌, ◌↔◌, ◌⊎◌, length, IfOk, IfErr, OnOk, OnErr, MatchOption, []};
+ghost use Rattle.fc_frontier.specs.Queue.{Adds};
+ghost use Rattle.fc_best_first.specs.Search.{Begins, FloorAfter, IsBudget, IsRefused, IsWeight, Turns, Runs, reply_of};
+ghost use Rattle.fc_best_first.specs.Shown.{Holds, IsFloor, Shows};
 ghost use Rattle.fc_best_first.specs.Store.{Stands};
 ghost use Rattle.fc_best_first.specs.Turn.{work_left};
 
 use crate::books::{Book, Mark};
 use crate::keys::ExactKey;
 use crate::spaces::Space;
-use crate::turns::{MOST_BUDGET, Status, advance};
+use crate::turns::{MOST_BUDGET, Status, advance, weighed};
 use fc_frontier::Frontier;
 use std::alloc::Global;
 use std::marker::Model;
@@ -40,36 +41,43 @@ pub enum SearchFault {
     NoSuch,
 }
 
-/// A search of a space, with a budget of stored keys.
+/// A search of a space, with a weight of its bounds and a budget of stored keys.
 #[derive(Drop)]
 pub struct Search<K: ExactKey, F: Frontier + Drop, S: Space<K> + Drop> {
     space: S,
+    weight: u8,
     budget: u32,
     book: Book<K, F>,
     walk: S::Walk,
     status: Status<K>,
+    floor: u32,
 }
 
 impl<K: ExactKey, F: Frontier + Drop, S: Space<K> + Drop> Model for Search<K, F, S> {
     ghost use Rattle.std.specs.Prelude.{◌≤◌};
-    ghost use Rattle.fc_best_first.specs.Search.{Progress};
-    ghost use Rattle.fc_best_first.specs.Shown.{Holds};
+    ghost use Rattle.fc_best_first.specs.Search.{IsWeight, Progress};
+    ghost use Rattle.fc_best_first.specs.Shown.{Holds, IsFloor};
     ghost use Rattle.fc_best_first.specs.declared.turns.TheConstants.{MOST_BUDGET};
 
     ghost Value = { Progress S K };
 
-    ghost view = { λ s. record { space = s.space; budget = s.budget; store = s.book; status = s.status } };
+    ghost view = { λ s. record { space = s.space; weight = s.weight; budget = s.budget; store = s.book; status = s.status; floor = s.floor } };
 
-    ghost invariant = { λ s. (s.budget ≤ MOST_BUDGET) × Holds (S.graph s.space) s.budget s.book s.status };
+    ghost invariant = { λ s. IsWeight s.weight × (s.budget ≤ MOST_BUDGET)
+        × Holds (S.graph s.space) s.weight s.budget s.book s.status × IsFloor (S.graph s.space) s.weight s.floor };
 }
 
 impl<K: ExactKey, F: Frontier + Drop, S: Space<K> + Drop> Search<K, F, S> {
-    /// A search that has had no turn, for a budget of 1 to 4,000,000 stored keys.
-    pub fn new(alloc: Global, space: S, budget: u32) -> Result<Self, SearchFault>
+    /// A search that has had no turn, of a weight of 1 to 10, for a budget of 1 to 4,000,000 stored keys. What it wins costs
+    /// at most the weight times every answer, so by weight 1 it is a least one.
+    pub fn new(alloc: Global, space: S, weight: u8, budget: u32) -> Result<Self, SearchFault>
+        requires weight { IsWeight weight }
         ensures space { IfOk result (λ search. search.space ≡ space) }
+        ensures weight { IfOk result (λ search. search.weight ≡ weight) }
         ensures budget { IfOk result (λ search. search.budget ≡ budget) }
         ensures status { IfOk result (λ search. search.status ≡ Status.Running) }
-        ensures begins { IfOk result (λ search. Begins (S.graph space) search.store) }
+        ensures begins { IfOk result (λ search. Begins (S.graph space) weight search.store) }
+        ensures floor { IfOk result (λ search. Adds [] search.store.waiting (search.floor, 0)) }
         ensures range { OnOk result (IsBudget budget) }
         ensures fault { IfErr result (IsRefused budget) }
     {
@@ -78,7 +86,7 @@ impl<K: ExactKey, F: Frontier + Drop, S: Space<K> + Drop> Search<K, F, S> {
         }
         let (start, walk) = space.start();
         let cost = u32::from(start.cost);
-        let f = cost + u32::from(start.bound);
+        let f = weighed(weight, cost, start.bound);
         let mut book = Book::new(alloc);
         let mark = Mark { cost, parent: 0 };
         let Ok(_offered) = book.offer(budget, start.key, mark, f) else {
@@ -86,10 +94,12 @@ impl<K: ExactKey, F: Frontier + Drop, S: Space<K> + Drop> Search<K, F, S> {
         };
         Ok(Search {
             space,
+            weight,
             budget,
             book,
             walk,
             status: Status::Running,
+            floor: f,
         })
     }
 
@@ -98,6 +108,14 @@ impl<K: ExactKey, F: Frontier + Drop, S: Space<K> + Drop> Search<K, F, S> {
         ensures value { result.now ≡ self.now.space }
     {
         &self.space
+    }
+
+    /// How many times a bound counts, 1 to 10.
+    pub fn weight(&self) -> u8
+        ensures value { result ≡ self.now.weight }
+        ensures range { IsWeight self.now.weight }
+    {
+        self.weight
     }
 
     /// How many keys may be stored, 1 to 4,000,000.
@@ -111,11 +129,20 @@ impl<K: ExactKey, F: Frontier + Drop, S: Space<K> + Drop> Search<K, F, S> {
     /// Where the search stands. What it holds by that is kept from turn to turn; what it shows follows from it.
     pub fn status(&self) -> &Status<K>
         ensures value { result.now ≡ self.now.status }
-        ensures holds { Holds (S.graph self.now.space) self.now.budget self.now.store self.now.status }
-        ensures shows { Shows (S.graph self.now.space) self.now.budget self.now.store self.now.status }
+        ensures holds { Holds (S.graph self.now.space) self.now.weight self.now.budget self.now.store self.now.status }
+        ensures shows { Shows (S.graph self.now.space) self.now.weight self.now.budget self.now.store self.now.status }
         ensures most { self.now.budget ≤ MOST_BUDGET }
     {
         &self.status
+    }
+
+    /// A number that no answer, times the weight, is below: the f of the pair that was taken last, and before the first
+    /// turn the f of the key that starts. It may fall. It is true of a search that is done or was stopped, too.
+    pub fn floor(&self) -> u32
+        ensures value { result ≡ self.now.floor }
+        ensures floor { IsFloor (S.graph self.now.space) self.now.weight self.now.floor }
+    {
+        self.floor
     }
 
     /// How many keys are stored.
@@ -132,12 +159,15 @@ impl<K: ExactKey, F: Frontier + Drop, S: Space<K> + Drop> Search<K, F, S> {
         self.book.entry(number)
     }
 
-    /// One turn: a running search takes one open pair. A search that is done answers `Done` and stays as it is. At
-    /// `Memory` a growth was refused and the search is stopped; one that is stopped answers `Stopped` from then on.
+    /// One turn: a running search takes one open pair, whose f is its floor from then on. A search that is done answers
+    /// `Done` and stays as it is. At `Memory` a growth was refused and the search is stopped; one that is stopped answers
+    /// `Stopped` from then on.
     pub fn turn(&mut self) -> Result<Step, SearchFault>
         ensures space { self.new.space ≡ self.old.space }
+        ensures weight { self.new.weight ≡ self.old.weight }
         ensures budget { self.new.budget ≡ self.old.budget }
-        ensures turns { Turns (S.graph self.old.space) self.old.budget self.old.status self.old.store self.new.store self.new.status result }
+        ensures turns { Turns (S.graph self.old.space) self.old.weight self.old.budget self.old.status self.old.store self.new.store self.new.status result }
+        ensures floor { FloorAfter self.old.status self.old.store.waiting self.old.floor self.new.floor }
         ensures falls { result ≡ Ok Step.Running → work_left self.old.budget self.new.store < work_left self.old.budget self.old.store }
     {
         match self.status {
@@ -145,7 +175,15 @@ impl<K: ExactKey, F: Frontier + Drop, S: Space<K> + Drop> Search<K, F, S> {
             Status::Stopped => return Err(SearchFault::Stopped),
             _ => return Ok(Step::Done),
         }
-        match advance(&self.space, &mut self.book, &mut self.walk, self.budget) {
+        let (weight, budget) = (self.weight, self.budget);
+        match advance(
+            &self.space,
+            &mut self.book,
+            &mut self.walk,
+            weight,
+            budget,
+            &mut self.floor,
+        ) {
             Ok(status) => {
                 let step = match status {
                     Status::Running => Step::Running,
@@ -167,8 +205,9 @@ impl<K: ExactKey, F: Frontier + Drop, S: Space<K> + Drop> Search<K, F, S> {
     /// `Memory` where a growth was refused, and the search is stopped; `Stopped` where it was before.
     pub fn run(&mut self) -> Result<(), SearchFault>
         ensures space { self.new.space ≡ self.old.space }
+        ensures weight { self.new.weight ≡ self.old.weight }
         ensures budget { self.new.budget ≡ self.old.budget }
-        ensures runs { Runs (S.graph self.old.space) self.old.budget self.old.status self.old.store self.new.store self.new.status }
+        ensures runs { Runs (S.graph self.old.space) self.old.weight self.old.budget self.old.status self.old.store self.new.store self.new.status }
         ensures done { OnOk result (reply_of self.new.status ≡ Ok Step.Done) }
         ensures stopped { OnErr result (self.new.status ≡ Status.Stopped) }
         ensures fault { IfErr result (λ f. ((f ≡ SearchFault.Memory) × (self.old.status ≡ Status.Running)) ⊎ ((f ≡ SearchFault.Stopped) × (self.old.status ≡ Status.Stopped))) }

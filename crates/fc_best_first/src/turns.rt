@@ -1,7 +1,7 @@
 ghost use Rattle.std.specs.Prelude.{◌≡◌, ◌+◌, ◌*◌, ◌<◌, ◌≤◌, ℕ, List, length, Option, IfOk, MatchOption};
 ghost use Rattle.fc_best_first.specs.Graph.{IsLawful, Reached};
 ghost use Rattle.fc_best_first.specs.Store.{Store};
-ghost use Rattle.fc_best_first.specs.Turn.{AreChildren, Expands, Takes};
+ghost use Rattle.fc_best_first.specs.Turn.{AreChildren, Expands, Takes, TakesFloor};
 ghost use Rattle.fc_best_first.specs.Kept.{IsKept};
 
 use crate::books::{Book, Mark, Offered};
@@ -15,15 +15,28 @@ pub const MOST_BUDGET: u32 = 4_000_000;
 /// The most that a start or an edge may cost.
 pub const MOST_COST: u8 = 53;
 
-/// Where a search stands: it is running; the key with this number is won, and its cost is the least answer; there is no
-/// answer; it gave up, having found no place for this key, which came from the key with this number; or memory stopped it.
+/// The greatest weight, which says how many times a bound counts.
+pub const MOST_WEIGHT: u8 = 10;
+
+/// Where a search stands: it is running; the key with this number is won, and its cost is at most the weight times every
+/// answer; there is no answer; it gave up, having found no place for this key, which came from the key with this number;
+/// or memory stopped it.
 #[derive(Drop)]
 pub enum Status<K> {
     Running,
-    Shortest(u32),
+    Won(u32),
     CannotWin,
     GaveUp(K, u32),
     Stopped,
+}
+
+// The f of a key that is reached at this cost: the cost plus the weighed bound.
+pub(crate) fn weighed(weight: u8, cost: u32, bound: u8) -> u32
+    requires weight { weight ≤ MOST_WEIGHT }
+    requires low { cost ≤ MOST_COST * MOST_BUDGET + 255 }
+    ensures value { result ≡ cost + weight * bound }
+{
+    cost + u32::from(weight) * u32::from(bound)
 }
 
 // Offers the children of the key with this number, which is stored at this cost; the key that found no place, if there
@@ -31,14 +44,16 @@ pub enum Status<K> {
 fn expand<K: ExactKey, F: Frontier + Drop, S: Space<K>>(
     space: &S,
     book: &mut Book<K, F>,
+    weight: u8,
     budget: u32,
     number: u32,
     cost: u32,
     walk: &mut S::Walk,
 ) -> Result<Option<K>, Full>
+    requires weight { weight ≤ MOST_WEIGHT }
     requires room { length book.old.stored ≤ budget }
     requires low { cost ≤ MOST_COST * MOST_BUDGET }
-    ensures expands { IfOk result (λ left_out. (children : List (Child K)) × S.rest walk.old children × Expands budget number cost children book.old book.new left_out) }
+    ensures expands { IfOk result (λ left_out. (children : List (Child K)) × S.rest walk.old children × Expands weight budget number cost children book.old book.new left_out) }
 {
     while let Some(child) = space.next(walk) {
         let reached = cost + u32::from(child.cost);
@@ -46,7 +61,7 @@ fn expand<K: ExactKey, F: Frontier + Drop, S: Space<K>>(
             cost: reached,
             parent: number,
         };
-        let f = reached + u32::from(child.bound);
+        let f = weighed(weight, reached, child.bound);
         if let Offered::Full(key) = book.offer(budget, child.key, mark, f)? {
             return Ok(Some(key));
         }
@@ -54,30 +69,35 @@ fn expand<K: ExactKey, F: Frontier + Drop, S: Space<K>>(
     Ok(None)
 }
 
-// One turn of a running search, and the status that it leaves; the walk is its room to work in. At `Err` a growth was
-// refused, and nothing is known of the book.
+// One turn of a running search, and the status that it leaves; the walk is its room to work in, and the f of the pair
+// that it takes is the new floor. At `Err` a growth was refused, and nothing is known of the book.
 pub(crate) fn advance<K: ExactKey, F: Frontier + Drop, S: Space<K>>(
     space: &S,
     book: &mut Book<K, F>,
     walk: &mut S::Walk,
+    weight: u8,
     budget: u32,
+    floor: &mut u32,
 ) -> Result<Status<K>, Full>
-    requires kept { IsKept (S.graph space.now) budget book.old }
+    requires kept { IsKept (S.graph space.now) weight budget book.old }
+    requires weight { weight ≤ MOST_WEIGHT }
     requires budget { budget ≤ MOST_BUDGET }
-    ensures takes { IfOk result (λ status. Takes (S.graph space.now) budget book.old book.new status) }
+    ensures takes { IfOk result (λ status. Takes (S.graph space.now) weight budget book.old book.new status) }
+    ensures floor { TakesFloor book.old.waiting floor.old floor.new }
 {
     let Some((f, number)) = book.take() else {
         return Ok(Status::CannotWin);
     };
+    *floor = f;
     let (key, mark) = book.at(number);
     if space.is_won(key) {
-        return Ok(Status::Shortest(number));
+        return Ok(Status::Won(number));
     }
     let bound = space.visit(key, walk);
-    if mark.cost + u32::from(bound) < f {
+    if weighed(weight, mark.cost, bound) < f {
         return Ok(Status::Running);
     }
-    match expand(space, book, budget, number, mark.cost, walk)? {
+    match expand(space, book, weight, budget, number, mark.cost, walk)? {
         Some(key) => Ok(Status::GaveUp(key, number)),
         None => Ok(Status::Running),
     }

@@ -83,6 +83,7 @@ written_shows g b (answer.Shortest moves table) c claimed game backed wins can s
     (λ e there. omega (arith, backed.below e there, few)) in
     subst (IsShowing g b claimed) (sym same)
     (subst (λ said. IsShowing g b said told) (sym claims) (has, refl, refl, (refl, refl, wins, backed.closed)))
+written_shows g b (answer.Won moves) c claimed game backed wins can same claims = absurd same
 written_shows g b (answer.CannotWin table) c claimed game backed wins can same claims =
     let told : Content = content g kind.CannotWin table.rule [] table.rows in
     let has : IsContent told = has_bytes g kind.CannotWin [] table game backed.listed refl backed.free in

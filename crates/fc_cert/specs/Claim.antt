@@ -34,13 +34,15 @@ abbrev pub IsTrueOf : GameRules → Board → Claim → Type 0
 IsTrueOf g b (claim.Shortest n) = (moves : List Move) × (length moves ≡ n) × IsShortest g b moves
 IsTrueOf g b claim.CannotWin = NoneWins g b
 
--- the content that an answer is written as, in the second form, where it is certified: one that gave up isn't
+-- the content that an answer is written as, in the second form, where it is certified: a list that isn't known to be
+-- shortest isn't, and one that gave up isn't
 abbrev pub IsWrittenAs : GameRules → Answer → Content → Type 0
 IsWrittenAs g (answer.Shortest moves table) c = c ≡ record {
   head = record { form = Second; game = g.code; cells = g.cells; rule = table.rule; kind = kind.Shortest };
   moves = moves;
   rows = table.rows;
 }
+IsWrittenAs g (answer.Won moves) c = ⊥
 IsWrittenAs g (answer.CannotWin table) c = c ≡ record {
   head = record { form = Second; game = g.code; cells = g.cells; rule = table.rule; kind = kind.CannotWin };
   moves = [];
@@ -51,11 +53,13 @@ IsWrittenAs g (answer.GaveUp told) c = ⊥
 -- what an answer claims
 abbrev pub Claims : Answer → Claim → Type 0
 Claims (answer.Shortest moves table) claimed = claimed ≡ claim.Shortest (length moves)
+Claims (answer.Won moves) claimed = ⊥
 Claims (answer.CannotWin table) claimed = claimed ≡ claim.CannotWin
 Claims (answer.GaveUp told) claimed = ⊥
 
 -- the moves of an answer win from the board
 abbrev pub HasWinningMoves : GameRules → Board → Answer → Type 0
 HasWinningMoves g b (answer.Shortest moves table) = Wins g b moves
+HasWinningMoves g b (answer.Won moves) = Wins g b moves
 HasWinningMoves g b (answer.CannotWin table) = Unit {0}
 HasWinningMoves g b (answer.GaveUp told) = Unit {0}

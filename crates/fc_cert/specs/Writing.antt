@@ -38,16 +38,17 @@ abbrev pub Writes : SinkState → SinkState → List ℕ → Result (Unit {0}) F
 Writes old new bytes (Ok done) = TakesWhole old new bytes
 Writes old new bytes (Err failed) = IsCutShort old new bytes
 
--- the answer is that a search gave up
-abbrev pub IsGivingUp : Answer → Type 0
-IsGivingUp (answer.Shortest moves table) = ⊥
-IsGivingUp (answer.CannotWin table) = ⊥
-IsGivingUp (answer.GaveUp told) = Unit {0}
+-- the answer has no certificate: it is a list that isn't known to be shortest, or that a search gave up
+abbrev pub IsUncertified : Answer → Type 0
+IsUncertified (answer.Shortest moves table) = ⊥
+IsUncertified (answer.Won moves) = Unit {0}
+IsUncertified (answer.CannotWin table) = ⊥
+IsUncertified (answer.GaveUp told) = Unit {0}
 
--- the bytes of the content that the answer is written as were written, or the sink failed on the way; or the answer is
--- that a search gave up, and the sink stays as it was
+-- the bytes of the content that the answer is written as were written, or the sink failed on the way; or the answer has
+-- no certificate, and the sink stays as it was
 abbrev pub WritesAnswer : GameRules → Answer → SinkState → SinkState → Result (Unit {0}) CertFault → Type 0
 WritesAnswer g answered old new (Ok done) = (c : Content) × IsWrittenAs g answered c × TakesWhole old new (bytes_of c)
 WritesAnswer g answered old new (Err Write) = (c : Content) × IsWrittenAs g answered c × IsCutShort old new (bytes_of c)
-WritesAnswer g answered old new (Err NotCertified) = IsGivingUp answered × (new ≡ old)
+WritesAnswer g answered old new (Err NotCertified) = IsUncertified answered × (new ≡ old)
 WritesAnswer g answered old new (Err other) = ⊥

@@ -36,8 +36,8 @@ impl From<Failed> for CertFault {
 /// Writes the certificate of an answer for a game, its records gathered in pieces. No memory is asked for.
 ///
 /// # Errors
-/// `NotCertified` for the answer of a search that gave up, and nothing is written; `Write` where the sink has failed, of
-/// which a front may be written.
+/// `NotCertified` for a list that isn't known to be shortest and for the answer of a search that gave up, and nothing is
+/// written; `Write` where the sink has failed, of which a front may be written.
 pub fn write_answer<G: Game, K: Sink>(
     game: &G,
     answer: &Answer,
@@ -60,7 +60,7 @@ pub fn write_answer<G: Game, K: Sink>(
             write_rows(table, sink)?;
             Ok(())
         }
-        Answer::GaveUp(_) => Err(CertFault::NotCertified),
+        Answer::Won(_) | Answer::GaveUp(_) => Err(CertFault::NotCertified),
     }
 }
 

@@ -77,7 +77,7 @@ fn answer_for<G: Game + Drop>(
 {
     assert!(rt; rule <= 2, "a rule");
     let start = board(rt, game, text);
-    sure(rt, solve(alloc, game, rule, &start, budget))
+    sure(rt, solve(alloc, game, rule, 1, &start, budget))
 }
 
 // What is written of the answer for the row's board is its certificate.

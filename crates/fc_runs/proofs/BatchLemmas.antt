@@ -1,12 +1,14 @@
 -- Batches of deals: their searches, and the lines that tell of them.
-use Rattle.std.proofs.Common.{◌≡◌, ◌≢◌, ◌∙◌, ⊎_elim, ℕ, zero, suc, ◌+◌, ◌<◌, List, [], ◌∷◌, ◌++◌, length, Option, Some, Result, refl, sym, ap, subst, arith, IsTrue}
-use Rattle.std.specs.Prelude.{max, slice_get}
+use Rattle.std.proofs.Common.{◌≡◌, ◌≢◌, ◌∙◌, ⊎_elim, ℕ, zero, suc, ◌+◌, ◌<◌, List, [], ◌∷◌, ◌++◌, length, Option, Some, Result, Ok, Err, refl, sym, ap, subst, arith, IsTrue}
+use Rattle.std.specs.Prelude.{IfOk, IfErr, max, slice_get}
 use Rattle.std.specs.List.{flat_map}
+use Rattle.std.specs.Result.{result_ok}
 use Rattle.std.proofs.Math.Nat.{max-zero, suc-max-suc, zero-max}
 use Rattle.std.proofs.lemmas.Bool.{cases_eq}
 use Rattle.std.proofs.lemmas.List.{flat_map_more, length-append}
 use Rattle.fc_io.specs.Moves.{Takes, TakesFront}
 use Rattle.fc_io.proofs.MoveLemmas.{Takes-none, Takes-both, takes_then_front}
+use Rattle.fc_position.specs.Board.{Board}
 use Rattle.fc_position.specs.Position.{Fits}
 use Rattle.fc_moves.specs.GameRules.{GameRules}
 use Rattle.fc_deal.specs.Deal.{dealt_board}
@@ -14,11 +16,11 @@ use Rattle.fc_answers.specs.declared.answers.Outcome.{Outcome}
 use Rattle.fc_best_first.specs.declared.searches.SearchFault.{SearchFault}
 use Rattle.fc_best_first.specs.declared.searches.Step.{Step}
 use Rattle.fc_best_first.specs.declared.turns.Status.{Status}
-use Rattle.fc_best_first.specs.declared.turns.Status.TheVariants.{Running}
+use Rattle.fc_best_first.specs.declared.turns.Status.TheVariants.{Running, Won, CannotWin, GaveUp, Stopped}
 use Rattle.fc_best_first.specs.Graph.{Graph}
-use Rattle.fc_best_first.specs.Search.{Turns, TurnsOn}
+use Rattle.fc_best_first.specs.Search.{Begins, Turns, TurnsOn}
 use Rattle.fc_best_first.specs.Store.{Store}
-use Rattle.fc_search.specs.Search.{State, classes_of}
+use Rattle.fc_search.specs.Search.{HasRun, IsOfStatus, IsOutcome, IsUntold, IsVerdict, Question, State, classes_of}
 use Rattle.fc_batch.specs.Batch.{Batch, HasTurn, HasTurns, OthersStay, TurnFor, TurnsFor, running, search_at, times}
 use Rattle.fc_batch.proofs.BatchLemmas.{stays_self}
 use Rattle.fc_batch.proofs.EndLemmas.{quiet_turns_end}
@@ -35,25 +37,84 @@ dealt_fits n deal (suc (suc zero)) past = refl
 dealt_fits n deal (suc (suc (suc zero))) past = refl
 dealt_fits n deal (suc (suc (suc (suc i)))) past = refl
 
-module _ {K : Type 0} (g : Graph K) (budget : ℕ) where
+module _ {K : Type 0} (g : Graph K) (weight budget : ℕ) where
   -- one more turn after some
   turns_more : (turns : ℕ) (before between after : Status K) (old mid new : Store K) (reply : Result Step SearchFault)
-      → TurnsOn turns g budget before old mid between → Turns g budget between mid new after reply
-      → TurnsOn (suc turns) g budget before old new after
+      → TurnsOn turns g weight budget before old mid between → Turns g weight budget between mid new after reply
+      → TurnsOn (suc turns) g weight budget before old new after
   turns_more zero before between after old mid new reply (same, stays) turn = (
     new,
     after,
     reply,
-    subst (λ s. Turns g budget s old new after reply) stays (subst (λ s. Turns g budget between s new after reply) same turn),
+    subst (λ s. Turns g weight budget s old new after reply) stays (subst (λ s. Turns g weight budget between s new after reply) same turn),
     (refl, refl),
   )
   turns_more (suc turns) before between after old mid new reply (next, then, told, one, rest) turn =
       (next, then, told, one, turns_more turns then between after next mid new reply rest turn)
 
+asked : GameRules → ℕ → ℕ → Board → Question
+asked g rule weight start = record { game = g; rule = rule; weight = weight; start = start }
+
+-- a question is what it asks of
+asked_all : (q : Question) (g : GameRules) (rule weight : ℕ) (start : Board) → q.game ≡ g → q.rule ≡ rule → q.weight ≡ weight → q.start ≡ start
+    → q ≡ record { game = g; rule = rule; weight = weight; start = start }
+unfolding asked
+asked_all q g rule weight start game ruled weighed starts =
+    ap (λ x. asked x q.rule q.weight q.start) game ∙ ap (λ r. asked g r q.weight q.start) ruled ∙ ap (λ w. asked g rule w q.start) weighed
+    ∙ ap (λ b. asked g rule weight b) starts
+
+-- a search that began for a deal, and had no turn
+pub search_begun : (g : GameRules) (rule weight budget deal : ℕ) (s : State) → s.question.game ≡ g → s.question.rule ≡ rule → s.question.weight ≡ weight
+    → s.question.start ≡ dealt_board deal → s.budget ≡ budget → s.status ≡ Running → Begins (classes_of s.question) weight s.store
+    → IsSearchOf g rule weight budget deal s
+search_begun g rule weight budget deal s game ruled weighed starts budgeted begun begins =
+    let same = asked_all s.question g rule weight (dealt_board deal) game ruled weighed starts in
+    record {
+      question = same;
+      budgeted = budgeted;
+      ran = record {
+        first = s.store;
+        begins = subst (λ q. Begins (classes_of q) weight s.store) same begins;
+        runs = (zero, (refl, begun));
+      };
+    }
+
+-- of a search that doesn't run nothing is told only where it was stopped
+untold_stopped : (status : Status (List ℕ)) (fault : SearchFault) → (status ≡ Running → ⊥) → IsUntold status fault → status ≡ Stopped
+untold_stopped Running fault ended untold = absurd (ended refl)
+untold_stopped Stopped fault ended untold = refl
+untold_stopped (Won number) fault ended untold = absurd untold
+untold_stopped CannotWin fault ended untold = absurd untold
+untold_stopped (GaveUp y number) fault ended untold = absurd untold
+
+-- what is told of the search of a deal that has ended is right of the deal
+pub told_right : (g : GameRules) (rule weight budget deal : ℕ) (s : State) (result : Result Outcome SearchFault)
+    → IsSearchOf g rule weight budget deal s → (s.status ≡ Running → ⊥) → IfOk result (IsOutcome s) → IfErr result (IsUntold s.status)
+    → IsRightOf g rule weight budget deal (result_ok result)
+told_right g rule weight budget deal s (Ok told) search ended (verdict, right, kind, same) untold = record {
+  verdict = verdict;
+  decided = record {
+    right = subst (λ q. IsVerdict q.game q.rule q.weight q.start budget verdict) search.question
+        (subst (λ b. IsVerdict s.question.game s.question.rule s.question.weight s.question.start b verdict) search.budgeted right);
+    ran = record {
+      last = s.store;
+      status = s.status;
+      ran = search.ran;
+      answered = subst (λ q. IsOfStatus q.weight s.store budget s.status verdict) search.question
+          (subst (λ b. IsOfStatus s.question.weight s.store b s.status verdict) search.budgeted kind);
+    };
+  };
+  answer = same;
+}
+told_right g rule weight budget deal s (Err fault) search ended outcome untold = (
+  s.store,
+  subst (HasRun g rule weight (dealt_board deal) budget s.store) (untold_stopped s.status fault ended untold) search.ran,
+)
+
 -- a search of a deal that has one more turn is the search of that deal still
-one_turn_on : (g : GameRules) (rule budget deal : ℕ) (old new : State) (reply : Result Step SearchFault) → HasTurn old new reply
-    → IsSearchOf g rule budget deal old → IsSearchOf g rule budget deal new
-one_turn_on g rule budget deal old new reply turn search = record {
+one_turn_on : (g : GameRules) (rule weight budget deal : ℕ) (old new : State) (reply : Result Step SearchFault) → HasTurn old new reply
+    → IsSearchOf g rule weight budget deal old → IsSearchOf g rule weight budget deal new
+one_turn_on g rule weight budget deal old new reply turn search = record {
   question = turn.question ∙ search.question;
   budgeted = turn.budget ∙ search.budgeted;
   ran = record {
@@ -61,36 +122,36 @@ one_turn_on g rule budget deal old new reply turn search = record {
     begins = search.ran.begins;
     runs = (
       suc search.ran.runs.0,
-      turns_more _ budget search.ran.runs.0 Running old.status new.status search.ran.first old.store new.store reply search.ran.runs.1
-          (subst (λ q. Turns (classes_of q) budget old.status old.store new.store new.status reply) search.question
-          (subst (λ b. Turns (classes_of old.question) b old.status old.store new.store new.status reply) search.budgeted turn.turned)),
+      turns_more _ weight budget search.ran.runs.0 Running old.status new.status search.ran.first old.store new.store reply search.ran.runs.1
+          (subst (λ q. Turns (classes_of q) q.weight budget old.status old.store new.store new.status reply) search.question
+          (subst (λ b. Turns (classes_of old.question) old.question.weight b old.status old.store new.store new.status reply) search.budgeted turn.turned)),
     );
   };
 }
 
-turns_on : (g : GameRules) (rule budget deal : ℕ) (turns : ℕ) (old new : State) → HasTurns turns old new
-    → IsSearchOf g rule budget deal old → IsSearchOf g rule budget deal new
-turns_on g rule budget deal zero old new same search = subst (IsSearchOf g rule budget deal) (sym same) search
-turns_on g rule budget deal (suc turns) old new (mid, reply, turn, rest) search =
-    turns_on g rule budget deal turns mid new rest (one_turn_on g rule budget deal old mid reply turn search)
+turns_on : (g : GameRules) (rule weight budget deal : ℕ) (turns : ℕ) (old new : State) → HasTurns turns old new
+    → IsSearchOf g rule weight budget deal old → IsSearchOf g rule weight budget deal new
+turns_on g rule weight budget deal zero old new same search = subst (IsSearchOf g rule weight budget deal) (sym same) search
+turns_on g rule weight budget deal (suc turns) old new (mid, reply, turn, rest) search =
+    turns_on g rule weight budget deal turns mid new rest (one_turn_on g rule weight budget deal old mid reply turn search)
 
 -- turns of the searches of a batch leave it with the searches of its deals
-pub held_on : (g : GameRules) (rule budget from count : ℕ) (list : List ℕ) (old new : Batch) (replies : ℕ) → TurnsFor list old new replies
-    → HoldsDeals g rule budget from count old → HoldsDeals g rule budget from count new
-held_on g rule budget from count list old new replies turns holds i within =
+pub held_on : (g : GameRules) (rule weight budget from count : ℕ) (list : List ℕ) (old new : Batch) (replies : ℕ) → TurnsFor list old new replies
+    → HoldsDeals g rule weight budget from count old → HoldsDeals g rule weight budget from count new
+held_on g rule weight budget from count list old new replies turns holds i within =
     let before = holds i within in
     let on = turn_alone list old new replies turns i before.0 before.1 in
-    (on.0, on.1, turns_on g rule budget (from + i) (times i list) before.0 on.0 on.2 before.2)
+    (on.0, on.1, turns_on g rule weight budget (from + i) (times i list) before.0 on.0 on.2 before.2)
 
 -- one turn, as turns for a list of one number
 one_turn : (number : ℕ) (old new : Batch) (reply : Result Step SearchFault) → TurnFor number old new reply
     → TurnsFor (number ∷ []) old new (running reply + 0)
 one_turn number old new reply turn = (new, reply, 0, turn, (stays_self new, refl), refl)
 
-pub one_held : (g : GameRules) (rule budget from count number : ℕ) (old new : Batch) (reply : Result Step SearchFault)
-    → TurnFor number old new reply → HoldsDeals g rule budget from count old → HoldsDeals g rule budget from count new
-one_held g rule budget from count number old new reply turn =
-    held_on g rule budget from count (number ∷ []) old new (running reply + 0) (one_turn number old new reply turn)
+pub one_held : (g : GameRules) (rule weight budget from count number : ℕ) (old new : Batch) (reply : Result Step SearchFault)
+    → TurnFor number old new reply → HoldsDeals g rule weight budget from count old → HoldsDeals g rule weight budget from count new
+one_held g rule weight budget from count number old new reply turn =
+    held_on g rule weight budget from count (number ∷ []) old new (running reply + 0) (one_turn number old new reply turn)
 
 -- after a turn that doesn't reply that its search runs on, this has ended
 pub one_ended : (number : ℕ) (old new : Batch) (reply : Result Step SearchFault) (s : State) → TurnFor number old new reply
@@ -122,12 +183,12 @@ last_line (y ∷ lines) line P all last (suc i) x at =
     last_line lines line (λ j z. P (suc j) z) (λ j z there. all (suc j) z there) last i x at
 
 -- one more line that is right
-pub one_more_line : (g : GameRules) (rule budget from deal : ℕ) (lines : List Line) (told : Option Outcome) → AreLines g rule budget from lines
-    → deal ≡ from + length lines → IsRightOf g rule budget deal told
-    → AreLines g rule budget from (lines ++ record { deal = deal; told = told } ∷ [])
-one_more_line g rule budget from deal lines told right next here = record {
+pub one_more_line : (g : GameRules) (rule weight budget from deal : ℕ) (lines : List Line) (told : Option Outcome) → AreLines g rule weight budget from lines
+    → deal ≡ from + length lines → IsRightOf g rule weight budget deal told
+    → AreLines g rule weight budget from (lines ++ record { deal = deal; told = told } ∷ [])
+one_more_line g rule weight budget from deal lines told right next here = record {
   rising = last_line lines (record { deal = deal; told = told }) (λ i line. line.deal ≡ from + i) right.rising next;
-  right = last_line lines (record { deal = deal; told = told }) (λ i line. IsRightOf g rule budget line.deal line.told) right.right here;
+  right = last_line lines (record { deal = deal; told = told }) (λ i line. IsRightOf g rule weight budget line.deal line.told) right.right here;
 }
 
 max_assoc : (a b c : ℕ) → max (max a b) c ≡ max a (max b c)
@@ -146,15 +207,15 @@ greatest_more (first ∷ lines) line =
     ∙ sym (max_assoc (told_status first.told) (greatest_status lines) (told_status line.told))
 
 -- so many lines were written, and this is the greatest of their statuses
-pub record AreWritten (g : GameRules) (rule budget from count : ℕ) (old new : Option (List ℕ)) (status : ℕ) : Type 0 where
+pub record AreWritten (g : GameRules) (rule weight budget from count : ℕ) (old new : Option (List ℕ)) (status : ℕ) : Type 0 where
   pub lines : List Line
-  pub right : AreLines g rule budget from lines
+  pub right : AreLines g rule weight budget from lines
   pub whole : length lines ≡ count
   pub written : Takes old new (flat_map line_text lines)
   pub greatest : status ≡ greatest_status lines
 
-pub none_written : (g : GameRules) (rule budget from : ℕ) (held : Option (List ℕ)) → AreWritten g rule budget from 0 held held 0
-none_written g rule budget from held = record {
+pub none_written : (g : GameRules) (rule weight budget from : ℕ) (held : Option (List ℕ)) → AreWritten g rule weight budget from 0 held held 0
+none_written g rule weight budget from held = record {
   lines = [];
   right = record { rising = λ i line at. absurd (cc at); right = λ i line at. absurd (cc at) };
   whole = refl;
@@ -166,16 +227,16 @@ none_written g rule budget from held = record {
 text_more : (lines : List Line) (line : Line) → flat_map line_text lines ++ line_text line ≡ flat_map line_text (lines ++ line ∷ [])
 text_more lines line = flat_map_more line_text [] lines line
 
-pub one_more_written : (g : GameRules) (rule budget from count : ℕ) (old mid new : Option (List ℕ)) (status : ℕ) (told : Option Outcome)
-    (text : List ℕ) (next : ℕ) → AreWritten g rule budget from count old mid status → IsRightOf g rule budget (from + count) told
+pub one_more_written : (g : GameRules) (rule weight budget from count : ℕ) (old mid new : Option (List ℕ)) (status : ℕ) (told : Option Outcome)
+    (text : List ℕ) (next : ℕ) → AreWritten g rule weight budget from count old mid status → IsRightOf g rule weight budget (from + count) told
     → text ≡ line_text (record { deal = from + count; told = told }) → Takes mid new text → next ≡ max status (told_status told)
-    → AreWritten g rule budget from (count + 1) old new next
-one_more_written g rule budget from count old mid new status told text next so_far here same taken greater =
+    → AreWritten g rule weight budget from (count + 1) old new next
+one_more_written g rule weight budget from count old mid new status told text next so_far here same taken greater =
     let line : Line = record { deal = from + count; told = told } in
     let whole = so_far.whole in
     record {
       lines = so_far.lines ++ line ∷ [];
-      right = one_more_line g rule budget from (from + count) so_far.lines told so_far.right (omega (arith, whole)) here;
+      right = one_more_line g rule weight budget from (from + count) so_far.lines told so_far.right (omega (arith, whole)) here;
       whole = omega (arith, whole, length-append so_far.lines (line ∷ []));
       written = subst (Takes old new) (text_more so_far.lines line)
           (Takes-both old mid new (flat_map line_text so_far.lines) (line_text line) so_far.written (subst (Takes mid new) same taken));
@@ -183,16 +244,16 @@ one_more_written g rule budget from count old mid new status told text next so_f
     }
 
 -- and one whose text was cut short
-pub cut_short : (g : GameRules) (rule budget from count most : ℕ) (mid : Option (List ℕ)) (sink : Device) (status : ℕ) (told : Option Outcome)
-    (text : List ℕ) → AreWritten g rule budget from count sink.old mid status → IsRightOf g rule budget (from + count) told
+pub cut_short : (g : GameRules) (rule weight budget from count most : ℕ) (mid : Option (List ℕ)) (sink : Device) (status : ℕ) (told : Option Outcome)
+    (text : List ℕ) → AreWritten g rule weight budget from count sink.old mid status → IsRightOf g rule weight budget (from + count) told
     → text ≡ line_text (record { deal = from + count; told = told }) → TakesFront mid sink.new text → count < most → IsTrue sink.failed
-    → AreCutShort g rule budget from most sink
-cut_short g rule budget from count most mid sink status told text so_far here same front within failed =
+    → AreCutShort g rule weight budget from most sink
+cut_short g rule weight budget from count most mid sink status told text so_far here same front within failed =
     let line : Line = record { deal = from + count; told = told } in
     let whole = so_far.whole in
     record {
       lines = so_far.lines ++ line ∷ [];
-      right = one_more_line g rule budget from (from + count) so_far.lines told so_far.right (omega (arith, whole)) here;
+      right = one_more_line g rule weight budget from (from + count) so_far.lines told so_far.right (omega (arith, whole)) here;
       some = omega (arith, whole, within, length-append so_far.lines (line ∷ []));
       front = subst (TakesFront sink.old sink.new) (text_more so_far.lines line)
           (takes_then_front sink.old mid sink.new (flat_map line_text so_far.lines) (line_text line) so_far.written (subst (TakesFront mid sink.new) same front));
@@ -200,9 +261,9 @@ cut_short g rule budget from count most mid sink status told text so_far here sa
     }
 
 -- all lines are written to a sink that hasn't failed
-pub all_told : (g : GameRules) (rule budget from count : ℕ) (sink : Device) (status : ℕ)
-    → AreWritten g rule budget from count sink.old sink.new status → (IsTrue sink.failed → ⊥) → AreTold g rule budget from count sink status
-all_told g rule budget from count sink status all sound = record {
+pub all_told : (g : GameRules) (rule weight budget from count : ℕ) (sink : Device) (status : ℕ)
+    → AreWritten g rule weight budget from count sink.old sink.new status → (IsTrue sink.failed → ⊥) → AreTold g rule weight budget from count sink status
+all_told g rule weight budget from count sink status all sound = record {
   lines = all.lines;
   right = all.right;
   whole = all.whole;
@@ -212,15 +273,15 @@ all_told g rule budget from count sink status all sound = record {
 }
 
 -- a batch to which the search of the next deal was added
-pub held_more : (g : GameRules) (rule budget from count : ℕ) (old new : Batch) (search : State) → HoldsDeals g rule budget from count old
-    → OthersStay count old new → search_at new count ≡ Some search → IsSearchOf g rule budget (from + count) search
-    → HoldsDeals g rule budget from (count + 1) new
-held_more g rule budget from count old new search holds others there here i within =
+pub held_more : (g : GameRules) (rule weight budget from count : ℕ) (old new : Batch) (search : State) → HoldsDeals g rule weight budget from count old
+    → OthersStay count old new → search_at new count ≡ Some search → IsSearchOf g rule weight budget (from + count) search
+    → HoldsDeals g rule weight budget from (count + 1) new
+held_more g rule weight budget from count old new search holds others there here i within =
     ⊎_elim
     (λ (same : i ≡ count). (
       search,
       subst (λ k. search_at new k ≡ Some search) (sym same) there,
-      subst (λ k. IsSearchOf g rule budget (from + k) search) (sym same) here,
+      subst (λ k. IsSearchOf g rule weight budget (from + k) search) (sym same) here,
     ))
     (λ (other : i ≢ count).
     let before = holds i (omega (arith, within, other)) in

@@ -4,7 +4,7 @@ use Rattle.fc_io.specs.Moves.{Takes, TakesFront}
 use Rattle.fc_position.specs.Board.{Board}
 use Rattle.fc_moves.specs.GameRules.{GameRules, IsGame, IsPositionOf}
 use Rattle.fc_answers.specs.declared.answers.Answer.{Answer}
-use Rattle.fc_answers.specs.declared.answers.Answer.TheVariants.{Shortest, CannotWin, GaveUp}
+use Rattle.fc_answers.specs.declared.answers.Answer.TheVariants.{Shortest, Won, CannotWin, GaveUp}
 use Rattle.fc_answers.specs.Verdict.{verdict_of}
 use Rattle.fc_search.specs.Search.{Answers}
 use Rattle.fc_cert.specs.declared.claims.Claim.{Claim}
@@ -21,9 +21,9 @@ use Rattle.fc_runs.specs.declared.faults.ProgramFault.TheVariants.{Write as unwr
 use Rattle.fc_runs.specs.AnswerText.{answer_text, status_of}
 use Rattle.fc_runs.specs.Solving.{IsAnswered, IsCertificateOf, IsCertified, IsCutShort, IsUnanswered}
 
-pub certifies : (g : GameRules) (rule : ℕ) (b : Board) (budget : ℕ) (answered : Answer) (c : Content) → IsGame g → IsPositionOf g b
-    → Answers g rule b budget answered → IsWrittenAs g answered c → IsCertificateOf g rule b (verdict_of answered) (bytes_of c)
-certifies g rule b budget (Shortest moves table) c game position answers same =
+pub certifies : (g : GameRules) (rule weight : ℕ) (b : Board) (budget : ℕ) (answered : Answer) (c : Content) → IsGame g → IsPositionOf g b
+    → Answers g rule weight b budget answered → IsWrittenAs g answered c → IsCertificateOf g rule b (verdict_of answered) (bytes_of c)
+certifies g rule weight b budget (Shortest moves table) c game position answers same =
     let said : Claim = claim.Shortest (length moves) in
     record {
       claim = said;
@@ -35,7 +35,8 @@ certifies g rule b budget (Shortest moves table) c game position answers same =
       ruled = ap (λ x. x.head.rule) same ∙ answers.ruled;
       listed = ap (λ x. x.moves) same;
     }
-certifies g rule b budget (CannotWin table) c game position answers same =
+certifies g rule weight b budget (Won moves) c game position answers same = absurd same
+certifies g rule weight b budget (CannotWin table) c game position answers same =
     record {
       claim = claim.CannotWin;
       claimed = refl;
@@ -46,7 +47,7 @@ certifies g rule b budget (CannotWin table) c game position answers same =
       ruled = ap (λ x. x.head.rule) same ∙ answers.ruled;
       listed = ap (λ x. x.moves) same;
     }
-certifies g rule b budget (GaveUp told) c game position answers same = absurd same
+certifies g rule weight b budget (GaveUp told) c game position answers same = absurd same
 
 -- a sink that a certificate is written to, as a device
 abbrev pub device_of : SinkState → SinkState → Device
@@ -57,41 +58,42 @@ sound : (new : SinkState) → new.has_failed ≡ false → IsTrue new.has_failed
 sound new is failed = absurd (cc (is, failed))
 
 -- the sink took the certificate of an answer, whole
-pub written_whole : (g : GameRules) (rule : ℕ) (b : Board) (budget : ℕ) (answered : Answer) (old new : SinkState) (done : Unit {0}) → IsGame g
-    → IsPositionOf g b → Answers g rule b budget answered → WritesAnswer g answered old new (Ok done)
+pub written_whole : (g : GameRules) (rule weight : ℕ) (b : Board) (budget : ℕ) (answered : Answer) (old new : SinkState) (done : Unit {0}) → IsGame g
+    → IsPositionOf g b → Answers g rule weight b budget answered → WritesAnswer g answered old new (Ok done)
     → IsCertified g rule b (verdict_of answered) (device_of old new)
-written_whole g rule b budget (Shortest moves table) old new done game position answers (c, same, whole) = (
-  (bytes_of c, certifies g rule b budget (Shortest moves table) c game position answers same, whole.taken),
+written_whole g rule weight b budget (Shortest moves table) old new done game position answers (c, same, whole) = (
+  (bytes_of c, certifies g rule weight b budget (Shortest moves table) c game position answers same, whole.taken),
   sound new whole.is_sound,
 )
-written_whole g rule b budget (CannotWin table) old new done game position answers (c, same, whole) = (
-  (bytes_of c, certifies g rule b budget (CannotWin table) c game position answers same, whole.taken),
+written_whole g rule weight b budget (Won moves) old new done game position answers (c, same, whole) = absurd same
+written_whole g rule weight b budget (CannotWin table) old new done game position answers (c, same, whole) = (
+  (bytes_of c, certifies g rule weight b budget (CannotWin table) c game position answers same, whole.taken),
   sound new whole.is_sound,
 )
-written_whole g rule b budget (GaveUp told) old new done game position answers (c, same, whole) = absurd same
+written_whole g rule weight b budget (GaveUp told) old new done game position answers (c, same, whole) = absurd same
 
 -- the sink failed while it was given the certificate of an answer
-pub written_short : (g : GameRules) (rule : ℕ) (b : Board) (budget : ℕ) (answered : Answer) (old new : SinkState) → IsGame g
-    → IsPositionOf g b → Answers g rule b budget answered → WritesAnswer g answered old new (Err Write)
+pub written_short : (g : GameRules) (rule weight : ℕ) (b : Board) (budget : ℕ) (answered : Answer) (old new : SinkState) → IsGame g
+    → IsPositionOf g b → Answers g rule weight b budget answered → WritesAnswer g answered old new (Err Write)
     → IsCutShort g rule b (verdict_of answered) (device_of old new)
-written_short g rule b budget answered old new game position answers (c, same, short) = (
-  (bytes_of c, certifies g rule b budget answered c game position answers same, short.front),
+written_short g rule weight b budget answered old new game position answers (c, same, short) = (
+  (bytes_of c, certifies g rule weight b budget answered c game position answers same, short.front),
   short.failed,
 )
 
 -- a certificate that is cut short leaves the board unanswered
-pub uncertified : (g : GameRules) (rule : ℕ) (b : Board) (budget : ℕ) (answered : Answer) (cert sink : Device) → Answers g rule b budget answered
-    → IsRunToEnd g rule b budget (verdict_of answered) → IsCutShort g rule b (verdict_of answered) cert → sink.new ≡ sink.old
-    → IsUnanswered g rule b budget (Some cert) sink (unwritten of_certificate)
-uncertified g rule b budget answered cert sink answers ran cut same =
+pub uncertified : (g : GameRules) (rule weight : ℕ) (b : Board) (budget : ℕ) (answered : Answer) (cert sink : Device) → Answers g rule weight b budget answered
+    → IsRunToEnd g rule weight b budget (verdict_of answered) → IsCutShort g rule b (verdict_of answered) cert → sink.new ≡ sink.old
+    → IsUnanswered g rule weight b budget (Some cert) sink (unwritten of_certificate)
+uncertified g rule weight b budget answered cert sink answers ran cut same =
     (verdict_of answered, record { right = answers.told; ran = ran }, (cert, refl, cut), same)
 
 -- an answer whose text was written after its certificate
-pub told_whole : (g : GameRules) (rule : ℕ) (b : Board) (budget : ℕ) (answered : Answer) (cert sink : Device) (text : List ℕ) (status : ℕ)
-    → Answers g rule b budget answered → IsRunToEnd g rule b budget (verdict_of answered) → IsCertified g rule b (verdict_of answered) cert
+pub told_whole : (g : GameRules) (rule weight : ℕ) (b : Board) (budget : ℕ) (answered : Answer) (cert sink : Device) (text : List ℕ) (status : ℕ)
+    → Answers g rule weight b budget answered → IsRunToEnd g rule weight b budget (verdict_of answered) → IsCertified g rule b (verdict_of answered) cert
     → text ≡ answer_text (verdict_of answered) → Takes sink.old sink.new text → (IsTrue sink.failed → ⊥)
-    → status ≡ status_of (verdict_of answered) → IsAnswered g rule b budget (Some cert) sink status
-told_whole g rule b budget answered cert sink text status answers ran certified same taken sound told = record {
+    → status ≡ status_of (verdict_of answered) → IsAnswered g rule weight b budget (Some cert) sink status
+told_whole g rule weight b budget answered cert sink text status answers ran certified same taken sound told = record {
   verdict = verdict_of answered;
   decided = record { right = answers.told; ran = ran };
   certified = certified;
@@ -101,11 +103,11 @@ told_whole g rule b budget answered cert sink text status answers ran certified 
 }
 
 -- and one whose text was cut short
-pub told_short : (g : GameRules) (rule : ℕ) (b : Board) (budget : ℕ) (answered : Answer) (cert sink : Device) (text : List ℕ)
-    → Answers g rule b budget answered → IsRunToEnd g rule b budget (verdict_of answered) → IsCertified g rule b (verdict_of answered) cert
+pub told_short : (g : GameRules) (rule weight : ℕ) (b : Board) (budget : ℕ) (answered : Answer) (cert sink : Device) (text : List ℕ)
+    → Answers g rule weight b budget answered → IsRunToEnd g rule weight b budget (verdict_of answered) → IsCertified g rule b (verdict_of answered) cert
     → text ≡ answer_text (verdict_of answered) → TakesFront sink.old sink.new text → IsTrue sink.failed
-    → IsUnanswered g rule b budget (Some cert) sink (unwritten of_answer)
-told_short g rule b budget answered cert sink text answers ran certified same front failed = (
+    → IsUnanswered g rule weight b budget (Some cert) sink (unwritten of_answer)
+told_short g rule weight b budget answered cert sink text answers ran certified same front failed = (
   verdict_of answered,
   record { right = answers.told; ran = ran },
   certified,

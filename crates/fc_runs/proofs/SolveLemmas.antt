@@ -13,19 +13,19 @@ pub is_lent : {A : Type 0} (o : Option A) → (o ≡ None) ⊎ ((x : A) × (o �
 is_lent None = inl refl
 is_lent (Some x) = inr (x, refl)
 
-pub solved : (g : GameRules) (rule budget : ℕ) (source : Device) (cert : Option Device) (sink : Device) (start : Board) (result : Result ℕ ProgramFault)
-    → IsBudget budget → GivesBoard g.cells source start → IfOk result (IsAnswered g rule start budget cert sink)
-    → IfOk result (IsSolved g rule budget source cert sink)
-solved g rule budget source cert sink start (Ok status) budgeted given answered = record {
+pub solved : (g : GameRules) (rule weight budget : ℕ) (source : Device) (cert : Option Device) (sink : Device) (start : Board) (result : Result ℕ ProgramFault)
+    → IsBudget budget → GivesBoard g.cells source start → IfOk result (IsAnswered g rule weight start budget cert sink)
+    → IfOk result (IsSolved g rule weight budget source cert sink)
+solved g rule weight budget source cert sink start (Ok status) budgeted given answered = record {
   budgeted = budgeted;
   start = start;
   given = given;
   answered = answered;
 }
-solved g rule budget source cert sink start (Err fault) budgeted given answered = tt
+solved g rule weight budget source cert sink start (Err fault) budgeted given answered = tt
 
-pub unsolved : (g : GameRules) (rule budget : ℕ) (source : Device) (cert : Option Device) (sink : Device) (start : Board) (result : Result ℕ ProgramFault)
-    → IsBudget budget → GivesBoard g.cells source start → IfErr result (IsUnanswered g rule start budget cert sink)
-    → IfErr result (IsSolveFault g rule budget source cert sink)
-unsolved g rule budget source cert sink start (Ok status) budgeted given unanswered = tt
-unsolved g rule budget source cert sink start (Err fault) budgeted given unanswered = inr (budgeted, (start, given, unanswered))
+pub unsolved : (g : GameRules) (rule weight budget : ℕ) (source : Device) (cert : Option Device) (sink : Device) (start : Board) (result : Result ℕ ProgramFault)
+    → IsBudget budget → GivesBoard g.cells source start → IfErr result (IsUnanswered g rule weight start budget cert sink)
+    → IfErr result (IsSolveFault g rule weight budget source cert sink)
+unsolved g rule weight budget source cert sink start (Ok status) budgeted given unanswered = tt
+unsolved g rule weight budget source cert sink start (Err fault) budgeted given unanswered = inr (budgeted, (start, given, unanswered))

@@ -5,7 +5,7 @@ ghost use Rattle.fc_moves.specs.MoveText.{HasText};
 ghost use Rattle.fc_answers.specs.Verdict.{CanBeWritten, verdict_of};
 ghost use Rattle.arrayvec.specs.ArrayString.{array_string_len};
 ghost use Rattle.fc_runs.specs.Batches.{line_text, told_status, told_text};
-ghost use Rattle.fc_runs.specs.AnswerText.{accepted_text, answer_text, list_text, shortest_text, gave_up_text, status_of};
+ghost use Rattle.fc_runs.specs.AnswerText.{accepted_text, answer_text, list_text, won_text, gave_up_text, status_of};
 
 use arrayvec::ArrayString;
 use fc_answers::Outcome;
@@ -15,7 +15,7 @@ use fc_search::{Answer, Verdict};
 use itoa::Buffer;
 use std::alloc::{AllocError, Global};
 
-/// The lines that tell a verdict: `shortest N` and the moves, `can't be won`, or `gave up B`.
+/// The lines that tell a verdict: `shortest N` or `won N` and the moves, `can't be won`, or `gave up B`.
 ///
 /// # Errors
 /// A growth of memory was refused.
@@ -24,7 +24,8 @@ pub fn verdict_text(alloc: Global, verdict: &Verdict) -> Result<Vec<u8>, AllocEr
     ensures text { IfOk result (λ t. t.items ≡ answer_text verdict.now) }
 {
     match verdict {
-        Verdict::Shortest(moves) => shortest_text(alloc, moves.as_slice()),
+        Verdict::Shortest(moves) => won_text(alloc, b"shortest ", moves.as_slice()),
+        Verdict::Won(moves) => won_text(alloc, b"won ", moves.as_slice()),
         Verdict::CannotWin => Vec::from_slice(alloc, b"can't be won\n"),
         Verdict::GaveUp(budget) => gave_up_text(alloc, *budget),
     }
@@ -39,18 +40,19 @@ pub fn answer_text(alloc: Global, answer: &Answer) -> Result<Vec<u8>, AllocError
     ensures text { IfOk result (λ t. t.items ≡ answer_text (verdict_of answer.now)) }
 {
     match answer {
-        Answer::Shortest(moves, _) => shortest_text(alloc, moves.as_slice()),
+        Answer::Shortest(moves, _) => won_text(alloc, b"shortest ", moves.as_slice()),
+        Answer::Won(moves) => won_text(alloc, b"won ", moves.as_slice()),
         Answer::CannotWin(_) => Vec::from_slice(alloc, b"can't be won\n"),
         Answer::GaveUp(budget) => gave_up_text(alloc, *budget),
     }
 }
 
-/// The exit status that tells a verdict: 0 for moves, 1 where no list wins, 2 on giving up.
+/// The exit status that tells a verdict: 0 for moves that win, 1 where no list wins, 2 on giving up.
 pub fn verdict_status(verdict: &Verdict) -> u8
     ensures value { result ≡ status_of verdict.now }
 {
     match verdict {
-        Verdict::Shortest(_) => 0,
+        Verdict::Shortest(_) | Verdict::Won(_) => 0,
         Verdict::CannotWin => 1,
         Verdict::GaveUp(_) => 2,
     }
@@ -61,7 +63,7 @@ pub fn answer_status(answer: &Answer) -> u8
     ensures value { result ≡ status_of (verdict_of answer.now) }
 {
     match answer {
-        Answer::Shortest(_, _) => 0,
+        Answer::Shortest(_, _) | Answer::Won(_) => 0,
         Answer::CannotWin(_) => 1,
         Answer::GaveUp(_) => 2,
     }
@@ -103,7 +105,7 @@ pub fn told_status(told: Option<Outcome>) -> u8
     ensures value { result ≡ told_status told }
 {
     match told {
-        Some(Outcome::Shortest(_)) => 0,
+        Some(Outcome::Shortest(_) | Outcome::Won(_)) => 0,
         Some(Outcome::CannotWin) => 1,
         Some(Outcome::GaveUp(_)) => 2,
         None => 4,
@@ -122,6 +124,11 @@ fn push_told(text: &mut ArrayString<128>, told: Option<Outcome>)
             text.push_str(buffer.format(count));
             text.push_str("\n");
         }
+        Some(Outcome::Won(count)) => {
+            text.push_str("won ");
+            text.push_str(buffer.format(count));
+            text.push_str("\n");
+        }
         Some(Outcome::CannotWin) => text.push_str("can't be won\n"),
         Some(Outcome::GaveUp(budget)) => {
             text.push_str("gave up ");
@@ -132,13 +139,13 @@ fn push_told(text: &mut ArrayString<128>, told: Option<Outcome>)
     }
 }
 
-// The lines of a shortest list.
-fn shortest_text(alloc: Global, moves: &[Move]) -> Result<Vec<u8>, AllocError>
+// The lines of a list that wins, of which the words tell what is known.
+fn won_text(alloc: Global, words: &[u8], moves: &[Move]) -> Result<Vec<u8>, AllocError>
     requires texts { All HasText moves.now }
-    ensures text { IfOk result (λ t. t.items ≡ shortest_text moves.now) }
+    ensures text { IfOk result (λ t. t.items ≡ won_text words.now moves.now) }
 {
     let mut buffer = Buffer::new();
-    let mut text = Vec::from_slice(alloc, b"shortest ")?;
+    let mut text = Vec::from_slice(alloc, words)?;
     text.extend_from_slice(buffer.format(moves.len()).as_bytes())?;
     text.extend_from_slice(b"\n")?;
     push_moves(&mut text, moves)?;

@@ -3,7 +3,7 @@
 ghost use Rattle.std.specs.Prelude.{◌≡◌, ◌+◌, ◌<◌, ◌≤◌, ◌↔◌, ℕ, Some, IfOk, IfErr, OnErr, IsTrue, true, false};
 ghost use Rattle.fc_moves.specs.GameRules.{GameRules};
 ghost use Rattle.fc_deal.specs.Deal.{IsDealNumber};
-ghost use Rattle.fc_best_first.specs.Search.{IsBudget};
+ghost use Rattle.fc_best_first.specs.Search.{IsBudget, IsWeight};
 ghost use Rattle.fc_search.specs.Search.{State};
 ghost use Rattle.fc_batch.specs.Batch.{OthersStay, search_at, work_left};
 ghost use Rattle.fc_runs.specs.Batches.{AreCutShort, AreTold, HaveEnded, HoldsDeals, IsAsked, IsBatched, IsBatchFault, IsRightOf, IsSearchOf, IsUnasked};
@@ -28,9 +28,10 @@ pub const MOST_DEALS: u32 = 32;
 // as long again as one after the other.
 const STRETCH: u32 = 4096;
 
-/// Searches the deals `from` to `to` of the game in turns, each under a home rule of at most 2 with at most `budget` stored
-/// classes, and writes a line for each, rising: its number, and its answer without moves or `want of memory`. The status is
-/// the greatest of theirs: 0 for a solution, 1 where a deal can't be won, 2 on giving up, 4 for want of memory.
+/// Searches the deals `from` to `to` of the game in turns, each under a home rule of at most 2 by a weight of 1 to 10 with at
+/// most `budget` stored classes, and writes a line for each, rising: its number, and its answer without moves or `want of
+/// memory`. By a weight above 1 a list of so many moves wins, and solving may list fewer. The status is the greatest of
+/// theirs: 0 for a solution, 1 where a deal can't be won, 2 on giving up, 4 for want of memory.
 ///
 /// # Errors
 /// In this order: a number outside 1 to 1,000,000, `from` before `to`; no deal or more than 32; a budget outside 1 to
@@ -40,19 +41,21 @@ pub fn run_batch<G: Game + Drop, K: Sink>(
     alloc: Global,
     game: &G,
     rule: u8,
+    weight: u8,
     from: u32,
     to: u32,
     budget: u32,
     out: &mut K,
 ) -> Result<u8, ProgramFault>
     requires rule { rule ≤ GREATEST_RULE }
-    ensures batched { IfOk result (IsBatched (G.game game.now) rule from to budget
+    requires weight { IsWeight weight }
+    ensures batched { IfOk result (IsBatched (G.game game.now) rule weight from to budget
         record { old = K.held out.old; new = K.held out.new; failed = K.has_failed out.new }) }
-    ensures fault { IfErr result (IsBatchFault (G.game game.now) rule from to budget
+    ensures fault { IfErr result (IsBatchFault (G.game game.now) rule weight from to budget
         record { old = K.held out.old; new = K.held out.new; failed = K.has_failed out.new }) }
 {
     let count = deals_of(from, to, budget)?;
-    let mut batch = begin(alloc, game, rule, from, count, budget)?;
+    let mut batch = begin(alloc, game, rule, weight, from, count, budget)?;
     run_to_end(&mut batch, count as usize);
     match write_lines(&batch, from, count, out) {
         Ok(status) => Ok(status),
@@ -92,20 +95,22 @@ fn begin<G: Game + Drop>(
     alloc: Global,
     game: &G,
     rule: u8,
+    weight: u8,
     from: u32,
     count: u32,
     budget: u32,
 ) -> Result<Batch<BucketFrontier, G>, ProgramFault>
     requires rule { rule ≤ GREATEST_RULE }
+    requires weight { IsWeight weight }
     requires first { 1 ≤ from }
     requires last { from + count ≤ 1000001 }
     requires budgeted { IsBudget budget }
-    ensures holds { IfOk result (HoldsDeals (G.game game.now) rule budget from count) }
+    ensures holds { IfOk result (HoldsDeals (G.game game.now) rule weight budget from count) }
     ensures fault { IfErr result (λ fault. fault ≡ ProgramFault.Memory) }
 {
     let mut batch = Batch::new(alloc);
     for i in 0..count {
-        let search = search_of(alloc, game, rule, from + i, budget)?;
+        let search = search_of(alloc, game, rule, weight, from + i, budget)?;
         let Ok(_) = batch.add(search) else {
             return Err(ProgramFault::Memory);
         };
@@ -118,17 +123,19 @@ fn search_of<G: Game + Drop>(
     alloc: Global,
     game: &G,
     rule: u8,
+    weight: u8,
     number: u32,
     budget: u32,
 ) -> Result<Search<BucketFrontier, G>, ProgramFault>
     requires rule { rule ≤ GREATEST_RULE }
+    requires weight { IsWeight weight }
     requires deal { IsDealNumber number }
     requires budgeted { IsBudget budget }
-    ensures search { IfOk result (IsSearchOf (G.game game.now) rule budget number) }
+    ensures search { IfOk result (IsSearchOf (G.game game.now) rule weight budget number) }
     ensures fault { IfErr result (λ fault. fault ≡ ProgramFault.Memory) }
 {
     let position = deal(number).unwrap();
-    match Search::new(alloc, game, rule, &position, budget) {
+    match Search::new(alloc, game, rule, weight, &position, budget) {
         Ok(search) => Ok(search),
         Err(_) => Err(ProgramFault::Memory),
     }
@@ -136,8 +143,8 @@ fn search_of<G: Game + Drop>(
 
 // Turns of the searches with the first numbers, in rising order again and again, until none of them runs.
 fn run_to_end<G: Game + Drop>(batch: &mut Batch<BucketFrontier, G>, count: usize)
-    ensures held { (g : GameRules) (rule budget from : ℕ) → HoldsDeals g rule budget from count batch.old
-        → HoldsDeals g rule budget from count batch.new }
+    ensures held { (g : GameRules) (rule weight budget from : ℕ) → HoldsDeals g rule weight budget from count batch.old
+        → HoldsDeals g rule weight budget from count batch.new }
     ensures ended { HaveEnded count batch.new }
 {
     while run_each(batch, count) {}
@@ -145,8 +152,8 @@ fn run_to_end<G: Game + Drop>(batch: &mut Batch<BucketFrontier, G>, count: usize
 
 // A stretch of turns of each of them; whether one may still run.
 fn run_each<G: Game + Drop>(batch: &mut Batch<BucketFrontier, G>, count: usize) -> bool
-    ensures held { (g : GameRules) (rule budget from : ℕ) → HoldsDeals g rule budget from count batch.old
-        → HoldsDeals g rule budget from count batch.new }
+    ensures held { (g : GameRules) (rule weight budget from : ℕ) → HoldsDeals g rule weight budget from count batch.old
+        → HoldsDeals g rule weight budget from count batch.new }
     ensures ended { result ≡ false → HaveEnded count batch.new }
     ensures most { work_left batch.new ≤ work_left batch.old }
     ensures falls { result ≡ true → work_left batch.new < work_left batch.old }
@@ -162,8 +169,8 @@ fn run_each<G: Game + Drop>(batch: &mut Batch<BucketFrontier, G>, count: usize) 
 
 // A stretch of turns of one search; whether it may still run.
 fn run_on<G: Game + Drop>(batch: &mut Batch<BucketFrontier, G>, number: usize) -> bool
-    ensures held { (g : GameRules) (rule budget from count : ℕ) → HoldsDeals g rule budget from count batch.old
-        → HoldsDeals g rule budget from count batch.new }
+    ensures held { (g : GameRules) (rule weight budget from count : ℕ) → HoldsDeals g rule weight budget from count batch.old
+        → HoldsDeals g rule weight budget from count batch.new }
     ensures others { OthersStay number batch.old batch.new }
     ensures ended { result ≡ false → (s : State) → search_at batch.new number ≡ Some s → s.status ≡ Status.Running → ⊥ }
     ensures most { work_left batch.new ≤ work_left batch.old }
@@ -186,11 +193,11 @@ fn write_lines<G: Game + Drop, K: Sink>(
 ) -> Result<u8, Failed>
     requires some { 1 ≤ count }
     requires numbers { from + count ≤ 1000001 }
-    ensures told { (g : GameRules) (rule budget : ℕ) → HoldsDeals g rule budget from count batch.now → HaveEnded count batch.now
-        → IfOk result (AreTold g rule budget from count
+    ensures told { (g : GameRules) (rule weight budget : ℕ) → HoldsDeals g rule weight budget from count batch.now → HaveEnded count batch.now
+        → IfOk result (AreTold g rule weight budget from count
         record { old = K.held out.old; new = K.held out.new; failed = K.has_failed out.new }) }
-    ensures cut { (g : GameRules) (rule budget : ℕ) → HoldsDeals g rule budget from count batch.now → HaveEnded count batch.now
-        → OnErr result (AreCutShort g rule budget from count
+    ensures cut { (g : GameRules) (rule weight budget : ℕ) → HoldsDeals g rule weight budget from count batch.now → HaveEnded count batch.now
+        → OnErr result (AreCutShort g rule weight budget from count
         record { old = K.held out.old; new = K.held out.new; failed = K.has_failed out.new }) }
 {
     let mut greatest = 0;
@@ -206,8 +213,8 @@ fn write_lines<G: Game + Drop, K: Sink>(
 
 // What is told of the search with this number, which has ended.
 fn told_of<G: Game + Drop>(batch: &Batch<BucketFrontier, G>, number: usize) -> Option<Outcome>
-    ensures told { (g : GameRules) (rule budget deal : ℕ) (search : State) → search_at batch.now number ≡ Some search
-        → IsSearchOf g rule budget deal search → (search.status ≡ Status.Running → ⊥) → IsRightOf g rule budget deal result }
+    ensures told { (g : GameRules) (rule weight budget deal : ℕ) (search : State) → search_at batch.now number ≡ Some search
+        → IsSearchOf g rule weight budget deal search → (search.status ≡ Status.Running → ⊥) → IsRightOf g rule weight budget deal result }
 {
     batch.get(number)?.outcome().ok()
 }

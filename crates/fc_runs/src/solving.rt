@@ -6,7 +6,7 @@ ghost use Rattle.fc_position.specs.Board.{Board};
 ghost use Rattle.fc_position.specs.Position.{Fits};
 ghost use Rattle.fc_moves.specs.GameRules.{IsPositionOf};
 ghost use Rattle.fc_answers.specs.Verdict.{CanBeWritten, verdict_of};
-ghost use Rattle.fc_best_first.specs.Search.{IsBudget};
+ghost use Rattle.fc_best_first.specs.Search.{IsBudget, IsWeight};
 ghost use Rattle.fc_search.specs.Search.{Answers};
 ghost use Rattle.fc_runs.specs.Devices.{GivesBoard, IsHandedBack, lent};
 ghost use Rattle.fc_runs.specs.Solving.{IsAnswered, IsCertified, IsCutShort, IsSolved, IsSolveFault, IsStartFault, IsUnanswered};
@@ -22,10 +22,11 @@ use fc_position::Position;
 use fc_search::{Answer, MOST_BUDGET, decide, solve};
 use std::alloc::Global;
 
-/// Reads a board of the game, searches under a home rule of at most 2 with at most `budget` stored classes, and writes the
-/// answer: the moves of a shortest list, that no list of moves wins, or that more than `budget` positions can be reached.
-/// The status tells which: 0, 1 or 2. Where `cert` is given, the certificate of the answer is written to it first, whole;
-/// giving up has none. Without it no table of classes is made.
+/// Reads a board of the game, searches under a home rule of at most 2 by a weight of 1 to 10 with at most `budget` stored
+/// classes, and writes the answer: the moves of a list that wins, with weight 1 a shortest one and else one of at most
+/// `weight` times the fewest moves, that no list of moves wins, or that more than `budget` positions can be reached. The
+/// status tells which: 0, 1 or 2. Where `cert` is given, the certificate of the answer is written to it first, whole; a list
+/// that isn't known to be shortest and giving up have none. Without it no table of classes is made.
 ///
 /// # Errors
 /// In this order: a budget outside 1 to 4,000,000; a board that can't be read; a text that is none of the game; want of
@@ -35,17 +36,19 @@ pub fn run_solve<G: Game + Drop, S: Source, K: Sink, C: Sink>(
     alloc: Global,
     game: &G,
     rule: u8,
+    weight: u8,
     board: &mut S,
     budget: u32,
     out: &mut K,
     cert: Option<&mut C>,
 ) -> Result<u8, ProgramFault>
     requires rule { rule ≤ GREATEST_RULE }
-    ensures answered { IfOk result (IsSolved (G.game game.now) rule budget
+    requires weight { IsWeight weight }
+    ensures answered { IfOk result (IsSolved (G.game game.now) rule weight budget
         record { old = S.told board.old; new = S.told board.new; failed = S.has_failed board.new }
         (lent C.held C.has_failed cert.entry cert.exit)
         record { old = K.held out.old; new = K.held out.new; failed = K.has_failed out.new }) }
-    ensures fault { IfErr result (IsSolveFault (G.game game.now) rule budget
+    ensures fault { IfErr result (IsSolveFault (G.game game.now) rule weight budget
         record { old = S.told board.old; new = S.told board.new; failed = S.has_failed board.new }
         (lent C.held C.has_failed cert.entry cert.exit)
         record { old = K.held out.old; new = K.held out.new; failed = K.has_failed out.new }) }
@@ -54,8 +57,8 @@ pub fn run_solve<G: Game + Drop, S: Source, K: Sink, C: Sink>(
 {
     let start = read_start(game, board, budget)?;
     match cert {
-        Some(cert) => certify(alloc, game, rule, &start, budget, out, cert),
-        None => tell(alloc, game, rule, &start, budget, out),
+        Some(cert) => certify(alloc, game, rule, weight, &start, budget, out, cert),
+        None => tell(alloc, game, rule, weight, &start, budget, out),
     }
 }
 
@@ -83,19 +86,21 @@ fn tell<G: Game + Drop, K: Sink>(
     alloc: Global,
     game: &G,
     rule: u8,
+    weight: u8,
     start: &Position,
     budget: u32,
     out: &mut K,
 ) -> Result<u8, ProgramFault>
     requires rule { rule ≤ GREATEST_RULE }
+    requires weight { IsWeight weight }
     requires fits { Fits (G.game game.now).cells start.now }
     requires budgeted { IsBudget budget }
-    ensures answered { IfOk result (IsAnswered (G.game game.now) rule start.now budget None
+    ensures answered { IfOk result (IsAnswered (G.game game.now) rule weight start.now budget None
         record { old = K.held out.old; new = K.held out.new; failed = K.has_failed out.new }) }
-    ensures fault { IfErr result (IsUnanswered (G.game game.now) rule start.now budget None
+    ensures fault { IfErr result (IsUnanswered (G.game game.now) rule weight start.now budget None
         record { old = K.held out.old; new = K.held out.new; failed = K.has_failed out.new }) }
 {
-    let Ok(verdict) = decide(alloc, game, rule, start, budget) else {
+    let Ok(verdict) = decide(alloc, game, rule, weight, start, budget) else {
         return Err(ProgramFault::Memory);
     };
     let text = verdict_text(alloc, &verdict)?;
@@ -110,22 +115,24 @@ fn certify<G: Game + Drop, K: Sink, C: Sink>(
     alloc: Global,
     game: &G,
     rule: u8,
+    weight: u8,
     start: &Position,
     budget: u32,
     out: &mut K,
     cert: &mut C,
 ) -> Result<u8, ProgramFault>
     requires rule { rule ≤ GREATEST_RULE }
+    requires weight { IsWeight weight }
     requires position { IsPositionOf (G.game game.now) start.now }
     requires budgeted { IsBudget budget }
-    ensures answered { IfOk result (IsAnswered (G.game game.now) rule start.now budget
+    ensures answered { IfOk result (IsAnswered (G.game game.now) rule weight start.now budget
         (Some record { old = C.held cert.old; new = C.held cert.new; failed = C.has_failed cert.new })
         record { old = K.held out.old; new = K.held out.new; failed = K.has_failed out.new }) }
-    ensures fault { IfErr result (IsUnanswered (G.game game.now) rule start.now budget
+    ensures fault { IfErr result (IsUnanswered (G.game game.now) rule weight start.now budget
         (Some record { old = C.held cert.old; new = C.held cert.new; failed = C.has_failed cert.new })
         record { old = K.held out.old; new = K.held out.new; failed = K.has_failed out.new }) }
 {
-    let Ok(answer) = solve(alloc, game, rule, start, budget) else {
+    let Ok(answer) = solve(alloc, game, rule, weight, start, budget) else {
         return Err(ProgramFault::Memory);
     };
     let text = answer_text(alloc, &answer)?;
@@ -138,26 +145,26 @@ fn certify<G: Game + Drop, K: Sink, C: Sink>(
     }
 }
 
-// Writes the certificate of an answer; of a search that gave up, nothing.
+// Writes the certificate of an answer, if it has one.
 fn write_certificate<G: Game, C: Sink>(
     game: &G,
     answer: &Answer,
     cert: &mut C,
 ) -> Result<(), Failed>
     requires written { CanBeWritten (verdict_of answer.now) }
-    ensures certified { (rule : ℕ) (start : Board) (budget : ℕ) → IsPositionOf (G.game game.now) start
-        → Answers (G.game game.now) rule start budget answer.now
+    ensures certified { (rule weight : ℕ) (start : Board) (budget : ℕ) → IsPositionOf (G.game game.now) start
+        → Answers (G.game game.now) rule weight start budget answer.now
         → OnOk result (IsCertified (G.game game.now) rule start (verdict_of answer.now)
         record { old = C.held cert.old; new = C.held cert.new; failed = C.has_failed cert.new }) }
-    ensures cut { (rule : ℕ) (start : Board) (budget : ℕ) → IsPositionOf (G.game game.now) start
-        → Answers (G.game game.now) rule start budget answer.now
+    ensures cut { (rule weight : ℕ) (start : Board) (budget : ℕ) → IsPositionOf (G.game game.now) start
+        → Answers (G.game game.now) rule weight start budget answer.now
         → OnErr result (IsCutShort (G.game game.now) rule start (verdict_of answer.now)
         record { old = C.held cert.old; new = C.held cert.new; failed = C.has_failed cert.new }) }
 {
     match write_answer(game, answer, cert) {
         Ok(()) => Ok(()),
         Err(CertFault::Write) => Err(Failed),
-        // Giving up has no certificate.
+        // A list that isn't known to be shortest and giving up have no certificate.
         Err(_) => Ok(()),
     }
 }

@@ -1,5 +1,5 @@
 -- What a search that is done holds makes its verdict right, and its table backs it.
-use Rattle.std.proofs.Common.{◌≡◌, ℕ, zero, suc, ◌+◌, ◌<◌, ◌≤◌, Bool, List, [], ◌∷◌, length, refl, sym, ◌∙◌, ap, subst, arith, nat_lt}
+use Rattle.std.proofs.Common.{◌≡◌, ℕ, zero, suc, ◌+◌, ◌*◌, ◌<◌, ◌≤◌, Bool, List, [], ◌∷◌, length, refl, sym, ◌∙◌, ap, subst, arith, nat_lt}
 use Rattle.std.specs.Prelude.{All, Contains}
 use Rattle.std.specs.List.Sorted.{IsPermutation}
 use Rattle.std.proofs.lemmas.List.{length-map}
@@ -17,6 +17,7 @@ use Rattle.fc_tables.specs.Table as boards
 use Rattle.fc_tables.proofs.RowLemmas.{rows_inside, inside_all, costs_free}
 use Rattle.fc_best_first.specs.declared.books.Mark.{Mark}
 use Rattle.fc_best_first.specs.declared.turns.Status.TheVariants as status
+use Rattle.fc_best_first.specs.Kept.{IsSound}
 use Rattle.fc_best_first.specs.Shown.{IsFound, IsExhausted, Shows}
 use Rattle.fc_best_first.specs.Store.{Store, Stands}
 use Rattle.fc_best_first.proofs.KeptLemmas.{same_entry, stands_within}
@@ -27,7 +28,7 @@ use Rattle.fc_canonical.specs.Spelled.{spelled}
 use Rattle.fc_classes.proofs.PathLemmas.{reached_of_positions}
 use Rattle.fc_classes.proofs.TableLemmas.{board_listed, key_listed, closed_board}
 use Rattle.fc_answers.specs.declared.answers.Answer.TheVariants as answer
-use Rattle.fc_answers.specs.declared.answers.Verdict.TheVariants.{Shortest, CannotWin, GaveUp}
+use Rattle.fc_answers.specs.declared.answers.Verdict.TheVariants.{Shortest, Won, CannotWin, GaveUp}
 use Rattle.fc_search.specs.Search.{IsVerdict}
 use Rattle.fc_answers.specs.Answer.{IsBackedBelow, IsBackedWhole}
 use Rattle.fc_answers.specs.Table.{Listing, HaveKeysOnce, IsRising, inside, at_no_cost}
@@ -46,13 +47,19 @@ run_texts g b c (m ∷ ms) p (mid, step, rest) zero d lt = allowed_has_text g b 
 run_texts g b c (m ∷ ms) p (mid, step, rest) (suc k) d lt =
     run_texts g mid c ms (step_keeps g b mid m p step) rest k d (omega (arith, lt))
 
-module _ (g : GameRules) (rule : ℕ) (p : Board) (budget : ℕ) (s : Store (List ℕ)) (pp : IsPositionOf g p) where
+-- a weight of one changes nothing
+one_times : (weight n : ℕ) → weight ≡ 1 → weight * n ≡ n
+one_times weight n one =
+    let same : weight * n ≡ 1 * n = ap (λ w. w * n) one in
+    omega (arith, same)
+
+module _ (g : GameRules) (rule weight : ℕ) (p : Board) (budget : ℕ) (s : Store (List ℕ)) (pp : IsPositionOf g p) where
   -- the table of a search that found no way to win shows that there is none
-  pub backed_whole : (table : Listing) → IsExhausted (classes bound g rule p) budget s → table.rule ≡ rule → table.rule ≤ 2
+  pub backed_whole : (table : Listing) → IsExhausted (classes bound g rule p) weight budget s → table.rule ≡ rule → table.rule ≤ 2
       → length table.rows ≤ 4000000 → IsRising table.rows → IsPermutation (at_no_cost (costs_of s)) table.rows
       → IsBackedWhole g p table
   backed_whole table (sound, done) ruled known few rising moved =
-      let closed = λ (n : ℕ). closed_inside (classes bound g rule p) budget s n sound (λ i x m at lt. done i x m at) in
+      let closed = λ (n : ℕ). closed_inside (classes bound g rule p) weight budget s n sound (λ i x m at lt. done i x m at) in
       let back = IsPermutation-sym (at_no_cost (costs_of s)) table.rows moved in
       let all = inside_all bound g rule p (as_boards (costs_of s)) (λ n. closed_board bound g rule p n (costs_of s) bound_lower pp (closed n)) in
       let free = λ (e : List ℕ × ℕ) (there : Contains table.rows e).
@@ -83,37 +90,53 @@ module _ (g : GameRules) (rule : ℕ) (p : Board) (budget : ℕ) (s : Store (Lis
         free = λ e there. (free e there).1;
       }
 
-  -- a list to the won class has as many moves as it costs, and is a shortest one
-  pub won_length : (number : ℕ) (ms : List Move) (b : Board) → IsFound (classes bound g rule p) budget s number
-      → Shows (classes bound g rule p) budget s (status.Shortest number) → IsAtClass g s p number ms b
-      → (x : List ℕ) × (mark : Mark) × Stands s number x mark × (length ms ≡ mark.cost) × Wins g p ms
-      × ((others : List Move) → Wins g p others → length ms ≤ length others)
-  won_length number ms b found (x, mark, at, won, reached, answer, least) (y, mine, there, run, same, le) =
+  -- a list to the won class wins, has no more moves than it costs, and is within the weight
+  pub won_within : (number : ℕ) (ms : List Move) (b : Board) → Shows (classes bound g rule p) weight budget s (status.Won number)
+      → IsAtClass g s p number ms b
+      → (x : List ℕ) × (mark : Mark) × Stands s number x mark × (length ms ≤ mark.cost) × Wins g p ms
+      × ((others : List Move) → Wins g p others → mark.cost ≤ weight * length others)
+  won_within number ms b (x, mark, at, won, reached, answer, least) (y, mine, there, run, same, le) =
       let one = same_entry s number x y mark mine at there in
       let won_there : IsWon b = same.homes ∙ ap (λ k. (spelled k).homes) (sym one.0) ∙ won in
-      let wins : Wins g p ms = (b, run, won_there) in
-      let cost : mark.cost ≡ mine.cost = ap (λ m. m.cost) one.1 in
-      let most = least (length ms) (ms, refl, wins) in
-      let long : length ms ≡ mark.cost = omega (arith, le, most, cost) in (
+      let cost : mark.cost ≡ mine.cost = ap (λ m. m.cost) one.1 in (
         x,
         mark,
         at,
+        omega (arith, le, cost),
+        (b, run, won_there),
+        λ others w. least (length others) (others, refl, w),
+      )
+
+  -- by weight 1 it has as many moves as the class costs, and is a shortest one
+  pub won_length : weight ≡ 1 → (number : ℕ) (ms : List Move) (b : Board)
+      → Shows (classes bound g rule p) weight budget s (status.Won number) → IsAtClass g s p number ms b
+      → (x : List ℕ) × (mark : Mark) × Stands s number x mark × (length ms ≡ mark.cost) × Wins g p ms
+      × ((others : List Move) → Wins g p others → length ms ≤ length others)
+  won_length light number ms b shows walked =
+      let won = won_within number ms b shows walked in
+      let le = won.3 in
+      let most = won.5 ms won.4 in
+      let long : length ms ≡ won.1.cost = omega (arith, le, most, one_times weight (length ms) light) in (
+        won.0,
+        won.1,
+        won.2,
         long,
-        wins,
-        λ others w. let far = least (length others) (others, refl, w) in omega (arith, far, long),
+        won.4,
+        λ others w. let far = won.5 others w in omega (arith, far, long, one_times weight (length others) light),
       )
 
   -- the table of a search that found a shortest list shows that none is shorter
-  pub backed_below : (number : ℕ) (ms : List Move) (table : Listing) → IsFound (classes bound g rule p) budget s number
+  pub backed_below : weight ≡ 1 → (number : ℕ) (ms : List Move) (table : Listing)
+      → IsFound (classes bound g rule p) weight budget s number
       → (x : List ℕ) (mark : Mark) → Stands s number x mark → length ms ≡ mark.cost → table.rule ≡ rule → table.rule ≤ 2
       → length table.rows ≤ 4000000 → IsRising table.rows → IsPermutation (inside (length ms) (costs_of s)) table.rows
       → IsBackedBelow g p (length ms) table
-  backed_below number ms table (sound, (w, wmark, wat, wwon, done)) x mark at long ruled known few rising moved =
+  backed_below light number ms table (sound, (w, wmark, wat, wwon, done)) x mark at long ruled known few rising moved =
       let n = length ms in
       let one = same_entry s number x w mark wmark at wat in
       let cost : n ≡ wmark.cost = long ∙ ap (λ m. m.cost) one.1 in
-      let closed = closed_inside (classes bound g rule p) budget s n sound
-      (λ i y m at lt. done i y m at (omega (arith, lt, cost))) in
+      let closed = closed_inside (classes bound g rule p) weight budget s n sound
+      (λ i y m at lt. done i y m at (omega (arith, lt, cost, one_times weight (bound (spelled y)) light))) in
       let back = IsPermutation-sym (inside n (costs_of s)) table.rows moved in
       let within = λ (e : List ℕ × ℕ) (there : Contains table.rows e).
       inside_listed n (costs_of s) e (Contains-permutation table.rows (inside n (costs_of s)) e back there) in
@@ -151,11 +174,12 @@ module _ (g : GameRules) (rule : ℕ) (p : Board) (budget : ℕ) (s : Store (Lis
       (record { rule = rule; rows = all.0 }, refl, omega (arith, few, long), all.2, all.1)
 
   -- the verdict of a search that found a shortest list
-  pub shortest_verdict : (number : ℕ) (ms : List Move) (b : Board) → rule ≤ 2 → budget ≤ 4000000
-      → IsFound (classes bound g rule p) budget s number → Shows (classes bound g rule p) budget s (status.Shortest number)
-      → IsAtClass g s p number ms b → IsVerdict g rule p budget (Shortest ms)
-  shortest_verdict number ms b known few (sound, found) shows walked =
-      let won = won_length number ms b (sound, found) shows walked in
+  pub shortest_verdict : weight ≡ 1 → (number : ℕ) (ms : List Move) (b : Board) → rule ≤ 2 → budget ≤ 4000000
+      → IsFound (classes bound g rule p) weight budget s number
+      → Shows (classes bound g rule p) weight budget s (status.Won number)
+      → IsAtClass g s p number ms b → IsVerdict g rule weight p budget (Shortest ms)
+  shortest_verdict light number ms b known few (sound, found) shows walked =
+      let won = won_length light number ms b shows walked in
       let low = sound.low number won.0 won.1 won.2 in
       let inside_store = stands_within s number won.0 won.1 won.2 in
       let room = sound.room in
@@ -163,10 +187,10 @@ module _ (g : GameRules) (rule : ℕ) (p : Board) (budget : ℕ) (s : Store (Lis
       let cost = won.3 in
       let test : (List ℕ × ℕ) → Bool = λ e. nat_lt (e.1 + bound (spelled e.0)) (length ms) in
       let listed = as_table (inside (length ms) (costs_of s))
-      (inside_once (length ms) (costs_of s) (stored_once (classes bound g rule p) budget s sound))
+      (inside_once (length ms) (costs_of s) (stored_once (classes bound g rule p) weight budget s sound))
       (omega (arith, length-filter test (costs_of s), count_by-le-length test (costs_of s), stored_long s, room, few)) in
       let table = listed.0 in
-      let backed = backed_below number ms table (sound, found) won.0 won.1 won.2 won.3 listed.1
+      let backed = backed_below light number ms table (sound, found) won.0 won.1 won.2 won.3 listed.1
       (subst (λ r. r ≤ 2) (sym listed.1) known) listed.2 listed.3 listed.4 in record {
         right = record { wins = won.4; least = won.5 };
         earned = tt;
@@ -174,13 +198,27 @@ module _ (g : GameRules) (rule : ℕ) (p : Board) (budget : ℕ) (s : Store (Lis
         backed = record { answer = answer.Shortest ms table; told = refl; backed = backed; ruled = listed.1 };
       }
 
+  -- the verdict of a search by a greater weight that found a list, no longer than the won class costs
+  pub won_verdict : 2 ≤ weight → (number : ℕ) (ms : List Move) (x : List ℕ) (mark : Mark) → budget ≤ 4000000
+      → IsSound (classes bound g rule p) weight budget s → Stands s number x mark → length ms ≤ mark.cost → Wins g p ms
+      → ((others : List Move) → Wins g p others → mark.cost ≤ weight * length others) → IsVerdict g rule weight p budget (Won ms)
+  won_verdict heavy number ms x mark few sound at le wins least =
+      let low = sound.low number x mark at in
+      let inside_store = stands_within s number x mark at in
+      let room = sound.room in record {
+        right = record { above = heavy; wins = wins; least = λ others w. let far = least others w in omega (arith, far, le) };
+        earned = tt;
+        written = (run_texts g p wins.0 ms pp wins.1, omega (arith, low, inside_store, room, few, le));
+        backed = record { answer = answer.Won ms; told = refl; backed = tt; ruled = tt };
+      }
+
   -- the verdict of a search that found no way to win
-  pub cannot_win_verdict : rule ≤ 2 → budget ≤ 4000000 → IsExhausted (classes bound g rule p) budget s
-      → Shows (classes bound g rule p) budget s status.CannotWin → IsVerdict g rule p budget CannotWin
+  pub cannot_win_verdict : rule ≤ 2 → budget ≤ 4000000 → IsExhausted (classes bound g rule p) weight budget s
+      → Shows (classes bound g rule p) weight budget s status.CannotWin → IsVerdict g rule weight p budget CannotWin
   cannot_win_verdict known few (sound, done) none =
       let free : (List ℕ × ℕ) → List ℕ × ℕ = λ e. (e.0, 0) in
       let room = sound.room in
-      let listed = as_table (at_no_cost (costs_of s)) (no_cost_once (costs_of s) (stored_once (classes bound g rule p) budget s sound))
+      let listed = as_table (at_no_cost (costs_of s)) (no_cost_once (costs_of s) (stored_once (classes bound g rule p) weight budget s sound))
       (omega (arith, length-map (costs_of s) free, stored_long s, room, few)) in
       let table = listed.0 in
       let backed = backed_whole table (sound, done) listed.1 (subst (λ r. r ≤ 2) (sym listed.1) known) listed.2 listed.3 listed.4 in
@@ -192,11 +230,11 @@ module _ (g : GameRules) (rule : ℕ) (p : Board) (budget : ℕ) (s : Store (Lis
       }
 
   -- the verdict of a search that gave up
-  pub gave_up_verdict : (y : List ℕ) (number told : ℕ) → Shows (classes bound g rule p) budget s (status.GaveUp y number)
-      → told ≡ budget → IsVerdict g rule p budget (GaveUp told)
+  pub gave_up_verdict : (y : List ℕ) (number told : ℕ) → Shows (classes bound g rule p) weight budget s (status.GaveUp y number)
+      → told ≡ budget → IsVerdict g rule weight p budget (GaveUp told)
   gave_up_verdict y number told (keys, are) same =
-      let more = needs_more g rule p budget keys pp are in record {
-        right = (same, needs_reach g rule p budget more);
+      let more = needs_more g rule weight p budget keys pp are in record {
+        right = (same, needs_reach g rule weight p budget more);
         earned = more;
         written = tt;
         backed = record { answer = answer.GaveUp told; told = refl; backed = tt; ruled = tt };

@@ -14,7 +14,6 @@ use Rattle.fc_canonical.specs.Distinct.{ListsClasses}
 use Rattle.fc_canonical.proofs.ClassLemmas.{class-refl, class-sym}
 use Rattle.fc_canonical.proofs.KeyLemmas.{keys_tell}
 use Rattle.fc_moves.proofs.StepLemmas.{step_once}
-use Rattle.fc_home.specs.Settles.{Settles}
 use Rattle.fc_home.proofs.MateLemmas.{class_settle}
 use Rattle.fc_home.proofs.SettleLemmas.{settles_keep}
 use Rattle.fc_home.proofs.WayLemmas.{settles_once}

@@ -1,5 +1,8 @@
--- What a search that is done holds tells how many moves a shortest list has, before any list is made.
-use Rattle.std.proofs.Common.{◌≡◌, ℕ, zero, suc, ◌<◌, ◌≤◌, List, ◌∷◌, ◌++◌, length, refl, sym, ◌∙◌, ap, subst, ⊎_elim, arith}
+-- What a search that is done holds tells how many moves win, before any list is made.
+use Rattle.std.proofs.Common.{◌≡◌, ℕ, zero, suc, ◌+◌, ◌*◌, ◌<◌, ◌≤◌, List, ◌∷◌, ◌++◌, length, refl, sym, ◌∙◌, ap, subst, ⊎_elim, arith}
+use Rattle.std.specs.Int.{div_ceil}
+use Rattle.std.proofs.Math.Nat.{lt_of_mul-lt-mul_left, mul_comm}
+use Rattle.std.proofs.lemmas.Grind.{div_ceil_times}
 use Rattle.fc_position.specs.Board.{Board}
 use Rattle.fc_moves.specs.declared.steps.Move.{Move}
 use Rattle.fc_moves.specs.GameRules.{GameRules, IsPositionOf}
@@ -18,18 +21,18 @@ use Rattle.fc_answers.specs.declared.answers.Outcome.TheVariants as outcome
 use Rattle.fc_answers.specs.declared.answers.Verdict.TheVariants as verdict
 use Rattle.fc_search.specs.Search.{State, classes_of, IsOfStatus, IsOutcome}
 use Rattle.fc_search.specs.Walk.{IsAtClass}
-use Rattle.fc_search.proofs.AnswerLemmas.{won_length, shortest_verdict}
+use Rattle.fc_search.proofs.AnswerLemmas.{won_length, shortest_verdict, won_verdict}
 use Rattle.fc_search.proofs.WalkLemmas.{walk_begins, walked_on, leads_on}
 
-module _ (g : GameRules) (rule : ℕ) (p : Board) (budget : ℕ) (s : Store (List ℕ)) (pp : IsPositionOf g p)
-    (sound : IsSound (classes bound g rule p) budget s) where
+module _ (g : GameRules) (rule weight : ℕ) (p : Board) (budget : ℕ) (s : Store (List ℕ)) (pp : IsPositionOf g p)
+    (sound : IsSound (classes bound g rule p) weight budget s) where
   -- moves lead on from where moves to a class lead to a class that came from it
   one_more : (number next : ℕ) (made : List Move) (b : Board) (x : List ℕ) (mark : Mark) → IsAtClass g s p number made b
       → Stands s next x mark → mark.parent ≡ number → (number ≡ next → ⊥)
       → (ms : List Move) × (c : Board) × IsAtClass g s p next ms c
   one_more number next made b x mark walked at parent other =
       let (room, (m, (count, (z, step, (q, settles, key)), few))) =
-      leads_on g rule p budget s pp sound number next made b x mark walked at parent other in
+      leads_on g rule weight p budget s pp sound number next made b x mark walked at parent other in
       let on : Run g b (m ∷ settles.0) q = (z, step, settles_run g rule z q settles.0 settles.2) in
       let pb = run_keeps g p b made pp walked.3 in
       let size : length settles.0 ≡ count = settles.1 in (
@@ -48,7 +51,7 @@ module _ (g : GameRules) (rule : ℕ) (p : Board) (budget : ℕ) (s : Store (Lis
       (λ (own, (r, settles, key)). (
         settles.0,
         r,
-        walk_begins g rule p budget s pp sound number settles.0 r (x, mark, at, own) settles.2
+        walk_begins g rule weight p budget s pp sound number settles.0 r (x, mark, at, own) settles.2
             (settles_keep g rule p r mark.cost pp settles).position,
       ))
       (λ (w, was, c, stands, (kw, (m, z, count, step, to, paid)), less).
@@ -59,21 +62,56 @@ module _ (g : GameRules) (rule : ℕ) (p : Board) (budget : ℕ) (s : Store (Lis
       omega (arith, cost, less, paid)))
       (sound.comes number x mark at)
 
--- the cost of the won class is how many moves a shortest list has
+-- by weight 1 the cost of the won class is how many moves a shortest list has
 pub shortest_outcome : (s : State) (number : ℕ) (x : List ℕ) (mark : Mark) → IsPositionOf s.question.game s.question.start
-    → s.question.rule ≤ 2 → s.budget ≤ 4000000 → IsFound (classes_of s.question) s.budget s.store number
-    → Shows (classes_of s.question) s.budget s.store (status.Shortest number) → s.status ≡ status.Shortest number
-    → Stands s.store number x mark → IsOutcome s (outcome.Shortest mark.cost)
-shortest_outcome s number x mark pp known few found shows done at =
+    → s.question.rule ≤ 2 → s.budget ≤ 4000000 → IsFound (classes_of s.question) s.question.weight s.budget s.store number
+    → Shows (classes_of s.question) s.question.weight s.budget s.store (status.Won number) → s.status ≡ status.Won number
+    → Stands s.store number x mark → s.question.weight ≡ 1 → IsOutcome s (outcome.Shortest mark.cost)
+shortest_outcome s number x mark pp known few found shows done at light =
     let g = s.question.game in
     let rule = s.question.rule in
+    let weight = s.question.weight in
     let p = s.question.start in
-    let way = way_there g rule p s.budget s.store pp found.0 (suc mark.cost) number x mark at (omega arith) in
-    let won = won_length g rule p s.budget s.store pp number way.0 way.1 found shows way.2 in
+    let way = way_there g rule weight p s.budget s.store pp found.0 (suc mark.cost) number x mark at (omega arith) in
+    let won = won_length g rule weight p s.budget s.store pp light number way.0 way.1 shows way.2 in
     let one = same_entry s.store number x won.0 mark won.1 at won.2 in
     let cost : mark.cost ≡ length way.0 = ap (λ k. k.cost) one.1 ∙ sym won.3 in (
       verdict.Shortest way.0,
-      shortest_verdict g rule p s.budget s.store pp number way.0 way.1 known few found shows way.2,
-      subst (λ v. IsOfStatus s.store s.budget v (verdict.Shortest way.0)) (sym done) (won.0, won.1, won.2, won.3),
+      shortest_verdict g rule weight p s.budget s.store pp light number way.0 way.1 known few found shows way.2,
+      subst (λ v. IsOfStatus weight s.store s.budget v (verdict.Shortest way.0)) (sym done) (won.0, won.1, won.2, won.3, light),
       ap outcome.Shortest cost,
     )
+
+-- by a greater weight as many moves as the won class costs win, within the weight
+pub won_outcome : (s : State) (number : ℕ) (x : List ℕ) (mark : Mark) → IsPositionOf s.question.game s.question.start
+    → s.budget ≤ 4000000 → IsFound (classes_of s.question) s.question.weight s.budget s.store number
+    → Shows (classes_of s.question) s.question.weight s.budget s.store (status.Won number) → s.status ≡ status.Won number
+    → Stands s.store number x mark → 2 ≤ s.question.weight → IsOutcome s (outcome.Won mark.cost)
+won_outcome s number x mark pp few found (y, mine, there, won, reached, (ms, long, wins), least) done at heavy =
+    let weight = s.question.weight in
+    let one = same_entry s.store number x y mark mine at there in
+    let cost : mark.cost ≡ length ms = ap (λ k. k.cost) one.1 ∙ sym long in
+    let le : length ms ≤ mine.cost = omega (arith, long) in (
+      verdict.Won ms,
+      won_verdict s.question.game s.question.rule weight s.question.start s.budget s.store pp heavy number ms y mine few found.0
+          there le wins (λ others w. least (length others) (others, refl, w)),
+      subst (λ v. IsOfStatus weight s.store s.budget v (verdict.Won ms)) (sym done) (y, mine, there, le, heavy),
+      ap outcome.Won cost,
+    )
+
+-- what a floor divided by a weight is, rounded up
+pub ceiling : (floor weight by least : ℕ) → by ≡ weight → 1 ≤ weight → least ≡ div_ceil floor by
+    → (floor ≤ weight * least) × (weight * least < floor + weight)
+ceiling floor weight by least is positive ceil =
+    let told : least ≡ div_ceil floor weight = ceil ∙ ap (div_ceil floor) is in
+    let near = div_ceil_times floor weight positive in
+    let turned : weight * least ≡ div_ceil floor weight * weight = ap (λ n. weight * n) told ∙ mul_comm weight (div_ceil floor weight) in
+    (omega (arith, near.0, turned), omega (arith, near.1, turned))
+
+-- the floor of a search, divided by the weight and rounded up, is no more than any list that wins has moves
+pub floor_below : (weight floor least long : ℕ) → floor ≤ weight * long → weight * least < floor + weight → least ≤ long
+floor_below weight floor least long under near =
+    let more : weight * (long + 1) ≡ weight * long + weight = omega arith in
+    let below : weight * least < weight * (long + 1) = omega (arith, under, near, more) in
+    let lt = lt_of_mul-lt-mul_left weight below in
+    omega (arith, lt)

@@ -1,10 +1,10 @@
 -- A search of a position's classes as a whole: how it begins, runs and is answered.
-use Rattle.std.specs.Prelude.{◌≡◌, ℕ, List, length}
+use Rattle.std.specs.Prelude.{◌≡◌, ℕ, ◌≤◌, List, length}
 use Rattle.fc_position.specs.Board.{Board}
 use Rattle.fc_moves.specs.GameRules.{GameRules}
 use Rattle.fc_best_first.specs.declared.books.Mark.{Mark}
 use Rattle.fc_best_first.specs.declared.turns.Status.{Status}
-use Rattle.fc_best_first.specs.declared.turns.Status.TheVariants.{Running, Shortest, CannotWin, GaveUp, Stopped}
+use Rattle.fc_best_first.specs.declared.turns.Status.TheVariants.{Running, Won, CannotWin, GaveUp, Stopped}
 use Rattle.fc_best_first.specs.declared.searches.SearchFault.{SearchFault}
 use Rattle.fc_best_first.specs.declared.searches.SearchFault.TheVariants as fault
 use Rattle.fc_best_first.specs.Graph.{Graph}
@@ -13,6 +13,7 @@ use Rattle.fc_best_first.specs.Store.{Store, Stands}
 use Rattle.fc_classes.specs.Classes.{classes}
 use Rattle.fc_answers.specs.declared.answers.Answer.{Answer}
 use Rattle.fc_answers.specs.declared.answers.Outcome.{Outcome}
+use Rattle.fc_answers.specs.declared.answers.Outcome.TheVariants as outcome
 use Rattle.fc_answers.specs.declared.answers.Verdict.{Verdict}
 use Rattle.fc_answers.specs.declared.answers.Verdict.TheVariants as verdict
 use Rattle.fc_answers.specs.Answer.{IsBacked, IsByRule, CanBeBacked}
@@ -20,43 +21,50 @@ use Rattle.fc_answers.specs.Verdict.{verdict_of, outcome_of, IsRight, CanBeWritt
 use Rattle.fc_search.specs.Need.{IsEarned}
 use Rattle.fc_bound.specs.Bound.{bound}
 
--- a question: by how few moves of the game a list wins from the start, searched under a home rule
+-- a question: by how few moves of the game a list wins from the start, searched under a home rule by a weight, which says
+-- how many times a bound counts
 pub record Question : Type 0 where
   pub game : GameRules
   pub rule : ℕ
+  pub weight : ℕ
   pub start : Board
 
--- the graph of classes that a question is searched in
+-- the graph of classes that a question is searched in, whatever the weight
 abbrev pub classes_of : Question → Graph (List ℕ)
 classes_of q = classes bound q.game q.rule q.start
 
--- where a search stands: its question, its budget, what it stores and has open, and its status
+-- where a search stands: its question, its budget, what it stores and has open, its status, and the cost plus weighed
+-- bound of what it took last
 pub record State : Type 0 where
   pub question : Question
   pub budget : ℕ
   pub store : Store (List ℕ)
   pub status : Status (List ℕ)
+  pub floor : ℕ
 
--- the verdict is of the kind of the status that a search ends with: as many moves as the won class costs, that no list
--- wins, or the budget
-abbrev pub IsOfStatus : Store (List ℕ) → ℕ → Status (List ℕ) → Verdict → Type 0
-IsOfStatus s budget (Shortest number) (verdict.Shortest moves) =
-    (x : List ℕ) × (mark : Mark) × Stands s number x mark × (length moves ≡ mark.cost)
-IsOfStatus s budget CannotWin verdict.CannotWin = Unit {0}
-IsOfStatus s budget (GaveUp y number) (verdict.GaveUp told) = told ≡ budget
-IsOfStatus s budget status verdict = ⊥
+-- the verdict is of the kind of the status that a search ends with: by weight 1 as many moves as the won class costs, and
+-- by more no more than that, since a class on the way may have been met at less cost after it; that no list wins; or the
+-- budget
+abbrev pub IsOfStatus : ℕ → Store (List ℕ) → ℕ → Status (List ℕ) → Verdict → Type 0
+IsOfStatus weight s budget (Won number) (verdict.Shortest moves) =
+    (x : List ℕ) × (mark : Mark) × Stands s number x mark × (length moves ≡ mark.cost) × (weight ≡ 1)
+IsOfStatus weight s budget (Won number) (verdict.Won moves) =
+    (x : List ℕ) × (mark : Mark) × Stands s number x mark × (length moves ≤ mark.cost) × (2 ≤ weight)
+IsOfStatus weight s budget CannotWin verdict.CannotWin = Unit {0}
+IsOfStatus weight s budget (GaveUp y number) (verdict.GaveUp told) = told ≡ budget
+IsOfStatus weight s budget status verdict = ⊥
 
 -- all that a verdict of a search for the board is: right, earned, such as can be written, and that of an answer that a
 -- table of the search's rule backs, whether or not it was made
-pub record IsVerdict (g : GameRules) (rule : ℕ) (b : Board) (budget : ℕ) (verdict : Verdict) : Type 0 where
-  pub right : IsRight g b budget verdict
-  pub earned : IsEarned g rule b budget verdict
+pub record IsVerdict (g : GameRules) (rule : ℕ) (weight : ℕ) (b : Board) (budget : ℕ) (verdict : Verdict) : Type 0 where
+  pub right : IsRight g weight b budget verdict
+  pub earned : IsEarned g rule weight b budget verdict
   pub written : CanBeWritten verdict
   pub backed : CanBeBacked g rule b verdict
 
 -- all that an answer of a search for the board is: a verdict that is right, backed by a table of the search's rule
-pub record Answers (g : GameRules) (rule : ℕ) (b : Board) (budget : ℕ) (answer : Answer) : Type 0 where
-  pub told : IsVerdict g rule b budget (verdict_of answer)
+pub record Answers (g : GameRules) (rule : ℕ) (weight : ℕ) (b : Board) (budget : ℕ) (answer : Answer) : Type 0 where
+  pub told : IsVerdict g rule weight b budget (verdict_of answer)
   pub backed : IsBacked g b answer
   pub ruled : IsByRule rule answer
 
@@ -68,8 +76,13 @@ IsUnanswered done told = told ≡ fault.Memory
 
 -- what is told of a search that is done: what its verdict tells but its moves
 abbrev pub IsOutcome : State → Outcome → Type 0
-IsOutcome s told = (verdict : Verdict) × IsVerdict s.question.game s.question.rule s.question.start s.budget verdict
-    × IsOfStatus s.store s.budget s.status verdict × (told ≡ outcome_of verdict)
+IsOutcome s told = (verdict : Verdict) × IsVerdict s.question.game s.question.rule s.question.weight s.question.start s.budget verdict
+    × IsOfStatus s.question.weight s.store s.budget s.status verdict × (told ≡ outcome_of verdict)
+
+-- a number of moves that is told of a list within a weight is what the won class costs
+abbrev pub TellsCost : Store (List ℕ) → Status (List ℕ) → Outcome → Type 0
+TellsCost s (Won number) (outcome.Won told) = (x : List ℕ) × (mark : Mark) × Stands s number x mark × (told ≡ mark.cost)
+TellsCost s status told = Unit {0}
 
 -- why nothing is told of a search: it is still running, or it was stopped
 abbrev pub IsUntold : Status (List ℕ) → SearchFault → Type 0
@@ -78,14 +91,14 @@ IsUntold Stopped told = told ≡ fault.Stopped
 IsUntold done told = ⊥
 
 -- a search that began ran on to this store and this status within the budget
-pub record HasRun (g : GameRules) (rule : ℕ) (b : Board) (budget : ℕ) (last : Store (List ℕ)) (status : Status (List ℕ)) : Type 0 where
+pub record HasRun (g : GameRules) (rule : ℕ) (weight : ℕ) (b : Board) (budget : ℕ) (last : Store (List ℕ)) (status : Status (List ℕ)) : Type 0 where
   pub first : Store (List ℕ)
-  pub begins : Begins (classes bound g rule b) first
-  pub runs : Runs (classes bound g rule b) budget Running first last status
+  pub begins : Begins (classes bound g rule b) weight first
+  pub runs : Runs (classes bound g rule b) weight budget Running first last status
 
 -- the verdict is that of a search that began, and ran to its end within the budget
-pub record IsRunToEnd (g : GameRules) (rule : ℕ) (b : Board) (budget : ℕ) (verdict : Verdict) : Type 0 where
+pub record IsRunToEnd (g : GameRules) (rule : ℕ) (weight : ℕ) (b : Board) (budget : ℕ) (verdict : Verdict) : Type 0 where
   pub last : Store (List ℕ)
   pub status : Status (List ℕ)
-  pub ran : HasRun g rule b budget last status
-  pub answered : IsOfStatus last budget status verdict
+  pub ran : HasRun g rule weight b budget last status
+  pub answered : IsOfStatus weight last budget status verdict

@@ -1,9 +1,11 @@
-//! What is told of a search that is done, with no list of moves made.
+//! What is told of a search with no list of moves made.
 
-ghost use Rattle.std.specs.Prelude.{◌≡◌, ◌≤◌, IfOk, IfErr};
+ghost use Rattle.std.specs.Prelude.{◌≡◌, ◌+◌, ◌*◌, ◌<◌, ◌≤◌, List, length, IfOk, IfErr};
+ghost use Rattle.fc_moves.specs.declared.steps.Move.{Move};
 ghost use Rattle.fc_moves.specs.GameRules.{IsPositionOf};
+ghost use Rattle.fc_moves.specs.Run.{Wins};
 ghost use Rattle.fc_best_first.specs.Shown.{Holds, Shows};
-ghost use Rattle.fc_search.specs.Search.{classes_of, IsOutcome, IsUntold};
+ghost use Rattle.fc_search.specs.Search.{classes_of, IsOutcome, IsUntold, TellsCost};
 
 use crate::searches::Search;
 use fc_answers::Outcome;
@@ -14,34 +16,49 @@ use fc_moves::Game;
 
 impl<F: Frontier + Drop, G: Game + Drop> Search<F, G> {
     /// What the verdict of a search that is done tells, but its moves: no list of moves and no table is made, and nothing
-    /// changes.
+    /// changes. By a weight above 1 so many moves win as the won class costs, and the list of the verdict may have fewer.
     ///
     /// # Errors
     /// `Stopped` after a want of memory stopped the search; `NotDone` before it is done; never `Memory`.
     pub fn outcome(&self) -> Result<Outcome, SearchFault>
         ensures told { IfOk result (IsOutcome self.now) }
+        ensures cost { IfOk result (TellsCost self.now.store self.now.status) }
         ensures fault { IfErr result (IsUntold self.now.status) }
     {
         match self.search.status() {
             Status::Running => Err(SearchFault::NotDone),
             Status::Stopped => Err(SearchFault::Stopped),
-            Status::Shortest(number) => Ok(Outcome::Shortest(self.shortest_length(*number))),
+            Status::Won(number) => Ok(self.won_outcome(*number)),
             Status::CannotWin => Ok(Outcome::CannotWin),
             Status::GaveUp(_, _) => Ok(Outcome::GaveUp(self.search.budget())),
         }
     }
 
-    // How many moves a shortest list has, where the class with this number is won.
-    fn shortest_length(&self, number: u32) -> u32
-        requires held { Holds (classes_of self.now.question) self.now.budget self.now.store self.now.status }
-        requires shown { Shows (classes_of self.now.question) self.now.budget self.now.store self.now.status }
+    /// No list of fewer moves wins: the core's floor divided by the weight, rounded up. Takes no memory; for a search in any
+    /// state.
+    pub fn at_least(&self) -> u32
+        ensures floor { (moves : List Move) → Wins self.now.question.game self.now.question.start moves → result ≤ length moves }
+        ensures value { (self.now.floor ≤ self.now.question.weight * result) × (self.now.question.weight * result < self.now.floor + self.now.question.weight) }
+    {
+        let weight = u32::from(self.search.weight());
+        self.search.floor().div_ceil(weight)
+    }
+
+    // What is told where the class with this number is won: only by weight 1 its cost is known to be the least.
+    fn won_outcome(&self, number: u32) -> Outcome
+        requires held { Holds (classes_of self.now.question) self.now.question.weight self.now.budget self.now.store self.now.status }
+        requires shown { Shows (classes_of self.now.question) self.now.question.weight self.now.budget self.now.store self.now.status }
         requires most { self.now.budget ≤ MOST_BUDGET }
         requires known { self.now.question.rule ≤ GREATEST_RULE }
         requires fits { IsPositionOf self.now.question.game self.now.question.start }
-        requires done { self.now.status ≡ Status.Shortest number }
-        ensures told { IsOutcome self.now (Outcome.Shortest result) }
+        requires done { self.now.status ≡ Status.Won number }
+        ensures told { IsOutcome self.now result }
+        ensures cost { TellsCost self.now.store self.now.status result }
     {
         let (_key, mark) = self.at(number);
-        mark.cost
+        if self.search.weight() > 1 {
+            return Outcome::Won(mark.cost);
+        }
+        Outcome::Shortest(mark.cost)
     }
 }

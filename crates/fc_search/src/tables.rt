@@ -18,7 +18,7 @@ use std::alloc::AllocError;
 impl<F: Frontier + Drop, G: Game + Drop> Search<F, G> {
     // The stored classes whose cost and bound are below n.
     pub(crate) fn table_below(&self, n: usize) -> Result<Table, AllocError>
-        requires sound { IsSound (classes_of self.now.question) self.now.budget self.now.store }
+        requires sound { IsSound (classes_of self.now.question) self.now.question.weight self.now.budget self.now.store }
         requires most { self.now.budget ≤ MOST_BUDGET }
         ensures rule { IfOk result (λ table. table.rule ≡ self.now.question.rule) }
         ensures known { IfOk result (λ table. table.rule ≤ GREATEST_RULE) }
@@ -43,7 +43,7 @@ impl<F: Frontier + Drop, G: Game + Drop> Search<F, G> {
 
     // The stored classes, each at no cost.
     pub(crate) fn table_of_all(&self) -> Result<Table, AllocError>
-        requires sound { IsSound (classes_of self.now.question) self.now.budget self.now.store }
+        requires sound { IsSound (classes_of self.now.question) self.now.question.weight self.now.budget self.now.store }
         requires most { self.now.budget ≤ MOST_BUDGET }
         ensures rule { IfOk result (λ table. table.rule ≡ self.now.question.rule) }
         ensures known { IfOk result (λ table. table.rule ≤ GREATEST_RULE) }

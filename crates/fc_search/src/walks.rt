@@ -28,7 +28,7 @@ use std::alloc::AllocError;
 impl<F: Frontier + Drop, G: Game + Drop> Search<F, G> {
     // Moves that lead to the class with this number, no more than it costs.
     pub(crate) fn moves_to(&self, number: u32) -> Result<MoveList, AllocError>
-        requires sound { IsSound (classes_of self.now.question) self.now.budget self.now.store }
+        requires sound { IsSound (classes_of self.now.question) self.now.question.weight self.now.budget self.now.store }
         requires within { number < length self.now.store.stored }
         ensures there { IfOk result (λ made. (b : Board) × IsAtClass self.now.question.game self.now.store self.now.question.start number made b) }
     {
@@ -47,7 +47,7 @@ impl<F: Frontier + Drop, G: Game + Drop> Search<F, G> {
 
     // The number of a class that starts, and of those on the way from there to the class with this number, which is first.
     fn way_to(&self, number: u32) -> Result<(u32, Vec<u32>), AllocError>
-        requires sound { IsSound (classes_of self.now.question) self.now.budget self.now.store }
+        requires sound { IsSound (classes_of self.now.question) self.now.question.weight self.now.budget self.now.store }
         requires within { number < length self.now.store.stored }
         ensures way { IfOk result (λ r. IsStart self.now.store r.0 × IsWay self.now.store r.0 (reverse r.1.items) number) }
     {

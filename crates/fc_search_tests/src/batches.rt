@@ -23,7 +23,7 @@ fn search_of(rt: &impl Abort, alloc: Global, text: &str) -> Search<BucketFrontie
     let game = free_cell(rt, 4);
     sure(
         rt,
-        Search::new(alloc, &game, 1, &board(rt, &game, text), 100),
+        Search::new(alloc, &game, 1, 1, &board(rt, &game, text), 100),
     )
 }
 

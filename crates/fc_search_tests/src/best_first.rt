@@ -145,7 +145,7 @@ struct Row {
 
 fn end_of<F: Frontier + Drop>(search: &Search<Sum, F, Sums>) -> End {
     match search.status() {
-        Status::Shortest(number) => match search.entry(*number) {
+        Status::Won(number) => match search.entry(*number) {
             Some((_, mark)) => End::Cost(mark.cost),
             None => End::Other,
         },
@@ -158,7 +158,7 @@ fn end_of<F: Frontier + Drop>(search: &Search<Sum, F, Sums>) -> End {
 // A search for the goal that has begun.
 fn begun<F: Frontier + Drop>(rt: &impl Abort, alloc: Global, row: &Row) -> Search<Sum, F, Sums> {
     let goal = row.goal;
-    sure(rt, Search::new(alloc, Sums { goal }, row.budget))
+    sure(rt, Search::new(alloc, Sums { goal }, 1, row.budget))
 }
 
 // Takes all turns of a search; how many of them answered `Running`.
@@ -322,7 +322,7 @@ fn a_search_runs_to_its_end(rt: HostRuntime) {
 fn check_budget(rt: &impl Abort, alloc: Global, budget: u32, wanted: Result<bool, SearchFault>) {
     let space = Sums { goal: 1 };
     let search: Result<Search<Sum, ListFrontier, Sums>, SearchFault> = Search::new(
-        alloc, space, budget,
+        alloc, space, 1, budget,
     );
     let is_running = search.map(|s| matches!(s.status(), Status::Running));
     assert!(rt; is_running == wanted, "at a budget of {budget}");

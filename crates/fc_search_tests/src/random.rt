@@ -11,13 +11,18 @@ use fc_search::{Answer, Search};
 use std::alloc::Global;
 use std::process::Abort;
 
-// Numbers that look random: those of the generator of C's older libraries.
+/// Numbers that look random: those of the generator of C's older libraries.
 #[derive(Drop)]
-struct Numbers {
+pub struct Numbers {
     state: u32,
 }
 
 impl Numbers {
+    /// The numbers that follow this seed.
+    pub fn new(seed: u32) -> Self {
+        Numbers { state: seed }
+    }
+
     // A number from 0 to below a count that isn't 0.
     fn below(&mut self, count: u32) -> u32 {
         self.state = self.state.wrapping_mul(1_103_515_245).wrapping_add(12_345);
@@ -61,8 +66,8 @@ fn put(
     }
 }
 
-// A board with none, the king, or the king and the queen of each suit left, in random columns, and in so many of the cells.
-fn random_board(rt: &impl Abort, numbers: &mut Numbers, cells: u32) -> Position {
+/// A board with none, the king, or the king and the queen of each suit left, in random columns, and in so many of the cells.
+pub fn random_board(rt: &impl Abort, numbers: &mut Numbers, cells: u32) -> Position {
     let mut left = ArrayVec::new();
     let homes = draw(rt, numbers, &mut left);
     let mut columns: [ArrayVec<Card, 52>; 8] = Default::default();
@@ -98,7 +103,7 @@ fn answer_of<F: Frontier + Drop, G: Game + Drop>(
     board: &Position,
 ) -> Answer {
     assert!(rt; rule <= 2 && board.fits(game.cells()));
-    let mut search: Search<F, G> = sure(rt, Search::new(alloc, game, rule, board, 4000));
+    let mut search: Search<F, G> = sure(rt, Search::new(alloc, game, rule, 1, board, 4000));
     sure(rt, search.run());
     sure(rt, search.answer())
 }
@@ -121,7 +126,7 @@ fn compare_board<G: Game + Drop>(rt: &impl Abort, alloc: Global, game: &G, board
 
 // Compares the answers for some boards of a game.
 fn compare<G: Game + Drop>(rt: &impl Abort, alloc: Global, game: &G, seed: u32) {
-    let mut numbers = Numbers { state: seed };
+    let mut numbers = Numbers::new(seed);
     for _ in 0..15 {
         let board = random_board(rt, &mut numbers, u32::from(game.cells()));
         compare_board(rt, alloc, game, &board);

@@ -47,13 +47,13 @@ fn begun<F: Frontier + Drop, G: Game + Drop>(
 {
     let start = board(rt, &game, text);
     let space = Positions::new(game, rule, start);
-    sure(rt, Search::new(alloc, space, budget))
+    sure(rt, Search::new(alloc, space, 1, budget))
 }
 
 // How a search ended.
 fn end_of<F: Frontier + Drop, G: Game + Drop>(search: &Search<ClassKey, F, Positions<G>>) -> End {
     match search.status() {
-        Status::Shortest(number) => match search.entry(*number) {
+        Status::Won(number) => match search.entry(*number) {
             Some((_, mark)) => End::Shortest(mark.cost),
             None => End::Other,
         },

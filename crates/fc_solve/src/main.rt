@@ -7,13 +7,14 @@ ghost use Rattle.std.specs.Prelude.{◌≤◌, IfSome};
 
 use clap::ArgMatches;
 use clap::error::ErrorKind;
-use fc_io::{FromReader, ToWriter};
+use fc_io::{FromReader, Source, ToWriter};
 use fc_moves::{BakersGame, FreeCell, Game, Kings};
 use fc_runs::{Input, Output, ProgramFault, run_batch, run_check, run_deal, run_replay, run_solve};
 use std::fs::{self, File};
+use std::io::IsTerminal;
 use std::process::ExitCode;
 use std::{env, io};
-use words::{DEFAULT_BUDGET, DEFAULT_RULE};
+use words::{DEFAULT_BUDGET, DEFAULT_RULE, DEFAULT_WEIGHT, GREATEST_WEIGHT};
 
 /// The exit status of a command line that is refused.
 const REFUSED: u8 = 3;
@@ -113,56 +114,101 @@ fn perform<G: Game + Drop>(
     }
 }
 
+/// What the words say of a search, whatever it is of.
+#[derive(Clone, Copy)]
+struct Limits {
+    budget: u32,
+    rule: u8,
+    weight: u8,
+}
+
+// What the words say of a search; `None` where there is no such home rule or weight.
+fn limits_of(words: &ArgMatches<'_>) -> Option<Limits>
+    ensures rule { IfSome result (λ limits. limits.rule ≤ DEFAULT_RULE) }
+    ensures least { IfSome result (λ limits. DEFAULT_WEIGHT ≤ limits.weight) }
+    ensures greatest { IfSome result (λ limits. limits.weight ≤ GREATEST_WEIGHT) }
+{
+    let budget = words.get_one::<u32>("budget").unwrap_or(DEFAULT_BUDGET);
+    let rule = words.get_one::<u8>("rule").unwrap_or(DEFAULT_RULE);
+    let weight = words.get_one::<u8>("within").unwrap_or(DEFAULT_WEIGHT);
+    if rule > DEFAULT_RULE || weight < DEFAULT_WEIGHT || weight > GREATEST_WEIGHT {
+        return None;
+    }
+    Some(Limits {
+        budget,
+        rule,
+        weight,
+    })
+}
+
 // Solves the board of a file, or of the standard input where no file is named.
 fn solve<G: Game + Drop>(
     rt: &HostRuntime,
     game: &G,
     words: &ArgMatches<'_>,
 ) -> Result<u8, ProgramFault> {
-    let alloc = rt.alloc();
-    let Some((budget, rule)) = budget_and_rule(words) else {
+    let Some(limits) = limits_of(words) else {
         return Ok(REFUSED);
     };
     let mut cert = match words.get_str("cert") {
         Some(path) => Some(ToWriter::new(create(rt, path)?)),
         None => None,
     };
-    let mut out = ToWriter::new(rt.stdout());
-    match words.get_str("BOARD") {
+    let status = match words.get_str("BOARD") {
         Some(path) => {
             let mut board = open(rt, path, Input::Board)?;
-            run_solve(
-                alloc,
-                game,
-                rule,
-                &mut board,
-                budget,
-                &mut out,
-                cert.as_mut(),
-            )
+            solve_from(rt, game, limits, &mut board, cert.as_mut())?
         }
         None => {
             let mut board = FromReader::new(rt.stdin());
-            run_solve(
-                alloc,
-                game,
-                rule,
-                &mut board,
-                budget,
-                &mut out,
-                cert.as_mut(),
-            )
+            solve_from(rt, game, limits, &mut board, cert.as_mut())?
         }
-    }
+    };
+    add_notes(rt, limits.weight, cert.is_some(), status);
+    Ok(status)
 }
 
-// The budget and the home rule that the words give; `None` where there is no such rule.
-fn budget_and_rule(words: &ArgMatches<'_>) -> Option<(u32, u8)>
-    ensures rule { IfSome result (λ asked. asked.1 ≤ DEFAULT_RULE) }
+// Solves the board of a source.
+fn solve_from<G: Game + Drop, S: Source>(
+    rt: &HostRuntime,
+    game: &G,
+    limits: Limits,
+    board: &mut S,
+    cert: Option<&mut ToWriter<File>>,
+) -> Result<u8, ProgramFault>
+    requires rule { limits.rule ≤ DEFAULT_RULE }
+    requires least { DEFAULT_WEIGHT ≤ limits.weight }
+    requires greatest { limits.weight ≤ GREATEST_WEIGHT }
 {
-    let budget = words.get_one::<u32>("budget").unwrap_or(DEFAULT_BUDGET);
-    let rule = words.get_one::<u8>("rule").unwrap_or(DEFAULT_RULE);
-    (rule <= DEFAULT_RULE).then_some((budget, rule))
+    let mut out = ToWriter::new(rt.stdout());
+    let Limits {
+        budget,
+        rule,
+        weight,
+    } = limits;
+    run_solve(
+        rt.alloc(),
+        game,
+        rule,
+        weight,
+        board,
+        budget,
+        &mut out,
+        cert,
+    )
+}
+
+// Says on standard error what an answer with this status leaves open: that a solution within a weight has no certificate, and
+// on giving up, where a person reads it, what to try. Where this can't be written, the answer stands all the same.
+fn add_notes(rt: &HostRuntime, weight: u8, has_cert: bool, status: u8) {
+    if status == 0 && weight > 1 && has_cert {
+        let _told = eprintln!(rt;
+            "fc_solve: no certificate: the solution isn't known to be shortest"
+        );
+    }
+    if status == 2 && weight == 1 && rt.stderr().is_terminal() {
+        let _told = eprintln!(rt; "fc_solve: gave up: try --within 2, or a greater --budget");
+    }
 }
 
 // Searches the numbered deals that the words name.
@@ -174,11 +220,18 @@ fn batch<G: Game + Drop>(
     let (Some(from), Some(to)) = (words.get_one::<u32>("FROM"), words.get_one::<u32>("TO")) else {
         return Ok(REFUSED);
     };
-    let Some((budget, rule)) = budget_and_rule(words) else {
+    let Some(
+        Limits {
+            budget,
+            rule,
+            weight,
+        },
+    ) = limits_of(words)
+    else {
         return Ok(REFUSED);
     };
     let mut out = ToWriter::new(rt.stdout());
-    run_batch(rt.alloc(), game, rule, from, to, budget, &mut out)
+    run_batch(rt.alloc(), game, rule, weight, from, to, budget, &mut out)
 }
 
 // Checks the certificate of a file for the board of a file.

@@ -9,13 +9,19 @@ pub const DEFAULT_BUDGET: u32 = 100_000;
 /// The home rule where none is given, and the greatest one.
 pub const DEFAULT_RULE: u8 = 2;
 
+/// The weight where none is given, and the least one.
+pub const DEFAULT_WEIGHT: u8 = 1;
+
+/// The greatest weight.
+pub const GREATEST_WEIGHT: u8 = 10;
+
 /// What a word of a subcommand is.
 #[derive(Clone, Copy)]
 enum Kind {
     /// An option with a number, what help calls the number, and the number where none is given.
     Number(&'static str, &'static str),
-    /// The same with a number from 0 to this one.
-    UpTo(i64, &'static str, &'static str),
+    /// The same with a number from the first of these to the second.
+    Between(u8, u8, &'static str, &'static str),
     /// An option with the name of a game.
     Game,
     /// A flag.
@@ -61,7 +67,7 @@ const KINGS: Word = Word {
 
 const CELLS: Word = Word {
     name: "cells",
-    kind: Kind::UpTo(4, "N", "4"),
+    kind: Kind::Between(0, 4, "N", "4"),
     help: "How many cells there are, 0 to 4",
 };
 
@@ -73,8 +79,14 @@ const BUDGET: Word = Word {
 
 const RULE: Word = Word {
     name: "rule",
-    kind: Kind::UpTo(2, "R", "2"),
+    kind: Kind::Between(0, DEFAULT_RULE, "R", "2"),
     help: "Which cards go home at once: none (0), those on which no card left can stand (1), or all free cards (2)",
+};
+
+const WITHIN: Word = Word {
+    name: "within",
+    kind: Kind::Between(DEFAULT_WEIGHT, GREATEST_WEIGHT, "W", "1"),
+    help: "A solution of at most W times the fewest moves, 1 to 10; with 1 a shortest one",
 };
 
 // `deal N`.
@@ -89,10 +101,10 @@ const DEAL: Subcommand = Subcommand {
     }],
 };
 
-// `solve [--budget B] [--cert FILE] [GAME] [--rule R] [BOARD]`.
+// `solve [--budget B] [--cert FILE] [--within W] [GAME] [--rule R] [BOARD]`.
 const SOLVE: Subcommand = Subcommand {
     name: "solve",
-    about: "Prints a shortest solution in one-card moves, or that the board can't be won, or that it gave up",
+    about: "Prints a solution in one-card moves, with --within 1 a shortest one, or that the board can't be won, or that it gave up",
     after_help: "Moves are two letters, from where to where: columns 1 to 8, cells a to d, home h.
 The status is 0 for a solution, 1 where the board can't be won, 2 on giving up, 3 for what was asked or read and
 isn't right, 4 for want of memory, 5 where reading or writing failed.
@@ -103,8 +115,9 @@ Example: fc_solve solve --game bakers --cells 3 boards/one-king.txt",
         Word {
             name: "cert",
             kind: Kind::FileOption,
-            help: "Writes the certificate of the answer to this file, before the answer; giving up has none",
+            help: "Writes the certificate of the answer to this file, before the answer; giving up has none, nor a solution by --within above 1",
         },
+        WITHIN,
         GAME,
         KINGS,
         CELLS,
@@ -164,7 +177,7 @@ const REPLAY: Subcommand = Subcommand {
     ],
 };
 
-// `batch FROM TO [--budget B] [GAME] [--rule R]`.
+// `batch FROM TO [--budget B] [--within W] [GAME] [--rule R]`.
 const BATCH: Subcommand = Subcommand {
     name: "batch",
     about: "Searches up to 32 numbered deals in turns, and prints a line for each: its number and its answer, without moves",
@@ -184,6 +197,7 @@ Example: fc_solve batch 11982 11982",
             help: "The number of the last deal",
         },
         BUDGET,
+        WITHIN,
         GAME,
         KINGS,
         CELLS,
@@ -231,8 +245,8 @@ fn arg_of<'a>(alloc: Global, word: &'static Word) -> Arg<'a> {
         Kind::Number(value, default) => {
             with_value(arg, word.name, value, default).value_parser(value_parser!(u32))
         }
-        Kind::UpTo(most, value, default) => {
-            let parser = value_parser!(u8).range(0..=most);
+        Kind::Between(least, most, value, default) => {
+            let parser = value_parser!(u8).range(i64::from(least)..=i64::from(most));
             with_value(arg, word.name, value, default).value_parser(parser)
         }
         Kind::Game => {

@@ -8,8 +8,8 @@ loop-child-preserved g c = record {
       c.loop-child.invariant.room c.in_ok-key.ensures.offers;
   onward = λ new left_out children rest expands.
       c.loop-child.invariant.onward new left_out (c.in-Some.child ∷ children) (c.in-Some.ensures.next children rest)
-      (expands_on c.args.budget c.args.number c.args.cost c.in-Some.child children c.loop-child.book
-      c.offer.new.self new left_out _ _ c.in_ok-key.field-0 c.from.ensures c.from-in-Some.ensures c.in_default-2.not-Full c.in_ok-key.ensures.offers expands);
+      (expands_on c.args.weight c.args.budget c.args.number c.args.cost c.in-Some.child children c.loop-child.book
+      c.offer.new.self new left_out _ _ c.in_ok-key.field-0 c.from.ensures c.weighed-f.ensures.value c.in_default-2.not-Full c.in_ok-key.ensures.offers expands);
 }
 
 pub returns-in-Full : goal.returns-in-Full
@@ -17,8 +17,8 @@ returns-in-Full g c =
     let rest = c.in-Some.ensures.some in record {
       expands = c.loop-child.invariant.onward c.offer.new.self (Some c.in-Full.key) (c.in-Some.child ∷ rest.0)
           (c.in-Some.ensures.next rest.0 rest.1)
-          (expands_full c.args.budget c.args.number c.args.cost c.in-Some.child rest.0 c.loop-child.book c.offer.new.self c.in-Full.key
-          _ _ c.in_ok-key.field-0 c.from.ensures c.from-in-Some.ensures c.in-Full.is c.in_ok-key.ensures.offers);
+          (expands_full c.args.weight c.args.budget c.args.number c.args.cost c.in-Some.child rest.0 c.loop-child.book c.offer.new.self c.in-Full.key
+          _ _ c.in_ok-key.field-0 c.from.ensures c.in-Full.is c.in_ok-key.ensures.offers);
     }
 
 pub returns : goal.returns

@@ -8,9 +8,9 @@ abbrev pub invariant-loop-child : goal.invariant-loop-child
 invariant-loop-child g l = record {
   room : length l.book.stored ≤ l.budget;
   onward : (new : Store g.row.K.Denot) (left_out : Option g.row.K.Denot) (children : List (Child g.row.K.Denot))
-      → g.S.Space.rest l.walk children → Expands l.budget l.number l.cost children l.book new left_out
+      → g.S.Space.rest l.walk children → Expands l.weight l.budget l.number l.cost children l.book new left_out
       → (all : List (Child g.row.K.Denot)) × g.S.Space.rest l.fn.walk all
-      × Expands l.budget l.number l.cost all l.initial.book new left_out;
+      × Expands l.weight l.budget l.number l.cost all l.initial.book new left_out;
 }
 
 abbrev pub decreases-loop-child : goal.decreases-loop-child

@@ -7,8 +7,8 @@ use Rattle.fc_runs.proofs.batches.run_each.Given as goal
 -- the searches so far had their stretch
 abbrev pub invariant-loop-number : goal.invariant-loop-number
 invariant-loop-number g l = record {
-  held : (r : GameRules) (rule budget from : ℕ) → HoldsDeals r rule budget from l.fn.count l.initial.batch
-      → HoldsDeals r rule budget from l.fn.count l.batch;
+  held : (r : GameRules) (rule weight budget from : ℕ) → HoldsDeals r rule weight budget from l.fn.count l.initial.batch
+      → HoldsDeals r rule weight budget from l.fn.count l.batch;
   ended : l.is_running ≡ false → HaveEnded l.number l.batch;
   most : work_left l.batch ≤ work_left l.initial.batch;
   falls : l.is_running ≡ true → work_left l.batch < work_left l.initial.batch;

@@ -7,8 +7,8 @@ use Rattle.fc_runs.proofs.batches.run_on.Given as goal
 -- each turn so far left less to do
 abbrev pub invariant-loop : goal.invariant-loop
 invariant-loop g l = record {
-  held : (r : GameRules) (rule budget from count : ℕ) → HoldsDeals r rule budget from count l.initial.batch
-      → HoldsDeals r rule budget from count l.batch;
+  held : (r : GameRules) (rule weight budget from count : ℕ) → HoldsDeals r rule weight budget from count l.initial.batch
+      → HoldsDeals r rule weight budget from count l.batch;
   others : OthersStay l.fn.number l.initial.batch l.batch;
   most : work_left l.batch + l.counter ≤ work_left l.initial.batch;
 }

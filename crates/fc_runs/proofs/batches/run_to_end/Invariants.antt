@@ -6,8 +6,8 @@ use Rattle.fc_runs.proofs.batches.run_to_end.Given as goal
 
 -- the searches are of the deals of which they were
 abbrev pub invariant-loop : goal.invariant-loop
-invariant-loop g l = (r : GameRules) (rule budget from : ℕ) → HoldsDeals r rule budget from l.fn.count l.initial.batch
-    → HoldsDeals r rule budget from l.fn.count l.batch
+invariant-loop g l = (r : GameRules) (rule weight budget from : ℕ) → HoldsDeals r rule weight budget from l.fn.count l.initial.batch
+    → HoldsDeals r rule weight budget from l.fn.count l.batch
 
 abbrev pub decreases-loop : goal.decreases-loop
 decreases-loop g l = work_left l.batch

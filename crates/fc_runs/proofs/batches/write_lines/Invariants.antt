@@ -7,8 +7,8 @@ use Rattle.fc_runs.proofs.batches.write_lines.Given as goal
 -- so many lines are written
 abbrev pub invariant-loop-i : goal.invariant-loop-i
 invariant-loop-i g l = record {
-  so_far : (r : GameRules) (rule budget : ℕ) → HoldsDeals r rule budget l.fn.from l.fn.count l.fn.batch
+  so_far : (r : GameRules) (rule weight budget : ℕ) → HoldsDeals r rule weight budget l.fn.from l.fn.count l.fn.batch
       → HaveEnded l.fn.count l.fn.batch
-      → AreWritten r rule budget l.fn.from l.i (g.K.Sink.held l.initial.out) (g.K.Sink.held l.out) l.greatest;
+      → AreWritten r rule weight budget l.fn.from l.i (g.K.Sink.held l.initial.out) (g.K.Sink.held l.out) l.greatest;
   sound : 1 ≤ l.i → IsTrue (g.K.Sink.has_failed l.out) → ⊥;
 }

@@ -10,14 +10,15 @@ loop-preserved g c =
     let next = c.turn.new.self in
     record {
       space = c.in_ok-turn.ensures.space ∙ c.loop.invariant.space;
+      weight = c.in_ok-turn.ensures.weight ∙ c.loop.invariant.weight;
       budget = c.in_ok-turn.ensures.budget ∙ c.loop.invariant.budget;
-      status = running_stays (g.S.Space.graph now.space) now.budget now.status next.status now.store next.store
-          (subst (λ s. Turns (g.S.Space.graph now.space) now.budget now.status now.store next.store next.status (Ok s)) c.in-Running.is
+      status = running_stays (g.S.Space.graph now.space) now.weight now.budget now.status next.status now.store next.store
+          (subst (λ s. Turns (g.S.Space.graph now.space) now.weight now.budget now.status now.store next.store next.status (Ok s)) c.in-Running.is
           c.in_ok-turn.ensures.turns) ∙ c.loop.invariant.status;
       onward = λ new after runs. c.loop.invariant.onward new after
-          (runs_on (g.S.Space.graph first.space) first.budget now.status next.status after now.store next.store new _
-          (turns_along g.S.Space.graph now.space first.space now.budget first.budget now.status next.status now.store next.store
-          _ c.loop.invariant.space c.loop.invariant.budget c.in_ok-turn.ensures.turns) runs);
+          (runs_on (g.S.Space.graph first.space) first.weight first.budget now.status next.status after now.store next.store new _
+          (turns_along g.S.Space.graph now.space first.space now.weight first.weight now.budget first.budget now.status next.status now.store next.store
+          _ c.loop.invariant.space c.loop.invariant.weight c.loop.invariant.budget c.in_ok-turn.ensures.turns) runs);
     }
 
 pub returns-clause-runs : goal.returns-clause-runs
@@ -26,7 +27,7 @@ returns-clause-runs g c =
     let now = c.loop.self in
     let next = c.turn.new.self in
     c.loop.invariant.onward next.store next.status
-    (runs_on (g.S.Space.graph first.space) first.budget now.status next.status next.status now.store next.store next.store _
-    (turns_along g.S.Space.graph now.space first.space now.budget first.budget now.status next.status now.store next.store
-    _ c.loop.invariant.space c.loop.invariant.budget c.in_ok-turn.ensures.turns)
-    (runs_none (g.S.Space.graph first.space) first.budget next.status next.store))
+    (runs_on (g.S.Space.graph first.space) first.weight first.budget now.status next.status next.status now.store next.store next.store _
+    (turns_along g.S.Space.graph now.space first.space now.weight first.weight now.budget first.budget now.status next.status now.store next.store
+    _ c.loop.invariant.space c.loop.invariant.weight c.loop.invariant.budget c.in_ok-turn.ensures.turns)
+    (runs_none (g.S.Space.graph first.space) first.weight first.budget next.status next.store))

@@ -8,11 +8,12 @@ use Rattle.fc_best_first.proofs.searches.Search.run.Given as goal
 abbrev pub invariant-loop : goal.invariant-loop
 invariant-loop g l = record {
   space : l.self.space ≡ l.initial.self.space;
+  weight : l.self.weight ≡ l.initial.self.weight;
   budget : l.self.budget ≡ l.initial.self.budget;
   status : l.self.status ≡ l.initial.self.status;
   onward : (new : Store g.row.K.Denot) (after : Status g.row.K.Denot)
-      → Runs (g.S.Space.graph l.initial.self.space) l.initial.self.budget l.self.status l.self.store new after
-      → Runs (g.S.Space.graph l.initial.self.space) l.initial.self.budget l.initial.self.status l.initial.self.store new after;
+      → Runs (g.S.Space.graph l.initial.self.space) l.initial.self.weight l.initial.self.budget l.self.status l.self.store new after
+      → Runs (g.S.Space.graph l.initial.self.space) l.initial.self.weight l.initial.self.budget l.initial.self.status l.initial.self.store new after;
 }
 
 abbrev pub decreases-loop : goal.decreases-loop

@@ -1,7 +1,9 @@
-use Rattle.std.proofs.Common.{◌<◌, subst}
+use Rattle.std.proofs.Common.{◌≡◌, ◌<◌, Ok, ◌∙◌, ap, subst}
 use Rattle.fc_best_first.specs.Shown.{Holds}
+use Rattle.fc_best_first.specs.Search.{Turns, reply_of}
 use Rattle.fc_best_first.specs.Turn.{Takes, work_left}
-use Rattle.fc_best_first.proofs.SearchLemmas.{takes_holds, takes_less}
+use Rattle.fc_best_first.proofs.RunLemmas.{done_replies, taken_turns}
+use Rattle.fc_best_first.proofs.SearchLemmas.{takes_floor, takes_holds, takes_less}
 use Rattle.fc_best_first.proofs.searches.Search.turn.Goals as goal
 use Rattle.fc_best_first.proofs.searches.Search.turn.Goals.{in-Running-status, in_default-status}
 
@@ -9,9 +11,26 @@ pub invariant_of-self : goal.invariant_of-self
 invariant_of-self g c =
     let graph = g.S.Space.graph c.self.inside.space in (
       c.self.invariant.0,
-      takes_holds graph c.self.inside.budget (g.met.S.Space.lawful c.self.inside.space) c.self.inside.book c.advance.new.book
-          (subst (Holds graph c.self.inside.budget c.self.inside.book) c.in-Running.is c.self.invariant.1) c.in-Ok.status
+      c.self.invariant.1,
+      takes_holds graph c.self.inside.weight c.self.inside.budget (g.met.S.Space.lawful c.self.inside.space) c.self.invariant.0.least c.self.inside.book c.advance.new.book
+          (subst (Holds graph c.self.inside.weight c.self.inside.budget c.self.inside.book) c.in-Running.is c.self.invariant.2) c.in-Ok.status
           c.in-Ok.ensures.takes,
+      takes_floor graph c.self.inside.weight c.self.inside.budget (g.met.S.Space.lawful c.self.inside.space) c.self.invariant.0.least
+          c.self.inside.book c.self.inside.floor c.advance.new.floor
+          (subst (Holds graph c.self.inside.weight c.self.inside.budget c.self.inside.book) c.in-Running.is c.self.invariant.2)
+          c.self.invariant.3 c.in-Ok.ensures.floor,
+    )
+
+pub invariant_of-self-in-Err : goal.invariant_of-self-in-Err
+invariant_of-self-in-Err g c =
+    let graph = g.S.Space.graph c.self.inside.space in (
+      c.self.invariant.0,
+      c.self.invariant.1,
+      tt,
+      takes_floor graph c.self.inside.weight c.self.inside.budget (g.met.S.Space.lawful c.self.inside.space) c.self.invariant.0.least
+          c.self.inside.book c.self.inside.floor c.advance.new.floor
+          (subst (Holds graph c.self.inside.weight c.self.inside.budget c.self.inside.book) c.in-Running.is c.self.invariant.2)
+          c.self.invariant.3 c.in-Err.ensures.floor,
     )
 
 pub returns-after-status-clause-falls : goal.returns-after-status-clause-falls
@@ -19,8 +38,23 @@ returns-after-status-clause-falls g c =
     let graph = g.S.Space.graph c.self.inside.space in
     elim c.match-status.branch [
       | in-Running-status w ↦ λ e. subst (λ p. work_left p.budget c.advance.new.book < work_left p.budget p.store) c.self.view_is
-          (takes_less graph c.self.inside.budget (g.met.S.Space.lawful c.self.inside.space) c.self.inside.book c.advance.new.book
-          (subst (Holds graph c.self.inside.budget c.self.inside.book) c.in-Running.is c.self.invariant.1)
-          (subst (Takes graph c.self.inside.budget c.self.inside.book c.advance.new.book) w.in-Running-status.is c.in-Ok.ensures.takes))
+          (takes_less graph c.self.inside.weight c.self.inside.budget (g.met.S.Space.lawful c.self.inside.space) c.self.invariant.0.least c.self.inside.book c.advance.new.book
+          (subst (Holds graph c.self.inside.weight c.self.inside.budget c.self.inside.book) c.in-Running.is c.self.invariant.2)
+          (subst (Takes graph c.self.inside.weight c.self.inside.budget c.self.inside.book c.advance.new.book) w.in-Running-status.is c.in-Ok.ensures.takes))
       | in_default-status w ↦ λ e. absurd (cc)
     ]
+
+pub returns-after-status-clause-turns : goal.returns-after-status-clause-turns
+returns-after-status-clause-turns g c =
+    let graph = g.S.Space.graph c.self.inside.space in
+    let old = c.self.inside.book in
+    let new = c.advance.new.book in
+    let after = c.in-Ok.status in
+    let replies : Ok c.match-status.step ≡ reply_of after = elim c.match-status.branch [
+      | in-Running-status w ↦ cc
+      | in_default-status w ↦ ap Ok w.step-is ∙ done_replies graph c.self.inside.weight c.self.inside.budget after old new
+          w.in_default-status.not-Running c.in-Ok.ensures.takes
+    ] in
+    subst (λ p. Turns (g.S.Space.graph p.space) p.weight p.budget p.status p.store new after (Ok c.match-status.step)) c.self.view_is
+    (taken_turns graph c.self.inside.weight c.self.inside.budget c.self.inside.status after old new c.match-status.step
+    c.in-Running.is c.in-Ok.ensures.takes replies)

@@ -8,7 +8,7 @@ use Rattle.fc_bound.specs.Bound.{bound}
 pub table_of_all-requires-clause-sound : goal.table_of_all-requires-clause-sound
 table_of_all-requires-clause-sound g c =
     let q = c.args.self.now.question in
-    (subst (Holds (classes bound q.game q.rule q.start) c.args.self.now.budget c.args.self.now.store) c.requires.done c.requires.held).0
+    (subst (Holds (classes bound q.game q.rule q.start) q.weight c.args.self.now.budget c.args.self.now.store) c.requires.done c.requires.held).0
 
 pub returns-clause-answers : goal.returns-clause-answers
 returns-clause-answers g c =
@@ -17,10 +17,10 @@ returns-clause-answers g c =
     let budget = c.args.self.now.budget in
     let store = c.args.self.now.store in
     let made = c.in_ok-table_of_all.ensures in record {
-      told = cannot_win_verdict q.game q.rule q.start budget store c.requires.fits c.requires.known c.requires.most
-          (subst (Holds graph budget store) c.requires.done c.requires.held)
-          (subst (Shows graph budget store) c.requires.done c.requires.shown);
-      backed = backed_whole q.game q.rule q.start budget store c.requires.fits c.in_ok-table_of_all.field-0
-          (subst (Holds graph budget store) c.requires.done c.requires.held) made.rule made.known made.few made.rising made.rows;
+      told = cannot_win_verdict q.game q.rule q.weight q.start budget store c.requires.fits c.requires.known c.requires.most
+          (subst (Holds graph q.weight budget store) c.requires.done c.requires.held)
+          (subst (Shows graph q.weight budget store) c.requires.done c.requires.shown);
+      backed = backed_whole q.game q.rule q.weight q.start budget store c.requires.fits c.in_ok-table_of_all.field-0
+          (subst (Holds graph q.weight budget store) c.requires.done c.requires.held) made.rule made.known made.few made.rising made.rows;
       ruled = made.rule;
     }

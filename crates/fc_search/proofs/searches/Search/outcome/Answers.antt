@@ -15,12 +15,12 @@ returns-in-CannotWin-clause-told g c =
     let game = g.G.Game.game inner.space.game in
     let graph = classes bound game inner.space.rule inner.space.start in
     let stands : inner.status ≡ status.CannotWin = sym c.status.ensures.value ∙ c.in-CannotWin.is in
-    let told = cannot_win_verdict game inner.space.rule inner.space.start inner.budget inner.store
+    let told = cannot_win_verdict game inner.space.rule inner.weight inner.space.start inner.budget inner.store
     inner.space.fits inner.space.known c.status.ensures.most
-    (subst (Holds graph inner.budget inner.store) stands c.status.ensures.holds)
-    (subst (Shows graph inner.budget inner.store) stands c.status.ensures.shows) in
+    (subst (Holds graph inner.weight inner.budget inner.store) stands c.status.ensures.holds)
+    (subst (Shows graph inner.weight inner.budget inner.store) stands c.status.ensures.shows) in
     subst (λ s. IsOutcome s outcome.CannotWin) c.self.view_is
-    (verdict.CannotWin, told, subst (λ s. IsOfStatus inner.store inner.budget s verdict.CannotWin) (sym stands) tt, refl)
+    (verdict.CannotWin, told, subst (λ s. IsOfStatus inner.weight inner.store inner.budget s verdict.CannotWin) (sym stands) tt, refl)
 
 pub returns-in-GaveUp-clause-told : goal.returns-in-GaveUp-clause-told
 returns-in-GaveUp-clause-told g c =
@@ -29,17 +29,17 @@ returns-in-GaveUp-clause-told g c =
     let graph = classes bound game inner.space.rule inner.space.start in
     let stands : inner.status ≡ status.GaveUp c.in-GaveUp.field-0 c.in-GaveUp.field-1 =
     sym c.status.ensures.value ∙ c.in-GaveUp.is in
-    let told = gave_up_verdict game inner.space.rule inner.space.start inner.budget inner.store
+    let told = gave_up_verdict game inner.space.rule inner.weight inner.space.start inner.budget inner.store
     inner.space.fits c.in-GaveUp.field-0 c.in-GaveUp.field-1 c.budget.result
-    (subst (Shows graph inner.budget inner.store) stands c.status.ensures.shows) c.budget.ensures.value in
+    (subst (Shows graph inner.weight inner.budget inner.store) stands c.status.ensures.shows) c.budget.ensures.value in
     subst (λ s. IsOutcome s (outcome.GaveUp c.budget.result)) c.self.view_is (
       verdict.GaveUp c.budget.result,
       told,
-      subst (λ s. IsOfStatus inner.store inner.budget s (verdict.GaveUp c.budget.result)) (sym stands) c.budget.ensures.value,
+      subst (λ s. IsOfStatus inner.weight inner.store inner.budget s (verdict.GaveUp c.budget.result)) (sym stands) c.budget.ensures.value,
       refl,
     )
 
-pub shortest_length-requires-clause-shown : goal.shortest_length-requires-clause-shown
-shortest_length-requires-clause-shown g c =
-    subst (λ s. Shows (classes bound s.question.game s.question.rule s.question.start) s.budget s.store s.status)
+pub won_outcome-requires-clause-shown : goal.won_outcome-requires-clause-shown
+won_outcome-requires-clause-shown g c =
+    subst (λ s. Shows (classes bound s.question.game s.question.rule s.question.start) s.question.weight s.budget s.store s.status)
     c.self.view_is c.status.ensures.shows

@@ -69,7 +69,7 @@ sorted-requires-clause-once g c =
     subst HaveKeysOnce (sym same)
     (inside_once c.args.n (costs_of store)
     (stored_once (classes bound c.args.self.now.question.game c.args.self.now.question.rule c.args.self.now.question.start)
-    c.args.self.now.budget store c.requires.sound))
+    c.args.self.now.question.weight c.args.self.now.budget store c.requires.sound))
 
 pub returns-clause-rows : goal.returns-clause-rows
 returns-clause-rows g c =

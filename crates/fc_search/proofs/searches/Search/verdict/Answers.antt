@@ -13,11 +13,11 @@ returns-in-CannotWin-clause-told g c =
     let inner = c.self.inside.search in
     let graph = classes bound (g.G.Game.game inner.space.game) inner.space.rule inner.space.start in
     let stands : inner.status ≡ status.CannotWin = sym c.status.ensures.value ∙ c.in-CannotWin.is in
-    let told = cannot_win_verdict (g.G.Game.game inner.space.game) inner.space.rule inner.space.start inner.budget inner.store
+    let told = cannot_win_verdict (g.G.Game.game inner.space.game) inner.space.rule inner.weight inner.space.start inner.budget inner.store
     inner.space.fits inner.space.known c.status.ensures.most
-    (subst (Holds graph inner.budget inner.store) stands c.status.ensures.holds)
-    (subst (Shows graph inner.budget inner.store) stands c.status.ensures.shows) in
-    subst (λ s. IsVerdict s.question.game s.question.rule s.question.start s.budget verdict.CannotWin)
+    (subst (Holds graph inner.weight inner.budget inner.store) stands c.status.ensures.holds)
+    (subst (Shows graph inner.weight inner.budget inner.store) stands c.status.ensures.shows) in
+    subst (λ s. IsVerdict s.question.game s.question.rule s.question.weight s.question.start s.budget verdict.CannotWin)
     c.self.view_is told
 
 pub returns-in-GaveUp-clause-told : goal.returns-in-GaveUp-clause-told
@@ -25,13 +25,13 @@ returns-in-GaveUp-clause-told g c =
     let inner = c.self.inside.search in
     let graph = classes bound (g.G.Game.game inner.space.game) inner.space.rule inner.space.start in
     let stands : inner.status ≡ status.GaveUp c.in-GaveUp.field-0 c.in-GaveUp.field-1 = sym c.status.ensures.value ∙ c.in-GaveUp.is in
-    let told = gave_up_verdict (g.G.Game.game inner.space.game) inner.space.rule inner.space.start inner.budget inner.store
+    let told = gave_up_verdict (g.G.Game.game inner.space.game) inner.space.rule inner.weight inner.space.start inner.budget inner.store
     inner.space.fits c.in-GaveUp.field-0 c.in-GaveUp.field-1 c.budget.result
-    (subst (Shows graph inner.budget inner.store) stands c.status.ensures.shows) c.budget.ensures.value in
-    subst (λ s. IsVerdict s.question.game s.question.rule s.question.start s.budget (verdict.GaveUp c.budget.result))
+    (subst (Shows graph inner.weight inner.budget inner.store) stands c.status.ensures.shows) c.budget.ensures.value in
+    subst (λ s. IsVerdict s.question.game s.question.rule s.question.weight s.question.start s.budget (verdict.GaveUp c.budget.result))
     c.self.view_is told
 
-pub shortest_list-requires-clause-shown : goal.shortest_list-requires-clause-shown
-shortest_list-requires-clause-shown g c =
-    subst (λ s. Shows (classes bound s.question.game s.question.rule s.question.start) s.budget s.store s.status)
+pub won_verdict-requires-clause-shown : goal.won_verdict-requires-clause-shown
+won_verdict-requires-clause-shown g c =
+    subst (λ s. Shows (classes bound s.question.game s.question.rule s.question.start) s.question.weight s.budget s.store s.status)
     c.self.view_is c.status.ensures.shows
