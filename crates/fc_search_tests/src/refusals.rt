@@ -16,11 +16,11 @@ type Searches = Batch<BucketFrontier, FreeCell>;
 fn add(rt: &impl Abort, alloc: Global, batch: &mut Searches, text: &str, wanted: usize) {
     let game = free_cell(rt, 4);
     let start = board(rt, &game, text);
-    let search = match Search::new(alloc, &game, 1, &start, 100) {
+    let search = match Search::new(alloc, &game, 1, 1, &start, 100) {
         Ok(search) => search,
         Err(fault) => {
             assert!(rt; fault == SearchFault::Memory, "another fault");
-            sure(rt, Search::new(alloc, &game, 1, &start, 100))
+            sure(rt, Search::new(alloc, &game, 1, 1, &start, 100))
         }
     };
     let number = match batch.add(search) {
