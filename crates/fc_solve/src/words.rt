@@ -104,7 +104,7 @@ const DEAL: Subcommand = Subcommand {
 // `solve [--budget B] [--cert FILE] [--within W] [GAME] [--rule R] [BOARD]`.
 const SOLVE: Subcommand = Subcommand {
     name: "solve",
-    about: "Prints a solution in one-card moves, with --within 1 a shortest one, or that the board can't be won, or that it gave up",
+    about: "Prints a shortest solution in one-card moves, or with --within one at most W times as long, or that the board can't be won, or that it gave up",
     after_help: "Moves are two letters, from where to where: columns 1 to 8, cells a to d, home h.
 The status is 0 for a solution, 1 where the board can't be won, 2 on giving up, 3 for what was asked or read and
 isn't right, 4 for want of memory, 5 where reading or writing failed.
