@@ -14,7 +14,13 @@ const ROWS: [Row; 14] = [
     Row(1, 1, 1, Ok(2), "1 gave up 1\n"),
     Row(24, 24, 1, Ok(2), "24 gave up 1\n"),
     Row(1_000_000, 1_000_000, 1, Ok(2), "1000000 gave up 1\n"),
-    Row(24, 26, 50, Ok(2), "24 gave up 50\n25 gave up 50\n26 gave up 50\n"),
+    Row(
+        24,
+        26,
+        50,
+        Ok(2),
+        "24 gave up 50\n25 gave up 50\n26 gave up 50\n",
+    ),
     Row(0, 1, 1, Err(ProgramFault::Number(0)), ""),
     Row(1, 1_000_001, 1, Err(ProgramFault::Number(1_000_001)), ""),
     Row(0, 1_000_001, 1, Err(ProgramFault::Number(0)), ""),
@@ -34,7 +40,10 @@ fn check_row(rt: &impl Abort, alloc: Global, row: &Row) {
     let Row(from, to, budget, wanted, printed) = *row;
     let result = run_batch(alloc, &game, 2, 1, from, to, budget, &mut out);
     assert!(rt; result == wanted, "deals {from} to {to}: another end");
-    assert!(rt; out.held() == printed.as_bytes(), "deals {from} to {to}: another text");
+    assert!(rt;
+        out.held() == printed.as_bytes(),
+        "deals {from} to {to}: another text"
+    );
 }
 
 #[test]

@@ -21,3 +21,5 @@ mod runs;
 mod searches;
 #[cfg(test)]
 mod spaces;
+#[cfg(test)]
+mod weights;
