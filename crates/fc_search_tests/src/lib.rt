@@ -23,3 +23,5 @@ mod runs;
 mod searches;
 #[cfg(test)]
 mod spaces;
+#[cfg(test)]
+mod weights;
