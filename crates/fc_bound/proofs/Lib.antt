@@ -1,4 +1,5 @@
 pub mod AboveLemmas
+pub mod ClearingLemmas
 pub mod CountLemmas
 pub mod HeldLemmas
 pub mod MovedLemmas

@@ -10,6 +10,7 @@ use Rattle.fc_moves.specs.Step.{Step}
 use Rattle.fc_canonical.specs.Class.{SameClass}
 use Rattle.fc_bound.specs.declared.bounds.TheConstants.{GREATEST_BOUND}
 use Rattle.fc_bound.specs.Bound.{bound, is_away, is_held_back, StandsAboveLower}
+use Rattle.fc_bound.specs.Clearing.{order_cost, clearing_cost}
 
 -- the tests by which the bound counts tell exactly the cards that are not home, and those above a lower card of their suit
 abbrev pub TestsTellTheCards : Type 0
@@ -37,3 +38,8 @@ ClassMatesHaveOneBound = (b c : Board) → SameClass b c → bound b ≡ bound c
 -- no bound of a board is above the greatest: each of the 52 cards is counted twice at most
 abbrev pub BoundsAreSmall : Type 0
 BoundsAreSmall = (b : Board) → bound b ≤ GREATEST_BOUND
+
+-- no order costs less than the clearing cost, and some order costs as much
+abbrev pub ClearingCostIsLeast : Type 0
+ClearingCostIsLeast = (columns : List (List ℕ)) → ((order : List ℕ) → clearing_cost columns ≤ order_cost columns order)
+    × ((order : List ℕ) × (order_cost columns order ≡ clearing_cost columns))

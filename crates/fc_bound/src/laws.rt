@@ -1,6 +1,6 @@
 //! Laws of the bound, each the contract of a function that does nothing.
 
-ghost use Rattle.fc_bound.specs.Laws.{TestsTellTheCards, StepsLowerTheBoundByOne, StepsMoveTheBoundByTheirCard, WinsNeedTheBound, ClassMatesHaveOneBound, BoundsAreSmall};
+ghost use Rattle.fc_bound.specs.Laws.{TestsTellTheCards, StepsLowerTheBoundByOne, StepsMoveTheBoundByTheirCard, WinsNeedTheBound, ClassMatesHaveOneBound, BoundsAreSmall, ClearingCostIsLeast};
 
 /// The bound counts exactly the cards that are not home, and the cards that stand above a lower card of their own suit
 /// in their column.
@@ -31,4 +31,9 @@ pub fn class_mates_have_one_bound()
 /// The bound is at most 104, so a byte holds it.
 pub fn bounds_are_small()
     ensures { BoundsAreSmall }
+{}
+
+/// No order of taking the cards out of their columns costs less than the clearing cost, and some order costs as much.
+pub fn clearing_costs_are_least()
+    ensures { ClearingCostIsLeast }
 {}
