@@ -1,5 +1,6 @@
 pub mod AboveLemmas
 pub mod ClearingLemmas
+pub mod ClearingOrders
 pub mod CountLemmas
 pub mod HeldLemmas
 pub mod MovedLemmas

@@ -1,7 +1,7 @@
 -- What the laws of this crate state.
-use Rattle.std.specs.Prelude.{◌≡◌, ◌≢◌, ℕ, ◌+◌, ◌≤◌, ◌↔◌, IsTrue, cond, length, List, Some}
+use Rattle.std.specs.Prelude.{◌≡◌, ◌≢◌, ℕ, ◌+◌, ◌≤◌, ◌↔◌, IsTrue, false, cond, length, List, [], Some, slice_index_or}
 use Rattle.fc_cards.specs.declared.places.Place.TheVariants.{Home}
-use Rattle.fc_position.specs.Board.{Board, playable, IsHome}
+use Rattle.fc_position.specs.Board.{Board, playable, last_of, IsHome}
 use Rattle.fc_position.specs.Position.{IsPosition}
 use Rattle.fc_moves.specs.declared.steps.Move.{Move}
 use Rattle.fc_moves.specs.GameRules.{GameRules}
@@ -10,7 +10,7 @@ use Rattle.fc_moves.specs.Step.{Step}
 use Rattle.fc_canonical.specs.Class.{SameClass}
 use Rattle.fc_bound.specs.declared.bounds.TheConstants.{GREATEST_BOUND}
 use Rattle.fc_bound.specs.Bound.{bound, is_away, is_held_back, StandsAboveLower}
-use Rattle.fc_bound.specs.Clearing.{order_cost, clearing_cost}
+use Rattle.fc_bound.specs.Clearing.{waits, without, order_cost, clearing_cost, clearing_bound}
 
 -- the tests by which the bound counts tell exactly the cards that are not home, and those above a lower card of their suit
 abbrev pub TestsTellTheCards : Type 0
@@ -43,3 +43,12 @@ BoundsAreSmall = (b : Board) → bound b ≤ GREATEST_BOUND
 abbrev pub ClearingCostIsLeast : Type 0
 ClearingCostIsLeast = (columns : List (List ℕ)) → ((order : List ℕ) → clearing_cost columns ≤ order_cost columns order)
     × ((order : List ℕ) × (order_cost columns order ≡ clearing_cost columns))
+
+-- boards of one class have one clearing bound
+abbrev pub ClassMatesHaveOneClearingBound : Type 0
+ClassMatesHaveOneClearingBound = (b c : Board) → SameClass b c → clearing_bound b ≡ clearing_bound c
+
+-- a last card that waits for none may be taken first: without it the columns cost as much
+abbrev pub FreeCardsGoFirst : Type 0
+FreeCardsGoFirst = (columns : List (List ℕ)) (i : ℕ) → waits columns (last_of (slice_index_or columns i [])) ≡ false
+    → clearing_cost columns ≡ clearing_cost (without columns i)

@@ -1,6 +1,6 @@
 //! Laws of the bound, each the contract of a function that does nothing.
 
-ghost use Rattle.fc_bound.specs.Laws.{TestsTellTheCards, StepsLowerTheBoundByOne, StepsMoveTheBoundByTheirCard, WinsNeedTheBound, ClassMatesHaveOneBound, BoundsAreSmall, ClearingCostIsLeast};
+ghost use Rattle.fc_bound.specs.Laws.{TestsTellTheCards, StepsLowerTheBoundByOne, StepsMoveTheBoundByTheirCard, WinsNeedTheBound, ClassMatesHaveOneBound, BoundsAreSmall, ClearingCostIsLeast, ClassMatesHaveOneClearingBound, FreeCardsGoFirst};
 
 /// The bound counts exactly the cards that are not home, and the cards that stand above a lower card of their own suit
 /// in their column.
@@ -36,4 +36,14 @@ pub fn bounds_are_small()
 /// No order of taking the cards out of their columns costs less than the clearing cost, and some order costs as much.
 pub fn clearing_costs_are_least()
     ensures { ClearingCostIsLeast }
+{}
+
+/// Boards of one class have one clearing bound.
+pub fn class_mates_have_one_clearing_bound()
+    ensures { ClassMatesHaveOneClearingBound }
+{}
+
+/// A last card that waits for none may be taken first: without it the columns cost as much.
+pub fn free_cards_go_first()
+    ensures { FreeCardsGoFirst }
 {}
