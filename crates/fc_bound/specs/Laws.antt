@@ -52,3 +52,12 @@ ClassMatesHaveOneClearingBound = (b c : Board) → SameClass b c → clearing_bo
 abbrev pub FreeCardsGoFirst : Type 0
 FreeCardsGoFirst = (columns : List (List ℕ)) (i : ℕ) → waits columns (last_of (slice_index_or columns i [])) ≡ false
     → clearing_cost columns ≡ clearing_cost (without columns i)
+
+-- a step from a position lowers the clearing bound by one at most
+abbrev pub StepsLowerTheClearingBoundByOne : Type 0
+StepsLowerTheClearingBoundByOne = (g : GameRules) (b c : Board) (m : Move) → IsPosition b → Step g b m c
+    → clearing_bound b ≤ clearing_bound c + 1
+
+-- every list of moves that wins from a position has at least as many moves as the clearing bound says
+abbrev pub WinsNeedTheClearingBound : Type 0
+WinsNeedTheClearingBound = (g : GameRules) (b : Board) (ms : List Move) → IsPosition b → Wins g b ms → clearing_bound b ≤ length ms

@@ -1,6 +1,6 @@
 //! Laws of the bound, each the contract of a function that does nothing.
 
-ghost use Rattle.fc_bound.specs.Laws.{TestsTellTheCards, StepsLowerTheBoundByOne, StepsMoveTheBoundByTheirCard, WinsNeedTheBound, ClassMatesHaveOneBound, BoundsAreSmall, ClearingCostIsLeast, ClassMatesHaveOneClearingBound, FreeCardsGoFirst};
+ghost use Rattle.fc_bound.specs.Laws.{TestsTellTheCards, StepsLowerTheBoundByOne, StepsMoveTheBoundByTheirCard, WinsNeedTheBound, ClassMatesHaveOneBound, BoundsAreSmall, ClearingCostIsLeast, ClassMatesHaveOneClearingBound, FreeCardsGoFirst, StepsLowerTheClearingBoundByOne, WinsNeedTheClearingBound};
 
 /// The bound counts exactly the cards that are not home, and the cards that stand above a lower card of their own suit
 /// in their column.
@@ -46,4 +46,14 @@ pub fn class_mates_have_one_clearing_bound()
 /// A last card that waits for none may be taken first: without it the columns cost as much.
 pub fn free_cards_go_first()
     ensures { FreeCardsGoFirst }
+{}
+
+/// A step from a position lowers the clearing bound by one at most, in every game.
+pub fn steps_lower_the_clearing_bound_by_one()
+    ensures { StepsLowerTheClearingBoundByOne }
+{}
+
+/// Every list of moves that wins from a position has at least as many moves as the clearing bound says, in every game.
+pub fn wins_need_the_clearing_bound()
+    ensures { WinsNeedTheClearingBound }
 {}
