@@ -40,7 +40,7 @@ found test (x ∷ xs) any =
     ] refl any
 
 -- a list that passes as the one that it replaces did changes nothing
-any-set : (test : List ℕ → Bool) (columns : List (List ℕ)) (i : ℕ) (new : List ℕ) → test new ≡ test (get_or columns i [])
+pub any-set : (test : List ℕ → Bool) (columns : List (List ℕ)) (i : ℕ) (new : List ℕ) → test new ≡ test (get_or columns i [])
     → list_any test (set columns i new) ≡ list_any test columns
 any-set test [] i new same = refl
 any-set test (x ∷ xs) zero new same = ap (λ t. t || list_any test xs) same

@@ -1,4 +1,5 @@
 pub mod AboveLemmas
+pub mod ClearingAbove
 pub mod ClearingLemmas
 pub mod ClearingOrders
 pub mod ClearingSteps

@@ -61,3 +61,7 @@ StepsLowerTheClearingBoundByOne = (g : GameRules) (b c : Board) (m : Move) → I
 -- every list of moves that wins from a position has at least as many moves as the clearing bound says
 abbrev pub WinsNeedTheClearingBound : Type 0
 WinsNeedTheClearingBound = (g : GameRules) (b : Board) (ms : List Move) → IsPosition b → Wins g b ms → clearing_bound b ≤ length ms
+
+-- the clearing bound is nowhere less than the plain bound
+abbrev pub ClearingIsNoLess : Type 0
+ClearingIsNoLess = (b : Board) → bound b ≤ clearing_bound b

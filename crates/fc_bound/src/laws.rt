@@ -1,6 +1,6 @@
 //! Laws of the bound, each the contract of a function that does nothing.
 
-ghost use Rattle.fc_bound.specs.Laws.{TestsTellTheCards, StepsLowerTheBoundByOne, StepsMoveTheBoundByTheirCard, WinsNeedTheBound, ClassMatesHaveOneBound, BoundsAreSmall, ClearingCostIsLeast, ClassMatesHaveOneClearingBound, FreeCardsGoFirst, StepsLowerTheClearingBoundByOne, WinsNeedTheClearingBound};
+ghost use Rattle.fc_bound.specs.Laws.{TestsTellTheCards, StepsLowerTheBoundByOne, StepsMoveTheBoundByTheirCard, WinsNeedTheBound, ClassMatesHaveOneBound, BoundsAreSmall, ClearingCostIsLeast, ClassMatesHaveOneClearingBound, FreeCardsGoFirst, StepsLowerTheClearingBoundByOne, WinsNeedTheClearingBound, ClearingIsNoLess};
 
 /// The bound counts exactly the cards that are not home, and the cards that stand above a lower card of their own suit
 /// in their column.
@@ -56,4 +56,9 @@ pub fn steps_lower_the_clearing_bound_by_one()
 /// Every list of moves that wins from a position has at least as many moves as the clearing bound says, in every game.
 pub fn wins_need_the_clearing_bound()
     ensures { WinsNeedTheClearingBound }
+{}
+
+/// The clearing bound of a board is nowhere less than its plain bound.
+pub fn clearing_is_no_less()
+    ensures { ClearingIsNoLess }
 {}
