@@ -18,7 +18,7 @@ use Rattle.fc_moves.specs.declared.steps.Move.{Move}
 use Rattle.fc_moves.specs.GameRules.{GameRules, all_cards}
 use Rattle.fc_moves.specs.Step.{Step, Takes}
 use Rattle.fc_moves.proofs.StepLemmas.{receives-takes}
-use Rattle.fc_bound.specs.Bound.{bound, is_away, is_held_back, is_above_lower, stands_in}
+use Rattle.fc_bound.specs.Bound.{bound, is_away, is_held_back, is_above_lower, is_lower, stands_in}
 use Rattle.fc_bound.specs.Laws.{StepsLowerTheBoundByOne, StepsMoveTheBoundByTheirCard, WinsNeedTheBound, ClassMatesHaveOneBound, BoundsAreSmall}
 use Rattle.fc_bound.proofs.AboveLemmas.{above-one, above-other, not_true, stands-counted}
 use Rattle.fc_bound.proofs.CountLemmas.{count-most, count-same, count-but_one, count-of_two, count-none}
@@ -40,7 +40,7 @@ found test (x ∷ xs) any =
     ] refl any
 
 -- a list that passes as the one that it replaces did changes nothing
-any-set : (test : List ℕ → Bool) (columns : List (List ℕ)) (i : ℕ) (new : List ℕ) → test new ≡ test (get_or columns i [])
+pub any-set : (test : List ℕ → Bool) (columns : List (List ℕ)) (i : ℕ) (new : List ℕ) → test new ≡ test (get_or columns i [])
     → list_any test (set columns i new) ≡ list_any test columns
 any-set test [] i new same = refl
 any-set test (x ∷ xs) zero new same = ap (λ t. t || list_any test xs) same
@@ -83,21 +83,25 @@ held_away b c p held =
     let f = found (is_above_lower c) b.columns held in
     column_away b f.place c p f.inside (above-one c (column b f.place) f.passes).stands
 
--- a card that is next is not held back: every lower card of its suit is home
-pub next_free : (b : Board) (u : ℕ) → IsPosition b → IsNext b.homes u → is_held_back b u ≡ false
-next_free b u p next = not_true (is_held_back b u) (λ held.
-    let f = found (is_above_lower u) b.columns held in
-    let one = above-one u (column b f.place) f.passes in
-    let away = column_away b f.place one.lower p f.inside one.lower_stands in
-    go (suit one.lower) (suit u) (rank one.lower) (rank u) (slice_index b.homes (suit one.lower)) (slice_index b.homes (suit u))
-    (ap (slice_index b.homes)) one.is_lower away next)
+-- no lower card of the suit of a card that is next is away
+pub next_least : (b : Board) (u lower : ℕ) → IsNext b.homes u → is_lower u lower ≡ true → is_away b lower ≡ true → ⊥
+next_least b u lower next low away =
+    go (suit lower) (suit u) (rank lower) (rank u) (slice_index b.homes (suit lower)) (slice_index b.homes (suit u))
+    (ap (slice_index b.homes)) low away next
   where
     go : (sl su rl ru hl hu : ℕ) → (sl ≡ su → hl ≡ hu) → ((sl == su) && nat_lt rl ru) ≡ true → nat_lt hl rl ≡ true → hu + 1 ≡ ru → ⊥
     go sl su rl ru hl hu same lower away next =
         ⊎_elim (λ e. let h = same e in grind (arith, nat_tests)) (λ ne. grind (arith, nat_tests)) (cases_eq sl su)
 
+-- a card that is next is not held back: every lower card of its suit is home
+pub next_free : (b : Board) (u : ℕ) → IsPosition b → IsNext b.homes u → is_held_back b u ≡ false
+next_free b u p next = not_true (is_held_back b u) (λ held.
+    let f = found (is_above_lower u) b.columns held in
+    let one = above-one u (column b f.place) f.passes in
+    next_least b u one.lower next one.is_lower (column_away b f.place one.lower p f.inside one.lower_stands))
+
 -- a card that goes home changes for no other card whether it is home
-away-home : (homes : List ℕ) (u c : ℕ) → length homes ≡ 4 → IsNext homes u → c ≢ u
+pub away-home : (homes : List ℕ) (u c : ℕ) → length homes ≡ 4 → IsNext homes u → c ≢ u
     → nat_lt (slice_index homes (suit c)) (rank c) ≡ nat_lt (slice_index (set homes (suit u) (rank u)) (suit c)) (rank c)
 away-home homes u c four next other =
     go (suit u) (suit c) (rank u) (rank c) (slice_index homes (suit u)) (slice_index homes (suit c))
@@ -113,7 +117,7 @@ away-home homes u c four next other =
         (λ ne. let t = there ne in grind (arith, nat_tests)) (cases_eq su sc)
 
 -- a test counts one at most
-bit_most : (p : Bool) → cond p 1 0 ≤ 1
+pub bit_most : (p : Bool) → cond p 1 0 ≤ 1
 bit_most p = elim p as (λ t. cond t 1 0 ≤ 1) [ true ↦ omega arith | false ↦ omega arith ]
 
 -- how many cards are held back differs by what the card that moves adds before and after
@@ -186,17 +190,20 @@ pub step_position : (g : GameRules) (b c : Board) (m : Move) → IsPosition b �
 step_position g b c m p step =
     subst IsPosition (sym step.after) (position-moved b m.from step.card m.to p step.playable (receives-takes g b step.card m.to step.takes))
 
+-- on a won board no card is away
+pub won_home : (b : Board) (c : ℕ) → IsWon b → c < 52 → is_away b c ≡ false
+won_home b c won below =
+    let full : home b (suit c) ≡ 13 = ap (λ h. slice_index h (suit c)) won ∙ get_or-replicate 4 (suit c) 13 0 (omega arith) in
+    let test : nat_lt 13 (rank c) ≡ false = grind (arith, nat_tests) in
+    ap (λ h. nat_lt h (rank c)) full ∙ test
+
 -- the bound of a position with every card home is 0
 pub won_none : (b : Board) → IsPosition b → IsWon b → bound b ≡ 0
 unfolding bound
 won_none b p won =
-    let home_all : (c : ℕ) → c < 52 → is_away b c ≡ false = λ c below.
-    let full : home b (suit c) ≡ 13 = ap (λ h. slice_index h (suit c)) won ∙ get_or-replicate 4 (suit c) 13 0 (omega arith) in
-    let test : nat_lt 13 (rank c) ≡ false = grind (arith, nat_tests) in
-    ap (λ h. nat_lt h (rank c)) full ∙ test in
-    let away = count-none (is_away b) home_all in
+    let away = count-none (is_away b) (λ c below. won_home b c won below) in
     let held = count-none (is_held_back b) (λ c below. not_true (is_held_back b c) (λ h.
-    let e : ◌≡◌ {A = Bool} true false = sym (held_away b c p h) ∙ home_all c below in absurd (cc))) in
+    let e : ◌≡◌ {A = Bool} true false = sym (held_away b c p h) ∙ won_home b c won below in absurd (cc))) in
     omega arith
 
 -- every list that wins has at least so many moves

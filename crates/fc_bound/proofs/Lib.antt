@@ -1,4 +1,8 @@
 pub mod AboveLemmas
+pub mod ClearingAbove
+pub mod ClearingLemmas
+pub mod ClearingOrders
+pub mod ClearingSteps
 pub mod CountLemmas
 pub mod HeldLemmas
 pub mod MovedLemmas

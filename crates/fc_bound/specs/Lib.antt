@@ -1,2 +1,3 @@
 pub mod Bound
+pub mod Clearing
 pub mod Laws

@@ -1,6 +1,6 @@
 //! Laws of the bound, each the contract of a function that does nothing.
 
-ghost use Rattle.fc_bound.specs.Laws.{TestsTellTheCards, StepsLowerTheBoundByOne, StepsMoveTheBoundByTheirCard, WinsNeedTheBound, ClassMatesHaveOneBound, BoundsAreSmall};
+ghost use Rattle.fc_bound.specs.Laws.{TestsTellTheCards, StepsLowerTheBoundByOne, StepsMoveTheBoundByTheirCard, WinsNeedTheBound, ClassMatesHaveOneBound, BoundsAreSmall, ClearingCostIsLeast, ClassMatesHaveOneClearingBound, FreeCardsGoFirst, StepsLowerTheClearingBoundByOne, WinsNeedTheClearingBound, ClearingIsNoLess};
 
 /// The bound counts exactly the cards that are not home, and the cards that stand above a lower card of their own suit
 /// in their column.
@@ -31,4 +31,34 @@ pub fn class_mates_have_one_bound()
 /// The bound is at most 104, so a byte holds it.
 pub fn bounds_are_small()
     ensures { BoundsAreSmall }
+{}
+
+/// No order of taking the cards out of their columns costs less than the clearing cost, and some order costs as much.
+pub fn clearing_costs_are_least()
+    ensures { ClearingCostIsLeast }
+{}
+
+/// Boards of one class have one clearing bound.
+pub fn class_mates_have_one_clearing_bound()
+    ensures { ClassMatesHaveOneClearingBound }
+{}
+
+/// A last card that waits for none may be taken first: without it the columns cost as much.
+pub fn free_cards_go_first()
+    ensures { FreeCardsGoFirst }
+{}
+
+/// A step from a position lowers the clearing bound by one at most, in every game.
+pub fn steps_lower_the_clearing_bound_by_one()
+    ensures { StepsLowerTheClearingBoundByOne }
+{}
+
+/// Every list of moves that wins from a position has at least as many moves as the clearing bound says, in every game.
+pub fn wins_need_the_clearing_bound()
+    ensures { WinsNeedTheClearingBound }
+{}
+
+/// The clearing bound of a board is nowhere less than its plain bound.
+pub fn clearing_is_no_less()
+    ensures { ClearingIsNoLess }
 {}

@@ -1,0 +1,5 @@
+use Rattle.fc_bound.proofs.ClearingAbove.{no_less}
+use Rattle.fc_bound.proofs.laws.clearing_is_no_less.Goals as goal
+
+pub returns : goal.returns
+returns c = no_less
