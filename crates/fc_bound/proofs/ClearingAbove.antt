@@ -1,15 +1,14 @@
 -- The clearing bound is nowhere less than the plain one.
-use Rattle.std.proofs.Common.{◌≡◌, ◌≢◌, ℕ, ◌+◌, ◌-◌, ◌<◌, ◌≤◌, ◌⊎◌, zero, suc, Bool, true, false, cond, Some, List, [], ◌∷◌, ◌++◌, length, get_or, set, refl, sym, ◌∙◌, ap, inl, inr, ⊎_elim, arith}
-use Rattle.std.specs.Prelude.{◌||◌, count_by}
+use Rattle.std.proofs.Common.{◌≡◌, ◌≢◌, ℕ, ◌+◌, ◌-◌, ◌≤◌, ◌⊎◌, zero, suc, Bool, true, false, cond, Some, List, [], ◌∷◌, ◌++◌, length, get_or, refl, sym, ◌∙◌, ap, inl, inr, ⊎_elim, arith}
+use Rattle.std.specs.Prelude.{◌||◌}
 use Rattle.std.specs.List.{list_any}
 use Rattle.std.proofs.lemmas.Bool.{cases_lt, cases_eq}
 use Rattle.std.proofs.lemmas.List.{get_or-set_other, length-set}
 use Rattle.std.proofs.lemmas.List.Folds.{list_any_at, list_any-append}
 use Rattle.std.proofs.lemmas.Option.{slice_get-get_or}
-use Rattle.fc_position.specs.Board.{Board, last_of, front_of}
+use Rattle.fc_position.specs.Board.{last_of, front_of}
 use Rattle.fc_position.proofs.BoardLemmas.{front_last}
-use Rattle.fc_moves.specs.GameRules.{all_cards}
-use Rattle.fc_bound.specs.Bound.{bound, is_away, is_lower, is_above_lower}
+use Rattle.fc_bound.specs.Bound.{bound, is_lower, is_above_lower}
 use Rattle.fc_bound.specs.Clearing.{waits, fee, without, cards_in, order_cost, clearing_cost, clearing_bound}
 use Rattle.fc_bound.specs.Laws.{ClearingIsNoLess}
 use Rattle.fc_bound.proofs.AboveLemmas.{above-other, above-top}

@@ -1,7 +1,7 @@
 -- What the clearing cost of other columns is: of columns in another order, of columns with more cards, and of those
 -- without one card.
 use Rattle.std.proofs.Common.{◌≡◌, ℕ, ◌+◌, ◌-◌, ◌<◌, ◌≤◌, zero, suc, Bool, true, false, cond, Option, Some, None, List, [], ◌∷◌, ◌++◌, length, get_or, set, take, refl, sym, ◌∙◌, ap, subst, ⊎_elim, arith}
-use Rattle.std.specs.Prelude.{◌||◌, sum_by, count_by, slice_get, slice_index, nat_lt}
+use Rattle.std.specs.Prelude.{◌||◌, count_by, slice_index, nat_lt}
 use Rattle.std.specs.List.{list_any}
 use Rattle.std.specs.List.Sorted.{IsPermutation}
 use Rattle.std.proofs.lemmas.List.{append-nil, length-append}
@@ -12,7 +12,6 @@ use Rattle.fc_cards.specs.Card.{rank, suit}
 use Rattle.fc_position.specs.Board.{last_of, front_of}
 use Rattle.fc_position.proofs.BoardLemmas.{front_last}
 use Rattle.fc_moves.specs.GameRules.{all_cards}
-use Rattle.fc_canonical.specs.Class.{SameClass}
 use Rattle.fc_canonical.proofs.Rearrange.{renaming, IsPermutation-set}
 use Rattle.fc_bound.specs.Bound.{is_lower, is_away}
 use Rattle.fc_bound.specs.Clearing.{waits, fee, without, cards_in, order_cost, clearing_cost, clearing_bound}

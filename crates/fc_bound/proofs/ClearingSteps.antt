@@ -1,6 +1,6 @@
 -- What a step changes in the clearing bound, and that lists that win need it.
-use Rattle.std.proofs.Common.{◌≡◌, ◌≢◌, ℕ, ◌+◌, ◌<◌, ◌≤◌, zero, suc, Bool, true, false, cond, Option, Some, None, List, [], ◌∷◌, ◌++◌, length, get_or, set, refl, sym, ◌∙◌, ap, subst, ⊎_elim, arith}
-use Rattle.std.specs.Prelude.{◌==◌, ◌||◌, nat_lt, sum_by, count_by, slice_index}
+use Rattle.std.proofs.Common.{◌≡◌, ℕ, ◌+◌, ◌<◌, ◌≤◌, suc, Bool, true, false, cond, Some, List, [], ◌∷◌, ◌++◌, length, get_or, set, refl, sym, ◌∙◌, ap, subst, ⊎_elim, arith}
+use Rattle.std.specs.Prelude.{◌==◌, ◌||◌, nat_lt, count_by, slice_index}
 use Rattle.std.specs.List.{list_any}
 use Rattle.std.proofs.lemmas.Bool.{cases_lt}
 use Rattle.std.proofs.lemmas.Bool.Decides.{nat_tests}
@@ -8,12 +8,11 @@ use Rattle.std.proofs.lemmas.List.Sums.{sum_by-cons, get_or-le-sum_by}
 use Rattle.fc_cards.specs.Card.{rank, suit}
 use Rattle.fc_cards.specs.declared.places.Place.{Place}
 use Rattle.fc_cards.specs.declared.places.Place.TheVariants.{Column, Cell, Home}
-use Rattle.fc_position.specs.Board.{Board, column, playable, lifted, placed, last_of, count_in_column, IsNext}
+use Rattle.fc_position.specs.Board.{Board, column, playable, lifted, placed, count_in_column, IsNext}
 use Rattle.fc_position.specs.Position.{IsPosition, IsWon}
-use Rattle.fc_position.proofs.BoardLemmas.{playable_below, places_most, homes-lifted}
-use Rattle.fc_moves.specs.declared.steps.Move.{Move}
+use Rattle.fc_position.proofs.BoardLemmas.{playable_below, homes-lifted}
 use Rattle.fc_moves.specs.GameRules.{GameRules, all_cards}
-use Rattle.fc_moves.specs.Step.{Step, Takes}
+use Rattle.fc_moves.specs.Step.{Takes}
 use Rattle.fc_bound.specs.Bound.{is_away, is_lower, stands_in}
 use Rattle.fc_bound.specs.Clearing.{waits, fee, cards_in, clearing_cost, clearing_bound}
 use Rattle.fc_bound.specs.Laws.{StepsLowerTheClearingBoundByOne, WinsNeedTheClearingBound}

@@ -1,5 +1,5 @@
 -- The clearing bound: what it costs to take all cards out of their columns, in the best order.
-use Rattle.std.specs.Prelude.{◌≡◌, ℕ, zero, suc, ◌+◌, ◌≤◌, Bool, false, cond, min, length, List, [], ◌∷◌, Option, Some, None, slice_set, slice_index_or, sum_by, count_by}
+use Rattle.std.specs.Prelude.{ℕ, zero, suc, ◌+◌, Bool, false, cond, min, length, List, [], ◌∷◌, Option, Some, None, slice_set, slice_index_or, sum_by, count_by}
 use Rattle.std.specs.List.{list_any}
 use Rattle.fc_position.specs.Board.{Board, last_of, front_of}
 use Rattle.fc_moves.specs.GameRules.{all_cards}
