@@ -1,3 +1,3 @@
 pub mod BatchLemmas
-pub mod EndLemmas
+mod EndLemmas
 pub mod LawLemmas

@@ -7,7 +7,7 @@ use Rattle.std.proofs.Math.Nat.{max-zero, suc-max-suc, zero-max}
 use Rattle.std.proofs.lemmas.Bool.{cases_eq}
 use Rattle.std.proofs.lemmas.List.{flat_map_more, length-append}
 use Rattle.fc_io.specs.Moves.{Takes, TakesFront}
-use Rattle.fc_io.proofs.MoveLemmas.{Takes-none, Takes-both, takes_then_front}
+use Rattle.fc_io.proofs.MoveLemmas.{Takes-both, takes_then_front}
 use Rattle.fc_position.specs.Board.{Board}
 use Rattle.fc_position.specs.Position.{Fits}
 use Rattle.fc_moves.specs.GameRules.{GameRules}
@@ -23,7 +23,6 @@ use Rattle.fc_best_first.specs.Store.{Store}
 use Rattle.fc_search.specs.Search.{HasRun, IsOfStatus, IsOutcome, IsUntold, IsVerdict, Question, State, classes_of}
 use Rattle.fc_batch.specs.Batch.{Batch, HasTurn, HasTurns, OthersStay, TurnFor, TurnsFor, running, search_at, times}
 use Rattle.fc_batch.proofs.BatchLemmas.{stays_self}
-use Rattle.fc_batch.proofs.EndLemmas.{quiet_turns_end}
 use Rattle.fc_batch.proofs.LawLemmas.{others_kept, turn_alone}
 use Rattle.fc_runs.specs.Batches.{AreCutShort, AreLines, AreTold, HaveEnded, HoldsDeals, IsRightOf, IsSearchOf, Line, greatest_status, line_text, told_status}
 use Rattle.fc_runs.specs.Devices.{Device}
@@ -153,13 +152,7 @@ pub one_held : (g : GameRules) (rule weight budget from count number : ℕ) (old
 one_held g rule weight budget from count number old new reply turn =
     held_on g rule weight budget from count (number ∷ []) old new (running reply + 0) (one_turn number old new reply turn)
 
--- after a turn that doesn't reply that its search runs on, this has ended
-pub one_ended : (number : ℕ) (old new : Batch) (reply : Result Step SearchFault) (s : State) → TurnFor number old new reply
-    → running reply ≡ 0 → search_at new number ≡ Some s → s.status ≡ Running → ⊥
-one_ended number old new reply s turn none at runs =
-    quiet_turns_end (number ∷ []) old new (running reply + 0) (one_turn number old new reply turn) (omega (arith, none)) 0 number s refl at runs
-
--- and the others are as they were
+-- the other searches are as they were
 pub one_others : (number : ℕ) (old mid new : Batch) (reply : Result Step SearchFault) → TurnFor number mid new reply
     → OthersStay number old mid → OthersStay number old new
 one_others number old mid new reply turn others j other = (others_kept number (search_at mid number) mid new reply turn).1 j other ∙ others j other
@@ -213,15 +206,6 @@ pub record AreWritten (g : GameRules) (rule weight budget from count : ℕ) (old
   pub whole : length lines ≡ count
   pub written : Takes old new (flat_map line_text lines)
   pub greatest : status ≡ greatest_status lines
-
-pub none_written : (g : GameRules) (rule weight budget from : ℕ) (held : Option (List ℕ)) → AreWritten g rule weight budget from 0 held held 0
-none_written g rule weight budget from held = record {
-  lines = [];
-  right = record { rising = λ i line at. absurd (cc at); right = λ i line at. absurd (cc at) };
-  whole = refl;
-  written = Takes-none held;
-  greatest = refl;
-}
 
 -- the text of one line more
 text_more : (lines : List Line) (line : Line) → flat_map line_text lines ++ line_text line ≡ flat_map line_text (lines ++ line ∷ [])
