@@ -9,7 +9,7 @@ use Rattle.std.proofs.lemmas.List.Elements.{Contains-append_right}
 use Rattle.std.proofs.lemmas.List.Kept.{AllPairs-filter}
 use Rattle.std.proofs.lemmas.List.Sums.{length-filter, count_by-le-length}
 use Rattle.fc_moves.specs.GameLaws.{Contains-filter, Contains-from_filter}
-use Rattle.fc_bound.specs.Bound.{bound}
+use Rattle.fc_position.specs.Board.{Board}
 use Rattle.fc_canonical.specs.Spelled.{spelled}
 use Rattle.fc_answers.specs.declared.tables.Row.{Row}
 use Rattle.fc_answers.specs.Table.{HaveKeysOnce, pairs_of, inside, at_no_cost}
@@ -23,8 +23,8 @@ pair_there rows i row here lt =
     slice_get-map pair rows i ∙ ap (option_map pair) (slice_get_read rows (length rows) i row refl within here)
 
 -- of rows that have no key twice, those inside n have none twice
-pub inside_once : (n : ℕ) (table : List (List ℕ × ℕ)) → HaveKeysOnce table → HaveKeysOnce (inside n table)
-inside_once n table once = AllPairs-filter (λ x y. x.0 ≢ y.0) (λ e. nat_lt (e.1 + bound (spelled e.0)) n) table once
+pub inside_once : (low : Board → ℕ) (n : ℕ) (table : List (List ℕ × ℕ)) → HaveKeysOnce table → HaveKeysOnce (inside low n table)
+inside_once low n table once = AllPairs-filter (λ x y. x.0 ≢ y.0) (λ e. nat_lt (e.1 + low (spelled e.0)) n) table once
 
 -- nor do all, at no cost
 pub no_cost_once : (table : List (List ℕ × ℕ)) → HaveKeysOnce table → HaveKeysOnce (at_no_cost table)
@@ -36,10 +36,10 @@ no_cost_once table once i j d lt within same =
     once i j d lt (omega (arith, within, long)) (sym (ap (λ p. p.0) a) ∙ same ∙ ap (λ p. p.0) b)
 
 -- what is listed of a table is no more than the table
-pub inside_few : (n : ℕ) (table : List (List ℕ × ℕ)) (rows : List Row) → pairs_of rows ≡ inside n table
+pub inside_few : (low : Board → ℕ) (n : ℕ) (table : List (List ℕ × ℕ)) (rows : List Row) → pairs_of rows ≡ inside low n table
     → length rows ≤ length table
-inside_few n table rows same =
-    let test : (List ℕ × ℕ) → Bool = λ e. nat_lt (e.1 + bound (spelled e.0)) n in
+inside_few low n table rows same =
+    let test : (List ℕ × ℕ) → Bool = λ e. nat_lt (e.1 + low (spelled e.0)) n in
     let pair : Row → List ℕ × ℕ = λ r. (r.key.items, r.cost) in
     omega (arith, sym (length-map rows pair), ap length same, length-filter test table, count_by-le-length test table)
 
@@ -66,15 +66,15 @@ freely_listed (f ∷ table) x cost (suc k, lt, same) =
     Contains-append_right ((f.0, 0) ∷ []) (at_no_cost table) (x, 0) (freely_listed table x cost (k, omega (arith, lt), same))
 
 -- what is inside n is listed, and its cost and bound are below n
-pub inside_listed : (n : ℕ) (table : List (List ℕ × ℕ)) (e : List ℕ × ℕ) → Contains (inside n table) e
-    → Contains table e × (e.1 + bound (spelled e.0) < n)
-inside_listed n table e there =
-    let kept = Contains-from_filter (λ f. nat_lt (f.1 + bound (spelled f.0)) n) table e there in
-    let test : nat_lt (e.1 + bound (spelled e.0)) n ≡ true = kept.1 in
+pub inside_listed : (low : Board → ℕ) (n : ℕ) (table : List (List ℕ × ℕ)) (e : List ℕ × ℕ) → Contains (inside low n table) e
+    → Contains table e × (e.1 + low (spelled e.0) < n)
+inside_listed low n table e there =
+    let kept = Contains-from_filter (λ f. nat_lt (f.1 + low (spelled f.0)) n) table e there in
+    let test : nat_lt (e.1 + low (spelled e.0)) n ≡ true = kept.1 in
     (kept.0, grind (arith, nat_tests))
 
-pub listed_inside : (n : ℕ) (table : List (List ℕ × ℕ)) (e : List ℕ × ℕ) → Contains table e → e.1 + bound (spelled e.0) < n
-    → Contains (inside n table) e
-listed_inside n table e there below =
-    let test : nat_lt (e.1 + bound (spelled e.0)) n ≡ true = grind (arith, nat_tests) in
-    Contains-filter (λ f. nat_lt (f.1 + bound (spelled f.0)) n) table e there test
+pub listed_inside : (low : Board → ℕ) (n : ℕ) (table : List (List ℕ × ℕ)) (e : List ℕ × ℕ) → Contains table e → e.1 + low (spelled e.0) < n
+    → Contains (inside low n table) e
+listed_inside low n table e there below =
+    let test : nat_lt (e.1 + low (spelled e.0)) n ≡ true = grind (arith, nat_tests) in
+    Contains-filter (λ f. nat_lt (f.1 + low (spelled f.0)) n) table e there test

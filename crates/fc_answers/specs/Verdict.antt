@@ -16,34 +16,36 @@ use Rattle.fc_answers.specs.declared.answers.Verdict.TheVariants.{Shortest, Won,
 -- the verdict of an answer: all but its table
 abbrev pub verdict_of : Answer → Verdict
 verdict_of (answer.Shortest moves table) = Shortest moves
-verdict_of (answer.Won moves) = Won moves
+verdict_of (answer.Won moves floor table) = Won moves floor
 verdict_of (answer.CannotWin table) = cannot_win
 verdict_of (answer.GaveUp told) = GaveUp told
 
--- what is told of a verdict without its moves: how many there are
+-- what is told of a verdict without its moves: how many there are, and the floor
 abbrev pub outcome_of : Verdict → Outcome
 outcome_of (Shortest moves) = outcome.Shortest (length moves)
-outcome_of (Won moves) = outcome.Won (length moves)
+outcome_of (Won moves floor) = outcome.Won (length moves) floor
 outcome_of cannot_win = outcome.CannotWin
 outcome_of (GaveUp told) = outcome.GaveUp told
 
--- the list wins, and is no longer than the weight, which is 2 at least, times any list that wins
-pub record IsWithin (g : GameRules) (weight : ℕ) (b : Board) (moves : List Move) : Type 0 where
+-- the list wins, and is no longer than the weight, which is 2 at least, times any list that wins; and none that wins is below
+-- what is told as its floor
+pub record IsWithin (g : GameRules) (weight : ℕ) (b : Board) (moves : List Move) (told : ℕ) : Type 0 where
   pub above : 2 ≤ weight
   pub wins : Wins g b moves
   pub least : (other : List Move) → Wins g b other → length moves ≤ weight * length other
+  pub floor : (other : List Move) → Wins g b other → told ≤ length other
 
 -- the verdict of a search by a weight is right for a board and a budget: the moves win and none win in fewer, or the moves
 -- win within the weight, or no moves win, or the budget is told and more positions than that can be reached
 abbrev pub IsRight : GameRules → ℕ → Board → ℕ → Verdict → Type 0
 IsRight g weight b budget (Shortest moves) = IsShortest g b moves
-IsRight g weight b budget (Won moves) = IsWithin g weight b moves
+IsRight g weight b budget (Won moves floor) = IsWithin g weight b moves floor
 IsRight g weight b budget cannot_win = CannotWin g b
 IsRight g weight b budget (GaveUp told) = (told ≡ budget) × ReachesMore g b budget
 
 -- the moves of a list can be written: each has a text, and they are no more than a list may have
 abbrev pub CanBeWritten : Verdict → Type 0
 CanBeWritten (Shortest moves) = All HasText moves × (length moves ≤ MOST_MOVES)
-CanBeWritten (Won moves) = All HasText moves × (length moves ≤ MOST_MOVES)
+CanBeWritten (Won moves floor) = All HasText moves × (length moves ≤ MOST_MOVES)
 CanBeWritten cannot_win = Unit {0}
 CanBeWritten (GaveUp told) = Unit {0}

@@ -12,9 +12,9 @@ pub const MOST_MOVES: u32 = 53 * MOST_CLASSES;
 pub enum Answer {
     /// Moves that win, no list of moves that wins being shorter, and the classes that show it.
     Shortest(MoveList, Table),
-    /// Moves that win; every list of moves that wins has at least as many moves as this one has, divided by the weight of the
-    /// search, rounded up.
-    Won(MoveList),
+    /// Moves that win, no more than the weight of the search times a shortest list; and a number of moves that no list that
+    /// wins is below, and the classes that show it.
+    Won(MoveList, u32, Table),
     /// No list of moves wins; the classes show it.
     CannotWin(Table),
     /// More positions than the budget, which is told, can be reached.
@@ -26,9 +26,9 @@ pub enum Answer {
 pub enum Verdict {
     /// Moves that win, no list of moves that wins being shorter.
     Shortest(MoveList),
-    /// Moves that win; every list of moves that wins has at least as many moves as this one has, divided by the weight of the
-    /// search, rounded up.
-    Won(MoveList),
+    /// Moves that win, no more than the weight of the search times a shortest list; and a number of moves that no list that
+    /// wins is below.
+    Won(MoveList, u32),
     /// No list of moves wins.
     CannotWin,
     /// More positions than the budget, which is told, can be reached.
@@ -40,9 +40,9 @@ pub enum Verdict {
 pub enum Outcome {
     /// So many moves win, and no fewer do.
     Shortest(u32),
-    /// So many moves win; every list of moves that wins has at least as many moves as that, divided by the weight of the
-    /// search, rounded up.
-    Won(u32),
+    /// So many moves win, no more than the weight of the search times a shortest list; and a number of moves that no list that
+    /// wins is below.
+    Won(u32, u32),
     /// No list of moves wins.
     CannotWin,
     /// More positions than the budget, which is told, can be reached.

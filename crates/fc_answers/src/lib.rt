@@ -1,5 +1,5 @@
 //! What is answered of a position: a shortest list of moves or that no list wins, with the table of classes that backs it, a
-//! list that wins within a weight of the shortest, or that a search gave up. Nothing here searches.
+//! list that wins within a weight of the shortest with one that backs its floor, or that a search gave up. Nothing here searches.
 #![tactic(auto)]
 
 pub use answers::{Answer, MOST_MOVES, MoveList, Outcome, Verdict};

@@ -2,6 +2,7 @@ ghost use Rattle.std.specs.Prelude.{◌≡◌, ◌<◌, ◌≤◌, ◌↔◌, �
 ghost use Rattle.std.specs.List.Sorted.{IsPermutation};
 ghost use Rattle.fc_answers.specs.Table.{HaveKeysOnce, IsRising, pairs_of};
 
+use fc_bound::BoundKind;
 use fc_canonical::Key;
 use fc_home::GREATEST_RULE;
 use std::marker::Model;
@@ -16,11 +17,12 @@ pub struct Row {
     pub cost: u32,
 }
 
-/// Classes, each with a cost in moves from the start, under a home rule: at most 4,000,000 rows of a key and a cost, each
-/// key before the next, byte by byte.
+/// Classes, each with a cost in moves from the start, under a home rule and a kind of bound: at most 4,000,000 rows of a key
+/// and a cost, each key before the next, byte by byte.
 #[derive(Drop)]
 pub struct Table {
     rule: u8,
+    bound: BoundKind,
     rows: Vec<Row>,
 }
 
@@ -32,24 +34,25 @@ impl Model for Table {
 
     ghost Value = { Listing };
 
-    ghost view = { λ s. record { rule = s.rule; rows = pairs_of s.rows.items } };
+    ghost view = { λ s. record { rule = s.rule; bound = s.bound; rows = pairs_of s.rows.items } };
 
     ghost invariant = { λ s. (s.rule ≤ GREATEST_RULE) × (length s.rows.items ≤ MOST_CLASSES) × IsRising (pairs_of s.rows.items) };
 }
 
 impl Table {
-    /// The table of these rows, in order, under a home rule of at most 2. No two rows may have one key.
-    pub fn sorted(rule: u8, rows: Vec<Row>) -> Self
+    /// The table of these rows, in order, under a home rule of at most 2 and a kind of bound. No two rows may have one key.
+    pub fn sorted(rule: u8, bound: BoundKind, rows: Vec<Row>) -> Self
         requires known { rule ≤ GREATEST_RULE }
         requires few { length rows.items ≤ MOST_CLASSES }
         requires once { HaveKeysOnce (pairs_of rows.items) }
         ensures rule { result.rule ≡ rule }
+        ensures bound { result.bound ≡ bound }
         ensures rows { IsPermutation (pairs_of rows.items) result.rows }
         ensures rising { IsRising result.rows }
     {
         let mut rows = rows;
         rows.sort_unstable();
-        Table { rule, rows }
+        Table { rule, bound, rows }
     }
 
     /// The home rule that the classes were searched by, 0 to 2.
@@ -58,6 +61,13 @@ impl Table {
         ensures known { result ≤ GREATEST_RULE }
     {
         self.rule
+    }
+
+    /// The kind of bound that the classes were searched by.
+    pub fn bound(&self) -> BoundKind
+        ensures value { result ≡ self.now.bound }
+    {
+        self.bound
     }
 
     /// How many classes are listed, at most 4,000,000.

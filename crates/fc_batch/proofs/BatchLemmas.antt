@@ -192,3 +192,11 @@ none_turned i added es fs none same =
     let told : (reply ≡ Err NoSuch) × Stays old new = (refl, stays) in
     subst (λ o. MatchOption o ((reply ≡ Err NoSuch) × Stays old new) (λ b. TurnsAt i old new b reply))
     (sym (found_looked es i ∙ none)) told
+
+-- no search is held under the next number
+pub none_next : (batch : Batch) → NumbersWereGiven batch → search_at batch batch.added ≡ None
+none_next batch given = go (search_at batch batch.added) refl
+  where
+    go : (o : Option State) → search_at batch batch.added ≡ o → search_at batch batch.added ≡ None
+    go None e = e
+    go (Some search_there) e = let below = given batch.added search_there e in absurd (omega (arith, below))

@@ -1,3 +1,4 @@
+pub mod FloorLemmas
 pub mod KeptLemmas
 pub mod RunLemmas
 pub mod SearchLemmas

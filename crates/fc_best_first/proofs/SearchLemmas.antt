@@ -395,6 +395,7 @@ module _ {K : Type 0} (g : Graph K) (weight budget : ℕ) where
             won,
             λ i y m at lt. kept_expanded old new y m.cost taken.kept
                 (below_least old f number kept taken.least i y m (kept_back old new i y m taken.kept at) (omega (arith, lt, high))),
+            λ i y m ne at. others_settled old new f number x mark kept taken i y m (λ _ e. ne e) at,
           ),
         )
 
@@ -418,7 +419,7 @@ module _ {K : Type 0} (g : Graph K) (weight budget : ℕ) where
   -- what a search that is done shows
   pub holds_shows : IsLawful g → 1 ≤ weight → (s : Store K) (status : Status K) → Holds g weight budget s status → Shows g weight budget s status
   holds_shows lawful heavy s Running h = tt
-  holds_shows lawful heavy s (Won number) (sound, (x, mark, at, won, done)) =
+  holds_shows lawful heavy s (Won number) (sound, (x, mark, at, won, done, settled)) =
       let reached = sound.reached number x mark at in (
         x,
         mark,

@@ -2,5 +2,6 @@ pub mod Graph
 pub mod Store
 pub mod Turn
 pub mod Kept
+pub mod Laws
 pub mod Shown
 pub mod Search

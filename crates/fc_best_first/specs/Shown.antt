@@ -1,22 +1,24 @@
 -- What a search holds by its status, and what one that is done shows.
-use Rattle.std.specs.Prelude.{◌≡◌, ℕ, ◌+◌, ◌*◌, ◌<◌, ◌≤◌, List, length, slice_get, Some}
+use Rattle.std.specs.Prelude.{◌≡◌, ℕ, ◌+◌, ◌*◌, ◌<◌, ◌≤◌, ◌⊎◌, List, length, slice_get, Some, Contains}
 use Rattle.fc_best_first.specs.declared.books.Mark.{Mark}
 use Rattle.fc_best_first.specs.declared.turns.Status.{Status}
 use Rattle.fc_best_first.specs.declared.turns.Status.TheVariants.{Running, Won, CannotWin, GaveUp, Stopped}
 use Rattle.fc_best_first.specs.Graph.{Graph, Reached}
 use Rattle.fc_best_first.specs.Store.{Store, Stands, IsNew}
-use Rattle.fc_best_first.specs.Kept.{IsSound, IsKept, IsExpanded, IsNeeded}
+use Rattle.fc_best_first.specs.Kept.{IsSound, IsKept, IsExpanded, IsSettled, IsNeeded}
 
 module _ {K : Type 0} where
   -- no answer, times the weight, is below it
   abbrev pub IsFloor : Graph K → ℕ → ℕ → Type 0
   IsFloor g weight floor = (n : ℕ) → g.wins n → floor ≤ weight * n
 
-  -- a won key is stored under this number, and each key whose cost plus weighed bound is below its cost is expanded
+  -- a won key is stored under this number, each key whose cost plus weighed bound is below its cost is expanded, and each
+  -- other key is open or expanded
   abbrev pub IsFound : Graph K → ℕ → ℕ → Store K → ℕ → Type 0
   IsFound g weight budget s number = IsSound g weight budget s
       × ((x : K) × (mark : Mark) × Stands s number x mark × g.won x
-      × ((i : ℕ) (y : K) (m : Mark) → Stands s i y m → m.cost + weight * g.bound y < mark.cost → IsExpanded g s y m.cost))
+      × ((i : ℕ) (y : K) (m : Mark) → Stands s i y m → m.cost + weight * g.bound y < mark.cost → IsExpanded g s y m.cost)
+      × ((i : ℕ) (y : K) (m : Mark) → (i ≡ number → ⊥) → Stands s i y m → IsSettled g weight s i y m))
 
   -- each stored key is expanded
   abbrev pub IsExhausted : Graph K → ℕ → ℕ → Store K → Type 0
@@ -51,3 +53,15 @@ module _ {K : Type 0} where
   Shows g weight budget s CannotWin = (n : ℕ) → g.wins n → ⊥
   Shows g weight budget s (GaveUp y number) = (keys : List K) × AreNeeded g weight (budget + 1) keys
   Shows g weight budget s Stopped = Unit {0}
+
+  -- the key with this number and mark is open: a pair of it at its cost plus weighed bound waits
+  pub record IsOpen (g : Graph K) (weight : ℕ) (s : Store K) (number : ℕ) (x : K) (mark : Mark) : Type 0 where
+    pub stands : Stands s number x mark
+    pub waits : Contains s.waiting (mark.cost + weight * g.bound x, number)
+
+  -- the least cost plus bound of the open keys, at most a number
+  pub record IsLeastOpen (g : Graph K) (weight : ℕ) (s : Store K) (most floor : ℕ) : Type 0 where
+    pub within : floor ≤ most
+    pub least : (number : ℕ) (x : K) (mark : Mark) → IsOpen g weight s number x mark → floor ≤ mark.cost + g.bound x
+    pub met : (floor ≡ most)
+        ⊎ ((number : ℕ) × (x : K) × (mark : Mark) × IsOpen g weight s number x mark × (floor ≡ mark.cost + g.bound x))

@@ -1,9 +1,10 @@
 ghost use Rattle.std.specs.Prelude.{◌≡◌, ◌^◌, ◌<◌, ◌≤◌, ℕ, [], length, slice_get, IfOk, IfSome, IfNone, MatchOption};
+ghost use Rattle.std.specs.List.Sorted.{IsPermutation};
 ghost use Rattle.fc_frontier.specs.Queue.{Adds, IsLeast};
 ghost use Rattle.fc_best_first.specs.Store.{Store, Stands, IsNew, Meets, Offers};
 
 use crate::keys::ExactKey;
-use fc_frontier::{Frontier, Full};
+use fc_frontier::{Frontier, Full, Pairs};
 use indexmap::IndexMap;
 use std::alloc::Global;
 use std::marker::Model;
@@ -60,6 +61,13 @@ impl<K: ExactKey, F: Frontier + Drop> Book<K, F> {
         ensures none { IfNone result ((self.old.waiting ≡ []) × (self.new ≡ self.old)) }
     {
         self.queue.pop_least()
+    }
+
+    /// The open pairs, each once for each time that it is open, in any order.
+    pub fn waiting(&self) -> Pairs<'_>
+        ensures items { IsPermutation result self.now.waiting }
+    {
+        self.queue.iter()
     }
 
     /// How many keys are stored.

@@ -9,7 +9,9 @@ pub use spaces::{Child, Space};
 pub use turns::{MOST_BUDGET, MOST_COST, MOST_WEIGHT, Status};
 
 mod books;
+mod floors;
 mod keys;
+pub mod laws;
 mod searches;
 mod spaces;
 mod turns;

@@ -1,11 +1,13 @@
 ghost use Rattle.std.specs.Prelude.{◌≡◌, ◌<◌, ◌≤◌, ◌↔◌, ◌⊎◌, length, IfOk, IfErr, OnOk, OnErr, MatchOption, []};
 ghost use Rattle.fc_frontier.specs.Queue.{Adds};
 ghost use Rattle.fc_best_first.specs.Search.{Begins, FloorAfter, IsBudget, IsRefused, IsWeight, Turns, Runs, reply_of};
-ghost use Rattle.fc_best_first.specs.Shown.{Holds, IsFloor, Shows};
+ghost use Rattle.fc_best_first.specs.Kept.{IsSound};
+ghost use Rattle.fc_best_first.specs.Shown.{Holds, IsFloor, IsLeastOpen, Shows};
 ghost use Rattle.fc_best_first.specs.Store.{Stands};
 ghost use Rattle.fc_best_first.specs.Turn.{work_left};
 
 use crate::books::{Book, Mark};
+use crate::floors::least_open;
 use crate::keys::ExactKey;
 use crate::spaces::Space;
 use crate::turns::{MOST_BUDGET, Status, advance, weighed};
@@ -143,6 +145,14 @@ impl<K: ExactKey, F: Frontier + Drop, S: Space<K> + Drop> Search<K, F, S> {
         ensures floor { IsFloor (S.graph self.now.space) self.now.weight self.now.floor }
     {
         self.floor
+    }
+
+    /// The least cost plus bound, the bound counted once, of the keys that are still open, and at most a number.
+    pub fn least_open(&self, most: u32) -> u32
+        requires sound { IsSound (S.graph self.now.space) self.now.weight self.now.budget self.now.store }
+        ensures value { IsLeastOpen (S.graph self.now.space) self.now.weight self.now.store most result }
+    {
+        least_open(&self.space, &self.book, self.weight, most)
     }
 
     /// How many keys are stored.

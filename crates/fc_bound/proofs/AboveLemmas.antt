@@ -1,11 +1,11 @@
 -- Cards that stand above a lower card of their own suit.
-use Rattle.std.proofs.Common.{◌≡◌, ◌≢◌, ℕ, ◌+◌, ◌<◌, ◌≤◌, Bool, true, false, cond, List, [], ◌∷◌, ◌++◌, length, get_or, set, take, refl, sym, ◌∙◌, ap, subst, ⊎_elim, arith}
+use Rattle.std.proofs.Common.{◌≡◌, ◌≢◌, ℕ, ◌+◌, ◌<◌, ◌≤◌, Bool, true, false, cond, List, [], ◌∷◌, ◌++◌, length, get_or, set, take, refl, sym, ◌∙◌, ap, subst, ⊎_elim, arith, Contains}
 use Rattle.std.specs.Prelude.{◌==◌, ◌&&◌, ◌||◌, nat_lt, count_by, slice_index}
 use Rattle.std.specs.List.{list_any}
-use Rattle.std.proofs.lemmas.Bool.{cases_eq}
+use Rattle.std.proofs.lemmas.Bool.{cases_eq, eq-eqb, eqb-true}
 use Rattle.std.proofs.lemmas.List.{get_or-set_same, get_or-set_other, get_or-replicate, length-set, take_more}
 use Rattle.std.proofs.lemmas.Bool.Decides.{nat_tests}
-use Rattle.std.proofs.lemmas.List.Folds.{list_any-append}
+use Rattle.std.proofs.lemmas.List.Folds.{list_any-append, list_any_at, Any-from_list_any}
 use Rattle.std.proofs.lemmas.List.Sums.{sum_by-cons, sum_by_push, sum_by-take-le}
 use Rattle.fc_cards.specs.Card.{rank, suit}
 use Rattle.fc_position.specs.Board.{count_in_column}
@@ -34,7 +34,7 @@ stands-more : (cards : List ℕ) (u c : ℕ) → stands_in (cards ++ u ∷ []) c
 stands-more cards u c =
     list_any-append (λ d. d == c) cards (u ∷ []) ∙ ap (λ t. stands_in cards c || t) (or-false (u == c))
 
-stands-other : (cards : List ℕ) (u c : ℕ) → u ≢ c → stands_in (cards ++ u ∷ []) c ≡ stands_in cards c
+pub stands-other : (cards : List ℕ) (u c : ℕ) → u ≢ c → stands_in (cards ++ u ∷ []) c ≡ stands_in cards c
 stands-other cards u c other =
     let test : (u == c) ≡ false = grind (arith, nat_tests) in
     stands-more cards u c ∙ ap (λ t. stands_in cards c || t) test ∙ or-false (stands_in cards c)
@@ -58,6 +58,15 @@ above-top c (d ∷ above) =
     ap (λ t. (is_lower c d && t) || is_above_lower c (above ++ c ∷ [])) (stands-top above c)
     ∙ ap (λ t. t || is_above_lower c (above ++ c ∷ [])) (and-true (is_lower c d))
     ∙ ap (λ t. is_lower c d || t) (above-top c above)
+
+-- a card stands among cards exactly where they contain it
+pub contains-stands : (cards : List ℕ) (c : ℕ) → Contains cards c → stands_in cards c ≡ true
+contains-stands cards c (k, below, e) = list_any_at (λ d. d == c) cards k c below (eq-eqb (get_or cards k c) c e)
+
+pub stands-contains : (cards : List ℕ) (c : ℕ) → stands_in cards c ≡ true → Contains cards c
+stands-contains cards c stands =
+    let (k, d, below, e, same) = Any-from_list_any (λ d. d == c) cards stands in
+    subst (Contains cards) (eqb-true d c same) (k, below, e)
 
 -- a card that stands in a column is counted there
 pub stands-counted : (cards : List ℕ) (c : ℕ) → stands_in cards c ≡ true → 1 ≤ count_in_column c cards
@@ -106,7 +115,7 @@ above-one c (d ∷ cards) above =
 abbrev pub Tells : List ℕ → List ℕ → Type 0
 Tells least seen = (x : ℕ) → x < 52 → list_any (is_lower x) seen ≡ nat_lt (slice_index least (suit x)) (rank x)
 
-lower-more : (x y : ℕ) (seen : List ℕ) → list_any (is_lower x) (seen ++ y ∷ []) ≡ (list_any (is_lower x) seen || is_lower x y)
+pub lower-more : (x y : ℕ) (seen : List ℕ) → list_any (is_lower x) (seen ++ y ∷ []) ≡ (list_any (is_lower x) seen || is_lower x y)
 lower-more x y seen =
     list_any-append (is_lower x) seen (y ∷ []) ∙ ap (λ t. list_any (is_lower x) seen || t) (or-false (is_lower x y))
 

@@ -20,7 +20,7 @@ use Rattle.fc_bound.proofs.AboveLemmas.{or-true}
 use Rattle.fc_bound.proofs.ClearingLemmas.{without_none, fee_none, last_there, cases_last, clearing_least, clearing_order}
 
 -- in columns in another order a card waits alike
-waits-moved : (columns others : List (List ℕ)) (o : Option ℕ) → IsPermutation columns others → waits columns o ≡ waits others o
+pub waits-moved : (columns others : List (List ℕ)) (o : Option ℕ) → IsPermutation columns others → waits columns o ≡ waits others o
 waits-moved columns others None p = refl
 waits-moved columns others (Some u) p = list_any-IsPermutation (list_any (is_lower u)) columns others p
 
@@ -138,7 +138,7 @@ passes_more : (p q r s : Bool) → (p ≡ true → r ≡ true) → (q ≡ true �
 passes_more true q r s one two passes = ap (λ t. t || s) (one refl)
 passes_more false q r s one two passes = ap (λ t. r || t) (two passes) ∙ or-true r
 
-bits_more : (p q : Bool) → (p ≡ true → q ≡ true) → cond p 1 0 ≤ cond q 1 0
+pub bits_more : (p q : Bool) → (p ≡ true → q ≡ true) → cond p 1 0 ≤ cond q 1 0
 bits_more true q more = let one : ◌≡◌ {A = ℕ} (cond q 1 0) 1 = ap (λ t. cond t 1 0) (more refl) in omega arith
 bits_more false q more = omega arith
 
@@ -156,7 +156,7 @@ fronts-pass u (x ∷ xs) (y ∷ ys) f passes =
     passes_more (list_any (is_lower u) x) (list_any (list_any (is_lower u)) xs) (list_any (is_lower u) y)
     (list_any (list_any (is_lower u)) ys) (front-passes u x y f.0) (fronts-pass u xs ys f.1) passes
 
-fronts-wait : (xs ys : List (List ℕ)) (o : Option ℕ) → AreFronts xs ys → waits xs o ≡ true → waits ys o ≡ true
+pub fronts-wait : (xs ys : List (List ℕ)) (o : Option ℕ) → AreFronts xs ys → waits xs o ≡ true → waits ys o ≡ true
 fronts-wait xs ys None f waiting = waiting
 fronts-wait xs ys (Some u) f waiting = fronts-pass u xs ys f waiting
 
@@ -211,7 +211,7 @@ cost-taken columns i =
     omega (arith, best.1, clearing_least columns (i ∷ best.0))
 
 -- the columns without a card are fronts
-without-front : (columns : List (List ℕ)) (i : ℕ) → AreFronts (without columns i) columns
+pub without-front : (columns : List (List ℕ)) (i : ℕ) → AreFronts (without columns i) columns
 without-front columns i =
     ⊎_elim (λ none. subst (λ now. AreFronts now columns) (sym (without_none columns i none)) (fronts-same columns))
     (λ some_last. fronts-less columns columns i (front_of (get_or columns i [])) (fronts-same columns)

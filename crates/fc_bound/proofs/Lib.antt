@@ -2,8 +2,17 @@ pub mod AboveLemmas
 pub mod ClearingAbove
 pub mod ClearingLemmas
 pub mod ClearingOrders
+pub mod ClearingSearch
 pub mod ClearingSteps
+pub mod ClearingTied
 pub mod CountLemmas
+pub mod FrontLemmas
 pub mod HeldLemmas
+pub mod KnotClass
+pub mod KnotCosts
+pub mod KnotEach
+pub mod KnotLemmas
+pub mod KnotShed
+pub mod KnotSteps
 pub mod MovedLemmas
 pub mod TellLemmas

@@ -1,5 +1,6 @@
 -- What the laws of this crate state.
-use Rattle.std.specs.Prelude.{◌≡◌, ◌≢◌, ℕ, ◌+◌, ◌≤◌, ◌↔◌, IsTrue, false, cond, length, List, [], Some, slice_index_or}
+use Rattle.std.specs.Prelude.{◌≡◌, ◌≢◌, ℕ, ◌+◌, ◌≤◌, ◌↔◌, IsTrue, false, cond, length, List, [], ◌∷◌, Some, slice_index_or, All, AllPairs, Contains}
+use Rattle.std.specs.List.{list_any}
 use Rattle.fc_cards.specs.declared.places.Place.TheVariants.{Home}
 use Rattle.fc_position.specs.Board.{Board, playable, last_of, IsHome}
 use Rattle.fc_position.specs.Position.{IsPosition}
@@ -9,8 +10,9 @@ use Rattle.fc_moves.specs.Run.{Wins}
 use Rattle.fc_moves.specs.Step.{Step}
 use Rattle.fc_canonical.specs.Class.{SameClass}
 use Rattle.fc_bound.specs.declared.bounds.TheConstants.{GREATEST_BOUND}
-use Rattle.fc_bound.specs.Bound.{bound, is_away, is_held_back, StandsAboveLower}
+use Rattle.fc_bound.specs.Bound.{bound, is_away, is_held_back, stands_in, StandsAboveLower}
 use Rattle.fc_bound.specs.Clearing.{waits, without, order_cost, clearing_cost, clearing_bound}
+use Rattle.fc_bound.specs.Knots.{knot_bound, is_beneath}
 
 -- the tests by which the bound counts tell exactly the cards that are not home, and those above a lower card of their suit
 abbrev pub TestsTellTheCards : Type 0
@@ -65,3 +67,37 @@ WinsNeedTheClearingBound = (g : GameRules) (b : Board) (ms : List Move) → IsPo
 -- the clearing bound is nowhere less than the plain bound
 abbrev pub ClearingIsNoLess : Type 0
 ClearingIsNoLess = (b : Board) → bound b ≤ clearing_bound b
+
+-- the knot bound of a position is nowhere greater than its clearing bound
+abbrev pub KnotBoundIsNoGreater : Type 0
+KnotBoundIsNoGreater = (b : Board) → IsPosition b → knot_bound b ≤ clearing_bound b
+
+-- boards of one class have one knot bound
+abbrev pub ClassMatesHaveOneKnotBound : Type 0
+ClassMatesHaveOneKnotBound = (b c : Board) → SameClass b c → knot_bound b ≡ knot_bound c
+
+-- tied columns: the last card of each waits for a lower card that stands in one of them
+pub record AreTied (columns : List (List ℕ)) (tied : List ℕ) : Type 0 where
+  pub some_column : tied ≢ []
+  pub wait : (i : ℕ) → Contains tied i → (j : ℕ) × Contains tied j
+      × IsTrue (waits (slice_index_or columns j [] ∷ []) (last_of (slice_index_or columns i [])))
+
+-- of tied columns, some one's last card goes first in a best order, at a cost of one
+abbrev pub OneOfTheTiedGoesFirst : Type 0
+OneOfTheTiedGoesFirst = (columns : List (List ℕ)) (tied : List ℕ) → AreTied columns tied
+    → (i : ℕ) × Contains tied i × (clearing_cost columns ≡ 1 + clearing_cost (without columns i))
+
+-- a knot: cards in columns, each of which waits for a lower card of its suit that lies beneath one of them
+pub record IsKnot (columns : List (List ℕ)) (knot : List ℕ) : Type 0 where
+  pub some_card : knot ≢ []
+  pub stand : (c : ℕ) → Contains knot c → IsTrue (list_any (λ column. stands_in column c) columns)
+  pub wait : (c : ℕ) → Contains knot c → (e : ℕ) × Contains knot e × IsTrue (list_any (is_beneath c e) columns)
+
+-- no card stands in both
+abbrev pub AreApart : List ℕ → List ℕ → Type 0
+AreApart a b = (c : ℕ) → Contains a c → Contains b c → ⊥
+
+-- knots without a card in common cost one each
+abbrev pub KnotsCostOneEach : Type 0
+KnotsCostOneEach = (columns : List (List ℕ)) (knots : List (List ℕ)) → All (IsKnot columns) knots → AllPairs AreApart knots
+    → length knots ≤ clearing_cost columns

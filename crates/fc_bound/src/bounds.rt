@@ -9,7 +9,7 @@ use fc_cards::{Card, Place, Suit};
 use fc_position::Position;
 
 // How many cards are not home.
-fn away(position: &Position) -> u8
+pub(crate) fn away(position: &Position) -> u8
     ensures value { result ≡ count_by (is_away position.now) all_cards }
     ensures whole { IsPosition position.now }
 {

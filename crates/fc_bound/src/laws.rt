@@ -1,6 +1,6 @@
 //! Laws of the bound, each the contract of a function that does nothing.
 
-ghost use Rattle.fc_bound.specs.Laws.{TestsTellTheCards, StepsLowerTheBoundByOne, StepsMoveTheBoundByTheirCard, WinsNeedTheBound, ClassMatesHaveOneBound, BoundsAreSmall, ClearingCostIsLeast, ClassMatesHaveOneClearingBound, FreeCardsGoFirst, StepsLowerTheClearingBoundByOne, WinsNeedTheClearingBound, ClearingIsNoLess};
+ghost use Rattle.fc_bound.specs.Laws.{TestsTellTheCards, StepsLowerTheBoundByOne, StepsMoveTheBoundByTheirCard, WinsNeedTheBound, ClassMatesHaveOneBound, BoundsAreSmall, ClearingCostIsLeast, ClassMatesHaveOneClearingBound, FreeCardsGoFirst, StepsLowerTheClearingBoundByOne, WinsNeedTheClearingBound, ClearingIsNoLess, KnotBoundIsNoGreater, ClassMatesHaveOneKnotBound, OneOfTheTiedGoesFirst, KnotsCostOneEach};
 
 /// The bound counts exactly the cards that are not home, and the cards that stand above a lower card of their own suit
 /// in their column.
@@ -61,4 +61,25 @@ pub fn wins_need_the_clearing_bound()
 /// The clearing bound of a board is nowhere less than its plain bound.
 pub fn clearing_is_no_less()
     ensures { ClearingIsNoLess }
+{}
+
+/// The knot bound of a position is nowhere greater than its clearing bound.
+pub fn knot_bound_is_no_greater()
+    ensures { KnotBoundIsNoGreater }
+{}
+
+/// Boards of one class have one knot bound.
+pub fn class_mates_have_one_knot_bound()
+    ensures { ClassMatesHaveOneKnotBound }
+{}
+
+/// Where the last card of each of some columns waits for a lower card in one of them, one of these last cards goes first
+/// in a best order, at a cost of one.
+pub fn one_of_the_tied_goes_first()
+    ensures { OneOfTheTiedGoesFirst }
+{}
+
+/// Knots without a card in common cost one each, at least.
+pub fn knots_cost_one_each()
+    ensures { KnotsCostOneEach }
 {}

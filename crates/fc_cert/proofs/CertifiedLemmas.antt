@@ -7,10 +7,12 @@ use Rattle.fc_moves.specs.GameLaws.{All-from_members}
 use Rattle.fc_moves.specs.GameRules.{GameRules, IsGame, IsPositionOf}
 use Rattle.fc_canonical.specs.Spelled.{spelled, IsKeyIn, IsKeyFor}
 use Rattle.fc_canonical.proofs.FitLemmas.{fits_by_count}
+use Rattle.fc_bound.specs.declared.kinds.BoundKind.TheVariants.{Plain}
 use Rattle.fc_bound.specs.Bound.{bound}
-use Rattle.fc_tables.proofs.BoundLemmas.{bound_lower}
+use Rattle.fc_bound.specs.Kinds.{low_of}
+use Rattle.fc_tables.proofs.BoundLemmas.{bounds_lower}
 use Rattle.fc_tables.proofs.TableLemmas.{below_long, closed_never}
-use Rattle.fc_tables.specs.Table.{as_boards}
+use Rattle.fc_tables.specs.Table.{IsClosedBelow, as_boards}
 use Rattle.fc_answers.specs.declared.answers.Answer.{Answer}
 use Rattle.fc_answers.specs.declared.answers.Answer.TheVariants as answer
 use Rattle.fc_answers.specs.Answer.{IsBacked}
@@ -33,7 +35,7 @@ shown_true g b c (claim.Shortest n) position (kind, count, wins, closed) = (
   record {
     wins = wins;
     least = λ others won.
-        subst (λ k. k ≤ length others) (sym count) (below_long bound g c.head.rule b n (as_boards c.rows) others bound_lower position closed won);
+        subst (λ k. k ≤ length others) (sym count) (below_long bound g c.head.rule b n (as_boards c.rows) others (bounds_lower Plain).1 position closed won);
   },
 )
 shown_true g b c claim.CannotWin position (kind, closed) = closed_never g c.head.rule b (as_boards c.rows) position closed
@@ -76,14 +78,16 @@ IsShowing g b claimed c = IsContent c × (c.head.game ≡ g.code) × (c.head.cel
 written_shows : (g : GameRules) (b : Board) (answered : Answer) (c : Content) (claimed : Claim) → IsGame g → IsBacked g b answered
     → HasWinningMoves g b answered → CanBeWritten (verdict_of answered) → IsWrittenAs g answered c → Claims answered claimed
     → IsShowing g b claimed c
-written_shows g b (answer.Shortest moves table) c claimed game backed wins can same claims =
+written_shows g b (answer.Shortest moves table) c claimed game backed wins can (plain, same) claims =
     let told : Content = content g kind.Shortest table.rule moves table.rows in
     let few : length moves < 2 ^ 32 = omega (arith, can.1) in
     let has : IsContent told = has_bytes g kind.Shortest moves table game backed.listed (few, can.0)
     (λ e there. omega (arith, backed.below e there, few)) in
+    let closed : IsClosedBelow bound g table.rule b (length moves) (as_boards table.rows) =
+    subst (λ k. IsClosedBelow (low_of k) g table.rule b (length moves) (as_boards table.rows)) plain backed.closed in
     subst (IsShowing g b claimed) (sym same)
-    (subst (λ said. IsShowing g b said told) (sym claims) (has, refl, refl, (refl, refl, wins, backed.closed)))
-written_shows g b (answer.Won moves) c claimed game backed wins can same claims = absurd same
+    (subst (λ said. IsShowing g b said told) (sym claims) (has, refl, refl, (refl, refl, wins, closed)))
+written_shows g b (answer.Won moves floor table) c claimed game backed wins can same claims = absurd same
 written_shows g b (answer.CannotWin table) c claimed game backed wins can same claims =
     let told : Content = content g kind.CannotWin table.rule [] table.rows in
     let has : IsContent told = has_bytes g kind.CannotWin [] table game backed.listed refl backed.free in

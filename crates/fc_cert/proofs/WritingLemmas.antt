@@ -10,6 +10,7 @@ use Rattle.fc_io.specs.Moves.{Takes, TakesFront, Stays}
 use Rattle.fc_io.proofs.MoveLemmas.{Takes-both, takes_then_front, sound_at_ok}
 use Rattle.fc_moves.specs.declared.steps.Move.{Move}
 use Rattle.fc_moves.specs.GameRules.{GameRules}
+use Rattle.fc_bound.specs.declared.kinds.BoundKind.TheVariants.{Plain}
 use Rattle.fc_answers.specs.declared.answers.Answer.{Answer}
 use Rattle.fc_answers.specs.declared.answers.Answer.TheVariants as answer
 use Rattle.fc_answers.specs.Table.{Listing}
@@ -176,11 +177,11 @@ content g of_kind rule moves rows = record {
 
 -- the content of an answer of moves, by the rule and the moves that are read of it
 pub shortest_written : (g : GameRules) (answered : Answer) (moves told : List Move) (table : Listing) (rule : ℕ)
-    → answered ≡ answer.Shortest moves table → rule ≡ table.rule → told ≡ moves
+    → answered ≡ answer.Shortest moves table → table.bound ≡ Plain → rule ≡ table.rule → told ≡ moves
     → IsWrittenAs g answered (content g kind.Shortest rule told table.rows)
-shortest_written g answered moves told table rule is rule_is moves_are =
+shortest_written g answered moves told table rule is plain rule_is moves_are =
     subst (λ a. IsWrittenAs g a (content g kind.Shortest rule told table.rows)) (sym is)
-    (ap (λ r. content g kind.Shortest r told table.rows) rule_is ∙ ap (λ ms. content g kind.Shortest table.rule ms table.rows) moves_are)
+    (plain, ap (λ r. content g kind.Shortest r told table.rows) rule_is ∙ ap (λ ms. content g kind.Shortest table.rule ms table.rows) moves_are)
 
 -- the content of an answer that no list wins
 pub cannot_win_written : (g : GameRules) (answered : Answer) (table : Listing) (rule : ℕ) → answered ≡ answer.CannotWin table

@@ -4,6 +4,7 @@ use Rattle.fc_position.specs.Board.{Board}
 use Rattle.fc_moves.specs.declared.steps.Move.{Move}
 use Rattle.fc_moves.specs.GameRules.{GameRules}
 use Rattle.fc_moves.specs.Run.{Wins, IsShortest, CannotWin as NoneWins}
+use Rattle.fc_bound.specs.declared.kinds.BoundKind.TheVariants.{Plain}
 use Rattle.fc_bound.specs.Bound.{bound}
 use Rattle.fc_tables.specs.Table.{IsClosed, IsClosedBelow, as_boards}
 use Rattle.fc_answers.specs.declared.answers.Answer.{Answer}
@@ -35,14 +36,14 @@ IsTrueOf g b (claim.Shortest n) = (moves : List Move) × (length moves ≡ n) ×
 IsTrueOf g b claim.CannotWin = NoneWins g b
 
 -- the content that an answer is written as, in the second form, where it is certified: a list that isn't known to be
--- shortest isn't, and one that gave up isn't
+-- shortest isn't, nor is one whose table is closed by another bound than the plain one, and one that gave up isn't
 abbrev pub IsWrittenAs : GameRules → Answer → Content → Type 0
-IsWrittenAs g (answer.Shortest moves table) c = c ≡ record {
+IsWrittenAs g (answer.Shortest moves table) c = (table.bound ≡ Plain) × (c ≡ record {
   head = record { form = Second; game = g.code; cells = g.cells; rule = table.rule; kind = kind.Shortest };
   moves = moves;
   rows = table.rows;
-}
-IsWrittenAs g (answer.Won moves) c = ⊥
+})
+IsWrittenAs g (answer.Won moves floor table) c = ⊥
 IsWrittenAs g (answer.CannotWin table) c = c ≡ record {
   head = record { form = Second; game = g.code; cells = g.cells; rule = table.rule; kind = kind.CannotWin };
   moves = [];
@@ -53,13 +54,13 @@ IsWrittenAs g (answer.GaveUp told) c = ⊥
 -- what an answer claims
 abbrev pub Claims : Answer → Claim → Type 0
 Claims (answer.Shortest moves table) claimed = claimed ≡ claim.Shortest (length moves)
-Claims (answer.Won moves) claimed = ⊥
+Claims (answer.Won moves floor table) claimed = ⊥
 Claims (answer.CannotWin table) claimed = claimed ≡ claim.CannotWin
 Claims (answer.GaveUp told) claimed = ⊥
 
 -- the moves of an answer win from the board
 abbrev pub HasWinningMoves : GameRules → Board → Answer → Type 0
 HasWinningMoves g b (answer.Shortest moves table) = Wins g b moves
-HasWinningMoves g b (answer.Won moves) = Wins g b moves
+HasWinningMoves g b (answer.Won moves floor table) = Wins g b moves
 HasWinningMoves g b (answer.CannotWin table) = Unit {0}
 HasWinningMoves g b (answer.GaveUp told) = Unit {0}

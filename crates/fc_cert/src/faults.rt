@@ -3,7 +3,7 @@ use thiserror::Error;
 /// Why an answer has no certificate, or bytes are none. Moves count from 1, records from 0.
 #[derive(Clone, Copy, Debug, PartialEq, Eq, Error)]
 pub enum CertFault {
-    /// The answer is a list that isn't known to be shortest, or that a search gave up.
+    /// The answer is a list that isn't known to be shortest or whose table isn't of the plain bound, or a search gave up.
     #[error("NotCertified")]
     NotCertified,
     /// The sink has failed.

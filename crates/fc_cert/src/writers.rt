@@ -13,6 +13,7 @@ use crate::contents::Kind;
 use crate::faults::CertFault;
 use arrayvec::ArrayVec;
 use fc_answers::{Answer, Table};
+use fc_bound::BoundKind;
 use fc_canonical::Key;
 use fc_io::{Failed, Sink, write_all};
 use fc_moves::{Game, Move, move_text};
@@ -36,8 +37,8 @@ impl From<Failed> for CertFault {
 /// Writes the certificate of an answer for a game, its records gathered in pieces. No memory is asked for.
 ///
 /// # Errors
-/// `NotCertified` for a list that isn't known to be shortest and for the answer of a search that gave up, and nothing is
-/// written; `Write` where the sink has failed, of which a front may be written.
+/// `NotCertified` for a list that isn't known to be shortest, for one whose table is closed by another bound than the plain
+/// one, and for the answer of a search that gave up, and nothing is written; `Write` where the sink has failed, of which a front may be written.
 pub fn write_answer<G: Game, K: Sink>(
     game: &G,
     answer: &Answer,
@@ -50,6 +51,9 @@ pub fn write_answer<G: Game, K: Sink>(
 {
     match answer {
         Answer::Shortest(moves, table) => {
+            let BoundKind::Plain = table.bound() else {
+                return Err(CertFault::NotCertified);
+            };
             write_head(game, table.rule(), Kind::Shortest, sink)?;
             write_moves(moves.as_slice(), sink)?;
             write_rows(table, sink)?;
@@ -60,7 +64,7 @@ pub fn write_answer<G: Game, K: Sink>(
             write_rows(table, sink)?;
             Ok(())
         }
-        Answer::Won(_) | Answer::GaveUp(_) => Err(CertFault::NotCertified),
+        Answer::Won(_, _, _) | Answer::GaveUp(_) => Err(CertFault::NotCertified),
     }
 }
 

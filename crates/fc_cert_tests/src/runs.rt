@@ -2,6 +2,7 @@
 
 use crate::checks::{CASES, Case};
 use crate::given::{LOCKED as LOCKED_BYTES, board, free_cell};
+use fc_bound::BoundKind;
 use fc_checker::{Claim, check};
 use fc_io::testing::Failing;
 use fc_io::{FromSlice, ToArray};
@@ -143,6 +144,7 @@ fn solved(rt: &impl Abort, alloc: Global, text: &str, budget: u32, calls: (u32, 
         &game,
         1,
         1,
+        BoundKind::Plain,
         &mut source,
         budget,
         &mut out,

@@ -11,9 +11,10 @@ use Rattle.fc_canonical.specs.Key.{BeginsWithBoard, board_bytes}
 use Rattle.fc_canonical.specs.Order.{IsCanonical}
 use Rattle.fc_canonical.specs.Spelled.{IsKeyIn, IsKeyFor, spelled}
 use Rattle.fc_canonical.proofs.FitLemmas.{canonical_fits, keys_by_cells}
+use Rattle.fc_bound.specs.declared.kinds.BoundKind.TheVariants.{Plain}
 use Rattle.fc_bound.specs.Bound.{bound}
 use Rattle.fc_tables.specs.Table.{ListsFitting, StepsCovered, StepsListed, as_boards}
-use Rattle.fc_tables.proofs.BoundLemmas.{bound_lower}
+use Rattle.fc_tables.proofs.BoundLemmas.{bounds_lower}
 use Rattle.fc_tables.proofs.EveryLemmas.{every_settles}
 use Rattle.fc_tables.proofs.LookLemmas.{one_enough, one_enough_listed, seen_below, seen_closed}
 use Rattle.fc_canonical.proofs.ClassLemmas.{class-refl}
@@ -89,7 +90,7 @@ module _ (g : GameRules) (c : Content) (is : IsContent c) (of : IsOfGame g c) wh
     k,
     refl,
     subst (λ t. MovesHold g b t c.moves) k proof.moves,
-    (seen_below bound g c.head.rule b (length c.moves) (as_boards c.rows) bound_lower pb fitting).0
+    (seen_below bound g c.head.rule b (length c.moves) (as_boards c.rows) (bounds_lower Plain).1 pb fitting).0
         (record {
           not_won = none_won proof.records;
           start =
@@ -97,7 +98,7 @@ module _ (g : GameRules) (c : Content) (is : IsContent c) (of : IsOfGame g c) wh
               (way.1, way.0, way.2, subst (λ t. Holds c t way.1 way.0) k (proof.start way.1 way.0 way.2));
           steps = λ e there pe near.
               let s = steps_of Shortest e k proof.records there in
-              (one_enough bound g c.head.rule (length c.moves) (as_boards c.rows) e.0 e.0 e.1 bound_lower pe pe (class-refl e.0)).1
+              (one_enough bound g c.head.rule (length c.moves) (as_boards c.rows) e.0 e.0 e.1 (bounds_lower Plain).1 pe pe (class-refl e.0)).1
               (subst (λ (p : Board × ℕ). p.1 + bound p.0 < length c.moves → StepsCovered bound g c.head.rule (length c.moves) (as_boards c.rows) p.0 p.1)
               (sym s.1) s.2 near);
         }),

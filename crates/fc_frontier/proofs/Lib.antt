@@ -1,2 +1,3 @@
 pub mod QueueLemmas
 pub mod StackLemmas
+pub mod WalkLemmas

@@ -4,6 +4,7 @@ ghost use Rattle.fc_frontier.specs.Queue.{Adds, IsLeast, inserted};
 use crate::frontiers::{Frontier, Full};
 use crate::lists::ListFrontier;
 use crate::stacks::{STACKS, Stacks};
+use crate::walks::Pairs;
 use std::alloc::Global;
 use std::marker::Model;
 
@@ -68,5 +69,9 @@ impl Frontier for BucketFrontier {
 
     fn len(&self) -> u128 {
         self.near.len() + self.far.len()
+    }
+
+    fn iter(&self) -> Pairs<'_> {
+        Pairs::new(self.near.as_slice(), self.far.as_slice())
     }
 }

@@ -1,6 +1,8 @@
 ghost use Rattle.std.specs.Prelude.{◌≡◌, ℕ, ◌↔◌, List, [], length, IsNone, IfSome, IfNone, OnOk, OnErr};
+ghost use Rattle.std.specs.List.Sorted.{IsPermutation};
 ghost use Rattle.fc_frontier.specs.Queue.{Adds, IsLeast};
 
+use crate::walks::Pairs;
 use std::alloc::{AllocError, AllocFailed, Global};
 use thiserror::Error;
 
@@ -46,4 +48,8 @@ pub trait Frontier {
     /// How many pairs there are.
     fn len(&self) -> u128
         ensures size { result ≡ length (pairs self.now) };
+
+    /// The pairs, each once for each time that it stands there, in any order.
+    fn iter(&self) -> Pairs<'_>
+        ensures items { IsPermutation result (pairs self.now) };
 }

@@ -8,9 +8,11 @@
 pub use buckets::BucketFrontier;
 pub use frontiers::{Frontier, Full};
 pub use lists::ListFrontier;
+pub use walks::Pairs;
 
 mod buckets;
 mod frontiers;
 pub mod laws;
 mod lists;
 mod stacks;
+mod walks;

@@ -1,7 +1,9 @@
 ghost use Rattle.std.specs.Prelude.{◌≡◌, ◌^◌, ◌<◌, ◌↔◌, [], ◌++◌, length, option_to_list, IsNone, IfSome, IfNone, MatchOption, OnOk, OnErr};
+ghost use Rattle.std.specs.List.Sorted.{IsPermutation};
 ghost use Rattle.fc_frontier.specs.Queue.{Adds, IsLeast, IsPlaceOfNext, inserted};
 
 use crate::frontiers::{Frontier, Full};
+use crate::walks::Pairs;
 use std::alloc::Global;
 use std::marker::Model;
 
@@ -36,6 +38,15 @@ fn place_of_next(pairs: &[(u32, u32)]) -> Option<usize>
         }
     }
     Some(best)
+}
+
+impl ListFrontier {
+    // The pairs in the order of the pushes.
+    pub(crate) fn as_slice(&self) -> &[(u32, u32)]
+        ensures items { IsPermutation result.now self.now }
+    {
+        self.pairs.as_slice()
+    }
 }
 
 impl Frontier for ListFrontier {
@@ -74,5 +85,9 @@ impl Frontier for ListFrontier {
         ensures fits { result < 2 ^ 64 }
     {
         self.pairs.len() as u128
+    }
+
+    fn iter(&self) -> Pairs<'_> {
+        Pairs::new(&[], self.as_slice())
     }
 }

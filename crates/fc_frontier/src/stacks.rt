@@ -1,6 +1,8 @@
 ghost use Rattle.std.specs.Prelude.{◌≡◌, ℕ, ◌+◌, ◌^◌, ◌<◌, ◌≤◌, ◌↔◌, List, [], ◌∷◌, ◌++◌, length, option_to_list, slice_index_or, vec_len, All, IsNone, IfOk, IfSome, OnOk, OnErr};
+ghost use Rattle.std.specs.List.Sorted.{IsPermutation};
 ghost use Rattle.fc_frontier.specs.Queue.{IsLeast, inserted};
 ghost use Rattle.fc_frontier.specs.Stack.{nodes_of};
+ghost use Rattle.fc_frontier.specs.Walk.{walked};
 
 use crate::frontiers::Full;
 use std::alloc::Global;
@@ -105,5 +107,13 @@ impl Stacks {
             total += stack.len() as u128;
         }
         total
+    }
+
+    // The stacks, the one for f 0 first.
+    pub fn as_slice(&self) -> &[Vec<u32>]
+        ensures items { IsPermutation (walked 0 (nodes_of result.now)) self.now }
+        ensures most { length result.now ≤ 1024 }
+    {
+        self.stacks.as_slice()
     }
 }

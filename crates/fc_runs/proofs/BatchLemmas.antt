@@ -12,6 +12,7 @@ use Rattle.fc_position.specs.Board.{Board}
 use Rattle.fc_position.specs.Position.{Fits}
 use Rattle.fc_moves.specs.GameRules.{GameRules}
 use Rattle.fc_deal.specs.Deal.{dealt_board}
+use Rattle.fc_bound.specs.declared.kinds.BoundKind.{BoundKind}
 use Rattle.fc_answers.specs.declared.answers.Outcome.{Outcome}
 use Rattle.fc_best_first.specs.declared.searches.SearchFault.{SearchFault}
 use Rattle.fc_best_first.specs.declared.searches.Step.{Step}
@@ -51,23 +52,25 @@ module _ {K : Type 0} (g : Graph K) (weight budget : ℕ) where
   turns_more (suc turns) before between after old mid new reply (next, then, told, one, rest) turn =
       (next, then, told, one, turns_more turns then between after next mid new reply rest turn)
 
-asked : GameRules → ℕ → ℕ → Board → Question
-asked g rule weight start = record { game = g; rule = rule; weight = weight; start = start }
+asked : GameRules → ℕ → ℕ → BoundKind → Board → Question
+asked g rule weight kind start = record { game = g; rule = rule; weight = weight; bound = kind; start = start }
 
 -- a question is what it asks of
-asked_all : (q : Question) (g : GameRules) (rule weight : ℕ) (start : Board) → q.game ≡ g → q.rule ≡ rule → q.weight ≡ weight → q.start ≡ start
-    → q ≡ record { game = g; rule = rule; weight = weight; start = start }
+asked_all : (q : Question) (g : GameRules) (rule weight : ℕ) (kind : BoundKind) (start : Board) → q.game ≡ g → q.rule ≡ rule → q.weight ≡ weight
+    → q.bound ≡ kind → q.start ≡ start
+    → q ≡ record { game = g; rule = rule; weight = weight; bound = kind; start = start }
 unfolding asked
-asked_all q g rule weight start game ruled weighed starts =
-    ap (λ x. asked x q.rule q.weight q.start) game ∙ ap (λ r. asked g r q.weight q.start) ruled ∙ ap (λ w. asked g rule w q.start) weighed
-    ∙ ap (λ b. asked g rule weight b) starts
+asked_all q g rule weight kind start game ruled weighed bounded starts =
+    ap (λ x. asked x q.rule q.weight q.bound q.start) game ∙ ap (λ r. asked g r q.weight q.bound q.start) ruled
+    ∙ ap (λ w. asked g rule w q.bound q.start) weighed ∙ ap (λ k. asked g rule weight k q.start) bounded
+    ∙ ap (λ b. asked g rule weight kind b) starts
 
 -- a search that began for a deal, and had no turn
-pub search_begun : (g : GameRules) (rule weight budget deal : ℕ) (s : State) → s.question.game ≡ g → s.question.rule ≡ rule → s.question.weight ≡ weight
-    → s.question.start ≡ dealt_board deal → s.budget ≡ budget → s.status ≡ Running → Begins (classes_of s.question) weight s.store
-    → IsSearchOf g rule weight budget deal s
-search_begun g rule weight budget deal s game ruled weighed starts budgeted begun begins =
-    let same = asked_all s.question g rule weight (dealt_board deal) game ruled weighed starts in
+pub search_begun : (g : GameRules) (rule weight : ℕ) (kind : BoundKind) (budget deal : ℕ) (s : State) → s.question.game ≡ g → s.question.rule ≡ rule → s.question.weight ≡ weight
+    → s.question.bound ≡ kind → s.question.start ≡ dealt_board deal → s.budget ≡ budget → s.status ≡ Running → Begins (classes_of s.question) weight s.store
+    → IsSearchOf g rule weight kind budget deal s
+search_begun g rule weight kind budget deal s game ruled weighed bounded starts budgeted begun begins =
+    let same = asked_all s.question g rule weight kind (dealt_board deal) game ruled weighed bounded starts in
     record {
       question = same;
       budgeted = budgeted;
@@ -87,33 +90,33 @@ untold_stopped CannotWin fault ended untold = absurd untold
 untold_stopped (GaveUp y number) fault ended untold = absurd untold
 
 -- what is told of the search of a deal that has ended is right of the deal
-pub told_right : (g : GameRules) (rule weight budget deal : ℕ) (s : State) (result : Result Outcome SearchFault)
-    → IsSearchOf g rule weight budget deal s → (s.status ≡ Running → ⊥) → IfOk result (IsOutcome s) → IfErr result (IsUntold s.status)
-    → IsRightOf g rule weight budget deal (result_ok result)
-told_right g rule weight budget deal s (Ok told) search ended (verdict, right, kind, same) untold = record {
+pub told_right : (g : GameRules) (rule weight : ℕ) (kind : BoundKind) (budget deal : ℕ) (s : State) (result : Result Outcome SearchFault)
+    → IsSearchOf g rule weight kind budget deal s → (s.status ≡ Running → ⊥) → IfOk result (IsOutcome s) → IfErr result (IsUntold s.status)
+    → IsRightOf g rule weight kind budget deal (result_ok result)
+told_right g rule weight kind budget deal s (Ok told) search ended (verdict, right, sort, same) untold = record {
   verdict = verdict;
   decided = record {
-    right = subst (λ q. IsVerdict q.game q.rule q.weight q.start budget verdict) search.question
-        (subst (λ b. IsVerdict s.question.game s.question.rule s.question.weight s.question.start b verdict) search.budgeted right);
+    right = subst (λ q. IsVerdict q.game q.rule q.weight q.bound q.start budget verdict) search.question
+        (subst (λ b. IsVerdict s.question.game s.question.rule s.question.weight s.question.bound s.question.start b verdict) search.budgeted right);
     ran = record {
       last = s.store;
       status = s.status;
       ran = search.ran;
-      answered = subst (λ q. IsOfStatus q.weight s.store budget s.status verdict) search.question
-          (subst (λ b. IsOfStatus s.question.weight s.store b s.status verdict) search.budgeted kind);
+      answered = subst (λ q. IsOfStatus (classes_of q) q.weight s.store budget s.status verdict) search.question
+          (subst (λ b. IsOfStatus (classes_of s.question) s.question.weight s.store b s.status verdict) search.budgeted sort);
     };
   };
   answer = same;
 }
-told_right g rule weight budget deal s (Err fault) search ended outcome untold = (
+told_right g rule weight kind budget deal s (Err fault) search ended outcome untold = (
   s.store,
-  subst (HasRun g rule weight (dealt_board deal) budget s.store) (untold_stopped s.status fault ended untold) search.ran,
+  subst (HasRun g rule weight kind (dealt_board deal) budget s.store) (untold_stopped s.status fault ended untold) search.ran,
 )
 
 -- a search of a deal that has one more turn is the search of that deal still
-one_turn_on : (g : GameRules) (rule weight budget deal : ℕ) (old new : State) (reply : Result Step SearchFault) → HasTurn old new reply
-    → IsSearchOf g rule weight budget deal old → IsSearchOf g rule weight budget deal new
-one_turn_on g rule weight budget deal old new reply turn search = record {
+one_turn_on : (g : GameRules) (rule weight : ℕ) (kind : BoundKind) (budget deal : ℕ) (old new : State) (reply : Result Step SearchFault) → HasTurn old new reply
+    → IsSearchOf g rule weight kind budget deal old → IsSearchOf g rule weight kind budget deal new
+one_turn_on g rule weight kind budget deal old new reply turn search = record {
   question = turn.question ∙ search.question;
   budgeted = turn.budget ∙ search.budgeted;
   ran = record {
@@ -128,29 +131,29 @@ one_turn_on g rule weight budget deal old new reply turn search = record {
   };
 }
 
-turns_on : (g : GameRules) (rule weight budget deal : ℕ) (turns : ℕ) (old new : State) → HasTurns turns old new
-    → IsSearchOf g rule weight budget deal old → IsSearchOf g rule weight budget deal new
-turns_on g rule weight budget deal zero old new same search = subst (IsSearchOf g rule weight budget deal) (sym same) search
-turns_on g rule weight budget deal (suc turns) old new (mid, reply, turn, rest) search =
-    turns_on g rule weight budget deal turns mid new rest (one_turn_on g rule weight budget deal old mid reply turn search)
+turns_on : (g : GameRules) (rule weight : ℕ) (kind : BoundKind) (budget deal : ℕ) (turns : ℕ) (old new : State) → HasTurns turns old new
+    → IsSearchOf g rule weight kind budget deal old → IsSearchOf g rule weight kind budget deal new
+turns_on g rule weight kind budget deal zero old new same search = subst (IsSearchOf g rule weight kind budget deal) (sym same) search
+turns_on g rule weight kind budget deal (suc turns) old new (mid, reply, turn, rest) search =
+    turns_on g rule weight kind budget deal turns mid new rest (one_turn_on g rule weight kind budget deal old mid reply turn search)
 
 -- turns of the searches of a batch leave it with the searches of its deals
-pub held_on : (g : GameRules) (rule weight budget from count : ℕ) (list : List ℕ) (old new : Batch) (replies : ℕ) → TurnsFor list old new replies
-    → HoldsDeals g rule weight budget from count old → HoldsDeals g rule weight budget from count new
-held_on g rule weight budget from count list old new replies turns holds i within =
+pub held_on : (g : GameRules) (rule weight : ℕ) (kind : BoundKind) (budget from count : ℕ) (list : List ℕ) (old new : Batch) (replies : ℕ) → TurnsFor list old new replies
+    → HoldsDeals g rule weight kind budget from count old → HoldsDeals g rule weight kind budget from count new
+held_on g rule weight kind budget from count list old new replies turns holds i within =
     let before = holds i within in
     let on = turn_alone list old new replies turns i before.0 before.1 in
-    (on.0, on.1, turns_on g rule weight budget (from + i) (times i list) before.0 on.0 on.2 before.2)
+    (on.0, on.1, turns_on g rule weight kind budget (from + i) (times i list) before.0 on.0 on.2 before.2)
 
 -- one turn, as turns for a list of one number
 one_turn : (number : ℕ) (old new : Batch) (reply : Result Step SearchFault) → TurnFor number old new reply
     → TurnsFor (number ∷ []) old new (running reply + 0)
 one_turn number old new reply turn = (new, reply, 0, turn, (stays_self new, refl), refl)
 
-pub one_held : (g : GameRules) (rule weight budget from count number : ℕ) (old new : Batch) (reply : Result Step SearchFault)
-    → TurnFor number old new reply → HoldsDeals g rule weight budget from count old → HoldsDeals g rule weight budget from count new
-one_held g rule weight budget from count number old new reply turn =
-    held_on g rule weight budget from count (number ∷ []) old new (running reply + 0) (one_turn number old new reply turn)
+pub one_held : (g : GameRules) (rule weight : ℕ) (kind : BoundKind) (budget from count number : ℕ) (old new : Batch) (reply : Result Step SearchFault)
+    → TurnFor number old new reply → HoldsDeals g rule weight kind budget from count old → HoldsDeals g rule weight kind budget from count new
+one_held g rule weight kind budget from count number old new reply turn =
+    held_on g rule weight kind budget from count (number ∷ []) old new (running reply + 0) (one_turn number old new reply turn)
 
 -- the other searches are as they were
 pub one_others : (number : ℕ) (old mid new : Batch) (reply : Result Step SearchFault) → TurnFor number mid new reply
@@ -176,12 +179,12 @@ last_line (y ∷ lines) line P all last (suc i) x at =
     last_line lines line (λ j z. P (suc j) z) (λ j z there. all (suc j) z there) last i x at
 
 -- one more line that is right
-pub one_more_line : (g : GameRules) (rule weight budget from deal : ℕ) (lines : List Line) (told : Option Outcome) → AreLines g rule weight budget from lines
-    → deal ≡ from + length lines → IsRightOf g rule weight budget deal told
-    → AreLines g rule weight budget from (lines ++ record { deal = deal; told = told } ∷ [])
-one_more_line g rule weight budget from deal lines told right next here = record {
+pub one_more_line : (g : GameRules) (rule weight : ℕ) (kind : BoundKind) (budget from deal : ℕ) (lines : List Line) (told : Option Outcome) → AreLines g rule weight kind budget from lines
+    → deal ≡ from + length lines → IsRightOf g rule weight kind budget deal told
+    → AreLines g rule weight kind budget from (lines ++ record { deal = deal; told = told } ∷ [])
+one_more_line g rule weight kind budget from deal lines told right next here = record {
   rising = last_line lines (record { deal = deal; told = told }) (λ i line. line.deal ≡ from + i) right.rising next;
-  right = last_line lines (record { deal = deal; told = told }) (λ i line. IsRightOf g rule weight budget line.deal line.told) right.right here;
+  right = last_line lines (record { deal = deal; told = told }) (λ i line. IsRightOf g rule weight kind budget line.deal line.told) right.right here;
 }
 
 max_assoc : (a b c : ℕ) → max (max a b) c ≡ max a (max b c)
@@ -200,9 +203,9 @@ greatest_more (first ∷ lines) line =
     ∙ sym (max_assoc (told_status first.told) (greatest_status lines) (told_status line.told))
 
 -- so many lines were written, and this is the greatest of their statuses
-pub record AreWritten (g : GameRules) (rule weight budget from count : ℕ) (old new : Option (List ℕ)) (status : ℕ) : Type 0 where
+pub record AreWritten (g : GameRules) (rule weight : ℕ) (kind : BoundKind) (budget from count : ℕ) (old new : Option (List ℕ)) (status : ℕ) : Type 0 where
   pub lines : List Line
-  pub right : AreLines g rule weight budget from lines
+  pub right : AreLines g rule weight kind budget from lines
   pub whole : length lines ≡ count
   pub written : Takes old new (flat_map line_text lines)
   pub greatest : status ≡ greatest_status lines
@@ -211,16 +214,16 @@ pub record AreWritten (g : GameRules) (rule weight budget from count : ℕ) (old
 text_more : (lines : List Line) (line : Line) → flat_map line_text lines ++ line_text line ≡ flat_map line_text (lines ++ line ∷ [])
 text_more lines line = flat_map_more line_text [] lines line
 
-pub one_more_written : (g : GameRules) (rule weight budget from count : ℕ) (old mid new : Option (List ℕ)) (status : ℕ) (told : Option Outcome)
-    (text : List ℕ) (next : ℕ) → AreWritten g rule weight budget from count old mid status → IsRightOf g rule weight budget (from + count) told
+pub one_more_written : (g : GameRules) (rule weight : ℕ) (kind : BoundKind) (budget from count : ℕ) (old mid new : Option (List ℕ)) (status : ℕ) (told : Option Outcome)
+    (text : List ℕ) (next : ℕ) → AreWritten g rule weight kind budget from count old mid status → IsRightOf g rule weight kind budget (from + count) told
     → text ≡ line_text (record { deal = from + count; told = told }) → Takes mid new text → next ≡ max status (told_status told)
-    → AreWritten g rule weight budget from (count + 1) old new next
-one_more_written g rule weight budget from count old mid new status told text next so_far here same taken greater =
+    → AreWritten g rule weight kind budget from (count + 1) old new next
+one_more_written g rule weight kind budget from count old mid new status told text next so_far here same taken greater =
     let line : Line = record { deal = from + count; told = told } in
     let whole = so_far.whole in
     record {
       lines = so_far.lines ++ line ∷ [];
-      right = one_more_line g rule weight budget from (from + count) so_far.lines told so_far.right (omega (arith, whole)) here;
+      right = one_more_line g rule weight kind budget from (from + count) so_far.lines told so_far.right (omega (arith, whole)) here;
       whole = omega (arith, whole, length-append so_far.lines (line ∷ []));
       written = subst (Takes old new) (text_more so_far.lines line)
           (Takes-both old mid new (flat_map line_text so_far.lines) (line_text line) so_far.written (subst (Takes mid new) same taken));
@@ -228,16 +231,16 @@ one_more_written g rule weight budget from count old mid new status told text ne
     }
 
 -- and one whose text was cut short
-pub cut_short : (g : GameRules) (rule weight budget from count most : ℕ) (mid : Option (List ℕ)) (sink : Device) (status : ℕ) (told : Option Outcome)
-    (text : List ℕ) → AreWritten g rule weight budget from count sink.old mid status → IsRightOf g rule weight budget (from + count) told
+pub cut_short : (g : GameRules) (rule weight : ℕ) (kind : BoundKind) (budget from count most : ℕ) (mid : Option (List ℕ)) (sink : Device) (status : ℕ) (told : Option Outcome)
+    (text : List ℕ) → AreWritten g rule weight kind budget from count sink.old mid status → IsRightOf g rule weight kind budget (from + count) told
     → text ≡ line_text (record { deal = from + count; told = told }) → TakesFront mid sink.new text → count < most → IsTrue sink.failed
-    → AreCutShort g rule weight budget from most sink
-cut_short g rule weight budget from count most mid sink status told text so_far here same front within failed =
+    → AreCutShort g rule weight kind budget from most sink
+cut_short g rule weight kind budget from count most mid sink status told text so_far here same front within failed =
     let line : Line = record { deal = from + count; told = told } in
     let whole = so_far.whole in
     record {
       lines = so_far.lines ++ line ∷ [];
-      right = one_more_line g rule weight budget from (from + count) so_far.lines told so_far.right (omega (arith, whole)) here;
+      right = one_more_line g rule weight kind budget from (from + count) so_far.lines told so_far.right (omega (arith, whole)) here;
       some = omega (arith, whole, within, length-append so_far.lines (line ∷ []));
       front = subst (TakesFront sink.old sink.new) (text_more so_far.lines line)
           (takes_then_front sink.old mid sink.new (flat_map line_text so_far.lines) (line_text line) so_far.written (subst (TakesFront mid sink.new) same front));
@@ -245,9 +248,9 @@ cut_short g rule weight budget from count most mid sink status told text so_far 
     }
 
 -- all lines are written to a sink that hasn't failed
-pub all_told : (g : GameRules) (rule weight budget from count : ℕ) (sink : Device) (status : ℕ)
-    → AreWritten g rule weight budget from count sink.old sink.new status → (IsTrue sink.failed → ⊥) → AreTold g rule weight budget from count sink status
-all_told g rule weight budget from count sink status all sound = record {
+pub all_told : (g : GameRules) (rule weight : ℕ) (kind : BoundKind) (budget from count : ℕ) (sink : Device) (status : ℕ)
+    → AreWritten g rule weight kind budget from count sink.old sink.new status → (IsTrue sink.failed → ⊥) → AreTold g rule weight kind budget from count sink status
+all_told g rule weight kind budget from count sink status all sound = record {
   lines = all.lines;
   right = all.right;
   whole = all.whole;
@@ -257,15 +260,15 @@ all_told g rule weight budget from count sink status all sound = record {
 }
 
 -- a batch to which the search of the next deal was added
-pub held_more : (g : GameRules) (rule weight budget from count : ℕ) (old new : Batch) (search : State) → HoldsDeals g rule weight budget from count old
-    → OthersStay count old new → search_at new count ≡ Some search → IsSearchOf g rule weight budget (from + count) search
-    → HoldsDeals g rule weight budget from (count + 1) new
-held_more g rule weight budget from count old new search holds others there here i within =
+pub held_more : (g : GameRules) (rule weight : ℕ) (kind : BoundKind) (budget from count : ℕ) (old new : Batch) (search : State) → HoldsDeals g rule weight kind budget from count old
+    → OthersStay count old new → search_at new count ≡ Some search → IsSearchOf g rule weight kind budget (from + count) search
+    → HoldsDeals g rule weight kind budget from (count + 1) new
+held_more g rule weight kind budget from count old new search holds others there here i within =
     ⊎_elim
     (λ (same : i ≡ count). (
       search,
       subst (λ k. search_at new k ≡ Some search) (sym same) there,
-      subst (λ k. IsSearchOf g rule weight budget (from + k) search) (sym same) here,
+      subst (λ k. IsSearchOf g rule weight kind budget (from + k) search) (sym same) here,
     ))
     (λ (other : i ≢ count).
     let before = holds i (omega (arith, within, other)) in

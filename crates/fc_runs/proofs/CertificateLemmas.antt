@@ -3,6 +3,8 @@ use Rattle.std.proofs.Common.{◌≡◌, ◌∙◌, ℕ, List, Some, length, ref
 use Rattle.fc_io.specs.Moves.{Takes, TakesFront}
 use Rattle.fc_position.specs.Board.{Board}
 use Rattle.fc_moves.specs.GameRules.{GameRules, IsGame, IsPositionOf}
+use Rattle.fc_bound.specs.declared.kinds.BoundKind.{BoundKind}
+use Rattle.fc_bound.specs.declared.kinds.BoundKind.TheVariants.{Plain, Clearing}
 use Rattle.fc_answers.specs.declared.answers.Answer.{Answer}
 use Rattle.fc_answers.specs.declared.answers.Answer.TheVariants.{Shortest, Won, CannotWin, GaveUp}
 use Rattle.fc_answers.specs.Verdict.{verdict_of}
@@ -13,7 +15,7 @@ use Rattle.fc_cert.specs.Claim.{IsWrittenAs}
 use Rattle.fc_cert.specs.Content.{Content, bytes_of}
 use Rattle.fc_cert.proofs.CertifiedLemmas.{backed_certified, backed_spelled}
 use Rattle.fc_cert.specs.declared.faults.CertFault.TheVariants.{Write}
-use Rattle.fc_cert.specs.Writing.{SinkState, WritesAnswer}
+use Rattle.fc_cert.specs.Writing.{SinkState, IsUncertified, WritesAnswer}
 use Rattle.fc_runs.specs.Devices.{Device}
 use Rattle.fc_search.specs.Search.{IsRunToEnd}
 use Rattle.fc_runs.specs.declared.faults.Output.TheVariants.{Answer as of_answer, Cert as of_certificate}
@@ -21,22 +23,22 @@ use Rattle.fc_runs.specs.declared.faults.ProgramFault.TheVariants.{Write as unwr
 use Rattle.fc_runs.specs.AnswerText.{answer_text, status_of}
 use Rattle.fc_runs.specs.Solving.{IsAnswered, IsCertificateOf, IsCertified, IsCutShort, IsUnanswered}
 
-pub certifies : (g : GameRules) (rule weight : ℕ) (b : Board) (budget : ℕ) (answered : Answer) (c : Content) → IsGame g → IsPositionOf g b
-    → Answers g rule weight b budget answered → IsWrittenAs g answered c → IsCertificateOf g rule b (verdict_of answered) (bytes_of c)
-certifies g rule weight b budget (Shortest moves table) c game position answers same =
+pub certifies : (g : GameRules) (rule weight : ℕ) (kind : BoundKind) (b : Board) (budget : ℕ) (answered : Answer) (c : Content) → IsGame g → IsPositionOf g b
+    → Answers g rule weight kind b budget answered → IsWrittenAs g answered c → IsCertificateOf g rule b (verdict_of answered) (bytes_of c)
+certifies g rule weight kind b budget (Shortest moves table) c game position answers (plain, same) =
     let said : Claim = claim.Shortest (length moves) in
     record {
       claim = said;
       claimed = refl;
-      proves = backed_certified g b (Shortest moves table) c said game position answers.backed answers.told.right.wins answers.told.written same refl;
+      proves = backed_certified g b (Shortest moves table) c said game position answers.backed answers.told.right.wins answers.told.written (plain, same) refl;
       content = c;
-      spelled = backed_spelled g b (Shortest moves table) c said game answers.backed answers.told.right.wins answers.told.written same refl;
+      spelled = backed_spelled g b (Shortest moves table) c said game answers.backed answers.told.right.wins answers.told.written (plain, same) refl;
       form = ap (λ x. x.head.form) same;
-      ruled = ap (λ x. x.head.rule) same ∙ answers.ruled;
+      ruled = ap (λ x. x.head.rule) same ∙ answers.searched.0;
       listed = ap (λ x. x.moves) same;
     }
-certifies g rule weight b budget (Won moves) c game position answers same = absurd same
-certifies g rule weight b budget (CannotWin table) c game position answers same =
+certifies g rule weight kind b budget (Won moves floor table) c game position answers same = absurd same
+certifies g rule weight kind b budget (CannotWin table) c game position answers same =
     record {
       claim = claim.CannotWin;
       claimed = refl;
@@ -44,10 +46,10 @@ certifies g rule weight b budget (CannotWin table) c game position answers same 
       content = c;
       spelled = backed_spelled g b (CannotWin table) c claim.CannotWin game answers.backed tt answers.told.written same refl;
       form = ap (λ x. x.head.form) same;
-      ruled = ap (λ x. x.head.rule) same ∙ answers.ruled;
+      ruled = ap (λ x. x.head.rule) same ∙ answers.searched.0;
       listed = ap (λ x. x.moves) same;
     }
-certifies g rule weight b budget (GaveUp told) c game position answers same = absurd same
+certifies g rule weight kind b budget (GaveUp told) c game position answers same = absurd same
 
 -- a sink that a certificate is written to, as a device
 abbrev pub device_of : SinkState → SinkState → Device
@@ -58,42 +60,56 @@ sound : (new : SinkState) → new.has_failed ≡ false → IsTrue new.has_failed
 sound new is failed = absurd (cc (is, failed))
 
 -- the sink took the certificate of an answer, whole
-pub written_whole : (g : GameRules) (rule weight : ℕ) (b : Board) (budget : ℕ) (answered : Answer) (old new : SinkState) (done : Unit {0}) → IsGame g
-    → IsPositionOf g b → Answers g rule weight b budget answered → WritesAnswer g answered old new (Ok done)
-    → IsCertified g rule b (verdict_of answered) (device_of old new)
-written_whole g rule weight b budget (Shortest moves table) old new done game position answers (c, same, whole) = (
-  (bytes_of c, certifies g rule weight b budget (Shortest moves table) c game position answers same, whole.taken),
+pub written_whole : (g : GameRules) (rule weight : ℕ) (kind : BoundKind) (b : Board) (budget : ℕ) (answered : Answer) (old new : SinkState) (done : Unit {0}) → IsGame g
+    → IsPositionOf g b → Answers g rule weight kind b budget answered → WritesAnswer g answered old new (Ok done)
+    → IsCertified g rule kind b (verdict_of answered) (device_of old new)
+written_whole g rule weight Plain b budget (Shortest moves table) old new done game position answers (c, same, whole) = (
+  (bytes_of c, certifies g rule weight Plain b budget (Shortest moves table) c game position answers same, whole.taken),
   sound new whole.is_sound,
 )
-written_whole g rule weight b budget (Won moves) old new done game position answers (c, same, whole) = absurd same
-written_whole g rule weight b budget (CannotWin table) old new done game position answers (c, same, whole) = (
-  (bytes_of c, certifies g rule weight b budget (CannotWin table) c game position answers same, whole.taken),
+written_whole g rule weight Clearing b budget (Shortest moves table) old new done game position answers (c, same, whole) =
+    let kind = answers.searched.1 in
+    let plain = same.0 in
+    absurd (cc (kind, plain))
+written_whole g rule weight kind b budget (Won moves floor table) old new done game position answers (c, same, whole) = absurd same
+written_whole g rule weight kind b budget (CannotWin table) old new done game position answers (c, same, whole) = (
+  (bytes_of c, certifies g rule weight kind b budget (CannotWin table) c game position answers same, whole.taken),
   sound new whole.is_sound,
 )
-written_whole g rule weight b budget (GaveUp told) old new done game position answers (c, same, whole) = absurd same
+written_whole g rule weight kind b budget (GaveUp told) old new done game position answers (c, same, whole) = absurd same
+
+-- an answer that has no certificate leaves the sink as it was
+pub unwritten_whole : (g : GameRules) (rule weight : ℕ) (kind : BoundKind) (b : Board) (budget : ℕ) (answered : Answer) (old new : SinkState)
+    → Answers g rule weight kind b budget answered → IsUncertified answered × (new ≡ old)
+    → IsCertified g rule kind b (verdict_of answered) (device_of old new)
+unwritten_whole g rule weight Plain b budget (Shortest moves table) old new answers (other, same) = absurd (other answers.searched.1)
+unwritten_whole g rule weight Clearing b budget (Shortest moves table) old new answers (other, same) = ap (λ s. s.held) same
+unwritten_whole g rule weight kind b budget (Won moves floor table) old new answers (other, same) = ap (λ s. s.held) same
+unwritten_whole g rule weight kind b budget (CannotWin table) old new answers (other, same) = absurd other
+unwritten_whole g rule weight kind b budget (GaveUp told) old new answers (other, same) = ap (λ s. s.held) same
 
 -- the sink failed while it was given the certificate of an answer
-pub written_short : (g : GameRules) (rule weight : ℕ) (b : Board) (budget : ℕ) (answered : Answer) (old new : SinkState) → IsGame g
-    → IsPositionOf g b → Answers g rule weight b budget answered → WritesAnswer g answered old new (Err Write)
+pub written_short : (g : GameRules) (rule weight : ℕ) (kind : BoundKind) (b : Board) (budget : ℕ) (answered : Answer) (old new : SinkState) → IsGame g
+    → IsPositionOf g b → Answers g rule weight kind b budget answered → WritesAnswer g answered old new (Err Write)
     → IsCutShort g rule b (verdict_of answered) (device_of old new)
-written_short g rule weight b budget answered old new game position answers (c, same, short) = (
-  (bytes_of c, certifies g rule weight b budget answered c game position answers same, short.front),
+written_short g rule weight kind b budget answered old new game position answers (c, same, short) = (
+  (bytes_of c, certifies g rule weight kind b budget answered c game position answers same, short.front),
   short.failed,
 )
 
 -- a certificate that is cut short leaves the board unanswered
-pub uncertified : (g : GameRules) (rule weight : ℕ) (b : Board) (budget : ℕ) (answered : Answer) (cert sink : Device) → Answers g rule weight b budget answered
-    → IsRunToEnd g rule weight b budget (verdict_of answered) → IsCutShort g rule b (verdict_of answered) cert → sink.new ≡ sink.old
-    → IsUnanswered g rule weight b budget (Some cert) sink (unwritten of_certificate)
-uncertified g rule weight b budget answered cert sink answers ran cut same =
+pub uncertified : (g : GameRules) (rule weight : ℕ) (kind : BoundKind) (b : Board) (budget : ℕ) (answered : Answer) (cert sink : Device) → Answers g rule weight kind b budget answered
+    → IsRunToEnd g rule weight kind b budget (verdict_of answered) → IsCutShort g rule b (verdict_of answered) cert → sink.new ≡ sink.old
+    → IsUnanswered g rule weight kind b budget (Some cert) sink (unwritten of_certificate)
+uncertified g rule weight kind b budget answered cert sink answers ran cut same =
     (verdict_of answered, record { right = answers.told; ran = ran }, (cert, refl, cut), same)
 
 -- an answer whose text was written after its certificate
-pub told_whole : (g : GameRules) (rule weight : ℕ) (b : Board) (budget : ℕ) (answered : Answer) (cert sink : Device) (text : List ℕ) (status : ℕ)
-    → Answers g rule weight b budget answered → IsRunToEnd g rule weight b budget (verdict_of answered) → IsCertified g rule b (verdict_of answered) cert
+pub told_whole : (g : GameRules) (rule weight : ℕ) (kind : BoundKind) (b : Board) (budget : ℕ) (answered : Answer) (cert sink : Device) (text : List ℕ) (status : ℕ)
+    → Answers g rule weight kind b budget answered → IsRunToEnd g rule weight kind b budget (verdict_of answered) → IsCertified g rule kind b (verdict_of answered) cert
     → text ≡ answer_text (verdict_of answered) → Takes sink.old sink.new text → (IsTrue sink.failed → ⊥)
-    → status ≡ status_of (verdict_of answered) → IsAnswered g rule weight b budget (Some cert) sink status
-told_whole g rule weight b budget answered cert sink text status answers ran certified same taken sound told = record {
+    → status ≡ status_of (verdict_of answered) → IsAnswered g rule weight kind b budget (Some cert) sink status
+told_whole g rule weight kind b budget answered cert sink text status answers ran certified same taken sound told = record {
   verdict = verdict_of answered;
   decided = record { right = answers.told; ran = ran };
   certified = certified;
@@ -103,11 +119,11 @@ told_whole g rule weight b budget answered cert sink text status answers ran cer
 }
 
 -- and one whose text was cut short
-pub told_short : (g : GameRules) (rule weight : ℕ) (b : Board) (budget : ℕ) (answered : Answer) (cert sink : Device) (text : List ℕ)
-    → Answers g rule weight b budget answered → IsRunToEnd g rule weight b budget (verdict_of answered) → IsCertified g rule b (verdict_of answered) cert
+pub told_short : (g : GameRules) (rule weight : ℕ) (kind : BoundKind) (b : Board) (budget : ℕ) (answered : Answer) (cert sink : Device) (text : List ℕ)
+    → Answers g rule weight kind b budget answered → IsRunToEnd g rule weight kind b budget (verdict_of answered) → IsCertified g rule kind b (verdict_of answered) cert
     → text ≡ answer_text (verdict_of answered) → TakesFront sink.old sink.new text → IsTrue sink.failed
-    → IsUnanswered g rule weight b budget (Some cert) sink (unwritten of_answer)
-told_short g rule weight b budget answered cert sink text answers ran certified same front failed = (
+    → IsUnanswered g rule weight kind b budget (Some cert) sink (unwritten of_answer)
+told_short g rule weight kind b budget answered cert sink text answers ran certified same front failed = (
   verdict_of answered,
   record { right = answers.told; ran = ran },
   certified,

@@ -14,9 +14,17 @@ use Rattle.fc_cert.specs.declared.claims.Claim.TheVariants as claim
 abbrev pub list_text : List Move → List ℕ
 list_text moves = join_with_byte 32 (map move_text moves)
 
--- what is known of a list that wins, by these words, how many moves it has, and the line of the moves
-abbrev pub won_text : List ℕ → List Move → List ℕ
-won_text words moves = words ++ decimal (length moves) ++ codes "\n" ++ list_text moves ++ codes "\n"
+-- how many moves a shortest list has
+abbrev pub shortest_line : ℕ → List ℕ
+shortest_line count = codes "shortest " ++ decimal count ++ codes "\n"
+
+-- how many moves a list has that wins, and how many each such list has at least
+abbrev pub won_line : ℕ → ℕ → List ℕ
+won_line count floor = codes "won " ++ decimal count ++ codes ", at least " ++ decimal floor ++ codes "\n"
+
+-- the line of the moves
+abbrev pub moves_line : List Move → List ℕ
+moves_line moves = list_text moves ++ codes "\n"
 
 -- that a search gave up, and its budget
 abbrev pub gave_up_text : ℕ → List ℕ
@@ -24,29 +32,29 @@ gave_up_text budget = codes "gave up " ++ decimal budget ++ codes "\n"
 
 -- what is printed
 abbrev pub answer_text : Verdict → List ℕ
-answer_text (Shortest moves) = won_text (codes "shortest ") moves
-answer_text (Won moves) = won_text (codes "won ") moves
+answer_text (Shortest moves) = shortest_line (length moves) ++ moves_line moves
+answer_text (Won moves floor) = won_line (length moves) floor ++ moves_line moves
 answer_text CannotWin = codes "can't be won\n"
 answer_text (GaveUp budget) = gave_up_text budget
 
 -- the exit status that goes with it
 abbrev pub status_of : Verdict → ℕ
 status_of (Shortest moves) = 0
-status_of (Won moves) = 0
+status_of (Won moves floor) = 0
 status_of CannotWin = 1
 status_of (GaveUp budget) = 2
 
 -- what is printed of an answer without its moves, on one line
 abbrev pub outcome_text : Outcome → List ℕ
-outcome_text (outcome.Shortest count) = codes "shortest " ++ decimal count ++ codes "\n"
-outcome_text (outcome.Won count) = codes "won " ++ decimal count ++ codes "\n"
+outcome_text (outcome.Shortest count) = shortest_line count
+outcome_text (outcome.Won count floor) = won_line count floor
 outcome_text outcome.CannotWin = codes "can't be won\n"
 outcome_text (outcome.GaveUp budget) = gave_up_text budget
 
 -- and the exit status that goes with it
 abbrev pub outcome_status : Outcome → ℕ
 outcome_status (outcome.Shortest count) = 0
-outcome_status (outcome.Won count) = 0
+outcome_status (outcome.Won count floor) = 0
 outcome_status outcome.CannotWin = 1
 outcome_status (outcome.GaveUp budget) = 2
 

@@ -4,6 +4,7 @@ use Rattle.std.specs.List.{flat_map}
 use Rattle.fc_io.specs.Moves.{Takes, TakesFront}
 use Rattle.fc_moves.specs.GameRules.{GameRules}
 use Rattle.fc_deal.specs.Deal.{IsDealNumber, dealt_board}
+use Rattle.fc_bound.specs.declared.kinds.BoundKind.{BoundKind}
 use Rattle.fc_answers.specs.declared.answers.Outcome.{Outcome}
 use Rattle.fc_answers.specs.declared.answers.Verdict.{Verdict}
 use Rattle.fc_answers.specs.Verdict.{outcome_of}
@@ -44,26 +45,26 @@ abbrev pub greatest_status : List Line → ℕ
 greatest_status [] = 0
 greatest_status (line ∷ lines) = max (told_status line.told) (greatest_status lines)
 
--- an answer without moves is told of a deal: that of a verdict that is right for its board, of a search by the home rule and
--- the weight that ran to its end with the budget
-pub record IsToldOf (g : GameRules) (rule : ℕ) (weight : ℕ) (budget : ℕ) (deal : ℕ) (told : Outcome) : Type 0 where
+-- an answer without moves is told of a deal: that of a verdict that is right for its board, of a search by the home rule,
+-- the weight and the kind of bound that ran to its end with the budget
+pub record IsToldOf (g : GameRules) (rule : ℕ) (weight : ℕ) (kind : BoundKind) (budget : ℕ) (deal : ℕ) (told : Outcome) : Type 0 where
   pub verdict : Verdict
-  pub decided : IsDecided g rule weight (dealt_board deal) budget verdict
+  pub decided : IsDecided g rule weight kind (dealt_board deal) budget verdict
   pub answer : told ≡ outcome_of verdict
 
 -- memory stopped the search of a deal
-abbrev pub IsStopped : GameRules → ℕ → ℕ → ℕ → ℕ → Type 0
-IsStopped g rule weight budget deal = (last : Store (List ℕ)) × HasRun g rule weight (dealt_board deal) budget last Stopped
+abbrev pub IsStopped : GameRules → ℕ → ℕ → BoundKind → ℕ → ℕ → Type 0
+IsStopped g rule weight kind budget deal = (last : Store (List ℕ)) × HasRun g rule weight kind (dealt_board deal) budget last Stopped
 
 -- what is told of a deal is right: its answer, or that memory was wanted
-abbrev pub IsRightOf : GameRules → ℕ → ℕ → ℕ → ℕ → Option Outcome → Type 0
-IsRightOf g rule weight budget deal (Some told) = IsToldOf g rule weight budget deal told
-IsRightOf g rule weight budget deal None = IsStopped g rule weight budget deal
+abbrev pub IsRightOf : GameRules → ℕ → ℕ → BoundKind → ℕ → ℕ → Option Outcome → Type 0
+IsRightOf g rule weight kind budget deal (Some told) = IsToldOf g rule weight kind budget deal told
+IsRightOf g rule weight kind budget deal None = IsStopped g rule weight kind budget deal
 
 -- lines that are right, one a deal, rising from this one
-pub record AreLines (g : GameRules) (rule : ℕ) (weight : ℕ) (budget : ℕ) (from : ℕ) (lines : List Line) : Type 0 where
+pub record AreLines (g : GameRules) (rule : ℕ) (weight : ℕ) (kind : BoundKind) (budget : ℕ) (from : ℕ) (lines : List Line) : Type 0 where
   pub rising : (i : ℕ) (line : Line) → slice_get lines i ≡ Some line → line.deal ≡ from + i
-  pub right : (i : ℕ) (line : Line) → slice_get lines i ≡ Some line → IsRightOf g rule weight budget line.deal line.told
+  pub right : (i : ℕ) (line : Line) → slice_get lines i ≡ Some line → IsRightOf g rule weight kind budget line.deal line.told
 
 -- the deals from the one number to the other are at least one and at most 32
 pub record IsRange (from to : ℕ) : Type 0 where
@@ -77,9 +78,9 @@ pub record AreDeals (from to : ℕ) : Type 0 where
   pub range : IsRange from to
 
 -- so many deals were told: the sink took a line for each, and the status is the greatest of theirs
-pub record AreTold (g : GameRules) (rule : ℕ) (weight : ℕ) (budget : ℕ) (from count : ℕ) (sink : Device) (status : ℕ) : Type 0 where
+pub record AreTold (g : GameRules) (rule : ℕ) (weight : ℕ) (kind : BoundKind) (budget : ℕ) (from count : ℕ) (sink : Device) (status : ℕ) : Type 0 where
   pub lines : List Line
-  pub right : AreLines g rule weight budget from lines
+  pub right : AreLines g rule weight kind budget from lines
   pub whole : length lines ≡ count
   pub written : Takes sink.old sink.new (flat_map line_text lines)
   pub sound : IsTrue sink.failed → ⊥
@@ -92,15 +93,15 @@ pub record IsAsked (from to budget : ℕ) (count : ℕ) : Type 0 where
   pub whole : from + count ≡ to + 1
 
 -- a batch was told: it can be asked for, and each of its deals was told
-pub record IsBatched (g : GameRules) (rule : ℕ) (weight : ℕ) (from to : ℕ) (budget : ℕ) (sink : Device) (status : ℕ) : Type 0 where
+pub record IsBatched (g : GameRules) (rule : ℕ) (weight : ℕ) (kind : BoundKind) (from to : ℕ) (budget : ℕ) (sink : Device) (status : ℕ) : Type 0 where
   pub count : ℕ
   pub asked : IsAsked from to budget count
-  pub told : AreTold g rule weight budget from count sink status
+  pub told : AreTold g rule weight kind budget from count sink status
 
 -- the sink failed while it was given the lines of at most so many deals
-pub record AreCutShort (g : GameRules) (rule : ℕ) (weight : ℕ) (budget : ℕ) (from count : ℕ) (sink : Device) : Type 0 where
+pub record AreCutShort (g : GameRules) (rule : ℕ) (weight : ℕ) (kind : BoundKind) (budget : ℕ) (from count : ℕ) (sink : Device) : Type 0 where
   pub lines : List Line
-  pub right : AreLines g rule weight budget from lines
+  pub right : AreLines g rule weight kind budget from lines
   pub some : length lines ≤ count
   pub front : TakesFront sink.old sink.new (flat_map line_text lines)
   pub failed : IsTrue sink.failed
@@ -116,22 +117,22 @@ IsUnasked from to budget other = ⊥
 
 -- why no batch was told, or not all of it: it can't be asked for, or a growth was refused before the first turn, and nothing is
 -- written; or the sink failed
-abbrev pub IsBatchFault : GameRules → ℕ → ℕ → ℕ → ℕ → ℕ → Device → ProgramFault → Type 0
-IsBatchFault g rule weight from to budget sink Memory = ((count : ℕ) × IsAsked from to budget count) × IsUntouched sink
-IsBatchFault g rule weight from to budget sink (Write of_answer) =
-    (count : ℕ) × IsAsked from to budget count × AreCutShort g rule weight budget from count sink
-IsBatchFault g rule weight from to budget sink fault = IsUnasked from to budget fault × IsUntouched sink
+abbrev pub IsBatchFault : GameRules → ℕ → ℕ → BoundKind → ℕ → ℕ → ℕ → Device → ProgramFault → Type 0
+IsBatchFault g rule weight kind from to budget sink Memory = ((count : ℕ) × IsAsked from to budget count) × IsUntouched sink
+IsBatchFault g rule weight kind from to budget sink (Write of_answer) =
+    (count : ℕ) × IsAsked from to budget count × AreCutShort g rule weight kind budget from count sink
+IsBatchFault g rule weight kind from to budget sink fault = IsUnasked from to budget fault × IsUntouched sink
 
 -- the search of a deal: asked for its board, with the budget, and run on to where it stands
-pub record IsSearchOf (g : GameRules) (rule : ℕ) (weight : ℕ) (budget : ℕ) (deal : ℕ) (s : State) : Type 0 where
-  pub question : s.question ≡ record { game = g; rule = rule; weight = weight; start = dealt_board deal }
+pub record IsSearchOf (g : GameRules) (rule : ℕ) (weight : ℕ) (kind : BoundKind) (budget : ℕ) (deal : ℕ) (s : State) : Type 0 where
+  pub question : s.question ≡ record { game = g; rule = rule; weight = weight; bound = kind; start = dealt_board deal }
   pub budgeted : s.budget ≡ budget
-  pub ran : HasRun g rule weight (dealt_board deal) budget s.store s.status
+  pub ran : HasRun g rule weight kind (dealt_board deal) budget s.store s.status
 
 -- a batch holds the searches of so many deals, rising from this one, under the numbers from 0
-abbrev pub HoldsDeals : GameRules → ℕ → ℕ → ℕ → ℕ → ℕ → Batch → Type 0
-HoldsDeals g rule weight budget from count batch =
-    (i : ℕ) → i < count → (s : State) × (search_at batch i ≡ Some s) × IsSearchOf g rule weight budget (from + i) s
+abbrev pub HoldsDeals : GameRules → ℕ → ℕ → BoundKind → ℕ → ℕ → ℕ → Batch → Type 0
+HoldsDeals g rule weight kind budget from count batch =
+    (i : ℕ) → i < count → (s : State) × (search_at batch i ≡ Some s) × IsSearchOf g rule weight kind budget (from + i) s
 
 -- no search with one of the first numbers runs
 abbrev pub HaveEnded : ℕ → Batch → Type 0

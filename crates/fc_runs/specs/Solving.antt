@@ -4,6 +4,8 @@ use Rattle.fc_io.specs.Moves.{Takes, TakesFront, Stays}
 use Rattle.fc_position.specs.Board.{Board}
 use Rattle.fc_moves.specs.declared.steps.Move.{Move}
 use Rattle.fc_moves.specs.GameRules.{GameRules}
+use Rattle.fc_bound.specs.declared.kinds.BoundKind.{BoundKind}
+use Rattle.fc_bound.specs.declared.kinds.BoundKind.TheVariants.{Plain, Clearing}
 use Rattle.fc_answers.specs.declared.answers.Verdict.{Verdict}
 use Rattle.fc_answers.specs.declared.answers.Verdict.TheVariants.{Shortest, Won, CannotWin, GaveUp}
 use Rattle.fc_best_first.specs.Search.{IsBudget}
@@ -20,22 +22,23 @@ use Rattle.fc_runs.specs.declared.faults.ProgramFault.TheVariants.{Budget, Board
 use Rattle.fc_runs.specs.AnswerText.{answer_text, status_of}
 use Rattle.fc_runs.specs.Devices.{Device, GivesBoard, GivesFault, IsUntouched}
 
--- the verdict is right for the board, and that of a search by the home rule and the weight that ran to its end within the budget
-pub record IsDecided (g : GameRules) (rule : ℕ) (weight : ℕ) (b : Board) (budget : ℕ) (verdict : Verdict) : Type 0 where
-  pub right : IsVerdict g rule weight b budget verdict
-  pub ran : IsRunToEnd g rule weight b budget verdict
+-- the verdict is right for the board, and that of a search by the home rule, the weight and the kind of bound that ran to its
+-- end within the budget
+pub record IsDecided (g : GameRules) (rule : ℕ) (weight : ℕ) (kind : BoundKind) (b : Board) (budget : ℕ) (verdict : Verdict) : Type 0 where
+  pub right : IsVerdict g rule weight kind b budget verdict
+  pub ran : IsRunToEnd g rule weight kind b budget verdict
 
 -- what a verdict claims, if anything: a list that isn't known to be shortest and a search that gave up claim nothing
 abbrev pub claim_of : Verdict → Option Claim
 claim_of (Shortest moves) = Some (claim.Shortest (length moves))
-claim_of (Won moves) = None
+claim_of (Won moves floor) = None
 claim_of CannotWin = Some claim.CannotWin
 claim_of (GaveUp told) = None
 
 -- the moves that a verdict tells
 abbrev pub moves_of : Verdict → List Move
 moves_of (Shortest moves) = moves
-moves_of (Won moves) = moves
+moves_of (Won moves floor) = moves
 moves_of CannotWin = []
 moves_of (GaveUp told) = []
 
@@ -50,12 +53,19 @@ pub record IsCertificateOf (g : GameRules) (rule : ℕ) (b : Board) (verdict : V
   pub ruled : content.head.rule ≡ rule
   pub listed : content.moves ≡ moves_of verdict
 
--- a sink took a certificate of the verdict, all of it; of a verdict that claims nothing, nothing
-abbrev pub IsCertified : GameRules → ℕ → Board → Verdict → Device → Type 0
-IsCertified g rule b (Won moves) sink = IsUntouched sink
-IsCertified g rule b (GaveUp told) sink = IsUntouched sink
-IsCertified g rule b verdict sink =
+-- a sink took a certificate of the verdict, all of it; where its table isn't of the plain bound, nothing
+abbrev pub TakesCertificate : BoundKind → GameRules → ℕ → Board → Verdict → Device → Type 0
+TakesCertificate Plain g rule b verdict sink =
     ((bytes : List ℕ) × IsCertificateOf g rule b verdict bytes × Takes sink.old sink.new bytes) × (IsTrue sink.failed → ⊥)
+TakesCertificate Clearing g rule b verdict sink = IsUntouched sink
+
+-- a sink took what there is of certificates of the verdict: of a list within a weight and of giving up nothing; a table that no
+-- list wins is of any bound
+abbrev pub IsCertified : GameRules → ℕ → BoundKind → Board → Verdict → Device → Type 0
+IsCertified g rule kind b (Shortest moves) sink = TakesCertificate kind g rule b (Shortest moves) sink
+IsCertified g rule kind b (Won moves floor) sink = IsUntouched sink
+IsCertified g rule kind b CannotWin sink = TakesCertificate Plain g rule b CannotWin sink
+IsCertified g rule kind b (GaveUp told) sink = IsUntouched sink
 
 -- a sink failed while it was given a certificate of the verdict
 abbrev pub IsCutShort : GameRules → ℕ → Board → Verdict → Device → Type 0
@@ -64,10 +74,10 @@ IsCutShort g rule b verdict sink =
 
 -- a board was answered: a verdict was decided, the sink of certificates, where there is one, took its certificate, and the
 -- sink of answers its text, and the status is told
-pub record IsAnswered (g : GameRules) (rule : ℕ) (weight : ℕ) (b : Board) (budget : ℕ) (cert : Option Device) (sink : Device) (status : ℕ) : Type 0 where
+pub record IsAnswered (g : GameRules) (rule : ℕ) (weight : ℕ) (kind : BoundKind) (b : Board) (budget : ℕ) (cert : Option Device) (sink : Device) (status : ℕ) : Type 0 where
   pub verdict : Verdict
-  pub decided : IsDecided g rule weight b budget verdict
-  pub certified : IfSome cert (IsCertified g rule b verdict)
+  pub decided : IsDecided g rule weight kind b budget verdict
+  pub certified : IfSome cert (IsCertified g rule kind b verdict)
   pub written : Takes sink.old sink.new (answer_text verdict)
   pub sound : IsTrue sink.failed → ⊥
   pub told : status ≡ status_of verdict
@@ -79,20 +89,20 @@ NothingIsWritten cert sink = IfSome cert IsUntouched × IsUntouched sink
 -- why a board wasn't answered, each fault only where those before it have no cause: a growth was refused, and nothing is
 -- written; the certificate couldn't be written, and nothing of the answer is; or the answer couldn't be, and its certificate
 -- stands
-abbrev pub IsUnanswered : GameRules → ℕ → ℕ → Board → ℕ → Option Device → Device → ProgramFault → Type 0
-IsUnanswered g rule weight b budget cert sink Memory = NothingIsWritten cert sink
-IsUnanswered g rule weight b budget cert sink (Write of_certificate) = (verdict : Verdict) × IsDecided g rule weight b budget verdict
+abbrev pub IsUnanswered : GameRules → ℕ → ℕ → BoundKind → Board → ℕ → Option Device → Device → ProgramFault → Type 0
+IsUnanswered g rule weight kind b budget cert sink Memory = NothingIsWritten cert sink
+IsUnanswered g rule weight kind b budget cert sink (Write of_certificate) = (verdict : Verdict) × IsDecided g rule weight kind b budget verdict
     × ((lent : Device) × (cert ≡ Some lent) × IsCutShort g rule b verdict lent) × IsUntouched sink
-IsUnanswered g rule weight b budget cert sink (Write of_answer) = (verdict : Verdict) × IsDecided g rule weight b budget verdict
-    × IfSome cert (IsCertified g rule b verdict) × TakesFront sink.old sink.new (answer_text verdict) × IsTrue sink.failed
-IsUnanswered g rule weight b budget cert sink other = ⊥
+IsUnanswered g rule weight kind b budget cert sink (Write of_answer) = (verdict : Verdict) × IsDecided g rule weight kind b budget verdict
+    × IfSome cert (IsCertified g rule kind b verdict) × TakesFront sink.old sink.new (answer_text verdict) × IsTrue sink.failed
+IsUnanswered g rule weight kind b budget cert sink other = ⊥
 
 -- solving was answered: the budget is one, and the source gave the text of a position, which was answered
-pub record IsSolved (g : GameRules) (rule : ℕ) (weight : ℕ) (budget : ℕ) (source : Device) (cert : Option Device) (sink : Device) (status : ℕ) : Type 0 where
+pub record IsSolved (g : GameRules) (rule : ℕ) (weight : ℕ) (kind : BoundKind) (budget : ℕ) (source : Device) (cert : Option Device) (sink : Device) (status : ℕ) : Type 0 where
   pub budgeted : IsBudget budget
   pub start : Board
   pub given : GivesBoard g.cells source start
-  pub answered : IsAnswered g rule weight start budget cert sink status
+  pub answered : IsAnswered g rule weight kind start budget cert sink status
 
 -- why no position was given to be solved, each fault only where those before it have no cause: the budget is none, and nothing
 -- is read; or the source has failed, or its text has a fault
@@ -103,11 +113,11 @@ IsStartFault g budget source (bad_board fault) = IsBudget budget × GivesFault g
 IsStartFault g budget source other = ⊥
 
 -- a position was given, and wasn't answered
-abbrev pub IsGivenUnanswered : GameRules → ℕ → ℕ → ℕ → Device → Option Device → Device → ProgramFault → Type 0
-IsGivenUnanswered g rule weight budget source cert sink fault =
-    IsBudget budget × ((start : Board) × GivesBoard g.cells source start × IsUnanswered g rule weight start budget cert sink fault)
+abbrev pub IsGivenUnanswered : GameRules → ℕ → ℕ → BoundKind → ℕ → Device → Option Device → Device → ProgramFault → Type 0
+IsGivenUnanswered g rule weight kind budget source cert sink fault =
+    IsBudget budget × ((start : Board) × GivesBoard g.cells source start × IsUnanswered g rule weight kind start budget cert sink fault)
 
 -- why solving was not answered: no position was given, and nothing was written; or one was, and wasn't answered
-abbrev pub IsSolveFault : GameRules → ℕ → ℕ → ℕ → Device → Option Device → Device → ProgramFault → Type 0
-IsSolveFault g rule weight budget source cert sink fault =
-    (IsStartFault g budget source fault × NothingIsWritten cert sink) ⊎ IsGivenUnanswered g rule weight budget source cert sink fault
+abbrev pub IsSolveFault : GameRules → ℕ → ℕ → BoundKind → ℕ → Device → Option Device → Device → ProgramFault → Type 0
+IsSolveFault g rule weight kind budget source cert sink fault =
+    (IsStartFault g budget source fault × NothingIsWritten cert sink) ⊎ IsGivenUnanswered g rule weight kind budget source cert sink fault

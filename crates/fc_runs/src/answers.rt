@@ -1,11 +1,11 @@
 //! How a verdict, an answer and a claim are printed, and the exit status that goes with it.
 
-ghost use Rattle.std.specs.Prelude.{◌≡◌, ◌≤◌, ◌++◌, IfOk, OnOk, All};
+ghost use Rattle.std.specs.Prelude.{◌≡◌, ◌≤◌, ◌++◌, length, IfOk, OnOk, All};
 ghost use Rattle.fc_moves.specs.MoveText.{HasText};
 ghost use Rattle.fc_answers.specs.Verdict.{CanBeWritten, verdict_of};
 ghost use Rattle.arrayvec.specs.ArrayString.{array_string_len};
 ghost use Rattle.fc_runs.specs.Batches.{line_text, told_status, told_text};
-ghost use Rattle.fc_runs.specs.AnswerText.{accepted_text, answer_text, list_text, won_text, gave_up_text, status_of};
+ghost use Rattle.fc_runs.specs.AnswerText.{accepted_text, answer_text, list_text, moves_line, shortest_line, won_line, gave_up_text, status_of};
 
 use arrayvec::ArrayString;
 use fc_answers::Outcome;
@@ -15,7 +15,7 @@ use fc_search::{Answer, Verdict};
 use itoa::Buffer;
 use std::alloc::{AllocError, Global};
 
-/// The lines that tell a verdict: `shortest N` or `won N` and the moves, `can't be won`, or `gave up B`.
+/// The lines that tell a verdict: `shortest N` or `won N, at least L` and the moves, `can't be won`, or `gave up B`.
 ///
 /// # Errors
 /// A growth of memory was refused.
@@ -24,8 +24,8 @@ pub fn verdict_text(alloc: Global, verdict: &Verdict) -> Result<Vec<u8>, AllocEr
     ensures text { IfOk result (λ t. t.items ≡ answer_text verdict.now) }
 {
     match verdict {
-        Verdict::Shortest(moves) => won_text(alloc, b"shortest ", moves.as_slice()),
-        Verdict::Won(moves) => won_text(alloc, b"won ", moves.as_slice()),
+        Verdict::Shortest(moves) => shortest_text(alloc, moves.as_slice()),
+        Verdict::Won(moves, floor) => won_text(alloc, moves.as_slice(), *floor),
         Verdict::CannotWin => Vec::from_slice(alloc, b"can't be won\n"),
         Verdict::GaveUp(budget) => gave_up_text(alloc, *budget),
     }
@@ -40,8 +40,8 @@ pub fn answer_text(alloc: Global, answer: &Answer) -> Result<Vec<u8>, AllocError
     ensures text { IfOk result (λ t. t.items ≡ answer_text (verdict_of answer.now)) }
 {
     match answer {
-        Answer::Shortest(moves, _) => won_text(alloc, b"shortest ", moves.as_slice()),
-        Answer::Won(moves) => won_text(alloc, b"won ", moves.as_slice()),
+        Answer::Shortest(moves, _) => shortest_text(alloc, moves.as_slice()),
+        Answer::Won(moves, floor, _) => won_text(alloc, moves.as_slice(), *floor),
         Answer::CannotWin(_) => Vec::from_slice(alloc, b"can't be won\n"),
         Answer::GaveUp(budget) => gave_up_text(alloc, *budget),
     }
@@ -52,7 +52,7 @@ pub fn verdict_status(verdict: &Verdict) -> u8
     ensures value { result ≡ status_of verdict.now }
 {
     match verdict {
-        Verdict::Shortest(_) | Verdict::Won(_) => 0,
+        Verdict::Shortest(_) | Verdict::Won(_, _) => 0,
         Verdict::CannotWin => 1,
         Verdict::GaveUp(_) => 2,
     }
@@ -63,7 +63,7 @@ pub fn answer_status(answer: &Answer) -> u8
     ensures value { result ≡ status_of (verdict_of answer.now) }
 {
     match answer {
-        Answer::Shortest(_, _) | Answer::Won(_) => 0,
+        Answer::Shortest(_, _) | Answer::Won(_, _, _) => 0,
         Answer::CannotWin(_) => 1,
         Answer::GaveUp(_) => 2,
     }
@@ -105,7 +105,7 @@ pub fn told_status(told: Option<Outcome>) -> u8
     ensures value { result ≡ told_status told }
 {
     match told {
-        Some(Outcome::Shortest(_) | Outcome::Won(_)) => 0,
+        Some(Outcome::Shortest(_) | Outcome::Won(_, _)) => 0,
         Some(Outcome::CannotWin) => 1,
         Some(Outcome::GaveUp(_)) => 2,
         None => 4,
@@ -124,9 +124,11 @@ fn push_told(text: &mut ArrayString<128>, told: Option<Outcome>)
             text.push_str(buffer.format(count));
             text.push_str("\n");
         }
-        Some(Outcome::Won(count)) => {
+        Some(Outcome::Won(count, floor)) => {
             text.push_str("won ");
             text.push_str(buffer.format(count));
+            text.push_str(", at least ");
+            text.push_str(buffer.format(floor));
             text.push_str("\n");
         }
         Some(Outcome::CannotWin) => text.push_str("can't be won\n"),
@@ -139,18 +141,42 @@ fn push_told(text: &mut ArrayString<128>, told: Option<Outcome>)
     }
 }
 
-// The lines of a list that wins, of which the words tell what is known.
-fn won_text(alloc: Global, words: &[u8], moves: &[Move]) -> Result<Vec<u8>, AllocError>
+// The lines of a shortest list.
+fn shortest_text(alloc: Global, moves: &[Move]) -> Result<Vec<u8>, AllocError>
     requires texts { All HasText moves.now }
-    ensures text { IfOk result (λ t. t.items ≡ won_text words.now moves.now) }
+    ensures text { IfOk result (λ t. t.items ≡ shortest_line (length moves.now) ++ moves_line moves.now) }
 {
     let mut buffer = Buffer::new();
-    let mut text = Vec::from_slice(alloc, words)?;
+    let mut text = Vec::from_slice(alloc, b"shortest ")?;
     text.extend_from_slice(buffer.format(moves.len()).as_bytes())?;
     text.extend_from_slice(b"\n")?;
-    push_moves(&mut text, moves)?;
-    text.extend_from_slice(b"\n")?;
+    push_line(&mut text, moves)?;
     Ok(text)
+}
+
+// The lines of a list that wins, where each such list has at least so many moves.
+fn won_text(alloc: Global, moves: &[Move], floor: u32) -> Result<Vec<u8>, AllocError>
+    requires texts { All HasText moves.now }
+    ensures text { IfOk result (λ t. t.items ≡ won_line (length moves.now) floor ++ moves_line moves.now) }
+{
+    let mut buffer = Buffer::new();
+    let mut text = Vec::from_slice(alloc, b"won ")?;
+    text.extend_from_slice(buffer.format(moves.len()).as_bytes())?;
+    text.extend_from_slice(b", at least ")?;
+    text.extend_from_slice(buffer.format(floor).as_bytes())?;
+    text.extend_from_slice(b"\n")?;
+    push_line(&mut text, moves)?;
+    Ok(text)
+}
+
+// Appends the line of the moves.
+fn push_line(text: &mut Vec<u8>, moves: &[Move]) -> Result<(), AllocError>
+    requires texts { All HasText moves.now }
+    ensures text { OnOk result (text.new.items ≡ text.old.items ++ moves_line moves.now) }
+{
+    push_moves(text, moves)?;
+    text.extend_from_slice(b"\n")?;
+    Ok(())
 }
 
 // The line of a search that gave up.

@@ -2,6 +2,7 @@
 
 ghost use Rattle.std.specs.Prelude.{◌≡◌, ◌+◌, ◌<◌, ◌≤◌, ◌↔◌, ℕ, Some, IfOk, IfErr, OnErr, IsTrue, true, false};
 ghost use Rattle.fc_moves.specs.GameRules.{GameRules};
+ghost use Rattle.fc_bound.specs.declared.kinds.BoundKind.{BoundKind};
 ghost use Rattle.fc_deal.specs.Deal.{IsDealNumber};
 ghost use Rattle.fc_best_first.specs.Search.{IsBudget, IsWeight};
 ghost use Rattle.fc_search.specs.Search.{State};
@@ -13,6 +14,7 @@ use crate::faults::{Output, ProgramFault};
 use fc_answers::Outcome;
 use fc_batch::Batch;
 use fc_best_first::{Status, Step};
+use fc_bound::BoundKind;
 use fc_deal::deal;
 use fc_frontier::BucketFrontier;
 use fc_home::GREATEST_RULE;
@@ -28,9 +30,10 @@ pub const MOST_DEALS: u32 = 32;
 // as long again as one after the other.
 const STRETCH: u32 = 4096;
 
-/// Searches the deals `from` to `to` of the game in turns, each under a home rule of at most 2 by a weight of 1 to 10 with at
-/// most `budget` stored classes, and writes a line for each, rising: its number, and its answer without moves or `want of
-/// memory`. By a weight above 1 a list of so many moves wins, and solving may list fewer. The status is the greatest of
+/// Searches the deals `from` to `to` of the game in turns, each under a home rule of at most 2 by a weight of 1 to 10 and a
+/// kind of bound, with at most `budget` stored classes, and writes a line for each, rising: its number, and its answer without moves or `want of
+/// memory`. By a weight above 1 a list of so many moves wins, and solving may list fewer; each has at least as many as
+/// its line says. The status is the greatest of
 /// theirs: 0 for a solution, 1 where a deal can't be won, 2 on giving up, 4 for want of memory.
 ///
 /// # Errors
@@ -42,6 +45,7 @@ pub fn run_batch<G: Game + Drop, K: Sink>(
     game: &G,
     rule: u8,
     weight: u8,
+    bound: BoundKind,
     from: u32,
     to: u32,
     budget: u32,
@@ -49,13 +53,13 @@ pub fn run_batch<G: Game + Drop, K: Sink>(
 ) -> Result<u8, ProgramFault>
     requires rule { rule ≤ GREATEST_RULE }
     requires weight { IsWeight weight }
-    ensures batched { IfOk result (IsBatched (G.game game.now) rule weight from to budget
+    ensures batched { IfOk result (IsBatched (G.game game.now) rule weight bound from to budget
         record { old = K.held out.old; new = K.held out.new; failed = K.has_failed out.new }) }
-    ensures fault { IfErr result (IsBatchFault (G.game game.now) rule weight from to budget
+    ensures fault { IfErr result (IsBatchFault (G.game game.now) rule weight bound from to budget
         record { old = K.held out.old; new = K.held out.new; failed = K.has_failed out.new }) }
 {
     let count = deals_of(from, to, budget)?;
-    let mut batch = begin(alloc, game, rule, weight, from, count, budget)?;
+    let mut batch = begin(alloc, game, rule, weight, bound, from, count, budget)?;
     run_to_end(&mut batch, count as usize);
     match write_lines(&batch, from, count, out) {
         Ok(status) => Ok(status),
@@ -96,6 +100,7 @@ fn begin<G: Game + Drop>(
     game: &G,
     rule: u8,
     weight: u8,
+    bound: BoundKind,
     from: u32,
     count: u32,
     budget: u32,
@@ -105,12 +110,12 @@ fn begin<G: Game + Drop>(
     requires first { 1 ≤ from }
     requires last { from + count ≤ 1000001 }
     requires budgeted { IsBudget budget }
-    ensures holds { IfOk result (HoldsDeals (G.game game.now) rule weight budget from count) }
+    ensures holds { IfOk result (HoldsDeals (G.game game.now) rule weight bound budget from count) }
     ensures fault { IfErr result (λ fault. fault ≡ ProgramFault.Memory) }
 {
     let mut batch = Batch::new(alloc);
     for i in 0..count {
-        let search = search_of(alloc, game, rule, weight, from + i, budget)?;
+        let search = search_of(alloc, game, rule, weight, bound, from + i, budget)?;
         let Ok(_) = batch.add(search) else {
             return Err(ProgramFault::Memory);
         };
@@ -124,6 +129,7 @@ fn search_of<G: Game + Drop>(
     game: &G,
     rule: u8,
     weight: u8,
+    bound: BoundKind,
     number: u32,
     budget: u32,
 ) -> Result<Search<BucketFrontier, G>, ProgramFault>
@@ -131,11 +137,11 @@ fn search_of<G: Game + Drop>(
     requires weight { IsWeight weight }
     requires deal { IsDealNumber number }
     requires budgeted { IsBudget budget }
-    ensures search { IfOk result (IsSearchOf (G.game game.now) rule weight budget number) }
+    ensures search { IfOk result (IsSearchOf (G.game game.now) rule weight bound budget number) }
     ensures fault { IfErr result (λ fault. fault ≡ ProgramFault.Memory) }
 {
     let position = deal(number).unwrap();
-    match Search::new(alloc, game, rule, weight, &position, budget) {
+    match Search::new(alloc, game, rule, weight, bound, &position, budget) {
         Ok(search) => Ok(search),
         Err(_) => Err(ProgramFault::Memory),
     }
@@ -143,8 +149,8 @@ fn search_of<G: Game + Drop>(
 
 // Turns of the searches with the first numbers, in rising order again and again, until none of them runs.
 fn run_to_end<G: Game + Drop>(batch: &mut Batch<BucketFrontier, G>, count: usize)
-    ensures held { (g : GameRules) (rule weight budget from : ℕ) → HoldsDeals g rule weight budget from count batch.old
-        → HoldsDeals g rule weight budget from count batch.new }
+    ensures held { (g : GameRules) (rule weight : ℕ) (kind : BoundKind) (budget from : ℕ) → HoldsDeals g rule weight kind budget from count batch.old
+        → HoldsDeals g rule weight kind budget from count batch.new }
     ensures ended { HaveEnded count batch.new }
 {
     while run_each(batch, count) {}
@@ -152,8 +158,8 @@ fn run_to_end<G: Game + Drop>(batch: &mut Batch<BucketFrontier, G>, count: usize
 
 // A stretch of turns of each of them; whether one may still run.
 fn run_each<G: Game + Drop>(batch: &mut Batch<BucketFrontier, G>, count: usize) -> bool
-    ensures held { (g : GameRules) (rule weight budget from : ℕ) → HoldsDeals g rule weight budget from count batch.old
-        → HoldsDeals g rule weight budget from count batch.new }
+    ensures held { (g : GameRules) (rule weight : ℕ) (kind : BoundKind) (budget from : ℕ) → HoldsDeals g rule weight kind budget from count batch.old
+        → HoldsDeals g rule weight kind budget from count batch.new }
     ensures ended { result ≡ false → HaveEnded count batch.new }
     ensures most { work_left batch.new ≤ work_left batch.old }
     ensures falls { result ≡ true → work_left batch.new < work_left batch.old }
@@ -169,8 +175,8 @@ fn run_each<G: Game + Drop>(batch: &mut Batch<BucketFrontier, G>, count: usize) 
 
 // A stretch of turns of one search; whether it may still run.
 fn run_on<G: Game + Drop>(batch: &mut Batch<BucketFrontier, G>, number: usize) -> bool
-    ensures held { (g : GameRules) (rule weight budget from count : ℕ) → HoldsDeals g rule weight budget from count batch.old
-        → HoldsDeals g rule weight budget from count batch.new }
+    ensures held { (g : GameRules) (rule weight : ℕ) (kind : BoundKind) (budget from count : ℕ) → HoldsDeals g rule weight kind budget from count batch.old
+        → HoldsDeals g rule weight kind budget from count batch.new }
     ensures others { OthersStay number batch.old batch.new }
     ensures ended { result ≡ false → (s : State) → search_at batch.new number ≡ Some s → s.status ≡ Status.Running → ⊥ }
     ensures most { work_left batch.new ≤ work_left batch.old }
@@ -193,11 +199,11 @@ fn write_lines<G: Game + Drop, K: Sink>(
 ) -> Result<u8, Failed>
     requires some { 1 ≤ count }
     requires numbers { from + count ≤ 1000001 }
-    ensures told { (g : GameRules) (rule weight budget : ℕ) → HoldsDeals g rule weight budget from count batch.now → HaveEnded count batch.now
-        → IfOk result (AreTold g rule weight budget from count
+    ensures told { (g : GameRules) (rule weight : ℕ) (kind : BoundKind) (budget : ℕ) → HoldsDeals g rule weight kind budget from count batch.now → HaveEnded count batch.now
+        → IfOk result (AreTold g rule weight kind budget from count
         record { old = K.held out.old; new = K.held out.new; failed = K.has_failed out.new }) }
-    ensures cut { (g : GameRules) (rule weight budget : ℕ) → HoldsDeals g rule weight budget from count batch.now → HaveEnded count batch.now
-        → OnErr result (AreCutShort g rule weight budget from count
+    ensures cut { (g : GameRules) (rule weight : ℕ) (kind : BoundKind) (budget : ℕ) → HoldsDeals g rule weight kind budget from count batch.now → HaveEnded count batch.now
+        → OnErr result (AreCutShort g rule weight kind budget from count
         record { old = K.held out.old; new = K.held out.new; failed = K.has_failed out.new }) }
 {
     let mut greatest = 0;
@@ -213,8 +219,8 @@ fn write_lines<G: Game + Drop, K: Sink>(
 
 // What is told of the search with this number, which has ended.
 fn told_of<G: Game + Drop>(batch: &Batch<BucketFrontier, G>, number: usize) -> Option<Outcome>
-    ensures told { (g : GameRules) (rule weight budget deal : ℕ) (search : State) → search_at batch.now number ≡ Some search
-        → IsSearchOf g rule weight budget deal search → (search.status ≡ Status.Running → ⊥) → IsRightOf g rule weight budget deal result }
+    ensures told { (g : GameRules) (rule weight : ℕ) (kind : BoundKind) (budget deal : ℕ) (search : State) → search_at batch.now number ≡ Some search
+        → IsSearchOf g rule weight kind budget deal search → (search.status ≡ Status.Running → ⊥) → IsRightOf g rule weight kind budget deal result }
 {
     batch.get(number)?.outcome().ok()
 }

@@ -5,6 +5,7 @@ ghost use Rattle.fc_io.specs.Moves.{GivesAtMost};
 ghost use Rattle.fc_position.specs.Board.{Board};
 ghost use Rattle.fc_position.specs.Position.{Fits};
 ghost use Rattle.fc_moves.specs.GameRules.{IsPositionOf};
+ghost use Rattle.fc_bound.specs.declared.kinds.BoundKind.{BoundKind};
 ghost use Rattle.fc_answers.specs.Verdict.{CanBeWritten, verdict_of};
 ghost use Rattle.fc_best_first.specs.Search.{IsBudget, IsWeight};
 ghost use Rattle.fc_search.specs.Search.{Answers};
@@ -14,6 +15,7 @@ ghost use Rattle.fc_runs.specs.Solving.{IsAnswered, IsCertified, IsCutShort, IsS
 use crate::answers::{answer_status, answer_text, verdict_status, verdict_text};
 use crate::faults::{Output, ProgramFault};
 use crate::runs::{LONGEST_BOARD, read_position};
+use fc_bound::BoundKind;
 use fc_cert::{CertFault, write_answer};
 use fc_home::GREATEST_RULE;
 use fc_io::{Failed, Sink, Source, write_all};
@@ -22,11 +24,12 @@ use fc_position::Position;
 use fc_search::{Answer, MOST_BUDGET, decide, solve};
 use std::alloc::Global;
 
-/// Reads a board of the game, searches under a home rule of at most 2 by a weight of 1 to 10 with at most `budget` stored
-/// classes, and writes the answer: the moves of a list that wins, with weight 1 a shortest one and else one of at most
-/// `weight` times the fewest moves, that no list of moves wins, or that more than `budget` positions can be reached. The
-/// status tells which: 0, 1 or 2. Where `cert` is given, the certificate of the answer is written to it first, whole; a list
-/// that isn't known to be shortest and giving up have none. Without it no table of classes is made.
+/// Reads a board of the game, searches under a home rule of at most 2 by a weight of 1 to 10 and a kind of bound, with at
+/// most `budget` stored classes, and writes the answer: the moves of a list that wins, with weight 1 a shortest one and else
+/// one of at most `weight` times the fewest moves and a number of moves that each such list has at least, that no list of
+/// moves wins, or that more than `budget` positions can be reached. The status tells which: 0, 1 or 2. Where `cert` is given,
+/// the certificate of the answer is written to it first, whole; a list that isn't known to be shortest, a table of the
+/// clearing bound and giving up have none. Without it no table of classes is made.
 ///
 /// # Errors
 /// In this order: a budget outside 1 to 4,000,000; a board that can't be read; a text that is none of the game; want of
@@ -37,6 +40,7 @@ pub fn run_solve<G: Game + Drop, S: Source, K: Sink, C: Sink>(
     game: &G,
     rule: u8,
     weight: u8,
+    bound: BoundKind,
     board: &mut S,
     budget: u32,
     out: &mut K,
@@ -44,11 +48,11 @@ pub fn run_solve<G: Game + Drop, S: Source, K: Sink, C: Sink>(
 ) -> Result<u8, ProgramFault>
     requires rule { rule ≤ GREATEST_RULE }
     requires weight { IsWeight weight }
-    ensures answered { IfOk result (IsSolved (G.game game.now) rule weight budget
+    ensures answered { IfOk result (IsSolved (G.game game.now) rule weight bound budget
         record { old = S.told board.old; new = S.told board.new; failed = S.has_failed board.new }
         (lent C.held C.has_failed cert.entry cert.exit)
         record { old = K.held out.old; new = K.held out.new; failed = K.has_failed out.new }) }
-    ensures fault { IfErr result (IsSolveFault (G.game game.now) rule weight budget
+    ensures fault { IfErr result (IsSolveFault (G.game game.now) rule weight bound budget
         record { old = S.told board.old; new = S.told board.new; failed = S.has_failed board.new }
         (lent C.held C.has_failed cert.entry cert.exit)
         record { old = K.held out.old; new = K.held out.new; failed = K.has_failed out.new }) }
@@ -57,8 +61,8 @@ pub fn run_solve<G: Game + Drop, S: Source, K: Sink, C: Sink>(
 {
     let start = read_start(game, board, budget)?;
     match cert {
-        Some(cert) => certify(alloc, game, rule, weight, &start, budget, out, cert),
-        None => tell(alloc, game, rule, weight, &start, budget, out),
+        Some(cert) => certify(alloc, game, rule, weight, bound, &start, budget, out, cert),
+        None => tell(alloc, game, rule, weight, bound, &start, budget, out),
     }
 }
 
@@ -87,6 +91,7 @@ fn tell<G: Game + Drop, K: Sink>(
     game: &G,
     rule: u8,
     weight: u8,
+    bound: BoundKind,
     start: &Position,
     budget: u32,
     out: &mut K,
@@ -95,12 +100,12 @@ fn tell<G: Game + Drop, K: Sink>(
     requires weight { IsWeight weight }
     requires fits { Fits (G.game game.now).cells start.now }
     requires budgeted { IsBudget budget }
-    ensures answered { IfOk result (IsAnswered (G.game game.now) rule weight start.now budget None
+    ensures answered { IfOk result (IsAnswered (G.game game.now) rule weight bound start.now budget None
         record { old = K.held out.old; new = K.held out.new; failed = K.has_failed out.new }) }
-    ensures fault { IfErr result (IsUnanswered (G.game game.now) rule weight start.now budget None
+    ensures fault { IfErr result (IsUnanswered (G.game game.now) rule weight bound start.now budget None
         record { old = K.held out.old; new = K.held out.new; failed = K.has_failed out.new }) }
 {
-    let Ok(verdict) = decide(alloc, game, rule, weight, start, budget) else {
+    let Ok(verdict) = decide(alloc, game, rule, weight, bound, start, budget) else {
         return Err(ProgramFault::Memory);
     };
     let text = verdict_text(alloc, &verdict)?;
@@ -116,6 +121,7 @@ fn certify<G: Game + Drop, K: Sink, C: Sink>(
     game: &G,
     rule: u8,
     weight: u8,
+    bound: BoundKind,
     start: &Position,
     budget: u32,
     out: &mut K,
@@ -125,14 +131,14 @@ fn certify<G: Game + Drop, K: Sink, C: Sink>(
     requires weight { IsWeight weight }
     requires position { IsPositionOf (G.game game.now) start.now }
     requires budgeted { IsBudget budget }
-    ensures answered { IfOk result (IsAnswered (G.game game.now) rule weight start.now budget
+    ensures answered { IfOk result (IsAnswered (G.game game.now) rule weight bound start.now budget
         (Some record { old = C.held cert.old; new = C.held cert.new; failed = C.has_failed cert.new })
         record { old = K.held out.old; new = K.held out.new; failed = K.has_failed out.new }) }
-    ensures fault { IfErr result (IsUnanswered (G.game game.now) rule weight start.now budget
+    ensures fault { IfErr result (IsUnanswered (G.game game.now) rule weight bound start.now budget
         (Some record { old = C.held cert.old; new = C.held cert.new; failed = C.has_failed cert.new })
         record { old = K.held out.old; new = K.held out.new; failed = K.has_failed out.new }) }
 {
-    let Ok(answer) = solve(alloc, game, rule, weight, start, budget) else {
+    let Ok(answer) = solve(alloc, game, rule, weight, bound, start, budget) else {
         return Err(ProgramFault::Memory);
     };
     let text = answer_text(alloc, &answer)?;
@@ -152,19 +158,19 @@ fn write_certificate<G: Game, C: Sink>(
     cert: &mut C,
 ) -> Result<(), Failed>
     requires written { CanBeWritten (verdict_of answer.now) }
-    ensures certified { (rule weight : ℕ) (start : Board) (budget : ℕ) → IsPositionOf (G.game game.now) start
-        → Answers (G.game game.now) rule weight start budget answer.now
-        → OnOk result (IsCertified (G.game game.now) rule start (verdict_of answer.now)
+    ensures certified { (rule weight : ℕ) (kind : BoundKind) (start : Board) (budget : ℕ) → IsPositionOf (G.game game.now) start
+        → Answers (G.game game.now) rule weight kind start budget answer.now
+        → OnOk result (IsCertified (G.game game.now) rule kind start (verdict_of answer.now)
         record { old = C.held cert.old; new = C.held cert.new; failed = C.has_failed cert.new }) }
-    ensures cut { (rule weight : ℕ) (start : Board) (budget : ℕ) → IsPositionOf (G.game game.now) start
-        → Answers (G.game game.now) rule weight start budget answer.now
+    ensures cut { (rule weight : ℕ) (kind : BoundKind) (start : Board) (budget : ℕ) → IsPositionOf (G.game game.now) start
+        → Answers (G.game game.now) rule weight kind start budget answer.now
         → OnErr result (IsCutShort (G.game game.now) rule start (verdict_of answer.now)
         record { old = C.held cert.old; new = C.held cert.new; failed = C.has_failed cert.new }) }
 {
     match write_answer(game, answer, cert) {
         Ok(()) => Ok(()),
         Err(CertFault::Write) => Err(Failed),
-        // A list that isn't known to be shortest and giving up have no certificate.
+        // A list that isn't known to be shortest, a table of the clearing bound and giving up have no certificate.
         Err(_) => Ok(()),
     }
 }

@@ -17,9 +17,10 @@ use Rattle.fc_moves.proofs.StepLemmas.{step_once}
 use Rattle.fc_home.proofs.MateLemmas.{class_settle}
 use Rattle.fc_home.proofs.SettleLemmas.{settles_keep}
 use Rattle.fc_home.proofs.WayLemmas.{settles_once}
-use Rattle.fc_bound.specs.Bound.{bound}
+use Rattle.fc_bound.specs.declared.kinds.BoundKind.{BoundKind}
+use Rattle.fc_bound.specs.Kinds.{guide_of}
 use Rattle.fc_tables.proofs.EveryLemmas.{every_settles}
-use Rattle.fc_bound.proofs.HeldLemmas.{class_bound}
+use Rattle.fc_tables.proofs.BoundLemmas.{bounds_lower}
 use Rattle.fc_best_first.specs.declared.spaces.Child.{Child}
 use Rattle.fc_best_first.specs.Turn.{AreChildren}
 use Rattle.fc_classes.specs.Classes.{SettlesTo, classes}
@@ -29,16 +30,16 @@ use Rattle.fc_canonical.proofs.SortLemmas.{has_key}
 use Rattle.fc_search.specs.Children.{IsChildOf, IsSettled, AreAllowed, AreChildrenBy}
 
 -- a child's bound is that of its key
-pub child_bound : (g : GameRules) (rule : ℕ) (z : Board) (moves : ℕ) (child : Child (List ℕ)) → IsPositionOf g z
-    → IsSettled g rule z moves child → child.bound ≡ bound (spelled child.key)
-child_bound g rule z moves child p (q, count, settles, key, cost, low) =
-    low ∙ class_bound q (spelled child.key) (key_spells g q child.key (settles_keep g rule z q count p settles) key).1
+pub child_bound : (g : GameRules) (rule : ℕ) (kind : BoundKind) (z : Board) (moves : ℕ) (child : Child (List ℕ)) → IsPositionOf g z
+    → IsSettled g rule kind z moves child → child.bound ≡ guide_of kind (spelled child.key)
+child_bound g rule kind z moves child p (q, count, settles, key, cost, low) =
+    low ∙ (bounds_lower kind).0.alike q (spelled child.key) (key_spells g q child.key (settles_keep g rule z q count p settles) key).1
 
 -- of class-mates that settle, the one child has the key of what the other settles to, at as many moves
-pub child_once : (g : GameRules) (rule : ℕ) (x z : Board) (moves count : ℕ) (child : Child (List ℕ)) (y : List ℕ) → IsPositionOf g x
-    → IsPositionOf g z → SameClass x z → IsSettled g rule z moves child → SettlesTo g rule x count y
+pub child_once : (g : GameRules) (rule : ℕ) (kind : BoundKind) (x z : Board) (moves count : ℕ) (child : Child (List ℕ)) (y : List ℕ) → IsPositionOf g x
+    → IsPositionOf g z → SameClass x z → IsSettled g rule kind z moves child → SettlesTo g rule x count y
     → (child.key ≡ y) × (child.cost ≡ moves + count)
-child_once g rule x z moves count child y px pz same (r, number, there, key, cost, low) (q, settles, also) =
+child_once g rule kind x z moves count child y px pz same (r, number, there, key, cost, low) (q, settles, also) =
     let mate = class_settle g rule x z q count same settles in
     let once = settles_once g rule z r mate.0 number count pz.position there mate.1 in
     let pr = settles_keep g rule z r number pz there in
@@ -48,61 +49,61 @@ child_once g rule x z moves count child y px pz same (r, number, there, key, cos
     (tell.1 mates, omega (arith, cost, once.0))
 
 -- every allowed move has a child
-child_exists : (g : GameRules) (rule : ℕ) (b : Board) (m : Move) → Allows g b m
-    → (child : Child (List ℕ)) × IsChildOf g rule b m child
-child_exists g rule b m (z, step) =
+child_exists : (g : GameRules) (rule : ℕ) (kind : BoundKind) (b : Board) (m : Move) → Allows g b m
+    → (child : Child (List ℕ)) × IsChildOf g rule kind b m child
+child_exists g rule kind b m (z, step) =
     let settling = every_settles g rule z in (
-      record { key = (has_key settling.1).0; cost = 1 + settling.0; bound = bound settling.1 },
+      record { key = (has_key settling.1).0; cost = 1 + settling.0; bound = guide_of kind settling.1 },
       (z, step, (settling.1, settling.0, settling.2, (has_key settling.1).1, refl, refl)),
     )
 
 -- allowed moves have their children
-pub children_exist : (g : GameRules) (rule : ℕ) (b : Board) (moves : List Move) → AreAllowed g b moves
-    → (children : List (Child (List ℕ))) × AreChildrenBy g rule b moves children
-children_exist g rule b [] allowed = ([], tt)
-children_exist g rule b (m ∷ moves) allowed =
-    let first = child_exists g rule b m (allowed m (0, omega arith, refl)) in
-    let rest = children_exist g rule b moves (λ n there. allowed n (Contains-append_right (m ∷ []) moves n there)) in
+pub children_exist : (g : GameRules) (rule : ℕ) (kind : BoundKind) (b : Board) (moves : List Move) → AreAllowed g b moves
+    → (children : List (Child (List ℕ))) × AreChildrenBy g rule kind b moves children
+children_exist g rule kind b [] allowed = ([], tt)
+children_exist g rule kind b (m ∷ moves) allowed =
+    let first = child_exists g rule kind b m (allowed m (0, omega arith, refl)) in
+    let rest = children_exist g rule kind b moves (λ n there. allowed n (Contains-append_right (m ∷ []) moves n there)) in
     (first.0 ∷ rest.0, (first.1, rest.1))
 
 -- each child is by one of the moves
-child_of : (g : GameRules) (rule : ℕ) (b : Board) (moves : List Move) (children : List (Child (List ℕ))) (child : Child (List ℕ))
-    → AreChildrenBy g rule b moves children → Contains children child
-    → (m : Move) × Contains moves m × IsChildOf g rule b m child
-child_of g rule b [] [] child are (k, lt, e) = absurd (omega (arith, lt))
-child_of g rule b [] (other ∷ children) child are there = absurd are
-child_of g rule b (m ∷ moves) [] child are there = absurd are
-child_of g rule b (m ∷ moves) (other ∷ children) child (is, are) (zero, lt, e) =
-    (m, (0, omega arith, refl), subst (IsChildOf g rule b m) e is)
-child_of g rule b (m ∷ moves) (other ∷ children) child (is, are) (suc k, lt, e) =
-    let rest = child_of g rule b moves children child are (k, omega (arith, lt), e) in
+child_of : (g : GameRules) (rule : ℕ) (kind : BoundKind) (b : Board) (moves : List Move) (children : List (Child (List ℕ))) (child : Child (List ℕ))
+    → AreChildrenBy g rule kind b moves children → Contains children child
+    → (m : Move) × Contains moves m × IsChildOf g rule kind b m child
+child_of g rule kind b [] [] child are (k, lt, e) = absurd (omega (arith, lt))
+child_of g rule kind b [] (other ∷ children) child are there = absurd are
+child_of g rule kind b (m ∷ moves) [] child are there = absurd are
+child_of g rule kind b (m ∷ moves) (other ∷ children) child (is, are) (zero, lt, e) =
+    (m, (0, omega arith, refl), subst (IsChildOf g rule kind b m) e is)
+child_of g rule kind b (m ∷ moves) (other ∷ children) child (is, are) (suc k, lt, e) =
+    let rest = child_of g rule kind b moves children child are (k, omega (arith, lt), e) in
     (rest.0, Contains-append_right (m ∷ []) moves rest.0 rest.1, rest.2)
 
 -- each of the moves has a child
-move_of : (g : GameRules) (rule : ℕ) (b : Board) (moves : List Move) (children : List (Child (List ℕ))) (m : Move)
-    → AreChildrenBy g rule b moves children → Contains moves m
-    → (child : Child (List ℕ)) × Contains children child × IsChildOf g rule b m child
-move_of g rule b [] children m are (k, lt, e) = absurd (omega (arith, lt))
-move_of g rule b (n ∷ moves) [] m are there = absurd are
-move_of g rule b (n ∷ moves) (child ∷ children) m (is, are) (zero, lt, e) =
-    (child, (0, omega arith, refl), subst (λ o. IsChildOf g rule b o child) e is)
-move_of g rule b (n ∷ moves) (child ∷ children) m (is, are) (suc k, lt, e) =
-    let rest = move_of g rule b moves children m are (k, omega (arith, lt), e) in
+move_of : (g : GameRules) (rule : ℕ) (kind : BoundKind) (b : Board) (moves : List Move) (children : List (Child (List ℕ))) (m : Move)
+    → AreChildrenBy g rule kind b moves children → Contains moves m
+    → (child : Child (List ℕ)) × Contains children child × IsChildOf g rule kind b m child
+move_of g rule kind b [] children m are (k, lt, e) = absurd (omega (arith, lt))
+move_of g rule kind b (n ∷ moves) [] m are there = absurd are
+move_of g rule kind b (n ∷ moves) (child ∷ children) m (is, are) (zero, lt, e) =
+    (child, (0, omega arith, refl), subst (λ o. IsChildOf g rule kind b o child) e is)
+move_of g rule kind b (n ∷ moves) (child ∷ children) m (is, are) (suc k, lt, e) =
+    let rest = move_of g rule kind b moves children m are (k, omega (arith, lt), e) in
     (rest.0, Contains-append_right (child ∷ []) children rest.0 rest.1, rest.2)
 
 -- the children by moves of which one leads to each class are the ends of the edges
-pub children_all : (g : GameRules) (rule : ℕ) (p : Board) (x : List ℕ) (moves : List Move) (children : List (Child (List ℕ)))
-    → IsKeyIn g x → ListsClasses g (spelled x) moves → AreChildrenBy g rule (spelled x) (reverse moves) children
-    → AreChildren (classes bound g rule p) x children
-children_all g rule p x moves children valid lists are = record {
+pub children_all : (g : GameRules) (rule : ℕ) (kind : BoundKind) (p : Board) (x : List ℕ) (moves : List Move) (children : List (Child (List ℕ)))
+    → IsKeyIn g x → ListsClasses g (spelled x) moves → AreChildrenBy g rule kind (spelled x) (reverse moves) children
+    → AreChildren (classes (guide_of kind) g rule p) x children
+children_all g rule kind p x moves children valid lists are = record {
   edges = λ child there.
-      let is = child_of g rule (spelled x) (reverse moves) children child are there in
+      let is = child_of g rule kind (spelled x) (reverse moves) children child are there in
       let m = is.0 in
       let z = is.2.0 in
       let step = is.2.1 in
       let settled = is.2.2 in
       let pz = step_keeps g (spelled x) z m valid.position step in
-      ((valid, (m, z, settled.1, step, (settled.0, settled.2, settled.3), settled.4)), child_bound g rule z 1 child pz settled);
+      ((valid, (m, z, settled.1, step, (settled.0, settled.2, settled.3), settled.4)), child_bound g rule kind z 1 child pz settled);
   whole = λ c y edge.
       let e = edge.1 in
       let other = lists.complete e.0 e.1 e.3 in
@@ -111,25 +112,25 @@ children_all g rule p x moves children valid lists are = record {
       let at = Contains-permutation moves (reverse moves) n (IsPermutation-reverse moves) other.2 in
       let px = step_keeps g (spelled x) e.1 e.0 valid.position e.3 in
       let pw = step_keeps g (spelled x) w n valid.position other.3 in
-      let has = move_of g rule (spelled x) (reverse moves) children n are at in
+      let has = move_of g rule kind (spelled x) (reverse moves) children n are at in
       let child = has.0 in
       let is = has.2 in
       let same = step_once g (spelled x) n is.0 w is.1 other.3 in
-      let settled = subst (λ b. IsSettled g rule b 1 child) same is.2 in
-      let once = child_once g rule e.1 w 1 e.2 child y px pw other.4 settled e.4 in
+      let settled = subst (λ b. IsSettled g rule kind b 1 child) same is.2 in
+      let once = child_once g rule kind e.1 w 1 e.2 child y px pw other.4 settled e.4 in
       (child, has.1, once.0, omega (arith, once.1, e.5));
 }
 
 -- the last of the moves leads to the first of the children
-pub next_child : (g : GameRules) (rule : ℕ) (b : Board) (moves rest : List Move) (m : Move) (child : Child (List ℕ))
-    (children : List (Child (List ℕ))) → moves ≡ rest ++ m ∷ [] → IsChildOf g rule b m child
-    → AreChildrenBy g rule b (reverse rest) children → AreChildrenBy g rule b (reverse moves) (child ∷ children)
-next_child g rule b moves rest m child children e is are =
-    subst (λ l. AreChildrenBy g rule b l (child ∷ children)) (sym (ap reverse e ∙ reverse-append rest (m ∷ []))) (is, are)
+pub next_child : (g : GameRules) (rule : ℕ) (kind : BoundKind) (b : Board) (moves rest : List Move) (m : Move) (child : Child (List ℕ))
+    (children : List (Child (List ℕ))) → moves ≡ rest ++ m ∷ [] → IsChildOf g rule kind b m child
+    → AreChildrenBy g rule kind b (reverse rest) children → AreChildrenBy g rule kind b (reverse moves) (child ∷ children)
+next_child g rule kind b moves rest m child children e is are =
+    subst (λ l. AreChildrenBy g rule kind b l (child ∷ children)) (sym (ap reverse e ∙ reverse-append rest (m ∷ []))) (is, are)
 
 -- what starts is this child, at no less
-pub start_alone : (g : GameRules) (rule : ℕ) (p : Board) (child : Child (List ℕ)) → IsPositionOf g p → IsSettled g rule p 0 child
+pub start_alone : (g : GameRules) (rule : ℕ) (kind : BoundKind) (p : Board) (child : Child (List ℕ)) → IsPositionOf g p → IsSettled g rule kind p 0 child
     → (x : List ℕ) (d : ℕ) → SettlesTo g rule p d x → (x ≡ child.key) × (child.cost ≤ d)
-start_alone g rule p child pp settled x d starts =
-    let once = child_once g rule p p 0 d child x pp pp (class-refl p) settled starts in
+start_alone g rule kind p child pp settled x d starts =
+    let once = child_once g rule kind p p 0 d child x pp pp (class-refl p) settled starts in
     (sym once.0, omega (arith, once.1))

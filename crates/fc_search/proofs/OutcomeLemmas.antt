@@ -9,30 +9,31 @@ use Rattle.fc_moves.specs.GameRules.{GameRules, IsPositionOf}
 use Rattle.fc_moves.specs.Run.{Run}
 use Rattle.fc_moves.proofs.StepLemmas.{run_keeps}
 use Rattle.fc_home.proofs.SettleLemmas.{settles_keep, settles_run}
-use Rattle.fc_bound.specs.Bound.{bound}
+use Rattle.fc_bound.specs.declared.kinds.BoundKind.{BoundKind}
+use Rattle.fc_bound.specs.Kinds.{guide_of}
 use Rattle.fc_best_first.specs.declared.books.Mark.{Mark}
 use Rattle.fc_best_first.specs.declared.turns.Status.TheVariants as status
 use Rattle.fc_best_first.specs.Kept.{IsSound}
-use Rattle.fc_best_first.specs.Shown.{IsFound, Shows}
+use Rattle.fc_best_first.specs.Shown.{IsFound, IsLeastOpen, Shows}
 use Rattle.fc_best_first.specs.Store.{Store, Stands}
 use Rattle.fc_best_first.proofs.KeptLemmas.{same_entry}
 use Rattle.fc_classes.specs.Classes.{classes}
 use Rattle.fc_answers.specs.declared.answers.Outcome.TheVariants as outcome
 use Rattle.fc_answers.specs.declared.answers.Verdict.TheVariants as verdict
-use Rattle.fc_search.specs.Search.{State, classes_of, IsOfStatus, IsOutcome}
+use Rattle.fc_search.specs.Search.{State, classes_of, IsFloorOf, IsOfStatus, IsOutcome}
 use Rattle.fc_search.specs.Walk.{IsAtClass}
 use Rattle.fc_search.proofs.AnswerLemmas.{won_length, shortest_verdict, won_verdict}
 use Rattle.fc_search.proofs.WalkLemmas.{walk_begins, walked_on, leads_on}
 
-module _ (g : GameRules) (rule weight : ℕ) (p : Board) (budget : ℕ) (s : Store (List ℕ)) (pp : IsPositionOf g p)
-    (sound : IsSound (classes bound g rule p) weight budget s) where
+module _ (g : GameRules) (rule weight : ℕ) (kind : BoundKind) (p : Board) (budget : ℕ) (s : Store (List ℕ)) (pp : IsPositionOf g p)
+    (sound : IsSound (classes (guide_of kind) g rule p) weight budget s) where
   -- moves lead on from where moves to a class lead to a class that came from it
   one_more : (number next : ℕ) (made : List Move) (b : Board) (x : List ℕ) (mark : Mark) → IsAtClass g s p number made b
       → Stands s next x mark → mark.parent ≡ number → (number ≡ next → ⊥)
       → (ms : List Move) × (c : Board) × IsAtClass g s p next ms c
   one_more number next made b x mark walked at parent other =
       let (room, (m, (count, (z, step, (q, settles, key)), few))) =
-      leads_on g rule weight p budget s pp sound number next made b x mark walked at parent other in
+      leads_on g rule weight kind p budget s pp sound number next made b x mark walked at parent other in
       let on : Run g b (m ∷ settles.0) q = (z, step, settles_run g rule z q settles.0 settles.2) in
       let pb = run_keeps g p b made pp walked.3 in
       let size : length settles.0 ≡ count = settles.1 in (
@@ -51,7 +52,7 @@ module _ (g : GameRules) (rule weight : ℕ) (p : Board) (budget : ℕ) (s : Sto
       (λ (own, (r, settles, key)). (
         settles.0,
         r,
-        walk_begins g rule weight p budget s pp sound number settles.0 r (x, mark, at, own) settles.2
+        walk_begins g rule weight kind p budget s pp sound number settles.0 r (x, mark, at, own) settles.2
             (settles_keep g rule p r mark.cost pp settles).position,
       ))
       (λ (w, was, c, stands, (kw, (m, z, count, step, to, paid)), less).
@@ -71,32 +72,37 @@ shortest_outcome s number x mark pp known few found shows done at light =
     let g = s.question.game in
     let rule = s.question.rule in
     let weight = s.question.weight in
+    let kind = s.question.bound in
     let p = s.question.start in
-    let way = way_there g rule weight p s.budget s.store pp found.0 (suc mark.cost) number x mark at (omega arith) in
-    let won = won_length g rule weight p s.budget s.store pp light number way.0 way.1 shows way.2 in
+    let way = way_there g rule weight kind p s.budget s.store pp found.0 (suc mark.cost) number x mark at (omega arith) in
+    let won = won_length g rule weight kind p s.budget s.store pp light number way.0 way.1 shows way.2 in
     let one = same_entry s.store number x won.0 mark won.1 at won.2 in
     let cost : mark.cost ≡ length way.0 = ap (λ k. k.cost) one.1 ∙ sym won.3 in (
       verdict.Shortest way.0,
-      shortest_verdict g rule weight p s.budget s.store pp light number way.0 way.1 known few found shows way.2,
-      subst (λ v. IsOfStatus weight s.store s.budget v (verdict.Shortest way.0)) (sym done) (won.0, won.1, won.2, won.3, light),
+      shortest_verdict g rule weight kind p s.budget s.store pp light number way.0 way.1 known few found shows way.2,
+      subst (λ v. IsOfStatus (classes_of s.question) weight s.store s.budget v (verdict.Shortest way.0)) (sym done) (won.0, won.1, won.2, won.3, light),
       ap outcome.Shortest cost,
     )
 
 -- by a greater weight as many moves as the won class costs win, within the weight
-pub won_outcome : (s : State) (number : ℕ) (x : List ℕ) (mark : Mark) → IsPositionOf s.question.game s.question.start
-    → s.budget ≤ 4000000 → IsFound (classes_of s.question) s.question.weight s.budget s.store number
+pub won_outcome : (s : State) (number : ℕ) (x : List ℕ) (mark : Mark) (floor : ℕ) → IsPositionOf s.question.game s.question.start
+    → s.question.rule ≤ 2 → s.budget ≤ 4000000 → IsFound (classes_of s.question) s.question.weight s.budget s.store number
     → Shows (classes_of s.question) s.question.weight s.budget s.store (status.Won number) → s.status ≡ status.Won number
-    → Stands s.store number x mark → 2 ≤ s.question.weight → IsOutcome s (outcome.Won mark.cost)
-won_outcome s number x mark pp few found (y, mine, there, won, reached, (ms, long, wins), least) done at heavy =
+    → Stands s.store number x mark → IsFloorOf s number floor → 2 ≤ s.question.weight → IsOutcome s (outcome.Won mark.cost floor)
+won_outcome s number x mark floor pp known few found (y, mine, there, won, reached, (ms, long, wins), least) done at (z, other, stands, opened)
+    heavy =
     let weight = s.question.weight in
     let one = same_entry s.store number x y mark mine at there in
+    let two = same_entry s.store number z y other mine stands there in
     let cost : mark.cost ≡ length ms = ap (λ k. k.cost) one.1 ∙ sym long in
-    let le : length ms ≤ mine.cost = omega (arith, long) in (
-      verdict.Won ms,
-      won_verdict s.question.game s.question.rule weight s.question.start s.budget s.store pp heavy number ms y mine few found.0
-          there le wins (λ others w. least (length others) (others, refl, w)),
-      subst (λ v. IsOfStatus weight s.store s.budget v (verdict.Won ms)) (sym done) (y, mine, there, le, heavy),
-      ap outcome.Won cost,
+    let le : length ms ≤ mine.cost = omega (arith, long) in
+    let own = subst (λ k. IsLeastOpen (classes_of s.question) weight s.store k.cost floor) two.1 opened in (
+      verdict.Won ms floor,
+      won_verdict s.question.game s.question.rule weight s.question.bound s.question.start s.budget s.store pp heavy number ms y mine floor
+          known few found there own le wins (λ others w. least (length others) (others, refl, w)),
+      subst (λ v. IsOfStatus (classes_of s.question) weight s.store s.budget v (verdict.Won ms floor)) (sym done)
+          (y, mine, there, le, heavy, own),
+      ap (λ n. outcome.Won n floor) cost,
     )
 
 -- what a floor divided by a weight is, rounded up

@@ -8,6 +8,7 @@ use Rattle.fc_position.specs.Position.{IsPosition}
 use Rattle.fc_moves.specs.declared.steps.Move.{Move}
 use Rattle.fc_moves.specs.GameRules.{GameRules}
 use Rattle.fc_moves.specs.Step.{Step}
+use Rattle.fc_bound.specs.declared.kinds.BoundKind.{BoundKind}
 use Rattle.fc_bound.specs.Bound.{bound, is_held_back, PlayableIsHeldBack}
 use Rattle.fc_bound.proofs.HeldLemmas.{step_moves, bound_small}
 use Rattle.fc_bound.proofs.MovedLemmas.{told_card}
@@ -46,7 +47,7 @@ shifts g b c m low before after step p other is told seen =
     }
 
 -- what the result of a step settles to is a child of the move
-pub child_of_step : (g : GameRules) (rule : ℕ) (b z : Board) (m : Move) (child : Option (Child (List ℕ))) → Step g b m z
-    → IfSome child (IsSettled g rule z 1) → IfSome child (IsChildOf g rule b m)
-child_of_step g rule b z m None step settled = settled
-child_of_step g rule b z m (Some child) step settled = (z, step, settled)
+pub child_of_step : (g : GameRules) (rule : ℕ) (kind : BoundKind) (b z : Board) (m : Move) (child : Option (Child (List ℕ))) → Step g b m z
+    → IfSome child (IsSettled g rule kind z 1) → IfSome child (IsChildOf g rule kind b m)
+child_of_step g rule kind b z m None step settled = settled
+child_of_step g rule kind b z m (Some child) step settled = (z, step, settled)

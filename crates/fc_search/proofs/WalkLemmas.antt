@@ -28,7 +28,8 @@ use Rattle.fc_canonical.specs.Spelled.{spelled}
 use Rattle.fc_canonical.proofs.SpelledLemmas.{key_spells}
 use Rattle.fc_classes.proofs.PathLemmas.{run_on}
 use Rattle.fc_search.specs.Walk.{IsStart, IsWay, IsAtClass, LeadsWithin}
-use Rattle.fc_bound.specs.Bound.{bound}
+use Rattle.fc_bound.specs.declared.kinds.BoundKind.{BoundKind}
+use Rattle.fc_bound.specs.Kinds.{guide_of}
 
 -- a move that leads to a key leads to one key, by one number of moves
 pub leads_once : (g : GameRules) (rule : ℕ) (b z q : Board) (key : List ℕ) (m : Move) (most : ℕ) (settling : List Move)
@@ -55,11 +56,11 @@ key_of_mate b c k same key = record {
 }
 
 -- from the board that a walk came to, a step leads on to the next class within what is left of its cost
-pub leads_on : (g : GameRules) (rule weight : ℕ) (p : Board) (budget : ℕ) (s : Store (List ℕ)) → IsPositionOf g p
-    → IsSound (classes bound g rule p) weight budget s → (number next : ℕ) (made : List Move) (b : Board) (x : List ℕ) (mark : Mark)
+pub leads_on : (g : GameRules) (rule weight : ℕ) (kind : BoundKind) (p : Board) (budget : ℕ) (s : Store (List ℕ)) → IsPositionOf g p
+    → IsSound (classes (guide_of kind) g rule p) weight budget s → (number next : ℕ) (made : List Move) (b : Board) (x : List ℕ) (mark : Mark)
     → IsAtClass g s p number made b → Stands s next x mark → mark.parent ≡ number → (number ≡ next → ⊥)
     → (length made ≤ mark.cost) × ((m : Move) × LeadsWithin g rule b x (mark.cost - length made) m)
-leads_on g rule weight p budget s pp sound number next made b x mark (y, mine, there, run, same, le) at parent other =
+leads_on g rule weight kind p budget s pp sound number next made b x mark (y, mine, there, run, same, le) at parent other =
     ⊎_elim
     (λ (own, start). absurd (other (sym parent ∙ own)))
     (λ (w, was, c, stands, (kw, (m, z, count, step, (q, settles, key), paid)), less).
@@ -92,10 +93,10 @@ walked_on g rule p budget s pp number next made more b c x mark (y, mine, there,
 )
 
 -- a walk begins at a class that starts, where the start settles
-pub walk_begins : (g : GameRules) (rule weight : ℕ) (p : Board) (budget : ℕ) (s : Store (List ℕ)) → IsPositionOf g p
-    → IsSound (classes bound g rule p) weight budget s → (number : ℕ) (settling : List Move) (q : Board) → IsStart s number
+pub walk_begins : (g : GameRules) (rule weight : ℕ) (kind : BoundKind) (p : Board) (budget : ℕ) (s : Store (List ℕ)) → IsPositionOf g p
+    → IsSound (classes (guide_of kind) g rule p) weight budget s → (number : ℕ) (settling : List Move) (q : Board) → IsStart s number
     → SettlesBy g rule p settling q → IsPosition q → IsAtClass g s p number settling q
-walk_begins g rule weight p budget s pp sound number settling q (x, mark, at, own) by pq =
+walk_begins g rule weight kind p budget s pp sound number settling q (x, mark, at, own) by pq =
     ⊎_elim
     (λ (parent, (r, settles, key)).
     let one = settles_once g rule p r q mark.cost (length settling) pp.position settles (settling, refl, by) in
@@ -111,10 +112,10 @@ walk_begins g rule weight p budget s pp sound number settling q (x, mark, at, ow
     (sound.comes number x mark at)
 
 -- a class's parent costs less than it does
-pub parent_less : (g : GameRules) (rule weight : ℕ) (p : Board) (budget : ℕ) (s : Store (List ℕ)) → IsSound (classes bound g rule p) weight budget s
+pub parent_less : (g : GameRules) (rule weight : ℕ) (kind : BoundKind) (p : Board) (budget : ℕ) (s : Store (List ℕ)) → IsSound (classes (guide_of kind) g rule p) weight budget s
     → (number parent : ℕ) (x : List ℕ) (mark : Mark) → Stands s number x mark → mark.parent ≡ parent → (parent ≡ number → ⊥)
     → (w : List ℕ) × (was : Mark) × Stands s parent w was × (was.cost < mark.cost)
-parent_less g rule weight p budget s sound number parent x mark at by other =
+parent_less g rule weight kind p budget s sound number parent x mark at by other =
     ⊎_elim
     (λ (own, start). absurd (other (sym by ∙ own)))
     (λ (w, was, c, stands, (kw, (m, z, count, step, to, paid)), less).

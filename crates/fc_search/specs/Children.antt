@@ -9,7 +9,8 @@ use Rattle.fc_canonical.specs.Key.{IsKeyOf, board_bytes}
 use Rattle.fc_canonical.specs.Order.{IsCanonical}
 use Rattle.fc_home.specs.HomeRule.{GoesHome}
 use Rattle.fc_home.specs.Settles.{Settles}
-use Rattle.fc_bound.specs.Bound.{bound}
+use Rattle.fc_bound.specs.declared.kinds.BoundKind.{BoundKind}
+use Rattle.fc_bound.specs.Kinds.{guide_of}
 use Rattle.fc_best_first.specs.declared.spaces.Child.{Child}
 
 -- the position is canonical, and this is its key
@@ -17,13 +18,13 @@ abbrev pub Spells : List ℕ → Board → Type 0
 Spells key b = IsCanonical b × (key ≡ board_bytes b)
 
 -- the child is of what the board settles to, at a cost of so many moves and those of settling
-abbrev pub IsSettled : GameRules → ℕ → Board → ℕ → Child (List ℕ) → Type 0
-IsSettled g rule z moves child = (q : Board) × (count : ℕ) × Settles g rule z count q × IsKeyOf q child.key
-    × (child.cost ≡ moves + count) × (child.bound ≡ bound q)
+abbrev pub IsSettled : GameRules → ℕ → BoundKind → Board → ℕ → Child (List ℕ) → Type 0
+IsSettled g rule kind z moves child = (q : Board) × (count : ℕ) × Settles g rule z count q × IsKeyOf q child.key
+    × (child.cost ≡ moves + count) × (child.bound ≡ guide_of kind q)
 
 -- the child is of where the move leads, once settled
-abbrev pub IsChildOf : GameRules → ℕ → Board → Move → Child (List ℕ) → Type 0
-IsChildOf g rule b m child = (z : Board) × Step g b m z × IsSettled g rule z 1 child
+abbrev pub IsChildOf : GameRules → ℕ → BoundKind → Board → Move → Child (List ℕ) → Type 0
+IsChildOf g rule kind b m child = (z : Board) × Step g b m z × IsSettled g rule kind z 1 child
 
 -- no playable card goes home by the rule but perhaps that of one place
 abbrev pub OthersStay : ℕ → GameRules → Board → Place → Type 0
@@ -33,6 +34,7 @@ OthersStay rule g b from = (other : Place) (c : ℕ) → other ≢ from → play
 pub record Left (G : Type 0) : Type 0 where
   pub game : G
   pub rule : ℕ
+  pub kind : BoundKind
   pub position : Board
   pub moves : List Move
 
@@ -41,8 +43,8 @@ abbrev pub AreAllowed : GameRules → Board → List Move → Type 0
 AreAllowed g b moves = (m : Move) → Contains moves m → Allows g b m
 
 -- the children are those to which the moves lead, one after the other
-abbrev pub AreChildrenBy : GameRules → ℕ → Board → List Move → List (Child (List ℕ)) → Type 0
-AreChildrenBy g rule b [] [] = Unit {0}
-AreChildrenBy g rule b (m ∷ moves) (child ∷ children) = IsChildOf g rule b m child × AreChildrenBy g rule b moves children
-AreChildrenBy g rule b [] (child ∷ children) = ⊥
-AreChildrenBy g rule b (m ∷ moves) [] = ⊥
+abbrev pub AreChildrenBy : GameRules → ℕ → BoundKind → Board → List Move → List (Child (List ℕ)) → Type 0
+AreChildrenBy g rule kind b [] [] = Unit {0}
+AreChildrenBy g rule kind b (m ∷ moves) (child ∷ children) = IsChildOf g rule kind b m child × AreChildrenBy g rule kind b moves children
+AreChildrenBy g rule kind b [] (child ∷ children) = ⊥
+AreChildrenBy g rule kind b (m ∷ moves) [] = ⊥

@@ -57,7 +57,7 @@ impl<F: Frontier + Drop, G: Game + Drop> Search<F, G> {
     {
         let (_key, mark) = self.at(number);
         if self.search.weight() > 1 {
-            return Outcome::Won(mark.cost);
+            return Outcome::Won(mark.cost, self.floor_of(number));
         }
         Outcome::Shortest(mark.cost)
     }

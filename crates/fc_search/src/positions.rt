@@ -1,23 +1,24 @@
-ghost use Rattle.std.specs.Prelude.{◌≡◌, ◌≤◌, ℕ, IfSome, Some, length, reverse};
+ghost use Rattle.std.specs.Prelude.{◌≡◌, ◌≢◌, ◌≤◌, ℕ, IfSome, Some, length, reverse};
 ghost use Rattle.fc_position.specs.Board.{playable, lifted, placed};
 ghost use Rattle.fc_position.specs.Position.{Fits, IsPosition};
 ghost use Rattle.fc_moves.specs.GameRules.{IsPositionOf};
-ghost use Rattle.fc_moves.specs.Step.{Allows};
+ghost use Rattle.fc_cards.specs.declared.places.Place.TheVariants.{Home};
+ghost use Rattle.fc_moves.specs.Step.{Allows, Step};
 ghost use Rattle.fc_canonical.specs.Key.{IsKeyOf};
 ghost use Rattle.fc_canonical.specs.Moved.{MayMove};
 ghost use Rattle.fc_home.specs.declared.settling.TheConstants.{GREATEST_RULE};
 ghost use Rattle.fc_home.specs.Settles.{NoneGoesHome};
-ghost use Rattle.fc_bound.specs.Bound.{bound as bound_of};
+ghost use Rattle.fc_bound.specs.Kinds.{guide_of};
 ghost use Rattle.fc_best_first.specs.Graph.{Reached};
 ghost use Rattle.fc_classes.specs.Classes.{classes};
 ghost use Rattle.fc_canonical.specs.Spelled.{IsKeyIn, spelled};
 ghost use Rattle.fc_classes.proofs.TableLemmas.{lawful};
 ghost use Rattle.fc_search.specs.Children.{IsSettled, IsChildOf, OthersStay, Spells, AreChildrenBy};
-ghost use Rattle.fc_tables.proofs.BoundLemmas.{bound_lower};
+ghost use Rattle.fc_tables.proofs.BoundLemmas.{bounds_lower};
 
 use arrayvec::ArrayVec;
 use fc_best_first::{Child, Space};
-use fc_bound::{bound, is_held_back};
+use fc_bound::{BoundKind, is_held_back, knot_bound};
 use fc_canonical::{distinct_moves, position_of};
 use fc_cards::Place;
 use fc_classes::ClassKey;
@@ -27,11 +28,12 @@ use fc_position::Position;
 use std::marker::Model;
 
 /// The question how few moves of a game win from a position that fits it, searched by classes of positions that are
-/// settled by a home rule, at most 2.
+/// settled by a home rule, at most 2, and by a kind of bound.
 #[derive(Drop)]
 pub struct Positions<G: Game + Drop> {
     pub game: G,
     pub rule: u8,
+    pub bound: BoundKind,
     pub start: Position,
     pub ghost known: { rule ≤ GREATEST_RULE },
     pub ghost fits: { IsPositionOf (G.game game) start },
@@ -43,6 +45,7 @@ pub struct Positions<G: Game + Drop> {
 pub struct Children<G: Game + Drop> {
     game: G,
     rule: u8,
+    kind: BoundKind,
     position: Position,
     key: ClassKey,
     bound: u8,
@@ -54,27 +57,33 @@ impl<G: Game + Drop> Model for Children<G> {
     ghost use Rattle.fc_moves.specs.GameRules.{IsPositionOf};
     ghost use Rattle.fc_home.specs.declared.settling.TheConstants.{GREATEST_RULE};
     ghost use Rattle.fc_home.specs.Settles.{NoneGoesHome};
-    ghost use Rattle.fc_bound.specs.Bound.{bound as bound_of};
+    ghost use Rattle.fc_bound.specs.Kinds.{guide_of};
     ghost use Rattle.fc_search.specs.Children.{AreAllowed, Left, Spells};
 
     ghost Value = { Left G };
 
-    ghost view = { λ s. record { game = s.game; rule = s.rule; position = s.position; moves = s.left.items } };
+    ghost view = { λ s. record { game = s.game; rule = s.rule; kind = s.kind; position = s.position; moves = s.left.items } };
 
     ghost invariant = { λ s. (s.rule ≤ GREATEST_RULE) × IsPositionOf (G.game s.game) s.position × AreAllowed (G.game s.game) s.position s.left.items
-        × (s.bound ≡ bound_of s.position) × NoneGoesHome s.rule (G.game s.game) s.position × Spells s.key s.position };
+        × (s.bound ≡ guide_of s.kind s.position) × NoneGoesHome s.rule (G.game s.game) s.position × Spells s.key s.position };
 }
 
 impl<G: Game + Drop> Positions<G> {
     /// The question for a position that fits the game.
-    pub fn new(game: G, rule: u8, start: Position) -> Self
+    pub fn new(game: G, rule: u8, bound: BoundKind, start: Position) -> Self
         requires rule { rule ≤ GREATEST_RULE }
         requires fits { Fits (G.game game).cells start }
         ensures game { result.game ≡ game }
         ensures rule { result.rule ≡ rule }
+        ensures bound { result.bound ≡ bound }
         ensures start { result.start ≡ start }
     {
-        Positions { game, rule, start }
+        Positions {
+            game,
+            rule,
+            bound,
+            start,
+        }
     }
 
     // The position that a key of the game spells.
@@ -89,13 +98,14 @@ impl<G: Game + Drop> Positions<G> {
 
     // A walk with no child left, which begins at a class that was reached.
     fn walk(&self, key: &ClassKey) -> Children<G>
-        requires reached { (d : ℕ) × Reached (classes bound_of (G.game self.now.game) self.now.rule self.now.start) key.now d }
+        requires reached { (d : ℕ) × Reached (classes (guide_of self.now.bound) (G.game self.now.game) self.now.rule self.now.start) key.now d }
     {
         let position = self.position(key);
-        let bound = bound(&position);
+        let bound = self.bound.guide(&position);
         Children {
             game: self.game.copy(),
             rule: self.rule,
+            kind: self.bound,
             position,
             key: key.copy(),
             bound,
@@ -105,17 +115,23 @@ impl<G: Game + Drop> Positions<G> {
 }
 
 // The class that the position settles to by the rule, where so many moves led to the position.
-fn settled<G: Game>(game: &G, rule: u8, position: Position, moves: u8) -> Child<ClassKey>
+fn settled<G: Game>(
+    game: &G,
+    rule: u8,
+    kind: BoundKind,
+    position: Position,
+    moves: u8,
+) -> Child<ClassKey>
     requires known { rule ≤ GREATEST_RULE }
     requires few { moves ≤ 1 }
-    ensures settled { IsSettled (G.game game.now) rule position moves result }
+    ensures settled { IsSettled (G.game game.now) rule kind position moves result }
 {
     let mut position = position;
     let settling = settle(game, &mut position, rule);
     Child {
         key: ClassKey::of(&position),
         cost: moves + settling.len() as u8,
-        bound: bound(&position),
+        bound: kind.guide(&position),
     }
 }
 
@@ -124,16 +140,17 @@ fn settled<G: Game>(game: &G, rule: u8, position: Position, moves: u8) -> Child<
 fn settled_already<G: Game>(
     game: &G,
     rule: u8,
+    kind: BoundKind,
     position: &Position,
     from: Place,
     bound: u8,
     key: Option<ClassKey>,
 ) -> Option<Child<ClassKey>>
     requires known { rule ≤ GREATEST_RULE }
-    requires bound { bound ≡ bound_of position.now }
+    requires bound { bound ≡ guide_of kind position.now }
     requires key { IfSome key (IsKeyOf position.now) }
     requires others { OthersStay rule (G.game game.now) position.now from }
-    ensures settled { IfSome result (IsSettled (G.game game.now) rule position.now 1) }
+    ensures settled { IfSome result (IsSettled (G.game game.now) rule kind position.now 1) }
 {
     if goes_home_from(game, position, rule, from) {
         return None;
@@ -169,83 +186,113 @@ fn key_after(key: &ClassKey, position: &Position, m: Move) -> Option<ClassKey>
     key.moved(position, card, m.from, m.to)
 }
 
+// Moves a card, not home, and tells the bound of where it leads, by the bound of where it was moved from. The plain bound
+// changes only by whether the card is held back, before and after.
+fn shift<G: Game>(game: &G, kind: BoundKind, position: &mut Position, bound: u8, m: Move) -> u8
+    requires bound { bound ≡ guide_of kind position.old }
+    requires allowed { Allows (G.game game.now) position.old m }
+    requires away { m.to ≢ Home }
+    ensures step { Step (G.game game.now) position.old m position.new }
+    ensures bound { result ≡ guide_of kind position.new }
+    ensures whole { IsPosition position.new }
+{
+    match kind {
+        BoundKind::Plain => {
+            let before = is_held_back(position, m.from) as u8;
+            apply(game, position, m);
+            let after = is_held_back(position, m.to) as u8;
+            bound + after - before
+        }
+        BoundKind::Clearing => {
+            apply(game, position, m);
+            knot_bound(position)
+        }
+    }
+}
+
 // The child to which a move leads, made by moving the card forth and back; `None` where cards go home, which can't be
 // taken back. The position is as it was.
 fn child_by_shift<G: Game>(
     game: &G,
     rule: u8,
+    kind: BoundKind,
     position: &mut Position,
     key: &ClassKey,
     bound: u8,
     m: Move,
 ) -> Option<Child<ClassKey>>
     requires known { rule ≤ GREATEST_RULE }
-    requires bound { bound ≡ bound_of position.old }
+    requires bound { bound ≡ guide_of kind position.old }
     requires settled { NoneGoesHome rule (G.game game.now) position.old }
     requires whole { IsPosition position.old }
     requires key { Spells key.now position.old }
     requires allowed { Allows (G.game game.now) position.old m }
-    ensures child { IfSome result (IsChildOf (G.game game.now) rule position.old m) }
+    ensures child { IfSome result (IsChildOf (G.game game.now) rule kind position.old m) }
     ensures same { position.new ≡ position.old }
 {
     if m.to == Place::Home {
         return None;
     }
     let key = key_after(key, position, m);
-    let before = is_held_back(position, m.from) as u8;
-    apply(game, position, m);
-    let after = is_held_back(position, m.to) as u8;
-    let child = settled_already(game, rule, position, m.from, bound + after - before, key);
+    let bound = shift(game, kind, position, bound, m);
+    let child = settled_already(game, rule, kind, position, m.from, bound, key);
     position.shift(m.to, m.from);
     child
 }
 
 // The child to which a move leads, made on a copy of the position.
-fn child_by_copy<G: Game>(game: &G, rule: u8, position: &Position, m: Move) -> Child<ClassKey>
+fn child_by_copy<G: Game>(
+    game: &G,
+    rule: u8,
+    kind: BoundKind,
+    position: &Position,
+    m: Move,
+) -> Child<ClassKey>
     requires known { rule ≤ GREATEST_RULE }
     requires allowed { Allows (G.game game.now) position.now m }
-    ensures child { IsChildOf (G.game game.now) rule position.now m result }
+    ensures child { IsChildOf (G.game game.now) rule kind position.now m result }
 {
     let mut next = position.copy();
     apply(game, &mut next, m);
-    settled(game, rule, next, 1)
+    settled(game, rule, kind, next, 1)
 }
 
 // The child to which a move leads. The position is as it was.
 fn child_by<G: Game>(
     game: &G,
     rule: u8,
+    kind: BoundKind,
     position: &mut Position,
     key: &ClassKey,
     bound: u8,
     m: Move,
 ) -> Child<ClassKey>
     requires known { rule ≤ GREATEST_RULE }
-    requires bound { bound ≡ bound_of position.old }
+    requires bound { bound ≡ guide_of kind position.old }
     requires settled { NoneGoesHome rule (G.game game.now) position.old }
     requires whole { IsPosition position.old }
     requires key { Spells key.now position.old }
     requires allowed { Allows (G.game game.now) position.old m }
-    ensures child { IsChildOf (G.game game.now) rule position.old m result }
+    ensures child { IsChildOf (G.game game.now) rule kind position.old m result }
     ensures same { position.new ≡ position.old }
 {
-    match child_by_shift(game, rule, position, key, bound, m) {
+    match child_by_shift(game, rule, kind, position, key, bound, m) {
         Some(child) => child,
-        None => child_by_copy(game, rule, position, m),
+        None => child_by_copy(game, rule, kind, position, m),
     }
 }
 
 impl<G: Game + Drop> Space<ClassKey> for Positions<G> {
-    ghost graph = { λ s. classes bound_of (G.game s.game) s.rule s.start };
+    ghost graph = { λ s. classes (guide_of s.bound) (G.game s.game) s.rule s.start };
 
     type Walk = Children<G>;
 
-    ghost rest = { λ w children. AreChildrenBy (G.game w.game) w.rule w.position (reverse w.moves) children };
+    ghost rest = { λ w children. AreChildrenBy (G.game w.game) w.rule w.kind w.position (reverse w.moves) children };
 
     ghost left = { λ w. length w.moves };
 
     fn start(&self) -> (Child<ClassKey>, Children<G>) {
-        let child = settled(&self.game, self.rule, self.start.copy(), 0);
+        let child = settled(&self.game, self.rule, self.bound, self.start.copy(), 0);
         let walk = self.walk(&child.key);
         (child, walk)
     }
@@ -255,15 +302,16 @@ impl<G: Game + Drop> Space<ClassKey> for Positions<G> {
     }
 
     fn bound(&self, key: &ClassKey) -> u8 {
-        bound(&self.position(key))
+        self.bound.guide(&self.position(key))
     }
 
     fn visit(&self, key: &ClassKey, walk: &mut Children<G>) -> u8 {
         walk.game = self.game.copy();
         walk.rule = self.rule;
+        walk.kind = self.bound;
         walk.position = self.position(key);
         walk.key = key.copy();
-        walk.bound = bound(&walk.position);
+        walk.bound = self.bound.guide(&walk.position);
         walk.left = distinct_moves(&self.game, &walk.position);
         walk.bound
     }
@@ -273,6 +321,7 @@ impl<G: Game + Drop> Space<ClassKey> for Positions<G> {
         Some(child_by(
             &walk.game,
             walk.rule,
+            walk.kind,
             &mut walk.position,
             &walk.key,
             walk.bound,
@@ -280,5 +329,5 @@ impl<G: Game + Drop> Space<ClassKey> for Positions<G> {
         ))
     }
 
-    ghost lawful = { λ s. lawful bound_of (G.game s.game) s.rule s.start bound_lower s.fits };
+    ghost lawful = { λ s. lawful (guide_of s.bound) (G.game s.game) s.rule s.start (bounds_lower s.bound).0 s.fits };
 }

@@ -1,18 +1,20 @@
-ghost use Rattle.std.specs.Prelude.{◌≡◌, ◌<◌, ◌≤◌, ◌⊎◌, [], length, IfOk, IfErr, OnOk, OnErr};
+ghost use Rattle.std.specs.Prelude.{◌≡◌, ◌<◌, ◌≤◌, ◌⊎◌, ℕ, [], length, IfOk, IfErr, OnOk, OnErr};
 ghost use Rattle.fc_position.specs.Position.{Fits};
 ghost use Rattle.fc_moves.specs.GameRules.{IsPositionOf};
 ghost use Rattle.fc_frontier.specs.Queue.{Adds};
 ghost use Rattle.fc_best_first.specs.Search.{Begins, FloorAfter, IsBudget, IsRefused, IsWeight, Turns, Runs, reply_of};
+ghost use Rattle.fc_best_first.specs.Kept.{IsSound};
 ghost use Rattle.fc_best_first.specs.Shown.{Holds, Shows};
 ghost use Rattle.fc_best_first.specs.Store.{Stands};
 ghost use Rattle.fc_best_first.specs.Turn.{work_left};
 ghost use Rattle.fc_answers.specs.Verdict.{verdict_of};
-ghost use Rattle.fc_search.specs.Search.{classes_of, Answers, IsVerdict, IsOfStatus, IsUnanswered, IsRunToEnd, HasRun};
+ghost use Rattle.fc_search.specs.Search.{classes_of, Answers, IsFloorOf, IsVerdict, IsOfStatus, IsUnanswered, IsRunToEnd, HasRun};
 
 use crate::positions::Positions;
 use fc_answers::{Answer, MoveList, Verdict};
 use fc_best_first as best_first;
 use fc_best_first::{MOST_BUDGET, Mark, SearchFault, Status, Step};
+use fc_bound::BoundKind;
 use fc_classes::ClassKey;
 use fc_frontier::{BucketFrontier, Frontier};
 use fc_home::GREATEST_RULE;
@@ -22,7 +24,7 @@ use std::alloc::{AllocError, Global};
 use std::marker::Model;
 
 /// A search for a list of moves that wins from a position of a game, by classes of positions that are settled by a home
-/// rule, with a weight of their bounds and a budget of stored classes. By weight 1 the list is a shortest one.
+/// rule, with a kind of bound, a weight of it and a budget of stored classes. By weight 1 the list is a shortest one.
 #[derive(Drop)]
 pub struct Search<F: Frontier + Drop, G: Game + Drop> {
     pub(crate) alloc: Global,
@@ -35,7 +37,7 @@ impl<F: Frontier + Drop, G: Game + Drop> Model for Search<F, G> {
     ghost Value = { State };
 
     ghost view = { λ s. record {
-      question = record { game = G.game s.search.space.game; rule = s.search.space.rule; weight = s.search.weight; start = s.search.space.start };
+      question = record { game = G.game s.search.space.game; rule = s.search.space.rule; weight = s.search.weight; bound = s.search.space.bound; start = s.search.space.start };
       budget = s.search.budget;
       store = s.search.store;
       status = s.search.status;
@@ -54,6 +56,7 @@ impl<F: Frontier + Drop, G: Game + Drop> Search<F, G> {
         game: &G,
         rule: u8,
         weight: u8,
+        bound: BoundKind,
         position: &Position,
         budget: u32,
     ) -> Result<Self, SearchFault>
@@ -63,6 +66,7 @@ impl<F: Frontier + Drop, G: Game + Drop> Search<F, G> {
         ensures game { IfOk result (λ search. search.question.game ≡ G.game game.now) }
         ensures rule { IfOk result (λ search. search.question.rule ≡ rule) }
         ensures weight { IfOk result (λ search. search.question.weight ≡ weight) }
+        ensures bound { IfOk result (λ search. search.question.bound ≡ bound) }
         ensures start { IfOk result (λ search. search.question.start ≡ position.now) }
         ensures budget { IfOk result (λ search. search.budget ≡ budget) }
         ensures status { IfOk result (λ search. search.status ≡ Status.Running) }
@@ -71,7 +75,7 @@ impl<F: Frontier + Drop, G: Game + Drop> Search<F, G> {
         ensures range { OnOk result (IsBudget budget) }
         ensures fault { IfErr result (IsRefused budget) }
     {
-        let space = Positions::new(game.copy(), rule, position.copy());
+        let space = Positions::new(game.copy(), rule, bound, position.copy());
         let search = best_first::Search::new(alloc, space, weight, budget)?;
         Ok(Search { alloc, search })
     }
@@ -112,8 +116,8 @@ impl<F: Frontier + Drop, G: Game + Drop> Search<F, G> {
     /// `Stopped` after a want of memory stopped the search; `NotDone` before it is done; `Memory` where a growth was
     /// refused.
     pub fn answer(&self) -> Result<Answer, SearchFault>
-        ensures answers { IfOk result (Answers self.now.question.game self.now.question.rule self.now.question.weight self.now.question.start self.now.budget) }
-        ensures kind { IfOk result (λ answer. IsOfStatus self.now.question.weight self.now.store self.now.budget self.now.status (verdict_of answer)) }
+        ensures answers { IfOk result (Answers self.now.question.game self.now.question.rule self.now.question.weight self.now.question.bound self.now.question.start self.now.budget) }
+        ensures kind { IfOk result (λ answer. IsOfStatus (classes_of self.now.question) self.now.question.weight self.now.store self.now.budget self.now.status (verdict_of answer)) }
         ensures fault { IfErr result (IsUnanswered self.now.status) }
     {
         let answer = match self.search.status() {
@@ -134,8 +138,8 @@ impl<F: Frontier + Drop, G: Game + Drop> Search<F, G> {
     /// # Errors
     /// Those of `answer`.
     pub fn verdict(&self) -> Result<Verdict, SearchFault>
-        ensures told { IfOk result (IsVerdict self.now.question.game self.now.question.rule self.now.question.weight self.now.question.start self.now.budget) }
-        ensures kind { IfOk result (IsOfStatus self.now.question.weight self.now.store self.now.budget self.now.status) }
+        ensures told { IfOk result (IsVerdict self.now.question.game self.now.question.rule self.now.question.weight self.now.question.bound self.now.question.start self.now.budget) }
+        ensures kind { IfOk result (IsOfStatus (classes_of self.now.question) self.now.question.weight self.now.store self.now.budget self.now.status) }
         ensures fault { IfErr result (IsUnanswered self.now.status) }
     {
         match self.search.status() {
@@ -167,14 +171,24 @@ impl<F: Frontier + Drop, G: Game + Drop> Search<F, G> {
         requires fits { IsPositionOf self.now.question.game self.now.question.start }
         requires done { self.now.status ≡ Status.Won number }
         ensures shortest { IfOk result (λ moves. self.now.question.weight ≡ 1
-            → IsVerdict self.now.question.game self.now.question.rule self.now.question.weight self.now.question.start self.now.budget (Verdict.Shortest moves)
-            × IsOfStatus self.now.question.weight self.now.store self.now.budget self.now.status (Verdict.Shortest moves)) }
-        ensures within { IfOk result (λ moves. 2 ≤ self.now.question.weight
-            → IsVerdict self.now.question.game self.now.question.rule self.now.question.weight self.now.question.start self.now.budget (Verdict.Won moves)
-            × IsOfStatus self.now.question.weight self.now.store self.now.budget self.now.status (Verdict.Won moves)) }
+            → IsVerdict self.now.question.game self.now.question.rule self.now.question.weight self.now.question.bound self.now.question.start self.now.budget (Verdict.Shortest moves)
+            × IsOfStatus (classes_of self.now.question) self.now.question.weight self.now.store self.now.budget self.now.status (Verdict.Shortest moves)) }
+        ensures within { IfOk result (λ moves. 2 ≤ self.now.question.weight → (floor : ℕ) → IsFloorOf self.now number floor
+            → IsVerdict self.now.question.game self.now.question.rule self.now.question.weight self.now.question.bound self.now.question.start self.now.budget (Verdict.Won moves floor)
+            × IsOfStatus (classes_of self.now.question) self.now.question.weight self.now.store self.now.budget self.now.status (Verdict.Won moves floor)) }
     {
         let moves = self.moves_to(number)?;
         Ok(moves)
+    }
+
+    // The least cost and bound of what is open, and no more than the class with this number costs.
+    pub(crate) fn floor_of(&self, number: u32) -> u32
+        requires sound { IsSound (classes_of self.now.question) self.now.question.weight self.now.budget self.now.store }
+        requires within { number < length self.now.store.stored }
+        ensures value { IsFloorOf self.now number result }
+    {
+        let (_key, mark) = self.at(number);
+        self.search.least_open(mark.cost)
     }
 
     // The verdict where the class with this number is won: only by weight 1 the list is known to be a shortest one.
@@ -185,17 +199,17 @@ impl<F: Frontier + Drop, G: Game + Drop> Search<F, G> {
         requires known { self.now.question.rule ≤ GREATEST_RULE }
         requires fits { IsPositionOf self.now.question.game self.now.question.start }
         requires done { self.now.status ≡ Status.Won number }
-        ensures told { IfOk result (IsVerdict self.now.question.game self.now.question.rule self.now.question.weight self.now.question.start self.now.budget) }
-        ensures kind { IfOk result (IsOfStatus self.now.question.weight self.now.store self.now.budget self.now.status) }
+        ensures told { IfOk result (IsVerdict self.now.question.game self.now.question.rule self.now.question.weight self.now.question.bound self.now.question.start self.now.budget) }
+        ensures kind { IfOk result (IsOfStatus (classes_of self.now.question) self.now.question.weight self.now.store self.now.budget self.now.status) }
     {
         let moves = self.won_list(number)?;
         if self.search.weight() > 1 {
-            return Ok(Verdict::Won(moves));
+            return Ok(Verdict::Won(moves, self.floor_of(number)));
         }
         Ok(Verdict::Shortest(moves))
     }
 
-    // The answer where the class with this number is won: only by weight 1 it has a table.
+    // The answer where the class with this number is won, with the table of its length by weight 1, else of its floor.
     fn won(&self, number: u32) -> Result<Answer, AllocError>
         requires held { Holds (classes_of self.now.question) self.now.question.weight self.now.budget self.now.store self.now.status }
         requires shown { Shows (classes_of self.now.question) self.now.question.weight self.now.budget self.now.store self.now.status }
@@ -203,12 +217,14 @@ impl<F: Frontier + Drop, G: Game + Drop> Search<F, G> {
         requires known { self.now.question.rule ≤ GREATEST_RULE }
         requires fits { IsPositionOf self.now.question.game self.now.question.start }
         requires done { self.now.status ≡ Status.Won number }
-        ensures answers { IfOk result (Answers self.now.question.game self.now.question.rule self.now.question.weight self.now.question.start self.now.budget) }
-        ensures kind { IfOk result (λ answer. IsOfStatus self.now.question.weight self.now.store self.now.budget self.now.status (verdict_of answer)) }
+        ensures answers { IfOk result (Answers self.now.question.game self.now.question.rule self.now.question.weight self.now.question.bound self.now.question.start self.now.budget) }
+        ensures kind { IfOk result (λ answer. IsOfStatus (classes_of self.now.question) self.now.question.weight self.now.store self.now.budget self.now.status (verdict_of answer)) }
     {
         let moves = self.won_list(number)?;
         if self.search.weight() > 1 {
-            return Ok(Answer::Won(moves));
+            let floor = self.floor_of(number);
+            let table = self.table_below(floor as usize)?;
+            return Ok(Answer::Won(moves, floor, table));
         }
         let table = self.table_below(moves.len())?;
         Ok(Answer::Shortest(moves, table))
@@ -222,8 +238,8 @@ impl<F: Frontier + Drop, G: Game + Drop> Search<F, G> {
         requires known { self.now.question.rule ≤ GREATEST_RULE }
         requires fits { IsPositionOf self.now.question.game self.now.question.start }
         requires done { self.now.status ≡ Status.CannotWin }
-        ensures answers { IfOk result (Answers self.now.question.game self.now.question.rule self.now.question.weight self.now.question.start self.now.budget) }
-        ensures kind { IfOk result (λ answer. IsOfStatus self.now.question.weight self.now.store self.now.budget self.now.status (verdict_of answer)) }
+        ensures answers { IfOk result (Answers self.now.question.game self.now.question.rule self.now.question.weight self.now.question.bound self.now.question.start self.now.budget) }
+        ensures kind { IfOk result (λ answer. IsOfStatus (classes_of self.now.question) self.now.question.weight self.now.store self.now.budget self.now.status (verdict_of answer)) }
     {
         Ok(Answer::CannotWin(self.table_of_all()?))
     }
@@ -239,18 +255,19 @@ pub fn solve<G: Game + Drop>(
     game: &G,
     rule: u8,
     weight: u8,
+    bound: BoundKind,
     position: &Position,
     budget: u32,
 ) -> Result<Answer, SearchFault>
     requires rule { rule ≤ GREATEST_RULE }
     requires weight { IsWeight weight }
     requires fits { Fits (G.game game.now).cells position.now }
-    ensures answers { IfOk result (Answers (G.game game.now) rule weight position.now budget) }
-    ensures ran { IfOk result (λ answer. IsRunToEnd (G.game game.now) rule weight position.now budget (verdict_of answer)) }
+    ensures answers { IfOk result (Answers (G.game game.now) rule weight bound position.now budget) }
+    ensures ran { IfOk result (λ answer. IsRunToEnd (G.game game.now) rule weight bound position.now budget (verdict_of answer)) }
     ensures range { OnOk result (IsBudget budget) }
     ensures fault { IfErr result (IsRefused budget) }
 {
-    at_end(alloc, game, rule, weight, position, budget)?.answer()
+    at_end(alloc, game, rule, weight, bound, position, budget)?.answer()
 }
 
 /// The verdict of such a search, as `solve` gives its answer, with no table made.
@@ -262,18 +279,19 @@ pub fn decide<G: Game + Drop>(
     game: &G,
     rule: u8,
     weight: u8,
+    bound: BoundKind,
     position: &Position,
     budget: u32,
 ) -> Result<Verdict, SearchFault>
     requires rule { rule ≤ GREATEST_RULE }
     requires weight { IsWeight weight }
     requires fits { Fits (G.game game.now).cells position.now }
-    ensures told { IfOk result (IsVerdict (G.game game.now) rule weight position.now budget) }
-    ensures ran { IfOk result (IsRunToEnd (G.game game.now) rule weight position.now budget) }
+    ensures told { IfOk result (IsVerdict (G.game game.now) rule weight bound position.now budget) }
+    ensures ran { IfOk result (IsRunToEnd (G.game game.now) rule weight bound position.now budget) }
     ensures range { OnOk result (IsBudget budget) }
     ensures fault { IfErr result (IsRefused budget) }
 {
-    at_end(alloc, game, rule, weight, position, budget)?.verdict()
+    at_end(alloc, game, rule, weight, bound, position, budget)?.verdict()
 }
 
 // Such a search, which has run to its end.
@@ -282,21 +300,22 @@ fn at_end<G: Game + Drop>(
     game: &G,
     rule: u8,
     weight: u8,
+    bound: BoundKind,
     position: &Position,
     budget: u32,
 ) -> Result<Search<BucketFrontier, G>, SearchFault>
     requires rule { rule ≤ GREATEST_RULE }
     requires weight { IsWeight weight }
     requires fits { Fits (G.game game.now).cells position.now }
-    ensures question { IfOk result (λ search. search.question ≡ record { game = G.game game.now; rule = rule; weight = weight; start = position.now }) }
+    ensures question { IfOk result (λ search. search.question ≡ record { game = G.game game.now; rule = rule; weight = weight; bound = bound; start = position.now }) }
     ensures budget { IfOk result (λ search. search.budget ≡ budget) }
-    ensures ran { IfOk result (λ search. HasRun (G.game game.now) rule weight position.now budget search.store search.status) }
+    ensures ran { IfOk result (λ search. HasRun (G.game game.now) rule weight bound position.now budget search.store search.status) }
     ensures done { IfOk result (λ search. reply_of search.status ≡ Ok Step.Done) }
     ensures range { OnOk result (IsBudget budget) }
     ensures fault { IfErr result (IsRefused budget) }
 {
     let mut search: Search<BucketFrontier, G> = Search::new(
-        alloc, game, rule, weight, position, budget,
+        alloc, game, rule, weight, bound, position, budget,
     )?;
     search.run()?;
     Ok(search)

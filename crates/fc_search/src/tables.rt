@@ -3,6 +3,7 @@
 ghost use Rattle.std.specs.Prelude.{◌≡◌, ◌≤◌, length, IfOk};
 ghost use Rattle.std.specs.List.Sorted.{IsPermutation};
 ghost use Rattle.fc_best_first.specs.Kept.{IsSound};
+ghost use Rattle.fc_bound.specs.Kinds.{guide_of};
 ghost use Rattle.fc_answers.specs.Table.{IsRising, inside, at_no_cost};
 ghost use Rattle.fc_search.specs.Search.{classes_of};
 ghost use Rattle.fc_search.specs.Stored.{costs_of};
@@ -21,12 +22,14 @@ impl<F: Frontier + Drop, G: Game + Drop> Search<F, G> {
         requires sound { IsSound (classes_of self.now.question) self.now.question.weight self.now.budget self.now.store }
         requires most { self.now.budget ≤ MOST_BUDGET }
         ensures rule { IfOk result (λ table. table.rule ≡ self.now.question.rule) }
+        ensures bound { IfOk result (λ table. table.bound ≡ self.now.question.bound) }
         ensures known { IfOk result (λ table. table.rule ≤ GREATEST_RULE) }
         ensures few { IfOk result (λ table. length table.rows ≤ MOST_BUDGET) }
-        ensures rows { IfOk result (λ table. IsPermutation (inside n (costs_of self.now.store)) table.rows) }
+        ensures rows { IfOk result (λ table. IsPermutation (inside (guide_of self.now.question.bound) n (costs_of self.now.store)) table.rows) }
         ensures rising { IfOk result (λ table. IsRising table.rows) }
     {
         let space = self.search.space();
+        let kind = space.bound;
         let mut rows = Vec::new(self.alloc);
         for number in 0..self.search.len() as u32 {
             let (key, mark) = self.at(number);
@@ -38,7 +41,7 @@ impl<F: Frontier + Drop, G: Game + Drop> Search<F, G> {
                 })?;
             }
         }
-        Ok(Table::sorted(space.rule, rows))
+        Ok(Table::sorted(space.rule, kind, rows))
     }
 
     // The stored classes, each at no cost.
@@ -46,6 +49,7 @@ impl<F: Frontier + Drop, G: Game + Drop> Search<F, G> {
         requires sound { IsSound (classes_of self.now.question) self.now.question.weight self.now.budget self.now.store }
         requires most { self.now.budget ≤ MOST_BUDGET }
         ensures rule { IfOk result (λ table. table.rule ≡ self.now.question.rule) }
+        ensures bound { IfOk result (λ table. table.bound ≡ self.now.question.bound) }
         ensures known { IfOk result (λ table. table.rule ≤ GREATEST_RULE) }
         ensures few { IfOk result (λ table. length table.rows ≤ MOST_BUDGET) }
         ensures rows { IfOk result (λ table. IsPermutation (at_no_cost (costs_of self.now.store)) table.rows) }
@@ -59,6 +63,7 @@ impl<F: Frontier + Drop, G: Game + Drop> Search<F, G> {
                 cost: 0,
             })?;
         }
-        Ok(Table::sorted(self.search.space().rule, rows))
+        let space = self.search.space();
+        Ok(Table::sorted(space.rule, space.bound, rows))
     }
 }

@@ -1,6 +1,7 @@
 //! Batches of numbered deals: what they print, their statuses and their faults.
 
 use crate::given::free_cell;
+use fc_bound::BoundKind;
 use fc_io::ToArray;
 use fc_io::testing::Failing;
 use fc_runs::{MOST_DEALS, Output, ProgramFault, run_batch};
@@ -38,7 +39,17 @@ fn check_row(rt: &impl Abort, alloc: Global, row: &Row) {
     let mut out = ToArray::<100>::new();
     let game = free_cell(rt, 4);
     let Row(from, to, budget, wanted, printed) = *row;
-    let result = run_batch(alloc, &game, 2, 1, from, to, budget, &mut out);
+    let result = run_batch(
+        alloc,
+        &game,
+        2,
+        1,
+        BoundKind::Plain,
+        from,
+        to,
+        budget,
+        &mut out,
+    );
     assert!(rt; result == wanted, "deals {from} to {to}: another end");
     assert!(rt;
         out.held() == printed.as_bytes(),
@@ -57,7 +68,17 @@ fn batches_are_told_or_refused(rt: HostRuntime) {
 fn the_longest_batch_has_a_line_for_each_deal(rt: HostRuntime) {
     let mut out = ToArray::<500>::new();
     let game = free_cell(&rt, 4);
-    let result = run_batch(rt.alloc(), &game, 2, 1, 1, MOST_DEALS, 1, &mut out);
+    let result = run_batch(
+        rt.alloc(),
+        &game,
+        2,
+        1,
+        BoundKind::Plain,
+        1,
+        MOST_DEALS,
+        1,
+        &mut out,
+    );
     let lines = out.held().split(|byte| *byte == b'\n').count();
     assert!(rt; result == Ok(2) && lines == 33);
 }
@@ -68,7 +89,17 @@ fn lines_are_cut_where_the_sink_fails(rt: HostRuntime) {
     let game = free_cell(&rt, 4);
     for count in 0..printed.len() {
         let mut out = Failing::new(ToArray::<100>::new(), count as u32);
-        let result = run_batch(rt.alloc(), &game, 2, 1, 24, 25, 1, &mut out);
+        let result = run_batch(
+            rt.alloc(),
+            &game,
+            2,
+            1,
+            BoundKind::Plain,
+            24,
+            25,
+            1,
+            &mut out,
+        );
         let wanted = Err(ProgramFault::Write(Output::Answer));
         assert!(rt; result == wanted && out.device.held() == &printed[..count]);
     }

@@ -2,6 +2,7 @@
 
 use crate::given::{board, free_cell, sure};
 use fc_batch::Batch;
+use fc_bound::BoundKind;
 use fc_frontier::BucketFrontier;
 use fc_moves::FreeCell;
 use fc_search::{Answer, Outcome, Search, SearchFault, Step, Verdict};
@@ -23,7 +24,15 @@ fn search_of(rt: &impl Abort, alloc: Global, text: &str) -> Search<BucketFrontie
     let game = free_cell(rt, 4);
     sure(
         rt,
-        Search::new(alloc, &game, 1, 1, &board(rt, &game, text), 100),
+        Search::new(
+            alloc,
+            &game,
+            1,
+            1,
+            BoundKind::Plain,
+            &board(rt, &game, text),
+            100,
+        ),
     )
 }
 

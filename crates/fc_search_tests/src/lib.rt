@@ -8,6 +8,8 @@ mod batches;
 #[cfg(test)]
 mod best_first;
 #[cfg(test)]
+mod bounds;
+#[cfg(test)]
 mod classes;
 #[cfg(test)]
 mod given;

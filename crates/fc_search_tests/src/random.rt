@@ -3,6 +3,7 @@
 use crate::given::{bakers_game, free_cell, sure};
 use crate::plain::{self, Found};
 use arrayvec::ArrayVec;
+use fc_bound::BoundKind;
 use fc_cards::{Card, Suit};
 use fc_frontier::{BucketFrontier, Frontier, ListFrontier};
 use fc_moves::{Game, Kings};
@@ -100,10 +101,11 @@ fn answer_of<F: Frontier + Drop, G: Game + Drop>(
     alloc: Global,
     game: &G,
     rule: u8,
+    bound: BoundKind,
     board: &Position,
 ) -> Answer {
     assert!(rt; rule <= 2 && board.fits(game.cells()));
-    let mut search: Search<F, G> = sure(rt, Search::new(alloc, game, rule, 1, board, 4000));
+    let mut search: Search<F, G> = sure(rt, Search::new(alloc, game, rule, 1, bound, board, 4000));
     sure(rt, search.run());
     sure(rt, search.answer())
 }
@@ -113,14 +115,16 @@ fn check_answer(rt: &impl Abort, answer: &Answer, found: Found) {
     assert!(rt; agree(answer, found), "another answer");
 }
 
-// Compares the answers for a board of a game, by each rule and with either queue.
+// Compares the answers for a board of a game, by each rule, with either queue and by either bound.
 fn compare_board<G: Game + Drop>(rt: &impl Abort, alloc: Global, game: &G, board: &Position) {
     let found = plain::search(rt, alloc, game, board, 300);
     for rule in 0..3 {
-        let list = answer_of::<ListFrontier, G>(rt, alloc, game, rule, board);
+        let list = answer_of::<ListFrontier, G>(rt, alloc, game, rule, BoundKind::Plain, board);
         check_answer(rt, &list, found);
-        let buckets = answer_of::<BucketFrontier, G>(rt, alloc, game, rule, board);
-        check_answer(rt, &buckets, found);
+        for bound in [BoundKind::Plain, BoundKind::Clearing] {
+            let buckets = answer_of::<BucketFrontier, G>(rt, alloc, game, rule, bound, board);
+            check_answer(rt, &buckets, found);
+        }
     }
 }
 

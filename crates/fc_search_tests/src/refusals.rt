@@ -4,6 +4,7 @@
 use crate::batches::{BOARDS, OUTCOMES, answers};
 use crate::given::{board, free_cell, sure};
 use fc_batch::Batch;
+use fc_bound::BoundKind;
 use fc_frontier::BucketFrontier;
 use fc_moves::FreeCell;
 use fc_search::{Answer, Search, SearchFault, Step};
@@ -16,11 +17,14 @@ type Searches = Batch<BucketFrontier, FreeCell>;
 fn add(rt: &impl Abort, alloc: Global, batch: &mut Searches, text: &str, wanted: usize) {
     let game = free_cell(rt, 4);
     let start = board(rt, &game, text);
-    let search = match Search::new(alloc, &game, 1, 1, &start, 100) {
+    let search = match Search::new(alloc, &game, 1, 1, BoundKind::Plain, &start, 100) {
         Ok(search) => search,
         Err(fault) => {
             assert!(rt; fault == SearchFault::Memory, "another fault");
-            sure(rt, Search::new(alloc, &game, 1, 1, &start, 100))
+            sure(
+                rt,
+                Search::new(alloc, &game, 1, 1, BoundKind::Plain, &start, 100),
+            )
         }
     };
     let number = match batch.add(search) {

@@ -1,6 +1,7 @@
 //! Runs of the program: what they print, their statuses and their faults, over devices that fail too.
 
 use crate::given::{bakers_game, board, free_cell, make, sure};
+use fc_bound::BoundKind;
 use fc_cards::Card;
 use fc_cert::CertFault;
 use fc_checker::CheckFault;
@@ -67,7 +68,17 @@ fn ends<G: Game + Drop>(rt: &impl Abort, alloc: Global, game: &G, row: &Row) {
     let mut source = FromSlice::new(row.board.as_bytes());
     let mut out = ToArray::<200>::new();
     let none: Option<&mut ToArray<1>> = None;
-    let result = run_solve(alloc, game, 1, 1, &mut source, row.budget, &mut out, none);
+    let result = run_solve(
+        alloc,
+        game,
+        1,
+        1,
+        BoundKind::Plain,
+        &mut source,
+        row.budget,
+        &mut out,
+        none,
+    );
     assert!(rt; result == row.wanted, "another answer");
     check_printed(rt, game, row, out.held());
 }
@@ -278,7 +289,17 @@ fn ends_over(
     let mut out = Failing::new(ToArray::<200>::new(), calls.1);
     let none: Option<&mut ToArray<1>> = None;
     let game = free_cell(rt, 4);
-    let result = run_solve(alloc, &game, 1, 1, &mut source, 100, &mut out, none);
+    let result = run_solve(
+        alloc,
+        &game,
+        1,
+        1,
+        BoundKind::Plain,
+        &mut source,
+        100,
+        &mut out,
+        none,
+    );
     assert!(rt; result == wanted, "another answer");
     assert!(rt; out.device.held() == printed, "another text");
 }
@@ -310,7 +331,17 @@ fn stops_a_reader_that_never_ends(rt: HostRuntime) {
     let mut out = ToArray::<200>::new();
     let none: Option<&mut ToArray<1>> = None;
     let game = free_cell(&rt, 4);
-    let result = run_solve(rt.alloc(), &game, 1, 1, &mut source, 100, &mut out, none);
+    let result = run_solve(
+        rt.alloc(),
+        &game,
+        1,
+        1,
+        BoundKind::Plain,
+        &mut source,
+        100,
+        &mut out,
+        none,
+    );
     let wanted = Err(ProgramFault::Board(BoardFault::TooLong));
     assert!(rt; result == wanted && out.held() == b"".as_slice());
 }

@@ -1,6 +1,7 @@
 //! Answers of searches: their moves, made one after the other, and their tables.
 
 use crate::given::{bakers_game, board, free_cell, make, sure};
+use fc_bound::BoundKind;
 use fc_cards::Place;
 use fc_frontier::{BucketFrontier, Frontier, ListFrontier};
 use fc_moves::{FreeCell, Game, Kings, Move};
@@ -114,7 +115,7 @@ fn report<G: Game>(rt: &impl Abort, game: &G, rule: u8, start: &Position, answer
             Told::CannotWin(table.len())
         }
         Answer::GaveUp(budget) => Told::GaveUp(*budget),
-        Answer::Won(_) => rt.panic("a search by weight 1 finds a shortest list"),
+        Answer::Won(_, _, _) => rt.panic("a search by weight 1 finds a shortest list"),
     }
 }
 
@@ -132,11 +133,17 @@ fn is_verdict_of(verdict: &Verdict, told: Told) -> bool {
 fn answers_by<G: Game + Drop>(rt: &impl Abort, alloc: Global, game: &G, rule: u8, row: &Row) {
     assert!(rt; rule <= 2, "a rule");
     let start = board(rt, game, row.board);
-    let answer = sure(rt, solve(alloc, game, rule, 1, &start, row.budget));
+    let answer = sure(
+        rt,
+        solve(alloc, game, rule, 1, BoundKind::Plain, &start, row.budget),
+    );
     let told = report(rt, game, rule, &start, &answer);
     assert!(rt; told == row.told, "rule {rule}");
     assert!(rt; shows(&answer, row.shown), "rule {rule}");
-    let verdict = sure(rt, decide(alloc, game, rule, 1, &start, row.budget));
+    let verdict = sure(
+        rt,
+        decide(alloc, game, rule, 1, BoundKind::Plain, &start, row.budget),
+    );
     assert!(rt; is_verdict_of(&verdict, row.told), "rule {rule}");
 }
 
@@ -413,14 +420,22 @@ fn begun<F: Frontier + Drop>(
     budget: u32,
 ) -> Result<Search<F, FreeCell>, SearchFault> {
     let game = free_cell(rt, 4);
-    Search::new(alloc, &game, 1, 1, &board(rt, &game, text), budget)
+    Search::new(
+        alloc,
+        &game,
+        1,
+        1,
+        BoundKind::Plain,
+        &board(rt, &game, text),
+        budget,
+    )
 }
 
 // A budget is out of range.
 fn check_budget(rt: &impl Abort, alloc: Global, budget: u32) {
     let game = free_cell(rt, 4);
     let start = board(rt, &game, QUEEN_UNDER_KING);
-    let fault = solve(alloc, &game, 1, 1, &start, budget).err();
+    let fault = solve(alloc, &game, 1, 1, BoundKind::Plain, &start, budget).err();
     assert!(rt; fault == Some(SearchFault::Budget), "a budget of {budget}");
     let fault = begun::<ListFrontier>(rt, alloc, QUEEN_UNDER_KING, budget).err();
     assert!(rt; fault == Some(SearchFault::Budget), "a budget of {budget}");

@@ -4,6 +4,7 @@ ghost use Rattle.std.specs.Prelude.{◌≤◌};
 
 use crate::given::{bakers_game, board, free_cell, sure};
 use fc_best_first::{Search, Status};
+use fc_bound::BoundKind;
 use fc_classes::ClassKey;
 use fc_frontier::{BucketFrontier, Frontier, ListFrontier};
 use fc_moves::{FreeCell, Game, Kings};
@@ -46,7 +47,7 @@ fn begun<F: Frontier + Drop, G: Game + Drop>(
     requires rule { rule ≤ 2 }
 {
     let start = board(rt, &game, text);
-    let space = Positions::new(game, rule, start);
+    let space = Positions::new(game, rule, BoundKind::Plain, start);
     sure(rt, Search::new(alloc, space, 1, budget))
 }
 

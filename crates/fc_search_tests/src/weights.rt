@@ -8,7 +8,7 @@ use crate::given::{bakers_game, free_cell, sure};
 use crate::plain::{self, Found};
 use crate::random::{Numbers, random_board};
 use crate::searches::check_wins;
-use fc_bound::bound;
+use fc_bound::BoundKind::{self, Clearing, Plain};
 use fc_frontier::{BucketFrontier, Frontier, ListFrontier};
 use fc_home::{GREATEST_RULE, settle};
 use fc_moves::{Game, Kings};
@@ -25,8 +25,10 @@ fn agrees(verdict: &Verdict, weight: u8, found: Found) -> bool {
     match (verdict, found) {
         (_, Found::GaveUp) => true,
         (Verdict::Shortest(list), Found::Shortest(moves)) => list.len() == moves,
-        (Verdict::Won(list), Found::Shortest(moves)) => {
-            moves <= list.len() && list.len() <= moves.saturating_mul(weight as usize)
+        (Verdict::Won(list, floor), Found::Shortest(moves)) => {
+            *floor as usize <= moves
+                && moves <= list.len()
+                && list.len() <= moves.saturating_mul(weight as usize)
         }
         (Verdict::CannotWin, Found::CannotWin) => true,
         _ => false,
@@ -40,7 +42,7 @@ fn check_list<G: Game>(rt: &impl Abort, game: &G, board: &Position, weight: u8, 
             assert!(rt; weight == 1, "said to be shortest by weight {weight}");
             check_wins(rt, game, board, list);
         }
-        Verdict::Won(list) => {
+        Verdict::Won(list, _) => {
             assert!(rt; weight > 1, "not said to be shortest by weight 1");
             check_wins(rt, game, board, list);
         }
@@ -50,14 +52,20 @@ fn check_list<G: Game>(rt: &impl Abort, game: &G, board: &Position, weight: u8, 
 
 // What a search says before its first turn: the home moves at its beginning, which count once, over the weight, rounded up,
 // and the bound of the board after them.
-fn least_at_first<G: Game>(game: &G, rule: u8, weight: u8, board: &Position) -> u32
+fn least_at_first<G: Game>(
+    game: &G,
+    rule: u8,
+    weight: u8,
+    bound: BoundKind,
+    board: &Position,
+) -> u32
     requires rule { rule ≤ GREATEST_RULE }
     requires weight { IsWeight weight }
 {
     let mut position = board.copy();
     let settling = settle(game, &mut position, rule);
     let moves = (settling.len() as u32).div_ceil(u32::from(weight));
-    moves.saturating_add(u32::from(bound(&position)))
+    moves.saturating_add(u32::from(bound.guide(&position)))
 }
 
 // Takes all turns of a search, which never says that more moves are needed than were found.
@@ -86,6 +94,7 @@ fn compare_turns<F: Frontier + Drop, G: Game + Drop>(
     game: &G,
     rule: u8,
     weight: u8,
+    bound: BoundKind,
     board: &Position,
     found: Found,
 )
@@ -93,8 +102,11 @@ fn compare_turns<F: Frontier + Drop, G: Game + Drop>(
     requires weight { IsWeight weight }
     requires fits { Fits (G.game game.now).cells board.now }
 {
-    let mut search: Search<F, G> = sure(rt, Search::new(alloc, game, rule, weight, board, 4000));
-    let least = least_at_first(game, rule, weight, board);
+    let mut search: Search<F, G> = sure(
+        rt,
+        Search::new(alloc, game, rule, weight, bound, board, 4000),
+    );
+    let least = least_at_first(game, rule, weight, bound, board);
     assert!(rt; search.at_least() == least, "another least at first");
     take_turns(rt, &mut search, found);
     let verdict = sure(rt, search.verdict());
@@ -111,7 +123,7 @@ fn compare_turns<F: Frontier + Drop, G: Game + Drop>(
     }
 }
 
-// Compares the searches of a board by a home rule and each weight with the plain one.
+// Compares the searches of a board by a home rule, each weight and either bound with the plain one.
 fn compare_board<G: Game + Drop>(
     rt: &impl Abort,
     alloc: Global,
@@ -123,14 +135,16 @@ fn compare_board<G: Game + Drop>(
     let found = plain::search(rt, alloc, game, board, 300);
     for weight in WEIGHTS {
         assert!(rt; 1 <= weight && weight <= MOST_WEIGHT);
-        compare_turns::<ListFrontier, G>(rt, alloc, game, rule, weight, board, found);
-        compare_turns::<BucketFrontier, G>(rt, alloc, game, rule, weight, board, found);
-        let verdict = sure(rt, decide(alloc, game, rule, weight, board, 4000));
-        check_list(rt, game, board, weight, &verdict);
-        assert!(rt;
-            agrees(&verdict, weight, found),
-            "another verdict by weight {weight}"
-        );
+        compare_turns::<ListFrontier, G>(rt, alloc, game, rule, weight, Plain, board, found);
+        compare_turns::<BucketFrontier, G>(rt, alloc, game, rule, weight, Clearing, board, found);
+        for bound in [Plain, Clearing] {
+            let verdict = sure(rt, decide(alloc, game, rule, weight, bound, board, 4000));
+            check_list(rt, game, board, weight, &verdict);
+            assert!(rt;
+                agrees(&verdict, weight, found),
+                "another verdict by weight {weight}"
+            );
+        }
     }
 }
 

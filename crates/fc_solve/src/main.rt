@@ -7,6 +7,7 @@ ghost use Rattle.std.specs.Prelude.{◌≤◌, IfSome};
 
 use clap::ArgMatches;
 use clap::error::ErrorKind;
+use fc_bound::BoundKind;
 use fc_io::{FromReader, Source, ToWriter};
 use fc_moves::{BakersGame, FreeCell, Game, Kings};
 use fc_runs::{Input, Output, ProgramFault, run_batch, run_check, run_deal, run_replay, run_solve};
@@ -120,6 +121,7 @@ struct Limits {
     budget: u32,
     rule: u8,
     weight: u8,
+    bound: BoundKind,
 }
 
 // What the words say of a search; `None` where there is no such home rule or weight.
@@ -138,7 +140,16 @@ fn limits_of(words: &ArgMatches<'_>) -> Option<Limits>
         budget,
         rule,
         weight,
+        bound: bound_of(words),
     })
+}
+
+// The kind of bound that the words name.
+fn bound_of(words: &ArgMatches<'_>) -> BoundKind {
+    match words.get_str("bound") {
+        Some("clearing") => BoundKind::Clearing,
+        _ => BoundKind::Plain,
+    }
 }
 
 // Solves the board of a file, or of the standard input where no file is named.
@@ -164,7 +175,7 @@ fn solve<G: Game + Drop>(
             solve_from(rt, game, limits, &mut board, cert.as_mut())?
         }
     };
-    add_notes(rt, limits.weight, cert.is_some(), status);
+    add_notes(rt, limits, cert.is_some(), status);
     Ok(status)
 }
 
@@ -185,12 +196,14 @@ fn solve_from<G: Game + Drop, S: Source>(
         budget,
         rule,
         weight,
+        bound,
     } = limits;
     run_solve(
         rt.alloc(),
         game,
         rule,
         weight,
+        bound,
         board,
         budget,
         &mut out,
@@ -198,15 +211,30 @@ fn solve_from<G: Game + Drop, S: Source>(
     )
 }
 
-// Says on standard error what an answer with this status leaves open: that a solution within a weight has no certificate, and
-// on giving up, where a person reads it, what to try. Where this can't be written, the answer stands all the same.
-fn add_notes(rt: &HostRuntime, weight: u8, has_cert: bool, status: u8) {
-    if status == 0 && weight > 1 && has_cert {
+// Says on standard error what an answer with this status leaves open: that a solution has no certificate, and on giving up,
+// where a person reads it, what to try. Where this can't be written, the answer stands all the same.
+fn add_notes(rt: &HostRuntime, limits: Limits, has_cert: bool, status: u8) {
+    if status == 0 && has_cert && limits.weight > 1 {
         let _told = eprintln!(rt;
             "fc_solve: no certificate: the solution isn't known to be shortest"
         );
+    } else if status == 0 && has_cert && limits.bound == BoundKind::Clearing {
+        let _told = eprintln!(rt;
+            "fc_solve: no certificate: the solution was sought by the clearing bound"
+        );
     }
-    if status == 2 && weight == 1 && rt.stderr().is_terminal() {
+    if status == 2 && rt.stderr().is_terminal() {
+        advise(rt, limits);
+    }
+}
+
+// Says what to try after giving up.
+fn advise(rt: &HostRuntime, limits: Limits) {
+    if limits.bound == BoundKind::Plain {
+        let _told = eprintln!(rt;
+            "fc_solve: gave up: try --bound clearing, --within 2, or a greater --budget"
+        );
+    } else if limits.weight == 1 {
         let _told = eprintln!(rt; "fc_solve: gave up: try --within 2, or a greater --budget");
     }
 }
@@ -225,13 +253,24 @@ fn batch<G: Game + Drop>(
             budget,
             rule,
             weight,
+            bound,
         },
     ) = limits_of(words)
     else {
         return Ok(REFUSED);
     };
     let mut out = ToWriter::new(rt.stdout());
-    run_batch(rt.alloc(), game, rule, weight, from, to, budget, &mut out)
+    run_batch(
+        rt.alloc(),
+        game,
+        rule,
+        weight,
+        bound,
+        from,
+        to,
+        budget,
+        &mut out,
+    )
 }
 
 // Checks the certificate of a file for the board of a file.

@@ -24,6 +24,8 @@ enum Kind {
     Between(u8, u8, &'static str, &'static str),
     /// An option with the name of a game.
     Game,
+    /// An option with the name of a bound.
+    Bound,
     /// A flag.
     Flag,
     /// A number that stands by itself.
@@ -52,6 +54,8 @@ struct Subcommand {
 }
 
 static GAMES: [&str; 2] = ["freecell", "bakers"];
+
+static BOUNDS: [&str; 2] = ["plain", "clearing"];
 
 const GAME: Word = Word {
     name: "game",
@@ -89,6 +93,12 @@ const WITHIN: Word = Word {
     help: "A solution of at most W times the fewest moves, 1 to 10; with 1 a shortest one",
 };
 
+const BOUND: Word = Word {
+    name: "bound",
+    kind: Kind::Bound,
+    help: "The lower bound that the search goes by: cards that stand above a lower one of their suit (plain), or all cards that must leave their column before they can go home (clearing), which takes longer a class and needs far fewer",
+};
+
 // `deal N`.
 const DEAL: Subcommand = Subcommand {
     name: "deal",
@@ -101,7 +111,7 @@ const DEAL: Subcommand = Subcommand {
     }],
 };
 
-// `solve [--budget B] [--cert FILE] [--within W] [GAME] [--rule R] [BOARD]`.
+// `solve [--budget B] [--cert FILE] [--within W] [--bound NAME] [GAME] [--rule R] [BOARD]`.
 const SOLVE: Subcommand = Subcommand {
     name: "solve",
     about: "Prints a shortest solution in one-card moves, or with --within one at most W times as long, or that the board can't be won, or that it gave up",
@@ -115,9 +125,10 @@ Example: fc_solve solve --game bakers --cells 3 boards/one-king.txt",
         Word {
             name: "cert",
             kind: Kind::FileOption,
-            help: "Writes the certificate of the answer to this file, before the answer; giving up has none, nor a solution by --within above 1",
+            help: "Writes the certificate of the answer to this file, before the answer; giving up has none, nor a solution by --within above 1 or by --bound clearing",
         },
         WITHIN,
+        BOUND,
         GAME,
         KINGS,
         CELLS,
@@ -177,7 +188,7 @@ const REPLAY: Subcommand = Subcommand {
     ],
 };
 
-// `batch FROM TO [--budget B] [--within W] [GAME] [--rule R]`.
+// `batch FROM TO [--budget B] [--within W] [--bound NAME] [GAME] [--rule R]`.
 const BATCH: Subcommand = Subcommand {
     name: "batch",
     about: "Searches up to 32 numbered deals in turns, and prints a line for each: its number and its answer, without moves",
@@ -198,6 +209,7 @@ Example: fc_solve batch 11982 11982",
         },
         BUDGET,
         WITHIN,
+        BOUND,
         GAME,
         KINGS,
         CELLS,
@@ -251,6 +263,9 @@ fn arg_of<'a>(alloc: Global, word: &'static Word) -> Arg<'a> {
         }
         Kind::Game => {
             with_value(arg, word.name, "NAME", "freecell").value_parser(GAMES.as_slice())
+        }
+        Kind::Bound => {
+            with_value(arg, word.name, "NAME", "plain").value_parser(BOUNDS.as_slice())
         }
         Kind::Flag => arg.long(word.name).action(ArgAction::SetTrue),
         Kind::DealNumber => arg.required(true).value_parser(value_parser!(u32)),

@@ -7,12 +7,22 @@ use Rattle.fc_moves.specs.GameRules.{GameRules, Opens, IsPositionOf}
 use Rattle.fc_moves.specs.Run.{Wins, CannotWin}
 use Rattle.fc_canonical.specs.Class.{SameClass}
 use Rattle.fc_home.specs.Settles.{Settles}
-use Rattle.fc_bound.specs.Bound.{bound}
+use Rattle.fc_bound.specs.declared.kinds.BoundKind.{BoundKind}
+use Rattle.fc_bound.specs.Kinds.{guide_of, low_of}
 use Rattle.fc_tables.specs.Table.{IsLowerBound, Table, StepsCovered, StepsListed, ClassesCovered, ClassesListed, ListsFitting, IsClosedBelow, IsClosedInside, IsClosed, IsSeenClosedBelow, IsSeenClosed, SettlesEach, IsLossless, IsClosedBy}
 
--- the number of cards that are not home, and of those above a lower card of their own suit, is a lower bound
-abbrev pub TheBoundIsALowerBound : Type 0
-TheBoundIsALowerBound = IsLowerBound bound
+-- the bound that a search goes by and the one that a table is closed by are lower bounds, of each kind
+abbrev pub TheBoundsAreLowerBounds : Type 0
+TheBoundsAreLowerBounds = (kind : BoundKind) → IsLowerBound (guide_of kind) × IsLowerBound (low_of kind)
+
+-- of a position the bound that a search goes by is nowhere greater than the one that a table is closed by
+abbrev pub GuidesAreNoGreater : Type 0
+GuidesAreNoGreater = (kind : BoundKind) (b : Board) → IsPosition b → guide_of kind b ≤ low_of kind b
+
+-- a table that is closed below n by a bound is so by each bound that is nowhere less of a position
+abbrev pub GreaterBoundsCloseToo : Type 0
+GreaterBoundsCloseToo = (low high : Board → ℕ) (g : GameRules) (rule : ℕ) (p : Board) (n : ℕ) (T : Table) → IsPositionOf g p
+    → ((b : Board) → IsPosition b → low b ≤ high b) → IsClosedBelow low g rule p n T → IsClosedBelow high g rule p n T
 
 -- a table closed below n from a position of the game leaves no winning list shorter than n
 abbrev pub ClosedBelowLeavesNoShorterList : Type 0

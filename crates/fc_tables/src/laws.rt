@@ -1,10 +1,20 @@
 //! Laws of lower bounds and of closed tables, each the contract of a function that does nothing.
 
-ghost use Rattle.fc_tables.specs.Laws.{TheBoundIsALowerBound, ClosedBelowLeavesNoShorterList, ClosedLeavesNoList, ClosedByAnySettlingLeavesNoList, ClosedTablesNeedSettling, ClosedTablesNeedFitting, ClosedTablesNeedPositions, ClosedInsideLeavesNoShorterList, ClosedBelowIsClosedInside, OneBoardOfAClassIsEnough, OneBoardIsEnoughWithoutBound, ClosedBelowIsSeen, ClosedIsSeen, RowsInsideAreClosedBelow, ClosedInsideAllIsClosed, CostsOfClosedTablesAreFree, EveryBoardSettles, NoEmptyTableIsClosed};
+ghost use Rattle.fc_tables.specs.Laws.{TheBoundsAreLowerBounds, GuidesAreNoGreater, GreaterBoundsCloseToo, ClosedBelowLeavesNoShorterList, ClosedLeavesNoList, ClosedByAnySettlingLeavesNoList, ClosedTablesNeedSettling, ClosedTablesNeedFitting, ClosedTablesNeedPositions, ClosedInsideLeavesNoShorterList, ClosedBelowIsClosedInside, OneBoardOfAClassIsEnough, OneBoardIsEnoughWithoutBound, ClosedBelowIsSeen, ClosedIsSeen, RowsInsideAreClosedBelow, ClosedInsideAllIsClosed, CostsOfClosedTablesAreFree, EveryBoardSettles, NoEmptyTableIsClosed};
 
-/// The bound of `fc_bound` is a lower bound: no list that wins is shorter, and boards of one class have the same.
-pub fn the_bound_is_a_lower_bound()
-    ensures { TheBoundIsALowerBound }
+/// The bounds of each kind are lower bounds: no list that wins is shorter, and boards of one class have the same.
+pub fn the_bounds_are_lower_bounds()
+    ensures { TheBoundsAreLowerBounds }
+{}
+
+/// Of a position the bound that a search goes by is nowhere greater than the one that a table is closed by.
+pub fn guides_are_no_greater()
+    ensures { GuidesAreNoGreater }
+{}
+
+/// A table that is closed below n by a bound is so by each bound that is nowhere less of a position.
+pub fn greater_bounds_close_too()
+    ensures { GreaterBoundsCloseToo }
 {}
 
 /// A table of classes and costs that is closed below n, from a position that fits the game, leaves no winning list

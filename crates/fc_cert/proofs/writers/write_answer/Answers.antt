@@ -1,4 +1,4 @@
-use Rattle.std.proofs.Common.{[], ◌++◌, refl}
+use Rattle.std.proofs.Common.{[], ◌++◌, refl, rules}
 use Rattle.fc_cert.specs.declared.contents.Kind.TheVariants as kind
 use Rattle.fc_cert.specs.Content.{moves_bytes, rows_bytes}
 use Rattle.fc_cert.proofs.WritingLemmas.{whole_both, cut_later, cut_before, content, shortest_written, cannot_win_written, answer_cut}
@@ -11,7 +11,7 @@ returns-in_err-write_head-in-Shortest g c =
     let rows = c.in-Shortest.table.rows in
     record {
       ends = answer_cut rules c.args.answer.now _ _ (content rules kind.Shortest c.rule.result moves rows) _ c.from_residual.ensures.1
-          (shortest_written rules c.args.answer.now moves moves c.in-Shortest.table c.rule.result c.in-Shortest.is c.rule.ensures.value refl)
+          (shortest_written rules c.args.answer.now moves moves c.in-Shortest.table c.rule.result c.in-Shortest.is (search rules) c.rule.ensures.value refl)
           (cut_before (moves_bytes kind.Shortest moves ++ rows_bytes rows) c.in_err-write_head-in-Shortest.ensures.ends);
     }
 
@@ -23,7 +23,7 @@ returns-in_err-write_moves-in-Shortest g c =
     record {
       ends = answer_cut rules c.args.answer.now _ _ (content rules kind.Shortest c.rule.result moves rows) _
           c.from_residual-in_err-write_moves-in-Shortest.ensures.1
-          (shortest_written rules c.args.answer.now c.in-Shortest.moves moves c.in-Shortest.table c.rule.result c.in-Shortest.is c.rule.ensures.value
+          (shortest_written rules c.args.answer.now c.in-Shortest.moves moves c.in-Shortest.table c.rule.result c.in-Shortest.is (search rules) c.rule.ensures.value
           c.as_slice.ensures.value)
           (cut_later c.in_ok-write_head-in-Shortest.ensures.ends
           (cut_before (rows_bytes rows) c.in_err-write_moves-in-Shortest.ensures.ends));
@@ -37,7 +37,7 @@ returns-in_err-write_rows-in-Shortest g c =
     record {
       ends = answer_cut rules c.args.answer.now _ _ (content rules kind.Shortest c.rule.result moves rows) _
           c.from_residual-in_err-write_rows-in-Shortest.ensures.1
-          (shortest_written rules c.args.answer.now c.in-Shortest.moves moves c.in-Shortest.table c.rule.result c.in-Shortest.is c.rule.ensures.value
+          (shortest_written rules c.args.answer.now c.in-Shortest.moves moves c.in-Shortest.table c.rule.result c.in-Shortest.is (search rules) c.rule.ensures.value
           c.as_slice.ensures.value)
           (cut_later c.in_ok-write_head-in-Shortest.ensures.ends
           (cut_later c.in_ok-write_moves-in-Shortest.ensures.ends c.in_err-write_rows-in-Shortest.ensures.ends));
@@ -50,7 +50,7 @@ returns-in_ok-write_rows-in-Shortest g c =
     record {
       ends = (
         content rules kind.Shortest c.rule.result moves c.in-Shortest.table.rows,
-        shortest_written rules c.args.answer.now c.in-Shortest.moves moves c.in-Shortest.table c.rule.result c.in-Shortest.is c.rule.ensures.value
+        shortest_written rules c.args.answer.now c.in-Shortest.moves moves c.in-Shortest.table c.rule.result c.in-Shortest.is (search rules) c.rule.ensures.value
             c.as_slice.ensures.value,
         whole_both c.in_ok-write_head-in-Shortest.ensures.ends
             (whole_both c.in_ok-write_moves-in-Shortest.ensures.ends c.in_ok-write_rows-in-Shortest.ensures.ends),

@@ -8,8 +8,8 @@ loop-number-preserved g c =
     let before = c.loop-number.invariant.most in
     let now = c.run_on.ensures.most in
     record {
-      held = λ r rule weight budget from held.
-          c.run_on.ensures.held r rule weight budget from c.args.count (c.loop-number.invariant.held r rule weight budget from held);
+      held = λ r rule weight kind budget from held.
+          c.run_on.ensures.held r rule weight kind budget from c.args.count (c.loop-number.invariant.held r rule weight kind budget from held);
       ended = elim c.if-run_on.branch [
         | then-run_on w ↦ (λ none. let is = w.is_running-is in absurd (cc (is, none)))
         | else-run_on w ↦ (λ none.

@@ -13,7 +13,7 @@ returns-in-Some-clause-answered g c =
     let cert : Device = record { old = g.C.Sink.held c.in-Some.cert.now; new = g.C.Sink.held c.certify.new.cert; failed = g.C.Sink.has_failed c.certify.new.cert } in
     let sink : Device = record { old = g.K.Sink.held c.args.out.now; new = g.K.Sink.held c.certify.new.out; failed = g.K.Sink.has_failed c.certify.new.out } in
     rw c.in-Some.is
-    (solved (g.G.Game.game c.args.game.now) c.args.rule c.args.weight c.args.budget source (Some cert) sink c.in_ok-start.start c.certify.result
+    (solved (g.G.Game.game c.args.game.now) c.args.rule c.args.weight c.args.bound c.args.budget source (Some cert) sink c.in_ok-start.start c.certify.result
     c.in_ok-start.ensures.budgeted c.in_ok-start.ensures.read c.certify.ensures.answered)
 
 pub returns-in-Some-clause-fault : goal.returns-in-Some-clause-fault
@@ -22,5 +22,5 @@ returns-in-Some-clause-fault g c =
     let cert : Device = record { old = g.C.Sink.held c.in-Some.cert.now; new = g.C.Sink.held c.certify.new.cert; failed = g.C.Sink.has_failed c.certify.new.cert } in
     let sink : Device = record { old = g.K.Sink.held c.args.out.now; new = g.K.Sink.held c.certify.new.out; failed = g.K.Sink.has_failed c.certify.new.out } in
     rw c.in-Some.is
-    (unsolved (g.G.Game.game c.args.game.now) c.args.rule c.args.weight c.args.budget source (Some cert) sink c.in_ok-start.start c.certify.result
+    (unsolved (g.G.Game.game c.args.game.now) c.args.rule c.args.weight c.args.bound c.args.budget source (Some cert) sink c.in_ok-start.start c.certify.result
     c.in_ok-start.ensures.budgeted c.in_ok-start.ensures.read c.certify.ensures.fault)

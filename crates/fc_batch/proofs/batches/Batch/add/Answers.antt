@@ -1,6 +1,6 @@
-use Rattle.std.proofs.Common.{◌∙◌, ap}
-use Rattle.fc_batch.specs.Batch.{search_at}
-use Rattle.fc_batch.proofs.BatchLemmas.{found_looked, others_looked, given_added}
+use Rattle.std.proofs.Common.{◌≡◌, ◌∙◌, None, ap, subst}
+use Rattle.fc_batch.specs.Batch.{Batch, search_at}
+use Rattle.fc_batch.proofs.BatchLemmas.{found_looked, given_added, none_next, others_looked}
 use Rattle.fc_batch.proofs.batches.Batch.add.Goals as goal
 
 pub invariant_of-self : goal.invariant_of-self
@@ -16,3 +16,8 @@ pub returns-in-Ok-clause-others : goal.returns-in-Ok-clause-others
 returns-in-Ok-clause-others g c = λ j other.
     others_looked c.self.inside.added c.self.inside.searches.entries c.insert.new.self.entries c.in-Ok.ensures.updates.2 j other
     ∙ ap (λ b. search_at b j) c.self.view_is
+
+pub returns-in-Ok-clause-free : goal.returns-in-Ok-clause-free
+returns-in-Ok-clause-free g c =
+    let before : Batch = record { searches = c.self.inside.searches.entries; added = c.self.inside.added } in
+    subst (λ b. search_at b c.self.inside.added ≡ None) c.self.view_is (none_next before c.self.invariant)

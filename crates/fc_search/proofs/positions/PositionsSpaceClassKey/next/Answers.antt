@@ -5,7 +5,7 @@ use Rattle.std.proofs.lemmas.List.Sorted.{Contains-permutation, IsPermutation-re
 use Rattle.fc_moves.specs.GameRules.{IsPositionOf}
 use Rattle.fc_moves.specs.Step.{Allows}
 use Rattle.fc_home.specs.Settles.{NoneGoesHome}
-use Rattle.fc_bound.specs.Bound.{bound as bound_of}
+use Rattle.fc_bound.specs.Kinds.{guide_of}
 use Rattle.fc_search.specs.Children.{AreAllowed, AreChildrenBy, Spells}
 use Rattle.fc_search.proofs.ChildLemmas.{children_exist, next_child}
 use Rattle.fc_search.proofs.positions.PositionsSpaceClassKey.next.Goals as goal
@@ -26,7 +26,7 @@ invariant_of-walk-2 g c =
       λ m there. subst (λ b. Allows rules b m) same
           (c.walk.invariant.2 m
           (subst (λ l. Contains l m) (sym c.in_ok-m.ensures.items) (Contains-append_left rest (c.in_ok-m.m ∷ []) m there))),
-      subst (λ b. inner.bound ≡ bound_of b) same c.walk.invariant.3,
+      subst (λ b. inner.bound ≡ guide_of inner.kind b) same c.walk.invariant.3,
       subst (NoneGoesHome inner.rule rules) same c.walk.invariant.4,
       subst (Spells inner.key) same c.walk.invariant.5,
     )
@@ -36,10 +36,10 @@ returns-clause-next g c =
     let inner = c.walk.inside in
     let rules = g.G.Game.game inner.game in
     let rest = c.pop.new.self.items in
-    λ children are. subst (λ w. AreChildrenBy (g.G.Game.game w.game) w.rule w.position (reverse w.moves) (c.child_by.result ∷ children))
+    λ children are. subst (λ w. AreChildrenBy (g.G.Game.game w.game) w.rule w.kind w.position (reverse w.moves) (c.child_by.result ∷ children))
     c.walk.view_is
-    (next_child rules inner.rule inner.position inner.left.items rest c.in_ok-m.m c.child_by.result children c.in_ok-m.ensures.items
-    c.child_by.ensures.child (subst (λ b. AreChildrenBy rules inner.rule b (reverse rest) children) c.child_by.ensures.same are))
+    (next_child rules inner.rule inner.kind inner.position inner.left.items rest c.in_ok-m.m c.child_by.result children c.in_ok-m.ensures.items
+    c.child_by.ensures.child (subst (λ b. AreChildrenBy rules inner.rule inner.kind b (reverse rest) children) c.child_by.ensures.same are))
 
 pub returns-clause-some : goal.returns-clause-some
 returns-clause-some g c =
@@ -51,5 +51,5 @@ returns-clause-some g c =
     (subst (λ l. Contains l m) (sym c.in_ok-m.ensures.items)
     (Contains-append_left rest (c.in_ok-m.m ∷ []) m
     (Contains-permutation (reverse rest) rest m (IsPermutation-sym rest (reverse rest) (IsPermutation-reverse rest)) there))) in
-    let some = children_exist rules inner.rule inner.position (reverse rest) allowed in
-    (some.0, subst (λ b. AreChildrenBy rules inner.rule b (reverse rest) some.0) (sym c.child_by.ensures.same) some.1)
+    let some = children_exist rules inner.rule inner.kind inner.position (reverse rest) allowed in
+    (some.0, subst (λ b. AreChildrenBy rules inner.rule inner.kind b (reverse rest) some.0) (sym c.child_by.ensures.same) some.1)

@@ -8,13 +8,13 @@ returns-clause-alone g c =
     let game = g.G.Game.game c.args.self.now.game in
     let rule = c.args.self.now.rule in
     let child = c.settled-child.result in
-    let settled = subst (λ b. IsSettled game rule b 0 child) c.copy.ensures.value c.settled-child.ensures.settled in
-    start_alone game rule c.args.self.now.start child c.args.self.now.fits settled
+    let settled = subst (λ b. IsSettled game rule c.args.self.now.bound b 0 child) c.copy.ensures.value c.settled-child.ensures.settled in
+    start_alone game rule c.args.self.now.bound c.args.self.now.start child c.args.self.now.fits settled
 
 pub returns-clause-bound : goal.returns-clause-bound
 returns-clause-bound g c =
     let game = g.G.Game.game c.args.self.now.game in
     let rule = c.args.self.now.rule in
     let child = c.settled-child.result in
-    let settled = subst (λ b. IsSettled game rule b 0 child) c.copy.ensures.value c.settled-child.ensures.settled in
-    child_bound game rule c.args.self.now.start 0 child c.args.self.now.fits settled
+    let settled = subst (λ b. IsSettled game rule c.args.self.now.bound b 0 child) c.copy.ensures.value c.settled-child.ensures.settled in
+    child_bound game rule c.args.self.now.bound c.args.self.now.start 0 child c.args.self.now.fits settled

@@ -10,18 +10,18 @@ use Rattle.fc_search.specs.Children.{AreAllowed, AreChildrenBy}
 use Rattle.fc_search.proofs.ChildLemmas.{children_all}
 use Rattle.fc_search.proofs.StayLemmas.{none_goes}
 use Rattle.fc_search.proofs.positions.PositionsSpaceClassKey.visit.Goals as goal
-use Rattle.fc_bound.specs.Bound.{bound}
+use Rattle.fc_bound.specs.Kinds.{guide_of}
 
 pub position-walk-inside-requires : goal.position-walk-inside-requires
 position-walk-inside-requires g c = record {
-  key = (reached_of_positions bound (g.G.Game.game c.args.self.now.game) c.args.self.now.rule c.args.self.now.start c.args.key.now
+  key = (reached_of_positions (guide_of c.args.self.now.bound) (g.G.Game.game c.args.self.now.game) c.args.self.now.rule c.args.self.now.start c.args.key.now
       c.requires.reached.0 c.args.self.now.fits c.requires.reached.1).0;
 }
 
 pub invariant_of-walk : goal.invariant_of-walk
 invariant_of-walk g c =
     let own = c.args.self.now in
-    let reached = reached_of_positions bound (g.G.Game.game own.game) own.rule own.start c.args.key.now
+    let reached = reached_of_positions (guide_of own.bound) (g.G.Game.game own.game) own.rule own.start c.args.key.now
     c.requires.reached.0 own.fits c.requires.reached.1 in
     let valid = reached.0 in
     let settled = subst (NoneGoesHome own.rule (g.G.Game.game own.game)) (sym c.position-walk-inside.ensures.value)
@@ -31,7 +31,7 @@ invariant_of-walk g c =
       subst (λ r. IsPositionOf r c.position-walk-inside.result) (sym c.copy.ensures.value) position,
       subst (λ r. AreAllowed r c.position-walk-inside.result c.distinct_moves-walk-inside.result.items) (sym c.copy.ensures.value)
           c.distinct_moves-walk-inside.ensures.classes.allowed,
-      c.bound-walk-inside.ensures.value,
+      c.guide-walk-inside.ensures.value,
       subst (λ r. NoneGoesHome own.rule r c.position-walk-inside.result) (sym c.copy.ensures.value) settled,
       (
         subst IsCanonical (sym c.position-walk-inside.ensures.value) valid.ordered,
@@ -45,8 +45,8 @@ returns-clause-children g c =
     let rules = g.G.Game.game own.game in
     let x = c.args.key.now in
     let moves = c.distinct_moves-walk-inside.result.items in
-    let valid = (reached_of_positions bound rules own.rule own.start x c.requires.reached.0 own.fits c.requires.reached.1).0 in
+    let valid = (reached_of_positions (guide_of own.bound) rules own.rule own.start x c.requires.reached.0 own.fits c.requires.reached.1).0 in
     let lists = subst (λ b. ListsClasses rules b moves) c.position-walk-inside.ensures.value c.distinct_moves-walk-inside.ensures.classes in
-    λ children are. children_all rules own.rule own.start x moves children valid lists
-    (subst (λ b. AreChildrenBy rules own.rule b (reverse moves) children) c.position-walk-inside.ensures.value
-    (subst (λ r. AreChildrenBy r own.rule c.position-walk-inside.result (reverse moves) children) c.copy.ensures.value are))
+    λ children are. children_all rules own.rule own.bound own.start x moves children valid lists
+    (subst (λ b. AreChildrenBy rules own.rule own.bound b (reverse moves) children) c.position-walk-inside.ensures.value
+    (subst (λ r. AreChildrenBy r own.rule own.bound c.position-walk-inside.result (reverse moves) children) c.copy.ensures.value are))

@@ -12,8 +12,8 @@ pub loop-next-init : goal.loop-next-init
 loop-next-init g c =
     let now = c.args.self.now in
     let sp = c.space-space.result.now in
-    let e : record { game = g.G.Game.game sp.game; rule = sp.rule; weight = c.self.inside.search.weight; start = sp.start } ≡ now.question =
-    ap (λ v. record { game = g.G.Game.game v.game; rule = v.rule; weight = c.self.inside.search.weight; start = v.start }) c.space-space.ensures.value
+    let e : record { game = g.G.Game.game sp.game; rule = sp.rule; weight = c.self.inside.search.weight; bound = sp.bound; start = sp.start } ≡ now.question =
+    ap (λ v. record { game = g.G.Game.game v.game; rule = v.rule; weight = c.self.inside.search.weight; bound = v.bound; start = v.start }) c.space-space.ensures.value
     ∙ ap (λ s. s.question) c.self.view_is in
     let pp = subst (λ v. IsPositionOf v.game v.start) e sp.fits in
     let by = subst (λ v. SettlesBy v.game v.rule v.start c.settle-settling.result.items c.settle-settling.new.position) e
@@ -22,7 +22,7 @@ loop-next-init g c =
     let way = c.in_ok-_start.ensures.way in
     let made : c.settle-settling.result.items ≡ c.in_ok-made.made.items =
     sym (c.in_ok-made.ensures.items ∙ c.as_slice.ensures.value) in
-    let begins = walk_begins now.question.game now.question.rule now.question.weight now.question.start now.budget now.store pp
+    let begins = walk_begins now.question.game now.question.rule now.question.weight now.question.bound now.question.start now.budget now.store pp
     c.requires.sound c.in_ok-_start._start c.settle-settling.result.items c.settle-settling.new.position way.0 by
     c.settle-settling.ensures.whole in (
       c.in_ok-_start._start,
@@ -41,8 +41,8 @@ pub follow-requires-clause-fits : goal.follow-requires-clause-fits
 follow-requires-clause-fits g c =
     let now = c.args.self.now in
     let sp = c.space-space.result.now in
-    let e : record { game = g.G.Game.game sp.game; rule = sp.rule; weight = c.self.inside.search.weight; start = sp.start } ≡ now.question =
-    ap (λ v. record { game = g.G.Game.game v.game; rule = v.rule; weight = c.self.inside.search.weight; start = v.start }) c.space-space.ensures.value
+    let e : record { game = g.G.Game.game sp.game; rule = sp.rule; weight = c.self.inside.search.weight; bound = sp.bound; start = sp.start } ≡ now.question =
+    ap (λ v. record { game = g.G.Game.game v.game; rule = v.rule; weight = c.self.inside.search.weight; bound = v.bound; start = v.start }) c.space-space.ensures.value
     ∙ ap (λ s. s.question) c.self.view_is in
     let run = subst (λ v. Run v.game v.start c.loop-next.made.items c.loop-next.position) (sym e)
     c.loop-next.invariant.1.3 in
@@ -52,8 +52,8 @@ pub follow-requires-clause-leads : goal.follow-requires-clause-leads
 follow-requires-clause-leads g c =
     let now = c.args.self.now in
     let sp = c.space-space.result.now in
-    let e : record { game = g.G.Game.game sp.game; rule = sp.rule; weight = c.self.inside.search.weight; start = sp.start } ≡ now.question =
-    ap (λ v. record { game = g.G.Game.game v.game; rule = v.rule; weight = c.self.inside.search.weight; start = v.start }) c.space-space.ensures.value
+    let e : record { game = g.G.Game.game sp.game; rule = sp.rule; weight = c.self.inside.search.weight; bound = sp.bound; start = sp.start } ≡ now.question =
+    ap (λ v. record { game = g.G.Game.game v.game; rule = v.rule; weight = c.self.inside.search.weight; bound = v.bound; start = v.start }) c.space-space.ensures.value
     ∙ ap (λ s. s.question) c.self.view_is in
     let pp = subst (λ v. IsPositionOf v.game v.start) e sp.fits in
     let at = c.loop-next.invariant.0 in
@@ -62,7 +62,7 @@ follow-requires-clause-leads g c =
     let key = c.at.result.0.now in
     let mark = c.at.result.1 in
     let one = same_entry now.store c.in-Some.next on.0.0 key on.0.1 mark on.0.2 c.at.ensures.stands in
-    let leads = leads_on now.question.game now.question.rule now.question.weight now.question.start now.budget now.store pp
+    let leads = leads_on now.question.game now.question.rule now.question.weight now.question.bound now.question.start now.budget now.store pp
     c.requires.sound at c.in-Some.next c.loop-next.made.items c.loop-next.position key mark c.loop-next.invariant.1
     c.at.ensures.stands (sym (ap (λ m. m.parent) one.1) ∙ on.0.3) on.0.4 in
     let size : length c.loop-next.made.items ≡ c.len.result = search rules in (
@@ -75,8 +75,8 @@ pub loop-next-preserved : goal.loop-next-preserved
 loop-next-preserved g c =
     let now = c.args.self.now in
     let sp = c.space-space.result.now in
-    let e : record { game = g.G.Game.game sp.game; rule = sp.rule; weight = c.self.inside.search.weight; start = sp.start } ≡ now.question =
-    ap (λ v. record { game = g.G.Game.game v.game; rule = v.rule; weight = c.self.inside.search.weight; start = v.start }) c.space-space.ensures.value
+    let e : record { game = g.G.Game.game sp.game; rule = sp.rule; weight = c.self.inside.search.weight; bound = sp.bound; start = sp.start } ≡ now.question =
+    ap (λ v. record { game = g.G.Game.game v.game; rule = v.rule; weight = c.self.inside.search.weight; bound = v.bound; start = v.start }) c.space-space.ensures.value
     ∙ ap (λ s. s.question) c.self.view_is in
     let pp = subst (λ v. IsPositionOf v.game v.start) e sp.fits in
     let at = c.loop-next.invariant.0 in
@@ -85,7 +85,7 @@ loop-next-preserved g c =
     let key = c.at.result.0.now in
     let mark = c.at.result.1 in
     let one = same_entry now.store c.in-Some.next on.0.0 key on.0.1 mark on.0.2 c.at.ensures.stands in
-    let leads = leads_on now.question.game now.question.rule now.question.weight now.question.start now.budget now.store pp
+    let leads = leads_on now.question.game now.question.rule now.question.weight now.question.bound now.question.start now.budget now.store pp
     c.requires.sound at c.in-Some.next c.loop-next.made.items c.loop-next.position key mark c.loop-next.invariant.1
     c.at.ensures.stands (sym (ap (λ m. m.parent) one.1) ∙ on.0.3) on.0.4 in
     let size : length c.loop-next.made.items ≡ c.len.result = search rules in

@@ -7,39 +7,39 @@ use Rattle.fc_answers.specs.declared.answers.Verdict.TheVariants as verdict
 use Rattle.fc_search.specs.Search.{IsOfStatus, IsOutcome}
 use Rattle.fc_search.proofs.AnswerLemmas.{cannot_win_verdict, gave_up_verdict}
 use Rattle.fc_search.proofs.searches.Search.outcome.Goals as goal
-use Rattle.fc_bound.specs.Bound.{bound}
+use Rattle.fc_bound.specs.Kinds.{guide_of}
 
 pub returns-in-CannotWin-clause-told : goal.returns-in-CannotWin-clause-told
 returns-in-CannotWin-clause-told g c =
     let inner = c.self.inside.search in
     let game = g.G.Game.game inner.space.game in
-    let graph = classes bound game inner.space.rule inner.space.start in
+    let graph = classes (guide_of inner.space.bound) game inner.space.rule inner.space.start in
     let stands : inner.status ≡ status.CannotWin = sym c.status.ensures.value ∙ c.in-CannotWin.is in
-    let told = cannot_win_verdict game inner.space.rule inner.weight inner.space.start inner.budget inner.store
+    let told = cannot_win_verdict game inner.space.rule inner.weight inner.space.bound inner.space.start inner.budget inner.store
     inner.space.fits inner.space.known c.status.ensures.most
     (subst (Holds graph inner.weight inner.budget inner.store) stands c.status.ensures.holds)
     (subst (Shows graph inner.weight inner.budget inner.store) stands c.status.ensures.shows) in
     subst (λ s. IsOutcome s outcome.CannotWin) c.self.view_is
-    (verdict.CannotWin, told, subst (λ s. IsOfStatus inner.weight inner.store inner.budget s verdict.CannotWin) (sym stands) tt, refl)
+    (verdict.CannotWin, told, subst (λ s. IsOfStatus graph inner.weight inner.store inner.budget s verdict.CannotWin) (sym stands) tt, refl)
 
 pub returns-in-GaveUp-clause-told : goal.returns-in-GaveUp-clause-told
 returns-in-GaveUp-clause-told g c =
     let inner = c.self.inside.search in
     let game = g.G.Game.game inner.space.game in
-    let graph = classes bound game inner.space.rule inner.space.start in
+    let graph = classes (guide_of inner.space.bound) game inner.space.rule inner.space.start in
     let stands : inner.status ≡ status.GaveUp c.in-GaveUp.field-0 c.in-GaveUp.field-1 =
     sym c.status.ensures.value ∙ c.in-GaveUp.is in
-    let told = gave_up_verdict game inner.space.rule inner.weight inner.space.start inner.budget inner.store
+    let told = gave_up_verdict game inner.space.rule inner.weight inner.space.bound inner.space.start inner.budget inner.store
     inner.space.fits c.in-GaveUp.field-0 c.in-GaveUp.field-1 c.budget.result
     (subst (Shows graph inner.weight inner.budget inner.store) stands c.status.ensures.shows) c.budget.ensures.value in
     subst (λ s. IsOutcome s (outcome.GaveUp c.budget.result)) c.self.view_is (
       verdict.GaveUp c.budget.result,
       told,
-      subst (λ s. IsOfStatus inner.weight inner.store inner.budget s (verdict.GaveUp c.budget.result)) (sym stands) c.budget.ensures.value,
+      subst (λ s. IsOfStatus graph inner.weight inner.store inner.budget s (verdict.GaveUp c.budget.result)) (sym stands) c.budget.ensures.value,
       refl,
     )
 
 pub won_outcome-requires-clause-shown : goal.won_outcome-requires-clause-shown
 won_outcome-requires-clause-shown g c =
-    subst (λ s. Shows (classes bound s.question.game s.question.rule s.question.start) s.question.weight s.budget s.store s.status)
+    subst (λ s. Shows (classes (guide_of s.question.bound) s.question.game s.question.rule s.question.start) s.question.weight s.budget s.store s.status)
     c.self.view_is c.status.ensures.shows

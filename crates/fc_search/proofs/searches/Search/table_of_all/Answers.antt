@@ -7,7 +7,7 @@ use Rattle.fc_search.specs.Stored.{costs_of}
 use Rattle.fc_answers.proofs.RowLemmas.{all_few, no_cost_once}
 use Rattle.fc_search.proofs.RowLemmas.{listed_free, stored_once, looked, stored_long}
 use Rattle.fc_search.proofs.searches.Search.table_of_all.Goals as goal
-use Rattle.fc_bound.specs.Bound.{bound}
+use Rattle.fc_bound.specs.Kinds.{guide_of}
 
 pub loop-number-preserved : goal.loop-number-preserved
 loop-number-preserved g c =
@@ -38,7 +38,7 @@ sorted-requires-clause-once g c =
     let same = c.loop-number.invariant ∙ ap at_no_cost (looked store c.loop-number.number past) in
     subst HaveKeysOnce (sym same)
     (no_cost_once (costs_of store)
-    (stored_once (classes bound c.args.self.now.question.game c.args.self.now.question.rule c.args.self.now.question.start)
+    (stored_once (classes (guide_of c.args.self.now.question.bound) c.args.self.now.question.game c.args.self.now.question.rule c.args.self.now.question.start)
     c.args.self.now.question.weight c.args.self.now.budget store c.requires.sound))
 
 pub returns-clause-rows : goal.returns-clause-rows

@@ -12,11 +12,11 @@ returns-then-weight-gt1 g c =
     let value = c.weight.ensures.value in
     let heavy : 2 ≤ now.question.weight = let more = c.if-weight-gt1.true in omega (arith, same, value, more) in
     record {
-      told = won_outcome now c.args.number c.at.result.0.now c.at.result.1 c.requires.fits c.requires.most
+      told = won_outcome now c.args.number c.at.result.0.now c.at.result.1 c.floor_of.result c.requires.fits c.requires.known c.requires.most
           (subst (Holds (classes_of now.question) now.question.weight now.budget now.store) c.requires.done c.requires.held)
           (subst (Shows (classes_of now.question) now.question.weight now.budget now.store) c.requires.done c.requires.shown)
-          c.requires.done c.at.ensures.stands heavy;
-      cost = subst (λ s. TellsCost now.store s (outcome.Won c.at.result.1.cost)) (sym c.requires.done)
+          c.requires.done c.at.ensures.stands c.floor_of.ensures.value heavy;
+      cost = subst (λ s. TellsCost now.store s (outcome.Won c.at.result.1.cost c.floor_of.result)) (sym c.requires.done)
           (c.at.result.0.now, c.at.result.1, c.at.ensures.stands, refl);
     }
 

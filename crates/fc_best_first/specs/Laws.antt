@@ -1,0 +1,16 @@
+-- What the laws of this crate state.
+use Rattle.std.specs.Prelude.{ℕ, ◌+◌, ◌<◌, ◌≤◌}
+use Rattle.fc_best_first.specs.declared.books.Mark.{Mark}
+use Rattle.fc_best_first.specs.Graph.{Graph, IsLawful}
+use Rattle.fc_best_first.specs.Store.{Store, Stands}
+use Rattle.fc_best_first.specs.Kept.{IsExpanded}
+use Rattle.fc_best_first.specs.Shown.{IsFound, IsLeastOpen}
+
+module _ {K : Type 0} where
+  -- a found search: each stored key whose cost plus bound is below the least open one, and below the won cost, is
+  -- expanded; and no answer is below that floor
+  abbrev pub OpenFloorsHold : Graph K → Type 0
+  OpenFloorsHold g = IsLawful g → (weight budget : ℕ) (s : Store K) (number : ℕ) (x : K) (mark : Mark) (floor : ℕ)
+      → IsFound g weight budget s number → Stands s number x mark → IsLeastOpen g weight s mark.cost floor
+      → ((i : ℕ) (y : K) (m : Mark) → Stands s i y m → m.cost + g.bound y < floor → IsExpanded g s y m.cost)
+      × ((n : ℕ) → g.wins n → floor ≤ n)

@@ -1,0 +1,14 @@
+use Rattle.std.proofs.Common.{◌≡◌, ◌+◌, ◌≤◌, ◌∷◌, length}
+use Rattle.fc_frontier.specs.Stack.{nodes_of}
+use Rattle.fc_frontier.specs.Walk.{walked}
+use Rattle.fc_frontier.proofs.walks.Near.skip.Given as goal
+
+abbrev pub invariant-loop-nodes : goal.invariant-loop-nodes
+invariant-loop-nodes l = record {
+  same : walked l.self.f (l.self.nodes.now ∷ nodes_of l.self.stacks.now)
+      ≡ walked l.initial.self.f (l.initial.self.nodes.now ∷ nodes_of l.initial.self.stacks.now);
+  room : l.self.f + length l.self.stacks.now ≤ 1024;
+}
+
+abbrev pub decreases-loop-nodes : goal.decreases-loop-nodes
+decreases-loop-nodes l = length l.self.stacks.now

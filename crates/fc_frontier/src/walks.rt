@@ -1,0 +1,98 @@
+ghost use Rattle.std.specs.Prelude.{◌≡◌, ◌+◌, ◌≤◌, [], ◌∷◌, ◌++◌, length};
+ghost use Rattle.std.specs.Iterator.{YieldsFirst, item_count};
+ghost use Rattle.fc_frontier.specs.Stack.{nodes_of};
+ghost use Rattle.fc_frontier.specs.Walk.{walked};
+
+use std::marker::Model;
+
+/// The pairs of a queue, each once for each time that it stands there, in any order. Contracts see the pairs that are
+/// left, in the order in which they will come.
+#[derive(Debug, Drop)]
+pub struct Pairs<'a> {
+    near: Near<'a>,
+    far: &'a [(u32, u32)],
+}
+
+// Nodes of one f, and the stacks of the f that follow it.
+#[derive(Debug, Drop)]
+struct Near<'a> {
+    f: u32,
+    nodes: &'a [u32],
+    stacks: &'a [Vec<u32>],
+}
+
+impl<'a> Model for Pairs<'a> {
+    ghost use Rattle.std.specs.Prelude.{ℕ, ◌+◌, ◌≤◌, List, ◌∷◌, ◌++◌, length};
+    ghost use Rattle.fc_frontier.specs.Stack.{nodes_of};
+    ghost use Rattle.fc_frontier.specs.Walk.{walked};
+
+    ghost Value = { List (ℕ × ℕ) };
+
+    ghost view = { λ s. walked s.near.f (s.near.nodes.now ∷ nodes_of s.near.stacks.now) ++ s.far.now };
+
+    ghost invariant = { λ s. s.near.f + length s.near.stacks.now ≤ 1024 };
+}
+
+impl<'a> Near<'a> {
+    // Goes on to the first f that has a node left, if any has.
+    fn skip(&mut self)
+        requires room { self.old.f + length self.old.stacks.now ≤ 1024 }
+        ensures same { walked self.new.f (self.new.nodes.now ∷ nodes_of self.new.stacks.now) ≡ walked self.old.f (self.old.nodes.now ∷ nodes_of self.old.stacks.now) }
+        ensures room { self.new.f + length self.new.stacks.now ≤ 1024 }
+        ensures end { self.new.nodes.now ≡ [] → self.new.stacks.now ≡ [] }
+    {
+        while self.nodes.is_empty() {
+            let Some((nodes, stacks)) = self.stacks.split_first() else {
+                return;
+            };
+            self.f += 1;
+            self.nodes = nodes.as_slice();
+            self.stacks = stacks;
+        }
+    }
+}
+
+impl<'a> Pairs<'a> {
+    // The pairs of stacks for f from 0 on, and others.
+    pub(crate) fn new(stacks: &'a [Vec<u32>], far: &'a [(u32, u32)]) -> Pairs<'a>
+        requires room { length stacks.now ≤ 1024 }
+        ensures items { result ≡ walked 0 (nodes_of stacks.now) ++ far.now }
+    {
+        let near = match stacks.split_first() {
+            Some((nodes, stacks)) => Near {
+                f: 0,
+                nodes: nodes.as_slice(),
+                stacks,
+            },
+            None => Near {
+                f: 0,
+                nodes: &[],
+                stacks,
+            },
+        };
+        Pairs { near, far }
+    }
+}
+
+impl<'a> Iterator for Pairs<'a> {
+    type Item = (u32, u32);
+
+    ghost next_gives = { YieldsFirst (λ s. s) };
+
+    ghost remaining = { item_count (λ s. s) };
+
+    fn next(&mut self) -> Option<(u32, u32)> {
+        self.near.skip();
+        match self.near.nodes.split_first() {
+            Some((node, nodes)) => {
+                self.near.nodes = nodes;
+                Some((self.near.f, *node))
+            }
+            None => {
+                let (pair, far) = self.far.split_first()?;
+                self.far = far;
+                Some(*pair)
+            }
+        }
+    }
+}

@@ -1,0 +1,113 @@
+//! The bounds of random small boards, beside the clearing bound by a plain program of its definition and what the plain search
+//! finds. The cards of these boards stand in the first three columns, at most eight of them.
+
+use crate::given::{bakers_game, free_cell};
+use crate::plain::{self, Found};
+use crate::random::{Numbers, random_board};
+use fc_bound::{bound, clearing_bound, knot_bound};
+use fc_cards::{Card, Suit};
+use fc_moves::{Game, Kings};
+use fc_position::Position;
+use std::alloc::Global;
+use std::process::Abort;
+
+// What is left of three columns is one number below 729: how many cards of each, as digits to the base of nine.
+const STEPS: [usize; 3] = [81, 9, 1];
+
+// The cards of a column that are left.
+fn cards_left(position: &Position, left: usize, column: u8) -> &[Card] {
+    let step = STEPS[column as usize % 3];
+    let height = left.checked_div(step).unwrap_or(0) % 9;
+    let cards = position.column(column % 8);
+    cards.get(..height).unwrap_or(&[])
+}
+
+// Whether a lower card of the suit of the card is left in one of the columns.
+fn waits(position: &Position, left: usize, card: Card) -> bool {
+    for column in 0..3 {
+        for lower in cards_left(position, left, column) {
+            if lower.suit() == card.suit() && lower.rank() < card.rank() {
+                return true;
+            }
+        }
+    }
+    false
+}
+
+// The least cost of taking all cards out of what is left, by those of what is left one card later.
+fn least_cost(position: &Position, costs: &[u32; 729], left: usize) -> u32 {
+    let mut least = if left == 0 { 0 } else { u32::MAX };
+    for column in 0..3u8 {
+        if let Some(card) = cards_left(position, left, column).last() {
+            let fee = u32::from(waits(position, left, *card));
+            let rest = left.saturating_sub(STEPS[column as usize % 3]);
+            least = least.min(fee.saturating_add(costs[rest % 729]));
+        }
+    }
+    least
+}
+
+// The clearing cost of a board's columns.
+fn clearing_cost(position: &Position) -> u32 {
+    let mut costs = [0; 729];
+    for left in 0..729usize {
+        costs[left % 729] = least_cost(position, &costs, left);
+    }
+    let mut whole = 0usize;
+    for column in 0..3u8 {
+        let height = position.column(column).len();
+        whole = whole.saturating_mul(9).saturating_add(height);
+    }
+    costs[whole % 729]
+}
+
+// How many cards are not home.
+fn away(position: &Position) -> u32 {
+    let mut away = 52u32;
+    for suit in [Suit::C, Suit::D, Suit::H, Suit::S] {
+        away = away.saturating_sub(u32::from(position.home(suit)));
+    }
+    away
+}
+
+// The bounds of a board are what they should be.
+fn check_board<G: Game>(rt: &impl Abort, alloc: Global, game: &G, board: &Position) {
+    let clearing = u32::from(clearing_bound(board));
+    assert!(rt;
+        clearing == away(board).saturating_add(clearing_cost(board)),
+        "another clearing bound"
+    );
+    assert!(rt;
+        u32::from(bound(board)) <= clearing,
+        "the plain bound is greater"
+    );
+    assert!(rt;
+        u32::from(knot_bound(board)) <= clearing,
+        "the knot bound is greater"
+    );
+    if let Found::Shortest(moves) = plain::search(rt, alloc, game, board, 300) {
+        assert!(rt; clearing as usize <= moves, "greater than a list is long");
+    }
+}
+
+// The same of some boards of a game.
+fn check_boards<G: Game>(rt: &impl Abort, alloc: Global, game: &G, seed: u32) {
+    let mut numbers = Numbers::new(seed);
+    for _ in 0..15 {
+        let board = random_board(rt, &mut numbers, u32::from(game.cells()));
+        check_board(rt, alloc, game, &board);
+    }
+}
+
+#[test]
+fn bounds_of_random_boards(rt: HostRuntime) {
+    for cells in 0..5u8 {
+        let seed = u32::from(cells);
+        check_boards(&rt, rt.alloc(), &free_cell(&rt, cells), 800 + seed);
+        check_boards(&rt, rt.alloc(), &bakers_game(&rt, cells), 900 + seed);
+        let kings = Kings::new(free_cell(&rt, cells));
+        check_boards(&rt, rt.alloc(), &kings, 1000 + seed);
+        let kings = Kings::new(bakers_game(&rt, cells));
+        check_boards(&rt, rt.alloc(), &kings, 1100 + seed);
+    }
+}
