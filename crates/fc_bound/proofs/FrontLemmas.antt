@@ -12,10 +12,10 @@ use Rattle.fc_cards.specs.Card.{rank, suit}
 use Rattle.fc_position.specs.Board.{last_of, front_of}
 use Rattle.fc_moves.specs.GameRules.{all_cards}
 use Rattle.fc_bound.specs.Bound.{is_lower}
-use Rattle.fc_bound.specs.Clearing.{waits, without, cards_in}
+use Rattle.fc_bound.specs.Clearing.{without, cards_in}
 use Rattle.fc_bound.specs.Fronts.{lowest, AreLeast, AreLeastOfAll, number_where}
 use Rattle.fc_bound.specs.Knots.{has_last, ends_with, first_with, least_last, shed}
-use Rattle.fc_bound.proofs.AboveLemmas.{or-false, lower-more, tells-none}
+use Rattle.fc_bound.proofs.AboveLemmas.{or-false, lower-more}
 
 -- a column of what is left is so many of the column's lowest cards
 pub lowest-at : (heights : List ℕ) (columns : List (List ℕ)) (i : ℕ) → length heights ≡ length columns
@@ -33,13 +33,6 @@ length-lowest [] (x ∷ columns) same = absurd (omega (arith, same))
 length-lowest (h ∷ heights) [] same = absurd (omega (arith, same))
 length-lowest (h ∷ heights) (x ∷ columns) same = ap suc (length-lowest heights columns (omega (arith, same)))
 
--- the least ranks of one column and of all so far
-pub told_in : (least cards : List ℕ) (x s r : ℕ) → AreLeast least cards → x < 52 → s ≡ suit x → r ≡ rank x
-    → nat_lt (get_or least s 0) r ≡ waits (cards ∷ []) (Some x)
-told_in least cards x s r are below suits ranks =
-    ap (λ k. nat_lt (get_or least k 0) r) suits ∙ ap (nat_lt (get_or least (suit x) 0)) ranks ∙ sym (are.tells x below)
-    ∙ sym (or-false (list_any (is_lower x) cards))
-
 pub least_first : (least : List ℕ) (columns : List (List ℕ)) → 0 < length columns → AreLeast least (get_or columns 0 [])
     → AreLeastOfAll least (take 1 columns)
 least_first least [] inside are = absurd (omega (arith, inside))
@@ -47,25 +40,6 @@ least_first least (x ∷ columns) inside are = record {
   suits = are.suits;
   tells = λ u below. or-false (list_any (is_lower u) x) ∙ are.tells u below;
 }
-
-less_or : (a b c r : ℕ) → c ≡ min a b → (nat_lt a r || nat_lt b r) ≡ nat_lt c r
-less_or a b c r e = grind (arith, nat_tests)
-
-pub least_more : (least here now : List ℕ) (columns : List (List ℕ)) (i : ℕ) → i < length columns
-    → AreLeastOfAll least (take i columns) → AreLeast here (get_or columns i []) → length now ≡ 4
-    → ((s : ℕ) → s < 4 → get_or now s 0 ≡ min (get_or least s 0) (get_or here s 0)) → AreLeastOfAll now (take (i + 1) columns)
-least_more least here now columns i inside before are four lesser = record {
-  suits = four;
-  tells = λ u below. list_any_more (list_any (is_lower u)) columns i [] inside
-      ∙ ap (λ t. t || list_any (is_lower u) (get_or columns i [])) (before.tells u below)
-      ∙ ap (λ t. nat_lt (get_or least (suit u) 0) (rank u) || t) (are.tells u below)
-      ∙ less_or (get_or least (suit u) 0) (get_or here (suit u) 0) (get_or now (suit u) 0) (rank u) (lesser (suit u) (omega arith));
-}
-
--- all columns
-pub least_all : (least : List ℕ) (columns : List (List ℕ)) (i : ℕ) → length columns ≤ i → AreLeastOfAll least (take i columns)
-    → AreLeastOfAll least columns
-least_all least columns i past are = subst (AreLeastOfAll least) (take_all i columns past) are
 
 -- flags that say of each column what a test says
 pub flags_all : (test : List ℕ → Bool) (columns : List (List ℕ)) (flags : List Bool) → length flags ≡ length columns
@@ -277,9 +251,6 @@ lows_more least seen y s r m are below suits ranks is =
           (λ ne. get_or-set_other least (suit y) (suit x) m 0 (λ e. ne (sym e)));
     } in
     subst (λ k. AreLeast (set least k m) (seen ++ y ∷ [])) (sym suits) moved
-
-pub lows_none : AreLeast (14 ∷ 14 ∷ 14 ∷ 14 ∷ []) []
-lows_none = record { suits = refl; tells = tells-none }
 
 -- as many cards as there are is all of them
 pub lowest_all : (heights : List ℕ) (columns : List (List ℕ)) → length heights ≡ length columns

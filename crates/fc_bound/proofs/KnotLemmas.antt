@@ -9,7 +9,6 @@ use Rattle.std.proofs.lemmas.List.Sums.{get_or-le-sum_by}
 use Rattle.std.proofs.lemmas.Option.{slice_get-get_or, slice_get_within, get_or_from_slice_get}
 use Rattle.fc_position.specs.Board.{Board, last_of, count_in_column}
 use Rattle.fc_position.specs.Position.{IsPosition}
-use Rattle.fc_position.proofs.BoardLemmas.{cards_most}
 use Rattle.fc_moves.specs.GameRules.{all_cards}
 use Rattle.fc_moves.specs.GameLaws.{every_card}
 use Rattle.fc_bound.specs.Bound.{is_lower}
@@ -18,7 +17,7 @@ use Rattle.fc_bound.specs.Knots.{has_last, ends_with, waits_in, waits_above, is_
 use Rattle.fc_bound.specs.Laws.{KnotBoundIsNoGreater}
 use Rattle.fc_bound.proofs.AboveLemmas.{not_true, or-false, contains-stands, stands-counted}
 use Rattle.fc_bound.proofs.HeldLemmas.{Found, found}
-use Rattle.fc_bound.proofs.ClearingLemmas.{clearing_least, last_there}
+use Rattle.fc_bound.proofs.ClearingLemmas.{last_there}
 use Rattle.fc_bound.proofs.ClearingTied.{TiedBy}
 use Rattle.fc_bound.proofs.KnotShed.{AreCards, shed-cards, is_shed, shed-tied, shed-loose}
 
@@ -253,17 +252,6 @@ knot_cost_no_greater (suc steps) columns cards =
       knot_cost_no_greater steps tight (shed-cards (is_in_knot columns) columns cards),
     ))
     (λ none_last. omega arith))
-
--- a position has 52 knots at most
-pub knot_count_most : (b : Board) → IsPosition b → knot_count b.columns ≤ 52
-unfolding knot_count
-knot_count_most b p =
-    omega (
-      arith,
-      knot_cost_no_greater (cards_in b.columns) b.columns (position_cards b p),
-      clearing_least b.columns [],
-      cards_most b p,
-    )
 
 -- the knot bound of a position is nowhere greater than its clearing bound
 pub knots_no_greater : KnotBoundIsNoGreater

@@ -15,7 +15,7 @@ use Rattle.fc_cert.specs.Claim.{IsWrittenAs}
 use Rattle.fc_cert.specs.Content.{Content, bytes_of}
 use Rattle.fc_cert.proofs.CertifiedLemmas.{backed_certified, backed_spelled}
 use Rattle.fc_cert.specs.declared.faults.CertFault.TheVariants.{Write}
-use Rattle.fc_cert.specs.Writing.{SinkState, IsUncertified, WritesAnswer}
+use Rattle.fc_cert.specs.Writing.{SinkState, WritesAnswer}
 use Rattle.fc_runs.specs.Devices.{Device}
 use Rattle.fc_search.specs.Search.{IsRunToEnd}
 use Rattle.fc_runs.specs.declared.faults.Output.TheVariants.{Answer as of_answer, Cert as of_certificate}
@@ -77,16 +77,6 @@ written_whole g rule weight kind b budget (CannotWin table) old new done game po
   sound new whole.is_sound,
 )
 written_whole g rule weight kind b budget (GaveUp told) old new done game position answers (c, same, whole) = absurd same
-
--- an answer that has no certificate leaves the sink as it was
-pub unwritten_whole : (g : GameRules) (rule weight : ℕ) (kind : BoundKind) (b : Board) (budget : ℕ) (answered : Answer) (old new : SinkState)
-    → Answers g rule weight kind b budget answered → IsUncertified answered × (new ≡ old)
-    → IsCertified g rule kind b (verdict_of answered) (device_of old new)
-unwritten_whole g rule weight Plain b budget (Shortest moves table) old new answers (other, same) = absurd (other answers.searched.1)
-unwritten_whole g rule weight Clearing b budget (Shortest moves table) old new answers (other, same) = ap (λ s. s.held) same
-unwritten_whole g rule weight kind b budget (Won moves floor table) old new answers (other, same) = ap (λ s. s.held) same
-unwritten_whole g rule weight kind b budget (CannotWin table) old new answers (other, same) = absurd other
-unwritten_whole g rule weight kind b budget (GaveUp told) old new answers (other, same) = ap (λ s. s.held) same
 
 -- the sink failed while it was given the certificate of an answer
 pub written_short : (g : GameRules) (rule weight : ℕ) (kind : BoundKind) (b : Board) (budget : ℕ) (answered : Answer) (old new : SinkState) → IsGame g

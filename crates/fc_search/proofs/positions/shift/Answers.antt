@@ -1,5 +1,4 @@
 use Rattle.std.proofs.Common.{◌≡◌, sym, ◌∙◌, ap, arith}
-use Rattle.fc_bound.specs.declared.kinds.BoundKind.TheVariants.{Plain}
 use Rattle.fc_bound.specs.Bound.{bound}
 use Rattle.fc_bound.specs.Kinds.{guide_of}
 use Rattle.fc_search.proofs.ShiftLemmas.{shifts}
