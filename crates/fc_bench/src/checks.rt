@@ -78,6 +78,7 @@ fn tell_claim(rt: &HostRuntime, checked: Result<Claim, CheckFault>) -> io::Resul
     match checked {
         Ok(Claim::Shortest(moves)) => println!(rt; "accepted: shortest {moves}"),
         Ok(Claim::CannotWin) => println!(rt; "accepted: can't be won"),
+        Ok(Claim::Between(floor, moves)) => println!(rt; "accepted: won {moves}, at least {floor}"),
         Err(fault) => println!(rt; "certificate refused: {fault}"),
     }
 }

@@ -5,10 +5,12 @@ use Rattle.fc_position.specs.Board.{Board}
 use Rattle.fc_moves.specs.declared.steps.Move.{Move}
 use Rattle.fc_moves.specs.GameLaws.{All-from_members}
 use Rattle.fc_moves.specs.GameRules.{GameRules, IsGame, IsPositionOf}
+use Rattle.fc_moves.specs.Run.{Wins}
+use Rattle.fc_home.specs.declared.settling.TheConstants.{GREATEST_RULE}
 use Rattle.fc_canonical.specs.Spelled.{spelled, IsKeyIn, IsKeyFor}
 use Rattle.fc_canonical.proofs.FitLemmas.{fits_by_count}
-use Rattle.fc_bound.specs.declared.kinds.BoundKind.TheVariants.{Plain}
-use Rattle.fc_bound.specs.Bound.{bound}
+use Rattle.fc_bound.specs.declared.kinds.BoundKind.{BoundKind}
+use Rattle.fc_bound.specs.declared.kinds.BoundKind.TheVariants.{Plain, Clearing}
 use Rattle.fc_bound.specs.Kinds.{low_of}
 use Rattle.fc_tables.proofs.BoundLemmas.{bounds_lower}
 use Rattle.fc_tables.proofs.TableLemmas.{below_long, closed_never}
@@ -22,10 +24,16 @@ use Rattle.fc_cert.specs.declared.claims.Claim.{Claim}
 use Rattle.fc_cert.specs.declared.claims.Claim.TheVariants as claim
 use Rattle.fc_cert.specs.declared.contents.Kind.{Kind}
 use Rattle.fc_cert.specs.declared.contents.Kind.TheVariants as kind
-use Rattle.fc_cert.specs.Claim.{Shows, IsTrueOf, IsWrittenAs, Claims, HasWinningMoves}
-use Rattle.fc_cert.specs.Content.{Content, IsContent, IsRecord, IsSpelled, MayCost, MayList, bytes_of}
+use Rattle.fc_cert.specs.Claim.{Shows, IsTrueOf, IsWrittenAs, Claims, HasWinningMoves, written_form}
+use Rattle.fc_cert.specs.Content.{Content, IsContent, IsRecord, IsSpelled, MayName, MayBind, MayClaim, MayFloor, MayCost, MayList, bytes_of}
 use Rattle.fc_cert.specs.Laws.{CertificatesAreTrue, BackedAnswersAreCertified}
 use Rattle.fc_cert.proofs.WritingLemmas.{content}
+
+-- a table that is closed below a number leaves no shorter list that wins
+none_shorter : (g : GameRules) (b : Board) (c : Content) (n : ℕ) (moves : List Move) → IsPositionOf g b
+    → IsClosedBelow (low_of c.head.bound) g c.head.rule b n (as_boards c.rows) → Wins g b moves → n ≤ length moves
+none_shorter g b c n moves position closed won =
+    below_long (low_of c.head.bound) g c.head.rule b n (as_boards c.rows) moves (bounds_lower c.head.bound).1 position closed won
 
 -- a content shows only what is true
 shown_true : (g : GameRules) (b : Board) (c : Content) (claimed : Claim) → IsPositionOf g b → Shows g b c claimed → IsTrueOf g b claimed
@@ -34,11 +42,12 @@ shown_true g b c (claim.Shortest n) position (kind, count, wins, closed) = (
   count,
   record {
     wins = wins;
-    least = λ others won.
-        subst (λ k. k ≤ length others) (sym count) (below_long bound g c.head.rule b n (as_boards c.rows) others (bounds_lower Plain).1 position closed won);
+    least = λ others won. subst (λ k. k ≤ length others) (sym count) (none_shorter g b c n others position closed won);
   },
 )
 shown_true g b c claim.CannotWin position (kind, closed) = closed_never g c.head.rule b (as_boards c.rows) position closed
+shown_true g b c (claim.Between floor n) position (kind, same, count, wins, closed) =
+    ((c.moves, count, wins), λ others won. none_shorter g b c floor others position closed won)
 
 pub certificates_true : CertificatesAreTrue
 certificates_true g b bytes claimed position certificate = shown_true g b certificate.content claimed position certificate.shows
@@ -59,14 +68,38 @@ are_records g kind table listed may =
     All-from_members (IsRecord g.cells kind) table.rows
     (λ e there. record { key = key_for g e.0 (listed.classes e there); cost = may e there })
 
+-- the form that is written may name each game, rule, bound and kind
+written_name : (bound : BoundKind) (claimed : Kind) (game cells rule : ℕ) → game < 256 → cells ≤ 4 → rule ≤ GREATEST_RULE
+    → MayName (written_form bound claimed) game cells rule
+written_name Plain kind.Shortest game cells rule small few known = (small, few, known)
+written_name Plain kind.CannotWin game cells rule small few known = (small, few, known)
+written_name Plain kind.Between game cells rule small few known = (small, few, known)
+written_name Clearing claimed game cells rule small few known = (small, few, known)
+
+written_bound : (bound : BoundKind) (claimed : Kind) → MayBind (written_form bound claimed) bound
+written_bound Plain kind.Shortest = refl
+written_bound Plain kind.CannotWin = refl
+written_bound Plain kind.Between = tt
+written_bound Clearing claimed = tt
+
+written_kind : (bound : BoundKind) (claimed : Kind) → MayClaim (written_form bound claimed) claimed
+written_kind Plain kind.Shortest = λ e. absurd cc
+written_kind Plain kind.CannotWin = λ e. absurd cc
+written_kind Plain kind.Between = tt
+written_kind Clearing claimed = tt
+
 -- the content with these moves and the rows of a table of the game has bytes
-has_bytes : (g : GameRules) (kind : Kind) (moves : List Move) (table : Listing) → IsGame g → IsTable g table → MayList kind moves
-    → ((e : List ℕ × ℕ) → Contains table.rows e → MayCost kind e.1) → IsContent (content g kind table.rule moves table.rows)
-has_bytes g kind moves table game listed may_list may_cost = record {
-  head = (game.code, game.cells, listed.known);
+has_bytes : (g : GameRules) (claimed : Kind) (floor : ℕ) (moves : List Move) (table : Listing) → IsGame g → IsTable g table
+    → MayFloor claimed floor moves → MayList claimed moves
+    → ((e : List ℕ × ℕ) → Contains table.rows e → MayCost claimed e.1) → IsContent (content g table claimed floor moves)
+has_bytes g claimed floor moves table game listed may_floor may_list may_cost = record {
+  head = written_name table.bound claimed g.code g.cells table.rule game.code game.cells listed.known;
+  bound = written_bound table.bound claimed;
+  kind = written_kind table.bound claimed;
+  floor = may_floor;
   moves = may_list;
   count = omega (arith, listed.few);
-  rows = are_records g kind table listed may_cost;
+  rows = are_records g claimed table listed may_cost;
   rising = listed.rising;
 }
 
@@ -75,36 +108,41 @@ abbrev IsShowing : GameRules → Board → Claim → Content → Type 0
 IsShowing g b claimed c = IsContent c × (c.head.game ≡ g.code) × (c.head.cells ≡ g.cells) × Shows g b c claimed
 
 -- so is the content that a backed answer is written as
-written_shows : (g : GameRules) (b : Board) (answered : Answer) (c : Content) (claimed : Claim) → IsGame g → IsBacked g b answered
-    → HasWinningMoves g b answered → CanBeWritten (verdict_of answered) → IsWrittenAs g answered c → Claims answered claimed
-    → IsShowing g b claimed c
-written_shows g b (answer.Shortest moves table) c claimed game backed wins can (plain, same) claims =
-    let told : Content = content g kind.Shortest table.rule moves table.rows in
+written_shows : (g : GameRules) (b : Board) (answered : Answer) (c : Content) (claimed : Claim) → IsGame g → IsPositionOf g b
+    → IsBacked g b answered → HasWinningMoves g b answered → CanBeWritten (verdict_of answered) → IsWrittenAs g answered c
+    → Claims answered claimed → IsShowing g b claimed c
+written_shows g b (answer.Shortest moves table) c claimed game position backed wins can same claims =
+    let told : Content = content g table kind.Shortest 0 moves in
     let few : length moves < 2 ^ 32 = omega (arith, can.1) in
-    let has : IsContent told = has_bytes g kind.Shortest moves table game backed.listed (few, can.0)
+    let has : IsContent told = has_bytes g kind.Shortest 0 moves table game backed.listed refl (few, can.0)
     (λ e there. omega (arith, backed.below e there, few)) in
-    let closed : IsClosedBelow bound g table.rule b (length moves) (as_boards table.rows) =
-    subst (λ k. IsClosedBelow (low_of k) g table.rule b (length moves) (as_boards table.rows)) plain backed.closed in
     subst (IsShowing g b claimed) (sym same)
-    (subst (λ said. IsShowing g b said told) (sym claims) (has, refl, refl, (refl, refl, wins, closed)))
-written_shows g b (answer.Won moves floor table) c claimed game backed wins can same claims = absurd same
-written_shows g b (answer.CannotWin table) c claimed game backed wins can same claims =
-    let told : Content = content g kind.CannotWin table.rule [] table.rows in
-    let has : IsContent told = has_bytes g kind.CannotWin [] table game backed.listed refl backed.free in
+    (subst (λ said. IsShowing g b said told) (sym claims) (has, refl, refl, (refl, refl, wins, backed.closed)))
+written_shows g b (answer.Won moves floor table) c claimed game position backed wins can same claims =
+    let told : Content = content g table kind.Between floor moves in
+    let few : length moves < 2 ^ 32 = omega (arith, can.1) in
+    let least : floor ≤ length moves = none_shorter g b told floor moves position backed.closed wins in
+    let has : IsContent told = has_bytes g kind.Between floor moves table game backed.listed least (few, can.0)
+    (λ e there. omega (arith, backed.below e there, few, least)) in
+    subst (IsShowing g b claimed) (sym same)
+    (subst (λ said. IsShowing g b said told) (sym claims) (has, refl, refl, (refl, refl, refl, wins, backed.closed)))
+written_shows g b (answer.CannotWin table) c claimed game position backed wins can same claims =
+    let told : Content = content g table kind.CannotWin 0 [] in
+    let has : IsContent told = has_bytes g kind.CannotWin 0 [] table game backed.listed refl refl backed.free in
     subst (IsShowing g b claimed) (sym same)
     (subst (λ said. IsShowing g b said told) (sym claims) (has, refl, refl, (refl, backed.closed)))
-written_shows g b (answer.GaveUp told) c claimed game backed wins can same claims = absurd same
+written_shows g b (answer.GaveUp told) c claimed game position backed wins can same claims = absurd same
 
 -- its bytes are a certificate with it
-pub backed_spelled : (g : GameRules) (b : Board) (answered : Answer) (c : Content) (claimed : Claim) → IsGame g → IsBacked g b answered
-    → HasWinningMoves g b answered → CanBeWritten (verdict_of answered) → IsWrittenAs g answered c → Claims answered claimed
-    → IsSpelled (bytes_of c) c
-backed_spelled g b answered c claimed game backed wins can same claims =
-    record { content = (written_shows g b answered c claimed game backed wins can same claims).0; written = refl }
+pub backed_spelled : (g : GameRules) (b : Board) (answered : Answer) (c : Content) (claimed : Claim) → IsGame g → IsPositionOf g b
+    → IsBacked g b answered → HasWinningMoves g b answered → CanBeWritten (verdict_of answered) → IsWrittenAs g answered c
+    → Claims answered claimed → IsSpelled (bytes_of c) c
+backed_spelled g b answered c claimed game position backed wins can same claims =
+    record { content = (written_shows g b answered c claimed game position backed wins can same claims).0; written = refl }
 
 pub backed_certified : BackedAnswersAreCertified
 backed_certified g b answered c claimed game position backed wins can same claims =
-    let good = written_shows g b answered c claimed game backed wins can same claims in
+    let good = written_shows g b answered c claimed game position backed wins can same claims in
     record {
       content = c;
       spelled = record { content = good.0; written = refl };

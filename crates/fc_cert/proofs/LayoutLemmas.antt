@@ -13,7 +13,7 @@ use Rattle.fc_moves.specs.declared.steps.Move.{Move}
 use Rattle.fc_moves.specs.MoveText.{place_letter, move_text, IsThere, HasText}
 use Rattle.fc_moves.proofs.StepLemmas.{move_same, source_is_there}
 use Rattle.fc_cert.specs.declared.contents.Kind.{Kind}
-use Rattle.fc_cert.specs.declared.contents.Kind.TheVariants.{Shortest, CannotWin}
+use Rattle.fc_cert.specs.declared.contents.Kind.TheVariants.{Shortest, CannotWin, Between}
 use Rattle.fc_cert.specs.Content.{Content, IsRecord, MayList, four_bytes, record_bytes}
 use Rattle.fc_cert.proofs.OnceLemmas.{cost_small}
 use Rattle.fc_cert.specs.Layout.{AreParts, content_of, ends_from, moves_of, place_of, row_of, rows_ending, start_of}
@@ -131,16 +131,19 @@ record_there front (row ∷ rows) (suc i) d lt =
 -- moves of a certificate have texts
 listed_texts : (kind : Kind) (moves : List Move) → MayList kind moves → moves_of (flat_map move_text moves) ≡ moves
 listed_texts Shortest moves may = moves_back moves may.1
+listed_texts Between moves may = moves_back moves may.1
 listed_texts CannotWin moves may = subst (λ l. moves_of (flat_map move_text l) ≡ l) (sym may) refl
 
 -- and they are few
 list_few : (kind : Kind) (moves : List Move) → MayList kind moves → length moves < 2 ^ 32
 list_few Shortest moves may = may.0
+list_few Between moves may = may.0
 list_few CannotWin moves may = let none = ap length may in omega (arith, none)
 
 listed_has_text : (kind : Kind) (moves : List Move) → MayList kind moves → (i : ℕ) (d : Move) → i < length moves
     → HasText (get_or moves i d)
 listed_has_text Shortest moves may i d lt = may.1 i d lt
+listed_has_text Between moves may i d lt = may.1 i d lt
 listed_has_text CannotWin moves may i d lt = let none = ap length may in absurd (omega (arith, none, lt))
 
 -- the parts of a content are those that say it

@@ -2,6 +2,7 @@ pub mod CertifiedLemmas
 pub mod CompareLemmas
 pub mod FieldLemmas
 pub mod FindLemmas
+pub mod HeadLemmas
 pub mod LawLemmas
 pub mod LayoutLemmas
 pub mod OnceLemmas

@@ -1,6 +1,6 @@
 -- Reading comes to one end.
 use Rattle.std.proofs.Common.{◌≡◌, ℕ, zero, suc, ◌+◌, ◌<◌, ◌≤◌, ◌^◌, Option, Some, None, List, [], ◌∷◌, ◌++◌, length, take, get_or, Result, Ok, Err, refl, sym, ◌∙◌, ap, subst, append_assoc, arith, inl, inr}
-use Rattle.std.specs.Prelude.{◌⊎◌}
+use Rattle.std.specs.Prelude.{◌⊎◌, ◌==◌, if◌then◌else◌}
 use Rattle.std.proofs.lemmas.List.{length-append, take_at}
 use Rattle.std.proofs.lemmas.Nat.{from_be_bytes-to_be_bytes_4}
 use Rattle.std.specs.Int.{w32, from_be_bytes}
@@ -13,16 +13,18 @@ use Rattle.fc_canonical.specs.Key.{HasExtent}
 use Rattle.fc_canonical.specs.Spelled.{IsKeyFor, spelled}
 use Rattle.fc_canonical.proofs.KeyLemmas.{same_fronts, key_extents}
 use Rattle.fc_canonical.proofs.SpelledLemmas.{extent_once}
+use Rattle.fc_bound.specs.declared.kinds.BoundKind.{BoundKind}
+use Rattle.fc_bound.specs.declared.kinds.BoundKind.TheVariants.{Plain, Clearing}
 use Rattle.fc_cert.specs.declared.contents.Form.{Form}
-use Rattle.fc_cert.specs.declared.contents.Form.TheVariants.{First, Second}
+use Rattle.fc_cert.specs.declared.contents.Form.TheVariants.{First, Second, Third}
 use Rattle.fc_cert.specs.declared.contents.Head.{Head}
 use Rattle.fc_cert.specs.declared.contents.Kind.{Kind}
-use Rattle.fc_cert.specs.declared.contents.Kind.TheVariants.{Shortest, CannotWin}
+use Rattle.fc_cert.specs.declared.contents.Kind.TheVariants.{Shortest, CannotWin, Between}
 use Rattle.fc_cert.specs.declared.faults.CertFault.{CertFault}
-use Rattle.fc_cert.specs.declared.faults.CertFault.TheVariants.{Short, BadMagic, BadCells, BadRule, BadKind, BadMove, BadRecord, Order, Label}
-use Rattle.fc_cert.specs.Content.{Content, magic, kind_byte, four_bytes, record_bytes, MayCost, IsRecord}
+use Rattle.fc_cert.specs.declared.faults.CertFault.TheVariants.{Short, BadMagic, BadCells, BadRule, BadBound, BadKind, BadFloor, BadMove, BadRecord, Order, Label}
+use Rattle.fc_cert.specs.Content.{Content, magic, bound_byte, kind_byte, four_bytes, record_bytes, MayCost, IsRecord}
 use Rattle.fc_cert.specs.Laws.{ReadingComesToOneEnd}
-use Rattle.fc_cert.specs.Reading.{Field, SaysByte, IsAny, SaysNumber, SaysMove, MayRule, IsAfter, HasRecord, ReadsGame, ReadsHead, ReadsMoves, ReadsList, ReadsRecord, ReadsRecords, ReadsTable, ReadsEnd}
+use Rattle.fc_cert.specs.Reading.{Field, SaysByte, IsAny, SaysKind, SaysNumber, SaysNoLess, SaysMove, MayRule, IsAfter, HasRecord, ReadsNamed, ReadsGame, ReadsBound, ReadsFloor, ReadsClaim, ReadsHead, ReadsMoves, ReadsListed, ReadsList, ReadsRecord, ReadsRecords, ReadsTable, ReadsEnd}
 use Rattle.fc_cert.proofs.FieldLemmas.{step_once}
 
 module _ {A : Type 0} where
@@ -48,20 +50,43 @@ module _ {A : Type 0} where
   field_once n Says wrong bytes once (Err f) (Err g) (inr none) (inr no_value) = ap (λ x. Err x) (none.2 ∙ sym no_value.2)
 
 -- each field's bytes say one value
+form_of : ℕ → Form
+form_of byte = if byte == 49 then First else (if byte == 50 then Second else Third)
+
+form_back : (form : Form) → form_of (get_or (magic form) 3 0) ≡ form
+unfolding form_of
+form_back First = refl
+form_back Second = refl
+form_back Third = refl
+
 magic_once : (here : List ℕ) (v w : Form) → here ≡ magic v → here ≡ magic w → v ≡ w
-magic_once here First First a b = refl
-magic_once here First Second a b = let e : 49 ≡ 50 = ap (λ l. get_or l 3 0) (sym a ∙ b) in absurd (omega (arith, e))
-magic_once here Second First a b = let e : 50 ≡ 49 = ap (λ l. get_or l 3 0) (sym a ∙ b) in absurd (omega (arith, e))
-magic_once here Second Second a b = refl
+magic_once here v w a b = sym (form_back v) ∙ ap (λ l. form_of (get_or l 3 0)) (sym a ∙ b) ∙ form_back w
 
 byte_once : (IsRight : ℕ → Type 0) (here : List ℕ) (v w : ℕ) → SaysByte IsRight here v → SaysByte IsRight here w → v ≡ w
 byte_once IsRight here v w a b = ap (λ l. get_or l 0 0) (sym a.0 ∙ b.0)
 
-kind_once : (here : List ℕ) (v w : Kind) → here ≡ kind_byte v ∷ [] → here ≡ kind_byte w ∷ [] → v ≡ w
-kind_once here Shortest Shortest a b = refl
-kind_once here Shortest CannotWin a b = let e : 1 ≡ 2 = ap (λ l. get_or l 0 0) (sym a ∙ b) in absurd (omega (arith, e))
-kind_once here CannotWin Shortest a b = let e : 2 ≡ 1 = ap (λ l. get_or l 0 0) (sym a ∙ b) in absurd (omega (arith, e))
-kind_once here CannotWin CannotWin a b = refl
+kind_of : ℕ → Kind
+kind_of byte = if byte == 1 then Shortest else (if byte == 2 then CannotWin else Between)
+
+kind_back : (kind : Kind) → kind_of (kind_byte kind) ≡ kind
+unfolding kind_of
+kind_back Shortest = refl
+kind_back CannotWin = refl
+kind_back Between = refl
+
+kind_once : (form : Form) (here : List ℕ) (v w : Kind) → SaysKind form here v → SaysKind form here w → v ≡ w
+kind_once form here v w a b = sym (kind_back v) ∙ ap (λ l. kind_of (get_or l 0 0)) (sym a.0 ∙ b.0) ∙ kind_back w
+
+bound_of : ℕ → BoundKind
+bound_of byte = if byte == 0 then Plain else Clearing
+
+bound_back : (bound : BoundKind) → bound_of (bound_byte bound) ≡ bound
+unfolding bound_of
+bound_back Plain = refl
+bound_back Clearing = refl
+
+bound_byte_once : (here : List ℕ) (v w : BoundKind) → here ≡ bound_byte v ∷ [] → here ≡ bound_byte w ∷ [] → v ≡ w
+bound_byte_once here v w a b = sym (bound_back v) ∙ ap (λ l. bound_of (get_or l 0 0)) (sym a ∙ b) ∙ bound_back w
 
 pub four_once : (m n : ℕ) → m < 2 ^ 32 → n < 2 ^ 32 → four_bytes m ≡ four_bytes n → m ≡ n
 four_once m n small low e =
@@ -69,6 +94,9 @@ four_once m n small low e =
 
 number_once : (here : List ℕ) (v w : ℕ) → SaysNumber here v → SaysNumber here w → v ≡ w
 number_once here v w a b = four_once v w a.1 b.1 (sym a.0 ∙ b.0)
+
+no_less_once : (floor : ℕ) (here : List ℕ) (v w : ℕ) → SaysNoLess floor here v → SaysNoLess floor here w → v ≡ w
+no_less_once floor here v w a b = number_once here v w a.0 b.0
 
 place_once : (p q : Place) → IsThere p → IsThere q → place_letter p ≡ place_letter q → p ≡ q
 place_once (Column i) (Column j) one two e = ap (λ k. Column k) (omega arith)
@@ -89,21 +117,43 @@ move_once here v w a b =
     let to = place_once v.to w.to a.1.to b.1.to (ap (λ l. get_or l 1 0) both) in
     move_same v w from to
 
-game_once : (form : Form) (bytes : List ℕ) (a b : Result ((ℕ × ℕ) × List ℕ) CertFault) → ReadsGame form bytes a
-    → ReadsGame form bytes b → a ≡ b
-game_once First bytes a b p q = p ∙ sym q
-game_once Second bytes a b p q =
+named_once : (bytes : List ℕ) (a b : Result ((ℕ × ℕ) × List ℕ) CertFault) → ReadsNamed bytes a → ReadsNamed bytes b → a ≡ b
+named_once bytes a b p q =
     step_once _ _ a b (field_once 1 (SaysByte IsAny) Short bytes (byte_once IsAny))
     (λ code rest r s. step_once _ _ a b (field_once 1 (SaysByte (λ n. n ≤ 4)) BadCells rest (byte_once (λ n. n ≤ 4)))
     (λ n rest t u. t ∙ sym u) r s) p q
+
+game_once : (form : Form) (bytes : List ℕ) (a b : Result ((ℕ × ℕ) × List ℕ) CertFault) → ReadsGame form bytes a
+    → ReadsGame form bytes b → a ≡ b
+game_once First bytes a b p q = p ∙ sym q
+game_once Second bytes a b p q = named_once bytes a b p q
+game_once Third bytes a b p q = named_once bytes a b p q
+
+bound_once : (form : Form) (bytes : List ℕ) (a b : Result (BoundKind × List ℕ) CertFault) → ReadsBound form bytes a
+    → ReadsBound form bytes b → a ≡ b
+bound_once First bytes a b p q = p ∙ sym q
+bound_once Second bytes a b p q = p ∙ sym q
+bound_once Third bytes a b p q = field_once 1 (λ here bound. here ≡ bound_byte bound ∷ []) BadBound bytes bound_byte_once a b p q
+
+floor_once : (kind : Kind) (bytes : List ℕ) (a b : Result (ℕ × List ℕ) CertFault) → ReadsFloor kind bytes a
+    → ReadsFloor kind bytes b → a ≡ b
+floor_once Shortest bytes a b p q = p ∙ sym q
+floor_once CannotWin bytes a b p q = p ∙ sym q
+floor_once Between bytes a b p q = field_once 4 SaysNumber Short bytes number_once a b p q
+
+claim_once : (form : Form) (bytes : List ℕ) (a b : Result ((Kind × ℕ) × List ℕ) CertFault) → ReadsClaim form bytes a
+    → ReadsClaim form bytes b → a ≡ b
+claim_once form bytes a b p q =
+    step_once _ _ a b (field_once 1 (SaysKind form) BadKind bytes (kind_once form))
+    (λ kind rest r s. step_once _ _ a b (floor_once kind rest) (λ n rest r s. r ∙ sym s) r s) p q
 
 head_once : (bytes : List ℕ) (a b : Result (Head × List ℕ) CertFault) → ReadsHead bytes a → ReadsHead bytes b → a ≡ b
 head_once bytes a b p q =
     step_once _ _ a b (field_once 4 (λ here form. here ≡ magic form) BadMagic bytes magic_once)
     (λ form rest r s. step_once _ _ a b (game_once form rest)
     (λ named rest r s. step_once _ _ a b (field_once 1 (SaysByte (MayRule form)) BadRule rest (byte_once (MayRule form)))
-    (λ rule rest r s. step_once _ _ a b (field_once 1 (λ here kind. here ≡ kind_byte kind ∷ []) BadKind rest kind_once)
-    (λ kind rest r s. r ∙ sym s) r s) r s) r s) p q
+    (λ rule rest r s. step_once _ _ a b (bound_once form rest)
+    (λ bound rest r s. step_once _ _ a b (claim_once form rest) (λ claimed rest r s. r ∙ sym s) r s) r s) r s) r s) p q
 
 moves_once : (n k : ℕ) (bytes : List ℕ) (a b : Result (List Move × List ℕ) CertFault) → ReadsMoves n k bytes a
     → ReadsMoves n k bytes b → a ≡ b
@@ -112,11 +162,16 @@ moves_once (suc n) k bytes a b p q =
     step_once _ _ a b (field_once 2 SaysMove (BadMove k) bytes move_once)
     (λ m rest r s. step_once _ _ a b (moves_once n (k + 1) rest) (λ moves rest r s. r ∙ sym s) r s) p q
 
-list_once : (kind : Kind) (bytes : List ℕ) (a b : Result (List Move × List ℕ) CertFault) → ReadsList kind bytes a
-    → ReadsList kind bytes b → a ≡ b
-list_once Shortest bytes a b p q =
-    step_once _ _ a b (field_once 4 SaysNumber Short bytes number_once) (λ n rest. moves_once n 1 rest a b) p q
-list_once CannotWin bytes a b p q = p ∙ sym q
+listed_once : (floor : ℕ) (bytes : List ℕ) (a b : Result (List Move × List ℕ) CertFault) → ReadsListed floor bytes a
+    → ReadsListed floor bytes b → a ≡ b
+listed_once floor bytes a b p q =
+    step_once _ _ a b (field_once 4 (SaysNoLess floor) BadFloor bytes (no_less_once floor)) (λ n rest. moves_once n 1 rest a b) p q
+
+list_once : (kind : Kind) (floor : ℕ) (bytes : List ℕ) (a b : Result (List Move × List ℕ) CertFault) → ReadsList kind floor bytes a
+    → ReadsList kind floor bytes b → a ≡ b
+list_once Shortest floor bytes a b p q = listed_once floor bytes a b p q
+list_once CannotWin floor bytes a b p q = p ∙ sym q
+list_once Between floor bytes a b p q = listed_once floor bytes a b p q
 
 -- a test decides: one end where it fails, and some other where it holds
 abbrev Decided : {X : Type 0} → Type 0 → X → (X → Type 0) → X → Type 0
@@ -162,6 +217,7 @@ key_has_extent cells key rest k =
 pub cost_small : (kind : Kind) (cost : ℕ) → MayCost kind cost → cost < 2 ^ 32
 cost_small Shortest cost may = may
 cost_small CannotWin cost may = omega (arith, may)
+cost_small Between cost may = may
 
 -- a cost, and a key behind it, are a record
 pub key_taken : (cells : ℕ) (bytes from_key key rest : List ℕ) (cost : ℕ) → bytes ≡ four_bytes cost ++ from_key → cost < 2 ^ 32
@@ -255,6 +311,6 @@ end_once c (byte ∷ rest) a b p q = p ∙ sym q
 pub reading_once : ReadingComesToOneEnd
 reading_once bytes a b p q =
     step_once _ _ a b (head_once bytes)
-    (λ head rest r s. step_once _ _ a b (list_once head.kind rest)
+    (λ head rest r s. step_once _ _ a b (list_once head.kind head.floor rest)
     (λ moves rest r s. step_once _ _ a b (table_once head.cells head.kind rest)
     (λ rows rest. end_once (record { head = head; moves = moves; rows = rows }) rest a b) r s) r s) p q

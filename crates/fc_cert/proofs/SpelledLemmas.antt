@@ -100,7 +100,7 @@ record_split bytes from_key key rest cost n e small extent split size = (
 -- the list of moves and the table that are read one after the other, with nothing behind them, are all of the bytes
 pub whole_read : (bytes after_head after_moves records rest : List ℕ) (head : Head) (moves : List Move)
     (rows : List (List ℕ × ℕ)) (count : ℕ) → ReadsHead bytes (Ok (head, after_head))
-    → ReadsList head.kind after_head (Ok (moves, after_moves)) → Field 4 SaysNumber Short after_moves (Ok (count, records))
+    → ReadsList head.kind head.floor after_head (Ok (moves, after_moves)) → Field 4 SaysNumber Short after_moves (Ok (count, records))
     → ReadsRecords head.cells head.kind count 0 None records (Ok (rows, rest)) → rest ≡ []
     → Reads bytes (Ok (record { head = head; moves = moves; rows = rows }))
 whole_read bytes after_head after_moves records rest head moves rows count first list number table none = (
@@ -120,7 +120,7 @@ whole_read bytes after_head after_moves records rest head moves rows count first
 
 pub trailing : (bytes after_head after_moves records rest : List ℕ) (head : Head) (moves : List Move)
     (rows : List (List ℕ × ℕ)) (count : ℕ) → ReadsHead bytes (Ok (head, after_head))
-    → ReadsList head.kind after_head (Ok (moves, after_moves)) → Field 4 SaysNumber Short after_moves (Ok (count, records))
+    → ReadsList head.kind head.floor after_head (Ok (moves, after_moves)) → Field 4 SaysNumber Short after_moves (Ok (count, records))
     → ReadsRecords head.cells head.kind count 0 None records (Ok (rows, rest)) → (rest ≡ [] → ⊥)
     → Reads bytes (Err Trailing)
 trailing bytes after_head after_moves records [] head moves rows count first list number table some = absurd (some refl)

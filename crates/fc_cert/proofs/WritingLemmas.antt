@@ -10,17 +10,18 @@ use Rattle.fc_io.specs.Moves.{Takes, TakesFront, Stays}
 use Rattle.fc_io.proofs.MoveLemmas.{Takes-both, takes_then_front, sound_at_ok}
 use Rattle.fc_moves.specs.declared.steps.Move.{Move}
 use Rattle.fc_moves.specs.GameRules.{GameRules}
-use Rattle.fc_bound.specs.declared.kinds.BoundKind.TheVariants.{Plain}
 use Rattle.fc_answers.specs.declared.answers.Answer.{Answer}
 use Rattle.fc_answers.specs.declared.answers.Answer.TheVariants as answer
 use Rattle.fc_answers.specs.Table.{Listing}
-use Rattle.fc_cert.specs.declared.contents.Form.TheVariants.{Second}
+use Rattle.fc_cert.specs.declared.contents.Form.{Form}
+use Rattle.fc_cert.specs.declared.contents.Form.TheVariants.{Third}
+use Rattle.fc_cert.specs.declared.contents.Head.{Head}
 use Rattle.fc_cert.specs.declared.contents.Kind.{Kind}
 use Rattle.fc_cert.specs.declared.contents.Kind.TheVariants as kind
 use Rattle.fc_cert.specs.declared.faults.CertFault.{CertFault}
 use Rattle.fc_cert.specs.declared.faults.CertFault.TheVariants.{Write}
-use Rattle.fc_cert.specs.Claim.{IsWrittenAs}
-use Rattle.fc_cert.specs.Content.{Content, bytes_of}
+use Rattle.fc_cert.specs.Claim.{IsWrittenAs, written_form, written_head}
+use Rattle.fc_cert.specs.Content.{Content, magic, bound_byte, kind_byte, floor_bytes, head_bytes, bytes_of}
 use Rattle.fc_cert.specs.Writing.{SinkState, TakesWhole, IsCutShort, Gathers, Writes, WritesAnswer}
 
 -- what `write_all` says of a piece that was written
@@ -167,28 +168,63 @@ row_read rows i key other cost told first second =
     let same = sym (get_or_from_slice_get rows i d d first) ∙ get_or_from_slice_get rows i (other, cost) d second in
     first ∙ ap (λ k. Some (key, k)) (ap (λ r. r.1) same)
 
--- what is written in the second form, of this kind
-abbrev pub content : GameRules → Kind → ℕ → List Move → List (List ℕ × ℕ) → Content
-content g of_kind rule moves rows = record {
-  head = record { form = Second; game = g.code; cells = g.cells; rule = rule; kind = of_kind };
-  moves = moves;
-  rows = rows;
-}
+-- what is written of a table, of this kind
+abbrev pub content : GameRules → Listing → Kind → ℕ → List Move → Content
+content g table claimed floor moves = record { head = written_head g table claimed floor; moves = moves; rows = table.rows }
 
--- the content of an answer of moves, by the rule and the moves that are read of it
-pub shortest_written : (g : GameRules) (answered : Answer) (moves told : List Move) (table : Listing) (rule : ℕ)
-    → answered ≡ answer.Shortest moves table → table.bound ≡ Plain → rule ≡ table.rule → told ≡ moves
-    → IsWrittenAs g answered (content g kind.Shortest rule told table.rows)
-shortest_written g answered moves told table rule is plain rule_is moves_are =
-    subst (λ a. IsWrittenAs g a (content g kind.Shortest rule told table.rows)) (sym is)
-    (plain, ap (λ r. content g kind.Shortest r told table.rows) rule_is ∙ ap (λ ms. content g kind.Shortest table.rule ms table.rows) moves_are)
+-- in the third form stands what has a place of its own, and the floor behind it
+abbrev third_fixed : GameRules → Listing → Kind → List ℕ
+third_fixed g table claimed = magic Third ++ g.code ∷ g.cells ∷ table.rule ∷ bound_byte table.bound ∷ kind_byte claimed ∷ []
 
--- the content of an answer that no list wins
-pub cannot_win_written : (g : GameRules) (answered : Answer) (table : Listing) (rule : ℕ) → answered ≡ answer.CannotWin table
-    → rule ≡ table.rule → IsWrittenAs g answered (content g kind.CannotWin rule [] table.rows)
-cannot_win_written g answered table rule is rule_is =
-    subst (λ a. IsWrittenAs g a (content g kind.CannotWin rule [] table.rows)) (sym is)
-    (ap (λ r. content g kind.CannotWin r [] table.rows) rule_is)
+third_written : (g : GameRules) (table : Listing) (claimed : Kind) (floor : ℕ) → written_form table.bound claimed ≡ Third
+    → third_fixed g table claimed ++ floor_bytes claimed floor ≡ head_bytes (written_head g table claimed floor)
+third_written g table claimed floor third =
+    let In : Form → Head = λ form. record {
+      form = form;
+      game = g.code;
+      cells = g.cells;
+      rule = table.rule;
+      bound = table.bound;
+      kind = claimed;
+      floor = floor;
+    } in
+    ap (λ form. head_bytes (In form)) (sym third)
+
+-- the sink fails before the floor
+pub third_cut : {a b : SinkState} {piece : List ℕ} (g : GameRules) (table : Listing) (claimed : Kind) (floor : ℕ)
+    → written_form table.bound claimed ≡ Third → piece ≡ third_fixed g table claimed → IsCutShort a b piece
+    → IsCutShort a b (head_bytes (written_head g table claimed floor))
+third_cut {a} {b} {piece} g table claimed floor third same cut =
+    subst (IsCutShort a b) (third_written g table claimed floor third)
+    (cut_at_head (third_fixed g table claimed) (floor_bytes claimed floor) same cut)
+
+-- what becomes of the floor becomes of the whole
+pub third_ends : {a b : SinkState} {piece : List ℕ} (c : SinkState) (g : GameRules) (table : Listing) (claimed : Kind) (floor : ℕ)
+    → written_form table.bound claimed ≡ Third → piece ≡ third_fixed g table claimed → TakesWhole a b piece
+    → (told : Result (Unit {0}) Failed) → Writes b c (floor_bytes claimed floor) told
+    → Writes a c (head_bytes (written_head g table claimed floor)) told
+third_ends {a} {b} {piece} c g table claimed floor third same whole (Ok done) last =
+    subst (TakesWhole a c) (third_written g table claimed floor third) (whole_both (subst (TakesWhole a b) same whole) last)
+third_ends {a} {b} {piece} c g table claimed floor third same whole (Err failed) last =
+    subst (IsCutShort a c) (third_written g table claimed floor third) (cut_later (subst (TakesWhole a b) same whole) last)
+
+-- the content of an answer of moves, by the moves that are read of it
+pub shortest_written : (g : GameRules) (answered : Answer) (moves told : List Move) (table : Listing)
+    → answered ≡ answer.Shortest moves table → told ≡ moves → IsWrittenAs g answered (content g table kind.Shortest 0 told)
+shortest_written g answered moves told table is moves_are =
+    subst (λ a. IsWrittenAs g a (content g table kind.Shortest 0 told)) (sym is) (ap (content g table kind.Shortest 0) moves_are)
+
+-- and of one of moves and a floor
+pub won_written : (g : GameRules) (answered : Answer) (moves told : List Move) (floor : ℕ) (table : Listing)
+    → answered ≡ answer.Won moves floor table → told ≡ moves → IsWrittenAs g answered (content g table kind.Between floor told)
+won_written g answered moves told floor table is moves_are =
+    subst (λ a. IsWrittenAs g a (content g table kind.Between floor told)) (sym is) (ap (content g table kind.Between floor) moves_are)
+
+-- and of one that no list wins
+pub cannot_win_written : (g : GameRules) (answered : Answer) (table : Listing) → answered ≡ answer.CannotWin table
+    → IsWrittenAs g answered (content g table kind.CannotWin 0 [])
+cannot_win_written g answered table is =
+    subst (λ a. IsWrittenAs g a (content g table kind.CannotWin 0 [])) (sym is) refl
 
 -- where the sink failed, `Write` is told
 pub answer_cut : (g : GameRules) (answered : Answer) (old new : SinkState) (c : Content) (told : Result (Unit {0}) CertFault)

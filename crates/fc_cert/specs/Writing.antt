@@ -1,9 +1,8 @@
 -- What becomes of the sink that a certificate is written to.
-use Rattle.std.specs.Prelude.{◌≡◌, ◌≢◌, ℕ, Bool, false, List, ◌++◌, Option, Result, Ok, Err, IsTrue}
+use Rattle.std.specs.Prelude.{◌≡◌, ℕ, Bool, false, List, ◌++◌, Option, Result, Ok, Err, IsTrue}
 use Rattle.fc_io.specs.declared.devices.Failed.{Failed}
 use Rattle.fc_io.specs.Moves.{Takes, TakesFront, Stays}
 use Rattle.fc_moves.specs.GameRules.{GameRules}
-use Rattle.fc_bound.specs.declared.kinds.BoundKind.TheVariants.{Plain}
 use Rattle.fc_answers.specs.declared.answers.Answer.{Answer}
 use Rattle.fc_answers.specs.declared.answers.Answer.TheVariants as answer
 use Rattle.fc_cert.specs.declared.faults.CertFault.{CertFault}
@@ -39,11 +38,10 @@ abbrev pub Writes : SinkState → SinkState → List ℕ → Result (Unit {0}) F
 Writes old new bytes (Ok done) = TakesWhole old new bytes
 Writes old new bytes (Err failed) = IsCutShort old new bytes
 
--- the answer has no certificate: it is a list that isn't known to be shortest, or whose table is closed by another bound than
--- the plain one, or that a search gave up
+-- the answer has no certificate: a search gave up
 abbrev pub IsUncertified : Answer → Type 0
-IsUncertified (answer.Shortest moves table) = table.bound ≢ Plain
-IsUncertified (answer.Won moves floor table) = Unit {0}
+IsUncertified (answer.Shortest moves table) = ⊥
+IsUncertified (answer.Won moves floor table) = ⊥
 IsUncertified (answer.CannotWin table) = ⊥
 IsUncertified (answer.GaveUp told) = Unit {0}
 

@@ -6,7 +6,7 @@ ghost use Rattle.fc_cert.specs.Layout.{AreRecords, ends_from, start_of};
 ghost use Rattle.fc_cert.specs.Reading.{IsFormFault, IsReadFault};
 
 use crate::comparisons::compare;
-use crate::contents::{Head, Kind};
+use crate::contents::Head;
 use crate::faults::CertFault;
 use crate::readers::{check_form, split_number};
 use fc_canonical::key_size;
@@ -62,6 +62,13 @@ impl<'a> Certificate<'a> {
         })
     }
 
+    /// The fields that stand before the moves.
+    pub fn head(&self) -> Head
+        ensures value { result ≡ self.now.head }
+    {
+        self.head
+    }
+
     /// The code of the game.
     pub fn game(&self) -> u8
         ensures value { result ≡ self.now.head.game }
@@ -85,14 +92,12 @@ impl<'a> Certificate<'a> {
         self.head.rule
     }
 
-    /// 1 where it claims that its moves are a shortest list, 2 where it claims that no list wins.
+    /// 1 where it claims that its moves are a shortest list, 2 where it claims that no list wins, 3 where it claims that its
+    /// moves win and none below its floor do.
     pub fn kind(&self) -> u8
         ensures value { result ≡ kind_byte self.now.head.kind }
     {
-        match self.head.kind {
-            Kind::Shortest => 1,
-            Kind::CannotWin => 2,
-        }
+        self.head.kind.byte()
     }
 
     /// How many moves are listed.

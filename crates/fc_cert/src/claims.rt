@@ -5,4 +5,6 @@ pub enum Claim {
     Shortest(u32),
     /// No list of moves wins.
     CannotWin,
+    /// No list of fewer moves than the first number wins, and some list of as many as the second does.
+    Between(u32, u32),
 }

@@ -3,7 +3,7 @@ use thiserror::Error;
 /// Why an answer has no certificate, or bytes are none. Moves count from 1, records from 0.
 #[derive(Clone, Copy, Debug, PartialEq, Eq, Error)]
 pub enum CertFault {
-    /// The answer is a list that isn't known to be shortest or whose table isn't of the plain bound, or a search gave up.
+    /// A search gave up.
     #[error("NotCertified")]
     NotCertified,
     /// The sink has failed.
@@ -12,7 +12,7 @@ pub enum CertFault {
     /// A field isn't all there.
     #[error("Short")]
     Short,
-    /// The first four bytes are neither `FCC1` nor `FCC2`.
+    /// The first four bytes are none of `FCC1`, `FCC2` and `FCC3`.
     #[error("BadMagic")]
     BadMagic,
     /// A game has at most four cells.
@@ -21,9 +21,15 @@ pub enum CertFault {
     /// The form knows no such home rule.
     #[error("BadRule")]
     BadRule,
-    /// The kind is neither 1 nor 2.
+    /// The byte of the bound is neither 0 nor 1.
+    #[error("BadBound")]
+    BadBound,
+    /// The form knows no such kind.
     #[error("BadKind")]
     BadKind,
+    /// The floor is above the number of moves.
+    #[error("BadFloor")]
+    BadFloor,
     /// The two bytes are no move.
     #[error("BadMove({0})")]
     BadMove(u32),

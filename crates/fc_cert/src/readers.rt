@@ -7,13 +7,14 @@ ghost use Rattle.fc_canonical.specs.Key.{HasExtent};
 ghost use Rattle.fc_canonical.specs.KeyOrder.{IsBefore};
 ghost use Rattle.fc_canonical.specs.Spelled.{IsKeyFor};
 ghost use Rattle.fc_cert.specs.declared.contents.Kind.{Kind};
-ghost use Rattle.fc_cert.specs.Content.{Content, magic, kind_byte, four_bytes, record_bytes, MayCost};
+ghost use Rattle.fc_cert.specs.Content.{Content, magic, bound_byte, four_bytes, record_bytes, MayClaim, MayCost};
 ghost use Rattle.fc_cert.specs.Layout.{HasParts};
-ghost use Rattle.fc_cert.specs.Reading.{Field, SaysByte, SaysNumber, SaysMove, MayRule, IsAfter, HasRecord, ReadsGame, ReadsHead, ReadsMoves, ReadsList, ReadsRecord, ReadsRecords, Reads, IsFormFault};
+ghost use Rattle.fc_cert.specs.Reading.{Field, SaysByte, SaysKind, SaysNumber, SaysNoLess, SaysMove, MayRule, IsAfter, HasRecord, ReadsNamed, ReadsGame, ReadsBound, ReadsFloor, ReadsClaim, ReadsHead, ReadsMoves, ReadsListed, ReadsList, ReadsRecord, ReadsRecords, Reads, IsFormFault};
 
 use crate::comparisons::compare;
 use crate::contents::{Form, Head, Kind};
 use crate::faults::CertFault;
+use fc_bound::BoundKind;
 use fc_canonical::{is_key, key_len};
 use fc_home::GREATEST_RULE;
 use fc_moves::read_move;
@@ -38,7 +39,7 @@ pub fn check_form(bytes: &[u8]) -> Result<Parts<'_>, CertFault>
     ensures fault { IfErr result (λ f. IsFormFault bytes.now f) }
 {
     let (head, rest) = read_head(bytes)?;
-    let (texts, rest) = read_list(head.kind, rest)?;
+    let (texts, rest) = read_list(&head, rest)?;
     let (count, records) = read_number(rest)?;
     let rest = read_records(&head, count, records)?;
     if !rest.is_empty() {
@@ -60,13 +61,16 @@ fn read_head(bytes: &[u8]) -> Result<(Head, &[u8]), CertFault>
     let (form, rest) = read_form(bytes)?;
     let ((game, cells), rest) = read_game(form, rest)?;
     let (rule, rest) = read_rule(form, rest)?;
-    let (kind, rest) = read_kind(rest)?;
+    let (bound, rest) = read_bound(form, rest)?;
+    let ((kind, floor), rest) = read_claim(form, rest)?;
     let head = Head {
         form,
         game,
         cells,
         rule,
+        bound,
         kind,
+        floor,
     };
     Ok((head, rest))
 }
@@ -80,6 +84,7 @@ fn read_form(bytes: &[u8]) -> Result<(Form, &[u8]), CertFault>
     match here {
         b"FCC1" => Ok((Form::First, rest)),
         b"FCC2" => Ok((Form::Second, rest)),
+        b"FCC3" => Ok((Form::Third, rest)),
         _ => Err(CertFault::BadMagic),
     }
 }
@@ -91,12 +96,18 @@ fn read_game(form: Form, bytes: &[u8]) -> Result<((u8, u8), &[u8]), CertFault>
 {
     match form {
         Form::First => Ok(((0, 4), bytes)),
-        Form::Second => {
-            let (game, rest) = split_byte(bytes)?;
-            let (cells, rest) = read_cells(rest)?;
-            Ok(((game, cells), rest))
-        }
+        Form::Second | Form::Third => read_named(bytes),
     }
+}
+
+// A byte for the code of a game, one for its number of cells, and what follows them.
+fn read_named(bytes: &[u8]) -> Result<((u8, u8), &[u8]), CertFault>
+    ensures read { IfOk result (λ r. ReadsNamed bytes.now (Ok (r.0, r.1.now))) }
+    ensures fault { IfErr result (λ f. ReadsNamed bytes.now (Err f)) }
+{
+    let (game, rest) = split_byte(bytes)?;
+    let (cells, rest) = read_cells(rest)?;
+    Ok(((game, cells), rest))
 }
 
 // The number of cells of a game, and what follows it.
@@ -131,36 +142,111 @@ fn greatest_rule(form: Form) -> u8
 {
     match form {
         Form::First => 1,
-        Form::Second => GREATEST_RULE,
+        Form::Second | Form::Third => GREATEST_RULE,
     }
 }
 
-// The kind, and what follows it.
-fn read_kind(bytes: &[u8]) -> Result<(Kind, &[u8]), CertFault>
-    ensures read { IfOk result (λ r. Field 1 (λ here kind. here ≡ kind_byte kind ∷ []) CertFault.BadKind bytes.now (Ok (r.0, r.1.now))) }
-    ensures fault { IfErr result (λ f. Field 1 (λ here kind. here ≡ kind_byte kind ∷ []) CertFault.BadKind bytes.now (Err f)) }
+// The bound, and what follows it.
+fn read_bound(form: Form, bytes: &[u8]) -> Result<(BoundKind, &[u8]), CertFault>
+    ensures read { IfOk result (λ r. ReadsBound form bytes.now (Ok (r.0, r.1.now))) }
+    ensures fault { IfErr result (λ f. ReadsBound form bytes.now (Err f)) }
+{
+    match form {
+        Form::First | Form::Second => Ok((BoundKind::Plain, bytes)),
+        Form::Third => read_bound_byte(bytes),
+    }
+}
+
+// The bound that the first byte names, and what follows it.
+fn read_bound_byte(bytes: &[u8]) -> Result<(BoundKind, &[u8]), CertFault>
+    ensures read { IfOk result (λ r. Field 1 (λ here bound. here ≡ bound_byte bound ∷ []) CertFault.BadBound bytes.now
+        (Ok (r.0, r.1.now))) }
+    ensures fault { IfErr result (λ f. Field 1 (λ here bound. here ≡ bound_byte bound ∷ []) CertFault.BadBound bytes.now
+        (Err f)) }
+{
+    let (byte, rest) = split_byte(bytes)?;
+    match byte {
+        0 => Ok((BoundKind::Plain, rest)),
+        1 => Ok((BoundKind::Clearing, rest)),
+        _ => Err(CertFault::BadBound),
+    }
+}
+
+// The kind and the floor, and what follows them.
+fn read_claim(form: Form, bytes: &[u8]) -> Result<((Kind, u32), &[u8]), CertFault>
+    ensures read { IfOk result (λ r. ReadsClaim form bytes.now (Ok (r.0, r.1.now))) }
+    ensures fault { IfErr result (λ f. ReadsClaim form bytes.now (Err f)) }
+{
+    let (kind, rest) = read_kind(form, bytes)?;
+    let (floor, rest) = read_floor(kind, rest)?;
+    Ok(((kind, floor), rest))
+}
+
+// A kind that the form may name, and what follows it.
+fn read_kind(form: Form, bytes: &[u8]) -> Result<(Kind, &[u8]), CertFault>
+    ensures read { IfOk result (λ r. Field 1 (SaysKind form) CertFault.BadKind bytes.now (Ok (r.0, r.1.now))) }
+    ensures fault { IfErr result (λ f. Field 1 (SaysKind form) CertFault.BadKind bytes.now (Err f)) }
 {
     let (byte, rest) = split_byte(bytes)?;
     match byte {
         1 => Ok((Kind::Shortest, rest)),
         2 => Ok((Kind::CannotWin, rest)),
+        3 if names_floors(form) => Ok((Kind::Between, rest)),
         _ => Err(CertFault::BadKind),
     }
 }
 
-// The texts of the moves that a certificate of this kind lists, and what follows them.
-fn read_list(kind: Kind, bytes: &[u8]) -> Result<(&[u8], &[u8]), CertFault>
-    ensures read { IfOk result (λ r. (moves : List Move) × ReadsList kind bytes.now (Ok (moves, r.1.now))
-        × (r.0.now ≡ flat_map move_text moves)) }
-    ensures fault { IfErr result (λ f. ReadsList kind bytes.now (Err f)) }
+// Whether the form has a kind with a floor.
+fn names_floors(form: Form) -> bool
+    ensures value { IsTrue result ↔ MayClaim form Kind.Between }
+{
+    form == Form::Third
+}
+
+// The floor of a certificate of this kind, 0 where it has none, and what follows it.
+fn read_floor(kind: Kind, bytes: &[u8]) -> Result<(u32, &[u8]), CertFault>
+    ensures read { IfOk result (λ r. ReadsFloor kind bytes.now (Ok (r.0, r.1.now))) }
+    ensures fault { IfErr result (λ f. ReadsFloor kind bytes.now (Err f)) }
 {
     match kind {
-        Kind::Shortest => {
-            let (count, texts) = read_number(bytes)?;
-            let rest = read_moves(count, texts)?;
-            Ok(texts.split_at(texts.len() - rest.len()))
-        }
+        Kind::Shortest | Kind::CannotWin => Ok((0, bytes)),
+        Kind::Between => read_number(bytes),
+    }
+}
+
+// The texts of the moves that a certificate with this head lists, and what follows them.
+fn read_list<'a>(head: &Head, bytes: &'a [u8]) -> Result<(&'a [u8], &'a [u8]), CertFault>
+    ensures read { IfOk result (λ r. (moves : List Move) × ReadsList head.now.kind head.now.floor bytes.now (Ok (moves, r.1.now))
+        × (r.0.now ≡ flat_map move_text moves)) }
+    ensures fault { IfErr result (λ f. ReadsList head.now.kind head.now.floor bytes.now (Err f)) }
+{
+    match head.kind {
+        Kind::Shortest | Kind::Between => read_listed(head.floor, bytes),
         Kind::CannotWin => Ok(bytes.split_at(0)),
+    }
+}
+
+// The texts of the moves that are listed here, no fewer than the floor, and what follows them.
+fn read_listed(floor: u32, bytes: &[u8]) -> Result<(&[u8], &[u8]), CertFault>
+    ensures read { IfOk result (λ r. (moves : List Move) × ReadsListed floor bytes.now (Ok (moves, r.1.now))
+        × (r.0.now ≡ flat_map move_text moves)) }
+    ensures fault { IfErr result (λ f. ReadsListed floor bytes.now (Err f)) }
+{
+    let (count, texts) = read_count(floor, bytes)?;
+    let rest = read_moves(count, texts)?;
+    Ok(texts.split_at(texts.len() - rest.len()))
+}
+
+// How many moves are listed, no fewer than the floor, and what follows the number.
+fn read_count(floor: u32, bytes: &[u8]) -> Result<(u32, &[u8]), CertFault>
+    ensures read { IfOk result (λ r. Field 4 (SaysNoLess floor) CertFault.BadFloor bytes.now (Ok (r.0, r.1.now))) }
+    ensures fault { IfErr result (λ f. Field 4 (SaysNoLess floor) CertFault.BadFloor bytes.now (Err f)) }
+{
+    let (count, rest) = split_number(bytes).ok_or(CertFault::Short)?;
+    if floor <= count {
+        Ok((count, rest))
+    } else {
+        Err(CertFault::BadFloor)
     }
 }
 
@@ -297,7 +383,7 @@ fn may_cost(kind: Kind, cost: u32) -> bool
     ensures value { IsTrue result ↔ MayCost kind cost }
 {
     match kind {
-        Kind::Shortest => true,
+        Kind::Shortest | Kind::Between => true,
         Kind::CannotWin => cost == 0,
     }
 }

@@ -1,15 +1,15 @@
 //! How certificates are written.
 
-ghost use Rattle.std.specs.Prelude.{◌≡◌, ◌+◌, ◌<◌, ◌≤◌, ◌^◌, ◌++◌, false, length, All, OnOk, OnErr};
+ghost use Rattle.std.specs.Prelude.{◌≡◌, ◌+◌, ◌<◌, ◌≤◌, ◌^◌, [], ◌∷◌, ◌++◌, false, length, All, OnOk, OnErr};
 ghost use Rattle.arrayvec.specs.ArrayVec.{array_vec_len};
 ghost use Rattle.fc_moves.specs.MoveText.{HasText};
 ghost use Rattle.fc_answers.specs.Verdict.{CanBeWritten, verdict_of};
-ghost use Rattle.fc_cert.specs.declared.contents.Form.TheVariants.{Second};
-ghost use Rattle.fc_cert.specs.declared.contents.Kind.TheVariants as kind;
-ghost use Rattle.fc_cert.specs.Content.{head_bytes, moves_bytes, record_bytes, rows_bytes};
+ghost use Rattle.fc_cert.specs.declared.contents.Form.TheVariants.{Second, Third};
+ghost use Rattle.fc_cert.specs.Claim.{written_form, written_head};
+ghost use Rattle.fc_cert.specs.Content.{magic, bound_byte, kind_byte, floor_bytes, head_bytes, listed_bytes, record_bytes, rows_bytes};
 ghost use Rattle.fc_cert.specs.Writing.{Gathers, IsCutShort, Writes, WritesAnswer};
 
-use crate::contents::Kind;
+use crate::contents::{Form, Kind};
 use crate::faults::CertFault;
 use arrayvec::ArrayVec;
 use fc_answers::{Answer, Table};
@@ -37,8 +37,8 @@ impl From<Failed> for CertFault {
 /// Writes the certificate of an answer for a game, its records gathered in pieces. No memory is asked for.
 ///
 /// # Errors
-/// `NotCertified` for a list that isn't known to be shortest, for one whose table is closed by another bound than the plain
-/// one, and for the answer of a search that gave up, and nothing is written; `Write` where the sink has failed, of which a front may be written.
+/// `NotCertified` for the answer of a search that gave up, and nothing is written; `Write` where the sink has failed, of
+/// which a front may be written.
 pub fn write_answer<G: Game, K: Sink>(
     game: &G,
     answer: &Answer,
@@ -51,51 +51,116 @@ pub fn write_answer<G: Game, K: Sink>(
 {
     match answer {
         Answer::Shortest(moves, table) => {
-            let BoundKind::Plain = table.bound() else {
-                return Err(CertFault::NotCertified);
-            };
-            write_head(game, table.rule(), Kind::Shortest, sink)?;
+            write_head(game, table, Kind::Shortest, 0, sink)?;
+            write_moves(moves.as_slice(), sink)?;
+            write_rows(table, sink)?;
+            Ok(())
+        }
+        Answer::Won(moves, floor, table) => {
+            write_head(game, table, Kind::Between, *floor, sink)?;
             write_moves(moves.as_slice(), sink)?;
             write_rows(table, sink)?;
             Ok(())
         }
         Answer::CannotWin(table) => {
-            write_head(game, table.rule(), Kind::CannotWin, sink)?;
+            write_head(game, table, Kind::CannotWin, 0, sink)?;
             write_rows(table, sink)?;
             Ok(())
         }
-        Answer::Won(_, _, _) | Answer::GaveUp(_) => Err(CertFault::NotCertified),
+        Answer::GaveUp(_) => Err(CertFault::NotCertified),
+    }
+}
+
+// The form in which a table closed by this bound is written: the second where it says all, the third otherwise.
+fn written_form(bound: BoundKind, kind: Kind) -> Form
+    ensures value { result ≡ written_form bound kind }
+{
+    match (bound, kind) {
+        (BoundKind::Plain, Kind::Shortest | Kind::CannotWin) => Form::Second,
+        _ => Form::Third,
     }
 }
 
 // Writes what stands before the moves.
-fn write_head<G: Game, K: Sink>(game: &G, rule: u8, kind: Kind, sink: &mut K) -> Result<(), Failed>
+fn write_head<G: Game, K: Sink>(
+    game: &G,
+    table: &Table,
+    kind: Kind,
+    floor: u32,
+    sink: &mut K,
+) -> Result<(), Failed>
     ensures ends { Writes
         record { held = K.held sink.old; has_failed = K.has_failed sink.old }
         record { held = K.held sink.new; has_failed = K.has_failed sink.new }
-        (head_bytes record {
-          form = Second;
-          game = (G.game game.now).code;
-          cells = (G.game game.now).cells;
-          rule = rule;
-          kind = kind;
-        }) result }
+        (head_bytes (written_head (G.game game.now) table.now kind floor)) result }
 {
-    let kind = match kind {
-        Kind::Shortest => 1,
-        Kind::CannotWin => 2,
-    };
-    let head = [
+    match written_form(table.bound(), kind) {
+        Form::Third => {
+            let head = third_head(game, table, kind);
+            write_all(sink, &head)?;
+            write_floor(kind, floor, sink)
+        }
+        _ => write_all(sink, &second_head(game, table, kind)),
+    }
+}
+
+// What stands before the moves in the second form.
+fn second_head<G: Game>(game: &G, table: &Table, kind: Kind) -> [u8; 8]
+    ensures value { result ≡ magic Second ++ (G.game game.now).code ∷ (G.game game.now).cells ∷ table.now.rule
+        ∷ kind_byte kind ∷ [] }
+{
+    [
         b'F',
         b'C',
         b'C',
         b'2',
         game.code(),
         game.cells(),
-        rule,
-        kind,
-    ];
-    write_all(sink, &head)
+        table.rule(),
+        kind.byte(),
+    ]
+}
+
+// What stands before the floor in the third form.
+fn third_head<G: Game>(game: &G, table: &Table, kind: Kind) -> [u8; 9]
+    ensures value { result ≡ magic Third ++ (G.game game.now).code ∷ (G.game game.now).cells ∷ table.now.rule
+        ∷ bound_byte table.now.bound ∷ kind_byte kind ∷ [] }
+{
+    [
+        b'F',
+        b'C',
+        b'C',
+        b'3',
+        game.code(),
+        game.cells(),
+        table.rule(),
+        bound_byte(table.bound()),
+        kind.byte(),
+    ]
+}
+
+// The byte that names the bound.
+fn bound_byte(bound: BoundKind) -> u8
+    ensures value { result ≡ bound_byte bound }
+{
+    match bound {
+        BoundKind::Plain => 0,
+        BoundKind::Clearing => 1,
+    }
+}
+
+// Writes the floor, where the kind names one.
+fn write_floor<K: Sink>(kind: Kind, floor: u32, sink: &mut K) -> Result<(), Failed>
+    requires sound { K.has_failed sink.old ≡ false }
+    ensures ends { Writes
+        record { held = K.held sink.old; has_failed = K.has_failed sink.old }
+        record { held = K.held sink.new; has_failed = K.has_failed sink.new }
+        (floor_bytes kind floor) result }
+{
+    match kind {
+        Kind::Between => write_all(sink, &floor.to_be_bytes()),
+        Kind::Shortest | Kind::CannotWin => Ok(()),
+    }
 }
 
 // Writes how many moves there are, and the text of each.
@@ -105,7 +170,7 @@ fn write_moves<K: Sink>(moves: &[Move], sink: &mut K) -> Result<(), Failed>
     ensures ends { Writes
         record { held = K.held sink.old; has_failed = K.has_failed sink.old }
         record { held = K.held sink.new; has_failed = K.has_failed sink.new }
-        (moves_bytes kind.Shortest moves.now) result }
+        (listed_bytes moves.now) result }
 {
     write_all(sink, &(moves.len() as u32).to_be_bytes())?;
     for m in moves {

@@ -117,7 +117,7 @@ static TWO_KINGS_VALUES: [Value; 27] = [
     Value {
         at: 3,
         low: 50,
-        high: 50,
+        high: 51,
         fault: Some(CertFault::BadKind),
     },
     Value {
@@ -395,7 +395,7 @@ static LOCKED_VALUES: [Value; 5] = [
     Value {
         at: 3,
         low: 50,
-        high: 50,
+        high: 51,
         fault: Some(CertFault::BadKind),
     },
     Value {

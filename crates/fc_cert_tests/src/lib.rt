@@ -12,4 +12,6 @@ mod given;
 #[cfg(test)]
 mod runs;
 #[cfg(test)]
+mod third;
+#[cfg(test)]
 mod written;

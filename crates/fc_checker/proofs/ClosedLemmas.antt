@@ -1,5 +1,5 @@
 -- A content of which all that is asked holds shows its claim.
-use Rattle.std.proofs.Common.{◌≡◌, ℕ, ◌+◌, ◌<◌, Some, List, [], length, refl, sym, ◌∙◌, ap, subst, ⊎_elim, arith}
+use Rattle.std.proofs.Common.{◌≡◌, ℕ, ◌+◌, ◌<◌, Option, Some, None, List, [], length, refl, sym, ◌∙◌, ap, subst, ⊎_elim, arith}
 use Rattle.std.specs.Prelude.{Contains, slice_get}
 use Rattle.std.proofs.lemmas.Bool.{cases_lt}
 use Rattle.std.proofs.lemmas.List.{append-nil}
@@ -11,18 +11,17 @@ use Rattle.fc_canonical.specs.Key.{BeginsWithBoard, board_bytes}
 use Rattle.fc_canonical.specs.Order.{IsCanonical}
 use Rattle.fc_canonical.specs.Spelled.{IsKeyIn, IsKeyFor, spelled}
 use Rattle.fc_canonical.proofs.FitLemmas.{canonical_fits, keys_by_cells}
-use Rattle.fc_bound.specs.declared.kinds.BoundKind.TheVariants.{Plain}
-use Rattle.fc_bound.specs.Bound.{bound}
-use Rattle.fc_tables.specs.Table.{ListsFitting, StepsCovered, StepsListed, as_boards}
+use Rattle.fc_bound.specs.Kinds.{low_of}
+use Rattle.fc_tables.specs.Table.{IsClosed, IsClosedBelow, ListsFitting, StepsCovered, StepsListed, as_boards}
 use Rattle.fc_tables.proofs.BoundLemmas.{bounds_lower}
 use Rattle.fc_tables.proofs.EveryLemmas.{every_settles}
 use Rattle.fc_tables.proofs.LookLemmas.{one_enough, one_enough_listed, seen_below, seen_closed}
 use Rattle.fc_canonical.proofs.ClassLemmas.{class-refl}
 use Rattle.fc_cert.specs.declared.contents.Kind.{Kind}
-use Rattle.fc_cert.specs.declared.contents.Kind.TheVariants.{Shortest, CannotWin}
+use Rattle.fc_cert.specs.declared.contents.Kind.TheVariants.{Shortest, CannotWin, Between}
 use Rattle.fc_cert.specs.Claim.{Shows, IsCertificate}
 use Rattle.fc_cert.specs.Content.{Content, IsContent, IsSpelled}
-use Rattle.fc_checker.specs.Check.{Holds, IsOfGame, MovesHold, RecordHolds, RecordsHold, StepsHold}
+use Rattle.fc_checker.specs.Check.{Holds, IsOfGame, MovesHold, RecordHolds, RecordsHold, StepsHold, level, level_of}
 use Rattle.fc_checker.specs.Steps.{IsProof, claim_of}
 use Rattle.fc_checker.proofs.ListedLemmas.{row_key, row_listed}
 
@@ -64,6 +63,10 @@ records_more g c i row before there holds k other lt at =
     let one : row ≡ other = same_Some row other (sym there ∙ also) in
     subst (RecordHolds g c) one holds) (cases_lt k i)
 
+-- the level in each kind
+pub level_in : (c : Content) (kind : Kind) → c.head.kind ≡ kind → level c ≡ level_of kind c.head.floor c.moves
+level_in c kind k = ap (λ t. level_of t c.head.floor c.moves) k
+
 module _ (g : GameRules) (c : Content) (is : IsContent c) (of : IsOfGame g c) where
   -- a listed board fits the game wherever one of its class does
   fitting : ListsFitting g (as_boards c.rows)
@@ -78,44 +81,59 @@ module _ (g : GameRules) (c : Content) (is : IsContent c) (of : IsOfGame g c) wh
       let r = row_listed c.rows e there in
       (row_holds g c r.0 records r.1).not_won (subst IsWon (ap (λ p. p.0) r.2) won)
 
-  -- the steps of a record, in its kind
-  steps_of : (kind : Kind) (e : Board × ℕ) → c.head.kind ≡ kind → RecordsHold g c (length c.rows) → Contains (as_boards c.rows) e
-      → (row : List ℕ × ℕ) × (e ≡ (spelled row.0, row.1)) × StepsHold g c kind row
-  steps_of kind e k records there =
+  -- the steps of a record, by the level
+  steps_of : (by : Option ℕ) (e : Board × ℕ) → level c ≡ by → RecordsHold g c (length c.rows) → Contains (as_boards c.rows) e
+      → (row : List ℕ × ℕ) × (e ≡ (spelled row.0, row.1)) × StepsHold g c by row
+  steps_of by e k records there =
       let r = row_listed c.rows e there in
       (r.0, r.2, subst (λ t. StepsHold g c t r.0) k (row_holds g c r.0 records r.1).steps)
+
+  -- where all holds by a level, the table is closed below it
+  closed_below : (b : Board) (n : ℕ) → level c ≡ Some n → IsPositionOf g b → IsProof g b c
+      → IsClosedBelow (low_of c.head.bound) g c.head.rule b n (as_boards c.rows)
+  closed_below b n k pb proof =
+      (seen_below (low_of c.head.bound) g c.head.rule b n (as_boards c.rows) (bounds_lower c.head.bound).1 pb fitting).0
+      (record {
+        not_won = none_won proof.records;
+        start =
+            let way = every_settles g c.head.rule b in
+            (way.1, way.0, way.2, subst (λ t. Holds c t way.1 way.0) k (proof.start way.1 way.0 way.2));
+        steps = λ e there pe near.
+            let s = steps_of (Some n) e k proof.records there in
+            (one_enough (low_of c.head.bound) g c.head.rule n (as_boards c.rows) e.0 e.0 e.1 (bounds_lower c.head.bound).1 pe pe (class-refl e.0)).1
+            (subst (λ (p : Board × ℕ). p.1 + low_of c.head.bound p.0 < n
+            → StepsCovered (low_of c.head.bound) g c.head.rule n (as_boards c.rows) p.0 p.1) (sym s.1) s.2 near);
+      })
+
+  -- and without one, closed
+  closed : (b : Board) → level c ≡ None → IsPositionOf g b → IsProof g b c → IsClosed g c.head.rule b (as_boards c.rows)
+  closed b k pb proof =
+      (seen_closed g c.head.rule b (as_boards c.rows) pb fitting).0
+      (record {
+        not_won = none_won proof.records;
+        start =
+            let way = every_settles g c.head.rule b in
+            (way.1, way.0, way.2, subst (λ t. Holds c t way.1 way.0) k (proof.start way.1 way.0 way.2));
+        steps = λ e there pe.
+            let s = steps_of None e k proof.records there in
+            (one_enough_listed g c.head.rule (as_boards c.rows) e.0 e.0 pe pe (class-refl e.0)).1
+            (subst (λ (p : Board × ℕ). StepsListed g c.head.rule (as_boards c.rows) p.0) (sym s.1) s.2);
+      })
 
   shows_by : (b : Board) (kind : Kind) → c.head.kind ≡ kind → IsPositionOf g b → IsProof g b c → Shows g b c (claim_of c kind)
   shows_by b Shortest k pb proof = (
     k,
     refl,
     subst (λ t. MovesHold g b t c.moves) k proof.moves,
-    (seen_below bound g c.head.rule b (length c.moves) (as_boards c.rows) (bounds_lower Plain).1 pb fitting).0
-        (record {
-          not_won = none_won proof.records;
-          start =
-              let way = every_settles g c.head.rule b in
-              (way.1, way.0, way.2, subst (λ t. Holds c t way.1 way.0) k (proof.start way.1 way.0 way.2));
-          steps = λ e there pe near.
-              let s = steps_of Shortest e k proof.records there in
-              (one_enough bound g c.head.rule (length c.moves) (as_boards c.rows) e.0 e.0 e.1 (bounds_lower Plain).1 pe pe (class-refl e.0)).1
-              (subst (λ (p : Board × ℕ). p.1 + bound p.0 < length c.moves → StepsCovered bound g c.head.rule (length c.moves) (as_boards c.rows) p.0 p.1)
-              (sym s.1) s.2 near);
-        }),
+    closed_below b (length c.moves) (level_in c Shortest k) pb proof,
   )
-  shows_by b CannotWin k pb proof = (
+  shows_by b CannotWin k pb proof = (k, closed b (level_in c CannotWin k) pb proof)
+  shows_by b Between k pb proof = (
     k,
-    (seen_closed g c.head.rule b (as_boards c.rows) pb fitting).0
-        (record {
-          not_won = none_won proof.records;
-          start =
-              let way = every_settles g c.head.rule b in
-              (way.1, way.0, way.2, subst (λ t. Holds c t way.1 way.0) k (proof.start way.1 way.0 way.2));
-          steps = λ e there pe.
-              let s = steps_of CannotWin e k proof.records there in
-              (one_enough_listed g c.head.rule (as_boards c.rows) e.0 e.0 pe pe (class-refl e.0)).1
-              (subst (λ (p : Board × ℕ). StepsListed g c.head.rule (as_boards c.rows) p.0) (sym s.1) s.2);
-        }),
+    refl,
+    refl,
+    subst (λ t. MovesHold g b t c.moves) k proof.moves,
+    closed_below b c.head.floor (level_in c Between k) pb proof,
   )
 
 -- so bytes with this content are a certificate of the claim

@@ -1,5 +1,5 @@
 -- Each fault has a cause, which nothing that stands after it leaves.
-use Rattle.std.proofs.Common.{◌≡◌, ℕ, zero, suc, ◌+◌, ◌<◌, Some, Result, Ok, Err, List, [], ◌∷◌, length, take, refl, sym, subst, ⊎_elim, arith}
+use Rattle.std.proofs.Common.{◌≡◌, ◌≢◌, ℕ, zero, suc, ◌+◌, ◌<◌, Some, Result, Ok, Err, List, [], ◌∷◌, length, take, refl, sym, subst, ⊎_elim, arith}
 use Rattle.std.specs.Prelude.{slice_get, IfErr, IsErrAnd}
 use Rattle.std.proofs.lemmas.Bool.{cases_lt}
 use Rattle.std.proofs.lemmas.List.{take_all}
@@ -7,16 +7,18 @@ use Rattle.std.proofs.lemmas.Option.{slice_get_within}
 use Rattle.fc_position.specs.Board.{Board}
 use Rattle.fc_moves.specs.declared.steps.Move.{Move}
 use Rattle.fc_moves.specs.GameRules.{GameRules}
-use Rattle.fc_moves.specs.Run.{Run}
+use Rattle.fc_moves.specs.Run.{Run, Wins}
 use Rattle.fc_moves.specs.Step.{Allows, Step}
 use Rattle.fc_moves.proofs.StepLemmas.{step_once}
 use Rattle.fc_cert.specs.declared.faults.CertFault.{CertFault}
 use Rattle.fc_cert.specs.declared.faults.CertFault.TheVariants as form
+use Rattle.fc_cert.specs.declared.contents.Kind.{Kind}
+use Rattle.fc_cert.specs.declared.contents.Kind.TheVariants.{Shortest, CannotWin, Between}
 use Rattle.fc_cert.specs.Content.{Content, IsSpelled}
 use Rattle.fc_cert.specs.Reading.{IsFormFault, IsReadFault}
 use Rattle.fc_cert.proofs.LawLemmas.{spelled_read}
 use Rattle.fc_cert.proofs.OnceLemmas.{reading_once}
-use Rattle.fc_checker.specs.Check.{IsStopped, RecordHolds, RecordsHold}
+use Rattle.fc_checker.specs.Check.{IsStopped, MovesHold, RecordHolds, RecordsHold}
 
 -- reading gave a content, or a fault
 abbrev as_ok : Content → Result Content CertFault
@@ -40,6 +42,12 @@ no_form_fault bytes c f s p = let same = reading_once bytes (as_ok c) (as_fault 
 pub form_fault : (bytes : List ℕ) (f : CertFault) → (f ≡ form.Memory → ⊥) → IsReadFault bytes f → IsFormFault bytes f
 form_fault bytes form.Memory other fault = absurd (other refl)
 form_fault bytes f other fault = fault
+
+-- in each kind that lists moves, they win exactly where what is asked of them holds
+pub moves_win : (g : GameRules) (b : Board) (kind : Kind) (moves : List Move) → kind ≢ CannotWin → MovesHold g b kind moves → Wins g b moves
+moves_win g b Shortest moves other holds = holds
+moves_win g b CannotWin moves other holds = absurd (other refl)
+moves_win g b Between moves other holds = holds
 
 -- of a run, each move is allowed where those before it lead
 run_allows : (g : GameRules) (b x y : Board) (moves : List Move) (n k : ℕ) (m : Move) → n < k → Run g b (take k moves) x

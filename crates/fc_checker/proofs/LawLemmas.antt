@@ -1,5 +1,5 @@
 -- Certificates have no fault, and bytes have one fault and prove one claim.
-use Rattle.std.proofs.Common.{◌≡◌, ◌≢◌, ◌⊎◌, ℕ, ◌+◌, ◌<◌, ◌≤◌, Some, List, Result, Ok, Err, refl, sym, ◌∙◌, ap, subst, inl, inr, ⊎_elim, arith}
+use Rattle.std.proofs.Common.{◌≡◌, ◌≢◌, ◌⊎◌, ℕ, ◌<◌, ◌≤◌, Some, List, Result, Ok, Err, refl, sym, ◌∙◌, ap, subst, inl, inr, ⊎_elim, arith}
 use Rattle.std.specs.Prelude.{slice_get, IfOk, IfErr, IsErrAnd}
 use Rattle.std.proofs.lemmas.Bool.{cases_lt}
 use Rattle.std.proofs.lemmas.Option.{same_Some, slice_get_within}
@@ -14,16 +14,16 @@ use Rattle.fc_cert.specs.declared.claims.Claim.{Claim}
 use Rattle.fc_cert.specs.declared.claims.Claim.TheVariants as claim
 use Rattle.fc_cert.specs.declared.contents.Kind.TheVariants as kind
 use Rattle.fc_cert.specs.Claim.{Shows, IsCertificate}
-use Rattle.fc_bound.specs.Bound.{bound}
-use Rattle.fc_tables.specs.Table.{Covered, StepsCovered, as_boards}
+use Rattle.fc_bound.specs.Kinds.{low_of}
+use Rattle.fc_tables.specs.Table.{IsClosedBelow, as_boards}
 use Rattle.fc_cert.specs.Content.{Content, IsContent, IsSpelled}
 use Rattle.fc_checker.specs.declared.faults.CheckFault.{CheckFault}
 use Rattle.fc_checker.specs.declared.faults.CheckFault.TheVariants.{Form, OtherGame, NotAllowed, NotHome, StartOpen, WonListed, Open, Memory}
-use Rattle.fc_checker.specs.Check.{HasContent, HasStart, Holds, IsCheckFault, IsOfGame, IsStopped, MovesHold, StartHolds, StepsHold}
+use Rattle.fc_checker.specs.Check.{HasContent, HasStart, Holds, IsCheckFault, IsOfGame, IsStopped, MovesHold, StartHolds, StepsHold, level}
 use Rattle.fc_checker.specs.Laws.{CertificatesHaveNoFault, ClaimsAreOne, FaultsAreOne}
 use Rattle.fc_checker.specs.Steps.{IsProof}
-use Rattle.fc_checker.proofs.ClosedLemmas.{row_in, row_there}
-use Rattle.fc_checker.proofs.FaultLemmas.{IsBadRecord, bad_record_once, content_once, form_fault_once, no_form_fault, stopped_nowhere, stopped_once}
+use Rattle.fc_checker.proofs.ClosedLemmas.{level_in, row_in, row_there}
+use Rattle.fc_checker.proofs.FaultLemmas.{IsBadRecord, bad_record_once, content_once, form_fault_once, moves_win, no_form_fault, stopped_nowhere, stopped_once}
 use Rattle.fc_checker.proofs.ListedLemmas.{board_listed}
 
 -- ---- one claim
@@ -32,7 +32,13 @@ shows_once : (g : GameRules) (b : Board) (c : Content) (one other : Claim) → S
 shows_once g b c (claim.Shortest n) (claim.Shortest m) s t = ap claim.Shortest (sym s.1 ∙ t.1)
 shows_once g b c (claim.Shortest n) claim.CannotWin s t = let a = s.0 in let z = t.0 in absurd (cc (a, z))
 shows_once g b c claim.CannotWin (claim.Shortest m) s t = let a = s.0 in let z = t.0 in absurd (cc (a, z))
+shows_once g b c (claim.Shortest n) (claim.Between l m) s t = let a = s.0 in let z = t.0 in absurd (cc (a, z))
 shows_once g b c claim.CannotWin claim.CannotWin s t = refl
+shows_once g b c claim.CannotWin (claim.Between l m) s t = let a = s.0 in let z = t.0 in absurd (cc (a, z))
+shows_once g b c (claim.Between l m) (claim.Shortest n) s t = let a = s.0 in let z = t.0 in absurd (cc (a, z))
+shows_once g b c (claim.Between l m) claim.CannotWin s t = let a = s.0 in let z = t.0 in absurd (cc (a, z))
+shows_once g b c (claim.Between l m) (claim.Between k n) (a, p, q, wins, closed) (z, r, s, also, others) =
+    ap (λ floor. claim.Between floor m) (sym p ∙ r) ∙ ap (claim.Between k) (sym q ∙ s)
 
 pub claims_once : ClaimsAreOne
 claims_once g b bytes one other p q =
@@ -41,28 +47,12 @@ claims_once g b bytes one other p q =
 
 -- ---- certificates have no fault
 
--- what a content shows, it proves
-shows_proof : (g : GameRules) (b : Board) (c : Content) (claimed : Claim) → IsContent c → IsOfGame g c → Shows g b c claimed → IsProof g b c
-shows_proof g b c (claim.Shortest n) is of (k, count, wins, closed) = record {
+-- a content whose moves hold, and whose table is closed below its level, proves its claim
+below_proof : (g : GameRules) (b : Board) (c : Content) (n : ℕ) → IsContent c → IsOfGame g c → level c ≡ Some n
+    → MovesHold g b c.head.kind c.moves → IsClosedBelow (low_of c.head.bound) g c.head.rule b n (as_boards c.rows) → IsProof g b c
+below_proof g b c n is of k moves closed = record {
   game = of;
-  moves = subst (λ t. MovesHold g b t c.moves) (sym k) wins;
-  start = λ q j settles. subst (λ t. Holds c t q j) (sym k)
-      (subst (λ m. Covered bound m (as_boards c.rows) q j) (sym count) (closed.start q j settles));
-  records = λ i row lt there.
-      let at = row_there c.rows i row there in
-      let listed = board_listed c.rows row at in
-      let here : Board × ℕ = (spelled row.0, row.1) in
-      record {
-        not_won = closed.not_won here listed;
-        steps = subst (λ t. StepsHold g c t row) (sym k)
-            (λ near. subst (λ m. StepsCovered bound g c.head.rule m (as_boards c.rows) (spelled row.0) row.1) (sym count)
-            (closed.steps here (spelled row.0) listed (row_in g c row is of at).position (class-refl (spelled row.0))
-            (subst (λ m. row.1 + bound (spelled row.0) < m) count near)));
-      };
-}
-shows_proof g b c claim.CannotWin is of (k, closed) = record {
-  game = of;
-  moves = subst (λ t. MovesHold g b t c.moves) (sym k) tt;
+  moves = moves;
   start = λ q j settles. subst (λ t. Holds c t q j) (sym k) (closed.start q j settles);
   records = λ i row lt there.
       let at = row_there c.rows i row there in
@@ -75,6 +65,27 @@ shows_proof g b c claim.CannotWin is of (k, closed) = record {
       };
 }
 
+-- what a content shows, it proves
+shows_proof : (g : GameRules) (b : Board) (c : Content) (claimed : Claim) → IsContent c → IsOfGame g c → Shows g b c claimed → IsProof g b c
+shows_proof g b c (claim.Shortest n) is of (k, count, wins, closed) =
+    below_proof g b c n is of (level_in c kind.Shortest k ∙ ap Some count) (subst (λ t. MovesHold g b t c.moves) (sym k) wins) closed
+shows_proof g b c (claim.Between floor n) is of (k, low, count, wins, closed) =
+    below_proof g b c floor is of (level_in c kind.Between k ∙ ap Some low) (subst (λ t. MovesHold g b t c.moves) (sym k) wins) closed
+shows_proof g b c claim.CannotWin is of (k, closed) = record {
+  game = of;
+  moves = subst (λ t. MovesHold g b t c.moves) (sym k) tt;
+  start = λ q j settles. subst (λ t. Holds c t q j) (sym (level_in c kind.CannotWin k)) (closed.start q j settles);
+  records = λ i row lt there.
+      let at = row_there c.rows i row there in
+      let listed = board_listed c.rows row at in
+      let here : Board × ℕ = (spelled row.0, row.1) in
+      record {
+        not_won = closed.not_won here listed;
+        steps = subst (λ t. StepsHold g c t row) (sym (level_in c kind.CannotWin k))
+            (closed.steps here (spelled row.0) listed (row_in g c row is of at).position (class-refl (spelled row.0)));
+      };
+}
+
 module _ (g : GameRules) (b : Board) (bytes : List ℕ) where
   -- a content that proves its claim leaves no fault but want of memory
   none_left : (c : Content) (fault : CheckFault) → IsSpelled bytes c → IsProof g b c → IsCheckFault g b bytes fault → fault ≡ Memory
@@ -82,11 +93,11 @@ module _ (g : GameRules) (b : Board) (bytes : List ℕ) where
   none_left c OtherGame s proof (d, t, wrong) = absurd (wrong (subst (IsProof g b) (content_once bytes c d s t) proof).game)
   none_left c (NotAllowed step) s proof (d, has, k, stop) =
       let whole = subst (IsProof g b) (content_once bytes c d s has.spelled) proof in
-      let wins = subst (λ t. MovesHold g b t d.moves) k whole.moves in
+      let wins = moves_win g b d.head.kind d.moves k whole.moves in
       absurd (stopped_nowhere g b wins.0 d.moves step stop wins.1)
   none_left c NotHome s proof (d, has, k, (x, run, lost)) =
       let whole = subst (IsProof g b) (content_once bytes c d s has.spelled) proof in
-      let wins = subst (λ t. MovesHold g b t d.moves) k whole.moves in
+      let wins = moves_win g b d.head.kind d.moves k whole.moves in
       absurd (lost (subst IsWon (run_once g b wins.0 x d.moves wins.1 run) wins.2))
   none_left c StartOpen s proof (d, has, moves, wrong) =
       absurd (wrong (subst (IsProof g b) (content_once bytes c d s has.spelled) proof).start)
@@ -129,9 +140,9 @@ most (WonListed i) = omega arith
 most (Open i) = omega arith
 most Memory = omega arith
 
--- where the list of a shortest list's content leads
+-- where the moves of a content that lists some lead
 abbrev Leads : GameRules → Board → Content → Type 0
-Leads g b c = c.head.kind ≡ kind.Shortest → (x : Board) × Run g b c.moves x
+Leads g b c = c.head.kind ≢ kind.CannotWin → (x : Board) × Run g b c.moves x
 
 module _ (g : GameRules) (b : Board) (bytes : List ℕ) where
   -- so a later fault leaves a content, one of the game, whose moves are allowed, and win, and whose start holds
@@ -154,7 +165,7 @@ module _ (g : GameRules) (b : Board) (bytes : List ℕ) where
   gives_game y lt q = absurd (omega (arith, lt))
 
   leads : (c : Content) → MovesHold g b c.head.kind c.moves → Leads g b c
-  leads c moves k = let wins = subst (λ t. MovesHold g b t c.moves) k moves in (wins.0, wins.1)
+  leads c moves k = let wins = moves_win g b c.head.kind c.moves k moves in (wins.0, wins.1)
 
   gives_run : (y : CheckFault) → 2 < stage y → IsCheckFault g b bytes y → (c : Content) × HasContent g bytes c × Leads g b c
   gives_run NotHome lt (c, has, k, (x, run, lost)) = (c, has, λ same. (x, run))
@@ -187,7 +198,7 @@ module _ (g : GameRules) (b : Board) (bytes : List ℕ) where
   no_earlier NotHome y lt (d, has, k, (x, run, lost)) q other =
       let c = gives_moves y lt q in
       let moves = subst (λ e. MovesHold g b e.head.kind e.moves) (content_once bytes c.0 d c.1.spelled has.spelled) c.2 in
-      let wins = subst (λ t. MovesHold g b t d.moves) k moves in
+      let wins = moves_win g b d.head.kind d.moves k moves in
       lost (subst IsWon (run_once g b wins.0 x d.moves wins.1 run) wins.2)
   no_earlier StartOpen y lt (d, has, moves, wrong) q other =
       let c = gives_start y lt q in

@@ -1,5 +1,5 @@
 -- The class of a position is listed exactly where its key is found, at the cost that is found.
-use Rattle.std.proofs.Common.{◌≡◌, ℕ, zero, suc, ◌+◌, ◌≤◌, ◌↔◌, Option, Some, None, List, [], ◌∷◌, get_or, IsTrue, refl, sym, ◌∙◌, ap, subst, inr, ⊎_elim, nat_le, arith}
+use Rattle.std.proofs.Common.{◌≡◌, ℕ, zero, suc, ◌+◌, ◌≤◌, ◌↔◌, Option, Some, None, List, [], ◌∷◌, get_or, IsTrue, refl, sym, ◌∙◌, ap, subst, ⊎_elim, nat_le, arith}
 use Rattle.std.specs.Prelude.{Contains, MatchOption}
 use Rattle.std.proofs.lemmas.Bool.{cases_lt}
 use Rattle.std.proofs.lemmas.Bool.Decides.{nat_tests}
@@ -12,8 +12,7 @@ use Rattle.fc_canonical.specs.Key.{IsKeyOf}
 use Rattle.fc_canonical.specs.Spelled.{IsKeyFor, spelled}
 use Rattle.fc_canonical.proofs.ClassLemmas.{class-refl}
 use Rattle.fc_canonical.proofs.KeyLemmas.{keys_tell}
-use Rattle.fc_bound.specs.Bound.{bound}
-use Rattle.fc_tables.specs.Table.{Covered, ListsClass, Lists, as_boards}
+use Rattle.fc_tables.specs.Table.{ListsClass, Lists, as_boards}
 use Rattle.fc_answers.proofs.RisingLemmas.{keys_once}
 use Rattle.fc_cert.specs.Content.{Content, IsContent, IsRecord}
 
@@ -85,13 +84,12 @@ module _ (c : Content) (is : IsContent c) (x : Board) (position : IsPosition x) 
         ),
       )
 
--- a position whose bound is too low is covered exactly where it is listed at no greater cost
-pub covered_by : (n : ℕ) (rows : List (List ℕ × ℕ)) (x : Board) (moves cost other : ℕ) → (n ≤ moves + bound x → ⊥)
-    → ((d : ℕ) → Lists (as_boards rows) x d ↔ cost ≤ d) → other ≡ cost
-    → IsTrue (nat_le other moves) ↔ Covered bound n (as_boards rows) x moves
-covered_by n rows x moves cost other near lists same = (
-  λ true. inr ((lists moves).1 (let le = tested other moves true in omega (arith, le, same))),
-  λ covered. ⊎_elim (λ far. absurd (near far)) (λ listed. let le = (lists moves).0 listed in tested_back other moves (omega (arith, le, same))) covered,
+-- a position is listed at no more than so many moves exactly where the cost at which it is listed is no more
+pub listed_by : (rows : List (List ℕ × ℕ)) (x : Board) (moves cost other : ℕ) → ((d : ℕ) → Lists (as_boards rows) x d ↔ cost ≤ d)
+    → other ≡ cost → IsTrue (nat_le other moves) ↔ Lists (as_boards rows) x moves
+listed_by rows x moves cost other lists same = (
+  λ true. (lists moves).1 (let le = tested other moves true in omega (arith, le, same)),
+  λ listed. let le = (lists moves).0 listed in tested_back other moves (omega (arith, le, same)),
 )
   where
     tested : (a b : ℕ) → IsTrue (nat_le a b) → a ≤ b
@@ -99,3 +97,7 @@ covered_by n rows x moves cost other near lists same = (
 
     tested_back : (a b : ℕ) → a ≤ b → IsTrue (nat_le a b)
     tested_back a b le = grind (arith, nat_tests)
+
+-- what reaches the level by a bound that is no greater does so by the bound
+pub seen_reach : (level moves guide low : ℕ) → guide ≤ low → IsTrue (nat_le level (moves + guide)) → level ≤ moves + low
+seen_reach level moves guide low under true = grind (arith, nat_tests)

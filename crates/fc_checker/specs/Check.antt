@@ -1,5 +1,5 @@
 -- What a checker answers of bytes that are handed to it with a board: the claim that they prove, or their first fault.
-use Rattle.std.specs.Prelude.{◌≡◌, ℕ, ◌+◌, ◌<◌, List, length, take, slice_get, Some}
+use Rattle.std.specs.Prelude.{◌≡◌, ◌≢◌, ℕ, ◌+◌, ◌<◌, List, length, take, slice_get, Option, Some, None}
 use Rattle.fc_position.specs.Board.{Board}
 use Rattle.fc_position.specs.Position.{IsWon}
 use Rattle.fc_moves.specs.declared.steps.Move.{Move}
@@ -8,10 +8,10 @@ use Rattle.fc_moves.specs.Run.{Run, Wins}
 use Rattle.fc_moves.specs.Step.{Allows}
 use Rattle.fc_canonical.specs.Spelled.{spelled}
 use Rattle.fc_home.specs.Settles.{Settles}
-use Rattle.fc_bound.specs.Bound.{bound}
+use Rattle.fc_bound.specs.Kinds.{low_of}
 use Rattle.fc_tables.specs.Table.{Covered, ListsClass, StepsCovered, StepsListed, as_boards}
 use Rattle.fc_cert.specs.declared.contents.Kind.{Kind}
-use Rattle.fc_cert.specs.declared.contents.Kind.TheVariants.{Shortest, CannotWin}
+use Rattle.fc_cert.specs.declared.contents.Kind.TheVariants.{Shortest, CannotWin, Between}
 use Rattle.fc_cert.specs.Content.{Content, IsSpelled}
 use Rattle.fc_cert.specs.Reading.{IsFormFault}
 use Rattle.fc_checker.specs.declared.faults.CheckFault.{CheckFault}
@@ -22,31 +22,42 @@ pub record IsOfGame (g : GameRules) (c : Content) : Type 0 where
   pub code : c.head.game ≡ g.code
   pub cells : c.head.cells ≡ g.cells
 
--- what is asked of the moves: in kind 1 they win from the board, in kind 2 there are none
+-- what is asked of the moves: in kinds 1 and 3 they win from the board, in kind 2 there are none
 abbrev pub MovesHold : GameRules → Board → Kind → List Move → Type 0
 MovesHold g b Shortest moves = Wins g b moves
 MovesHold g b CannotWin moves = Unit {0}
+MovesHold g b Between moves = Wins g b moves
 
--- what is asked of a board that d moves lead to: in kind 1 that it is covered, in kind 2 that it is listed
-abbrev pub Holds : Content → Kind → Board → ℕ → Type 0
-Holds c Shortest x d = Covered bound (length c.moves) (as_boards c.rows) x d
-Holds c CannotWin x d = ListsClass (as_boards c.rows) x
+-- the level: the number of moves below which no list is to win; none where no list is to win at all
+abbrev pub level_of : Kind → ℕ → List Move → Option ℕ
+level_of Shortest floor moves = Some (length moves)
+level_of CannotWin floor moves = None
+level_of Between floor moves = Some floor
+
+abbrev pub level : Content → Option ℕ
+level c = level_of c.head.kind c.head.floor c.moves
+
+-- what is asked of a board that d moves lead to: that it is covered below the level, by the bound that is named, and without
+-- one that it is listed
+abbrev pub Holds : Content → Option ℕ → Board → ℕ → Type 0
+Holds c (Some n) x d = Covered (low_of c.head.bound) n (as_boards c.rows) x d
+Holds c None x d = ListsClass (as_boards c.rows) x
 
 -- what is asked of the start: what it settles to holds at as many moves
 abbrev pub StartHolds : GameRules → Board → Content → Type 0
-StartHolds g b c = (q : Board) (k : ℕ) → Settles g c.head.rule b k q → Holds c c.head.kind q k
+StartHolds g b c = (q : Board) (k : ℕ) → Settles g c.head.rule b k q → Holds c (level c) q k
 
--- what is asked of the steps from the board of a record: in kind 1, where its cost and bound are below the number of
--- moves, that they are covered, in kind 2 that they are listed
-abbrev pub StepsHold : GameRules → Content → Kind → List ℕ × ℕ → Type 0
-StepsHold g c Shortest row = row.1 + bound (spelled row.0) < length c.moves
-    → StepsCovered bound g c.head.rule (length c.moves) (as_boards c.rows) (spelled row.0) row.1
-StepsHold g c CannotWin row = StepsListed g c.head.rule (as_boards c.rows) (spelled row.0)
+-- what is asked of the steps from the board of a record: where its cost and bound are below the level, that they are covered,
+-- and without one that they are listed
+abbrev pub StepsHold : GameRules → Content → Option ℕ → List ℕ × ℕ → Type 0
+StepsHold g c (Some n) row = row.1 + low_of c.head.bound (spelled row.0) < n
+    → StepsCovered (low_of c.head.bound) g c.head.rule n (as_boards c.rows) (spelled row.0) row.1
+StepsHold g c None row = StepsListed g c.head.rule (as_boards c.rows) (spelled row.0)
 
 -- what is asked of a record: its board isn't won, and its steps hold
 pub record RecordHolds (g : GameRules) (c : Content) (row : List ℕ × ℕ) : Type 0 where
   pub not_won : IsWon (spelled row.0) → ⊥
-  pub steps : StepsHold g c c.head.kind row
+  pub steps : StepsHold g c (level c) row
 
 -- the first so many records hold
 abbrev pub RecordsHold : GameRules → Content → ℕ → Type 0
@@ -79,12 +90,12 @@ pub record IsStopped (g : GameRules) (b : Board) (moves : List Move) (step : ℕ
 abbrev pub IsCheckFault : GameRules → Board → List ℕ → CheckFault → Type 0
 IsCheckFault g b bytes (Form fault) = IsFormFault bytes fault
 IsCheckFault g b bytes OtherGame = (c : Content) × IsSpelled bytes c × (IsOfGame g c → ⊥)
-IsCheckFault g b bytes (NotAllowed step) = (c : Content) × HasContent g bytes c × (c.head.kind ≡ Shortest) × IsStopped g b c.moves step
-IsCheckFault g b bytes NotHome = (c : Content) × HasContent g bytes c × (c.head.kind ≡ Shortest)
+IsCheckFault g b bytes (NotAllowed step) = (c : Content) × HasContent g bytes c × (c.head.kind ≢ CannotWin) × IsStopped g b c.moves step
+IsCheckFault g b bytes NotHome = (c : Content) × HasContent g bytes c × (c.head.kind ≢ CannotWin)
     × ((x : Board) × Run g b c.moves x × (IsWon x → ⊥))
 IsCheckFault g b bytes StartOpen = (c : Content) × HasContent g bytes c × MovesHold g b c.head.kind c.moves × (StartHolds g b c → ⊥)
 IsCheckFault g b bytes (WonListed i) = (c : Content) × HasStart g b bytes c × RecordsHold g c i
     × ((row : List ℕ × ℕ) × (slice_get c.rows i ≡ Some row) × IsWon (spelled row.0))
 IsCheckFault g b bytes (Open i) = (c : Content) × HasStart g b bytes c × RecordsHold g c i
-    × ((row : List ℕ × ℕ) × (slice_get c.rows i ≡ Some row) × (IsWon (spelled row.0) → ⊥) × (StepsHold g c c.head.kind row → ⊥))
+    × ((row : List ℕ × ℕ) × (slice_get c.rows i ≡ Some row) × (IsWon (spelled row.0) → ⊥) × (StepsHold g c (level c) row → ⊥))
 IsCheckFault g b bytes Memory = (c : Content) × IsSpelled bytes c × (0 < length c.rows)

@@ -8,15 +8,15 @@ use Rattle.fc_home.specs.Settles.{Settles}
 use Rattle.fc_cert.specs.declared.claims.Claim.{Claim}
 use Rattle.fc_cert.specs.declared.claims.Claim.TheVariants as claim
 use Rattle.fc_cert.specs.declared.contents.Kind.{Kind}
-use Rattle.fc_cert.specs.declared.contents.Kind.TheVariants.{Shortest, CannotWin}
+use Rattle.fc_cert.specs.declared.contents.Kind.TheVariants.{Shortest, CannotWin, Between}
 use Rattle.fc_cert.specs.Content.{Content, IsSpelled}
 use Rattle.fc_checker.specs.declared.faults.CheckFault.{CheckFault}
 use Rattle.fc_checker.specs.declared.faults.CheckFault.TheVariants.{Memory}
-use Rattle.fc_checker.specs.Check.{Holds, HasContent, HasStart, IsCheckFault, IsOfGame, MovesHold, RecordsHold, StartHolds}
+use Rattle.fc_checker.specs.Check.{Holds, level, HasContent, HasStart, IsCheckFault, IsOfGame, MovesHold, RecordsHold, StartHolds}
 
 -- where a board that d moves lead to settles to, it holds
 abbrev pub SettledHolds : GameRules → Content → Board → ℕ → Type 0
-SettledHolds g c y d = (z : Board) (k : ℕ) → Settles g c.head.rule y k z → Holds c c.head.kind z (d + k)
+SettledHolds g c y d = (z : Board) (k : ℕ) → Settles g c.head.rule y k z → Holds c (level c) z (d + k)
 
 -- where the move leads from a board that d moves lead to, it holds, once settled
 abbrev pub StepHolds : GameRules → Content → Board → ℕ → Move → Type 0
@@ -45,3 +45,4 @@ pub record IsProof (g : GameRules) (b : Board) (c : Content) : Type 0 where
 abbrev pub claim_of : Content → Kind → Claim
 claim_of c Shortest = claim.Shortest (length c.moves)
 claim_of c CannotWin = claim.CannotWin
+claim_of c Between = claim.Between c.head.floor (length c.moves)

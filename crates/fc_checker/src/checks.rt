@@ -1,6 +1,6 @@
 //! Whether bytes are a certificate of a position, and of which claim.
 
-ghost use Rattle.std.specs.Prelude.{◌≡◌, ◌+◌, ◌≤◌, ◌<◌, ◌⊎◌, ◌↔◌, ℕ, List, Some, length, slice_get, IsTrue, IfOk, IfErr, OnOk};
+ghost use Rattle.std.specs.Prelude.{◌≡◌, ◌≢◌, ◌+◌, ◌≤◌, ◌<◌, ◌⊎◌, ◌↔◌, ℕ, List, Some, length, slice_get, IsTrue, IfOk, IfErr, OnOk};
 ghost use Rattle.fc_position.specs.Board.{Board};
 ghost use Rattle.fc_position.specs.Position.{Fits, IsPosition};
 ghost use Rattle.fc_moves.specs.GameRules.{GameRules};
@@ -10,11 +10,11 @@ ghost use Rattle.fc_canonical.specs.Spelled.{spelled};
 ghost use Rattle.fc_cert.specs.Claim.{IsCertificate, IsTrueOf};
 ghost use Rattle.fc_cert.specs.Content.{IsContent};
 ghost use Rattle.fc_cert.specs.Reading.{IsReadFault};
-ghost use Rattle.fc_checker.specs.Check.{IsCheckFault, IsOfGame, MovesHold, RecordsHold, StepsHold};
+ghost use Rattle.fc_checker.specs.Check.{IsCheckFault, IsOfGame, MovesHold, RecordsHold, StepsHold, level as level_of};
 ghost use Rattle.fc_checker.specs.Steps.{IsFaultOf, IsFaultOfMoves, IsFaultOfRecords, IsProof, claim_of};
 
 use crate::faults::CheckFault;
-use crate::steps::{is_far, kind, settled_holds, steps_hold};
+use crate::steps::{is_far, is_seen_far, level, settled_holds, steps_hold};
 use fc_canonical::position_of;
 use fc_cert::{CertFault, Certificate, Claim, Kind, LONGEST_CERTIFICATE};
 use fc_moves::{Game, allows, apply};
@@ -93,13 +93,15 @@ fn is_of_game<G: Game>(game: &G, certificate: &Certificate) -> bool
 fn claim_of(certificate: &Certificate) -> Claim
     ensures value { result ≡ claim_of certificate.now certificate.now.head.kind }
 {
-    match kind(certificate) {
+    let head = certificate.head();
+    match head.kind {
         Kind::Shortest => Claim::Shortest(certificate.move_count()),
         Kind::CannotWin => Claim::CannotWin,
+        Kind::Between => Claim::Between(head.floor, certificate.move_count()),
     }
 }
 
-// Whether the listed moves win from the position, where the certificate is of a shortest list.
+// Whether the listed moves win from the position, where the certificate is of a list.
 fn check_moves<G: Game>(
     game: &G,
     certificate: &Certificate,
@@ -108,8 +110,8 @@ fn check_moves<G: Game>(
     ensures moves { OnOk result (MovesHold (G.game game.now) position.now certificate.now.head.kind certificate.now.moves) }
     ensures fault { IfErr result (IsFaultOfMoves (G.game game.now) position.now certificate.now) }
 {
-    match kind(certificate) {
-        Kind::Shortest => replay(game, certificate, position.copy()),
+    match certificate.head().kind {
+        Kind::Shortest | Kind::Between => replay(game, certificate, position.copy()),
         Kind::CannotWin => Ok(()),
     }
 }
@@ -120,7 +122,7 @@ fn replay<G: Game>(
     certificate: &Certificate,
     position: Position,
 ) -> Result<(), CheckFault>
-    requires kind { certificate.now.head.kind ≡ Kind.Shortest }
+    requires kind { certificate.now.head.kind ≢ Kind.CannotWin }
     ensures wins { OnOk result (Wins (G.game game.now) position certificate.now.moves) }
     ensures fault { IfErr result (IsFaultOfMoves (G.game game.now) position certificate.now) }
 {
@@ -172,7 +174,7 @@ fn check_record<G: Game>(game: &G, certificate: &Certificate, i: u32) -> Result<
 }
 
 // Whether the steps from the position of a record hold: where no list is to win, all, else where its cost and its bound
-// are below the number of moves.
+// are below the level.
 fn record_steps_hold<G: Game>(
     game: &G,
     certificate: &Certificate,
@@ -184,13 +186,36 @@ fn record_steps_hold<G: Game>(
     requires whole { IsPosition position.old }
     requires key { BeginsWithBoard key.now position.old }
     ensures value { position.old ≡ spelled key.now
-        → (IsTrue result ↔ StepsHold (G.game game.now) certificate.now certificate.now.head.kind (key.now, cost)) }
+        → (IsTrue result ↔ StepsHold (G.game game.now) certificate.now (level_of certificate.now) (key.now, cost)) }
 {
-    match kind(certificate) {
-        Kind::Shortest => {
-            is_far(certificate, position, u64::from(cost))
-                || steps_hold(game, certificate, position, key, cost)
-        }
-        Kind::CannotWin => steps_hold(game, certificate, position, key, cost),
+    match level(certificate) {
+        Some(level) => steps_hold_below(game, certificate, level, position, key, cost),
+        None => steps_hold(game, certificate, position, key, cost),
     }
+}
+
+// Whether they hold below this level. The bound itself, which may take long to count, is asked last.
+fn steps_hold_below<G: Game>(
+    game: &G,
+    certificate: &Certificate,
+    level: u32,
+    position: &mut Position,
+    key: &[u8],
+    cost: u32,
+) -> bool
+    requires level { level_of certificate.now ≡ Some level }
+    requires content { IsContent certificate.now }
+    requires whole { IsPosition position.old }
+    requires key { BeginsWithBoard key.now position.old }
+    ensures value { position.old ≡ spelled key.now
+        → (IsTrue result ↔ StepsHold (G.game game.now) certificate.now (level_of certificate.now) (key.now, cost)) }
+{
+    let moves = u64::from(cost);
+    if is_seen_far(certificate, level, position, moves) {
+        return true;
+    }
+    if steps_hold(game, certificate, position, key, cost) {
+        return true;
+    }
+    is_far(certificate, level, position, moves)
 }

@@ -4,13 +4,12 @@ ghost use Rattle.std.specs.Prelude.{◌≡◌, ◌+◌, ◌<◌, ◌≤◌, ◌^
 ghost use Rattle.fc_position.specs.Position.{IsPosition};
 ghost use Rattle.fc_moves.specs.Step.{Allows};
 ghost use Rattle.fc_canonical.specs.Key.{BeginsWithBoard};
-ghost use Rattle.fc_bound.specs.Bound.{bound as bound_of};
+ghost use Rattle.fc_bound.specs.Kinds.{guide_of, low_of};
 ghost use Rattle.fc_tables.specs.Table.{Covered, Lists, ListsClass, as_boards};
 ghost use Rattle.fc_cert.specs.Content.{IsContent};
-ghost use Rattle.fc_checker.specs.Check.{Holds};
+ghost use Rattle.fc_checker.specs.Check.{Holds, level as level_of};
 ghost use Rattle.fc_checker.specs.Steps.{SettledHolds, StepHolds};
 
-use fc_bound::bound;
 use fc_canonical::{distinct_moves, key, position_of};
 use fc_cards::Place;
 use fc_cert::{Certificate, Kind};
@@ -18,23 +17,39 @@ use fc_home::settle;
 use fc_moves::{Game, Move, apply};
 use fc_position::Position;
 
-// The kind of the certificate.
-pub(crate) fn kind(certificate: &Certificate) -> Kind
-    ensures value { result ≡ certificate.now.head.kind }
+// The number of moves below which no list is to win, `None` where no list is to win at all.
+#[inline]
+pub(crate) fn level(certificate: &Certificate) -> Option<u32>
+    ensures value { result ≡ level_of certificate.now }
 {
-    if certificate.kind() == 1 {
-        Kind::Shortest
-    } else {
-        Kind::CannotWin
+    let head = certificate.head();
+    match head.kind {
+        Kind::Shortest => Some(certificate.move_count()),
+        Kind::CannotWin => None,
+        Kind::Between => Some(head.floor),
     }
 }
 
-// Whether so many moves and the bound of the position to which they lead reach the number of listed moves.
-pub(crate) fn is_far(certificate: &Certificate, position: &Position, moves: u64) -> bool
+// Whether so many moves and the bound of the position to which they lead reach the level.
+pub(crate) fn is_far(certificate: &Certificate, level: u32, position: &Position, moves: u64) -> bool
     requires few { moves < 2 ^ 33 }
-    ensures value { IsTrue result ↔ length certificate.now.moves ≤ moves + bound_of position.now }
+    ensures value { IsTrue result ↔ level ≤ moves + low_of certificate.now.head.bound position.now }
 {
-    u64::from(certificate.move_count()) <= moves + u64::from(bound(position))
+    u64::from(level) <= moves + u64::from(certificate.head().bound.low(position))
+}
+
+// The same by the bound that a search goes by, which is counted quickly and nowhere greater: where that is enough, they do.
+pub(crate) fn is_seen_far(
+    certificate: &Certificate,
+    level: u32,
+    position: &Position,
+    moves: u64,
+) -> bool
+    requires few { moves < 2 ^ 33 }
+    ensures seen { IsTrue result → level ≤ moves + low_of certificate.now.head.bound position.now }
+    ensures value { IsTrue result ↔ level ≤ moves + guide_of certificate.now.head.bound position.now }
+{
+    u64::from(level) <= moves + u64::from(certificate.head().bound.guide(position))
 }
 
 // The cost at which the position's class is listed, `None` where it isn't.
@@ -55,30 +70,38 @@ fn is_listed(certificate: &Certificate, position: &Position) -> bool
     listed_cost(certificate, position).is_some()
 }
 
-// Whether the position, to which so many moves lead, is covered.
-fn is_covered(certificate: &Certificate, position: &Position, moves: u64) -> bool
+// Whether the position, to which so many moves lead, is listed at no greater cost.
+fn is_listed_within(certificate: &Certificate, position: &Position, moves: u64) -> bool
     requires content { IsContent certificate.now }
-    requires few { moves < 2 ^ 33 }
-    ensures value { IsTrue result ↔ Covered bound_of (length certificate.now.moves) (as_boards certificate.now.rows) position.now moves }
+    ensures value { IsTrue result ↔ Lists (as_boards certificate.now.rows) position.now moves }
 {
-    if is_far(certificate, position, moves) {
-        return true;
-    }
     match listed_cost(certificate, position) {
         Some(cost) => u64::from(cost) <= moves,
         None => false,
     }
 }
 
+// Whether the position, to which so many moves lead, is covered below the level. The bound itself, which may take long to
+// count, is asked last.
+fn is_covered(certificate: &Certificate, level: u32, position: &Position, moves: u64) -> bool
+    requires content { IsContent certificate.now }
+    requires few { moves < 2 ^ 33 }
+    ensures value { IsTrue result ↔ Covered (low_of certificate.now.head.bound) level (as_boards certificate.now.rows) position.now moves }
+{
+    is_seen_far(certificate, level, position, moves)
+        || is_listed_within(certificate, position, moves)
+        || is_far(certificate, level, position, moves)
+}
+
 // Whether the position, to which so many moves lead, is covered, or where no list is to win, listed.
 fn holds(certificate: &Certificate, position: &Position, moves: u64) -> bool
     requires content { IsContent certificate.now }
     requires few { moves < 2 ^ 33 }
-    ensures value { IsTrue result ↔ Holds certificate.now certificate.now.head.kind position.now moves }
+    ensures value { IsTrue result ↔ Holds certificate.now (level_of certificate.now) position.now moves }
 {
-    match kind(certificate) {
-        Kind::Shortest => is_covered(certificate, position, moves),
-        Kind::CannotWin => is_listed(certificate, position),
+    match level(certificate) {
+        Some(level) => is_covered(certificate, level, position, moves),
+        None => is_listed(certificate, position),
     }
 }
 
@@ -140,6 +163,7 @@ pub(crate) fn steps_hold<G: Game>(
     requires whole { IsPosition position.old }
     requires key { BeginsWithBoard key.now position.old }
     ensures value { IsTrue result ↔ ((m : Move) → StepHolds (G.game game.now) certificate.now position.old cost m) }
+    ensures same { position.new ≡ position.old }
 {
     for m in distinct_moves(game, position).as_slice() {
         if !step_holds(game, certificate, position, key, cost, *m) {

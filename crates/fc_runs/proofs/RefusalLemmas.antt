@@ -1,11 +1,11 @@
 -- Bytes that a checker refused, as a fault of the run that read them.
-use Rattle.std.proofs.Common.{ℕ, ◌≤◌, ◌++◌, List, [], ◌∷◌, Option, Some, None, length, sym, subst, arith}
+use Rattle.std.proofs.Common.{ℕ, ◌≤◌, ◌++◌, List, ◌∷◌, Option, Some, None, length, sym, subst, arith}
 use Rattle.fc_io.specs.Moves.{IsAllTold, TellsAtLeast}
 use Rattle.fc_position.specs.Board.{Board}
 use Rattle.fc_moves.specs.GameRules.{GameRules}
 use Rattle.fc_cert.specs.declared.contents.Form.{Form}
-use Rattle.fc_cert.specs.declared.contents.Form.TheVariants.{First, Second}
-use Rattle.fc_cert.specs.Content.{game_bytes, kind_byte, magic, moves_bytes, rows_bytes}
+use Rattle.fc_cert.specs.declared.contents.Form.TheVariants.{First, Second, Third}
+use Rattle.fc_cert.specs.Content.{bound_bytes, floor_bytes, game_bytes, kind_byte, magic, moves_bytes, rows_bytes}
 use Rattle.fc_checker.specs.declared.faults.CheckFault.{CheckFault}
 use Rattle.fc_checker.specs.declared.faults.CheckFault.TheVariants.{Form as bad_form, OtherGame, NotAllowed, NotHome, StartOpen, WonListed, Open, Memory}
 use Rattle.fc_checker.specs.Check.{IsCheckFault}
@@ -22,6 +22,7 @@ told_some (Some all) bytes whole some = subst (λ list. 1 ≤ length list) whole
 has_bytes : (form : Form) (game more rest : List ℕ) → 1 ≤ length (((magic form ++ game) ++ more) ++ rest)
 has_bytes First game more rest = omega arith
 has_bytes Second game more rest = omega arith
+has_bytes Third game more rest = omega arith
 
 pub refused : (g : GameRules) (board cert sink : Device) (b : Board) (bytes : List ℕ) (fault : CheckFault) → GivesBoth g board cert b bytes
     → IsUntouched sink → IsCheckFault g b bytes fault → IsRefusal g board cert sink (check_fault fault)
@@ -35,6 +36,6 @@ refused g board cert sink b bytes (Open i) given same here = (λ is. absurd (cc 
 refused g board cert sink b bytes Memory given same (c, spelled, some) = (
   ((b, given.start), same),
   told_some cert.old bytes given.read.whole (subst (λ list. 1 ≤ length list) (sym spelled.written) (has_bytes c.head.form (game_bytes c.head.form c.head.game c.head.cells)
-      (c.head.rule ∷ kind_byte c.head.kind ∷ []) (moves_bytes c.head.kind c.moves ++ rows_bytes c.rows))),
+      (c.head.rule ∷ (bound_bytes c.head.form c.head.bound ++ kind_byte c.head.kind ∷ floor_bytes c.head.kind c.head.floor)) (moves_bytes c.head.kind c.moves ++ rows_bytes c.rows))),
   given.read.sound,
 )

@@ -60,5 +60,6 @@ outcome_status (outcome.GaveUp budget) = 2
 
 -- what is printed of a claim that was accepted
 abbrev pub accepted_text : Claim → List ℕ
-accepted_text (claim.Shortest n) = codes "accepted: shortest " ++ decimal n ++ codes "\n"
-accepted_text claim.CannotWin = codes "accepted: can't be won\n"
+accepted_text (claim.Shortest n) = codes "accepted: " ++ shortest_line n
+accepted_text claim.CannotWin = codes "accepted: " ++ codes "can't be won\n"
+accepted_text (claim.Between floor n) = codes "accepted: " ++ won_line n floor

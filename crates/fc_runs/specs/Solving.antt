@@ -5,15 +5,13 @@ use Rattle.fc_position.specs.Board.{Board}
 use Rattle.fc_moves.specs.declared.steps.Move.{Move}
 use Rattle.fc_moves.specs.GameRules.{GameRules}
 use Rattle.fc_bound.specs.declared.kinds.BoundKind.{BoundKind}
-use Rattle.fc_bound.specs.declared.kinds.BoundKind.TheVariants.{Plain, Clearing}
 use Rattle.fc_answers.specs.declared.answers.Verdict.{Verdict}
 use Rattle.fc_answers.specs.declared.answers.Verdict.TheVariants.{Shortest, Won, CannotWin, GaveUp}
 use Rattle.fc_best_first.specs.Search.{IsBudget}
 use Rattle.fc_search.specs.Search.{IsVerdict, IsRunToEnd}
 use Rattle.fc_cert.specs.declared.claims.Claim.{Claim}
 use Rattle.fc_cert.specs.declared.claims.Claim.TheVariants as claim
-use Rattle.fc_cert.specs.declared.contents.Form.TheVariants.{Second}
-use Rattle.fc_cert.specs.Claim.{IsCertificate}
+use Rattle.fc_cert.specs.Claim.{IsCertificate, written_form}
 use Rattle.fc_cert.specs.Content.{Content, IsSpelled}
 use Rattle.fc_runs.specs.declared.faults.Input.TheVariants.{Board as of_board}
 use Rattle.fc_runs.specs.declared.faults.Output.TheVariants.{Answer as of_answer, Cert as of_certificate}
@@ -28,10 +26,10 @@ pub record IsDecided (g : GameRules) (rule : ℕ) (weight : ℕ) (kind : BoundKi
   pub right : IsVerdict g rule weight kind b budget verdict
   pub ran : IsRunToEnd g rule weight kind b budget verdict
 
--- what a verdict claims, if anything: a list that isn't known to be shortest and a search that gave up claim nothing
+-- what a verdict claims, if anything: a search that gave up claims nothing
 abbrev pub claim_of : Verdict → Option Claim
 claim_of (Shortest moves) = Some (claim.Shortest (length moves))
-claim_of (Won moves floor) = None
+claim_of (Won moves floor) = Some (claim.Between floor (length moves))
 claim_of CannotWin = Some claim.CannotWin
 claim_of (GaveUp told) = None
 
@@ -42,35 +40,35 @@ moves_of (Won moves floor) = moves
 moves_of CannotWin = []
 moves_of (GaveUp told) = []
 
--- the bytes are a certificate of what the verdict claims of the board, in the second form, by the home rule, and list its moves
-pub record IsCertificateOf (g : GameRules) (rule : ℕ) (b : Board) (verdict : Verdict) (bytes : List ℕ) : Type 0 where
+-- the bytes are a certificate of what the verdict claims of the board, by the home rule and the bound, in the second form where
+-- that says all and else in the third, and list its moves
+pub record IsCertificateOf (g : GameRules) (rule : ℕ) (kind : BoundKind) (b : Board) (verdict : Verdict) (bytes : List ℕ) : Type 0 where
   pub claim : Claim
   pub claimed : claim_of verdict ≡ Some claim
   pub proves : IsCertificate g b bytes claim
   pub content : Content
   pub spelled : IsSpelled bytes content
-  pub form : content.head.form ≡ Second
+  pub form : content.head.form ≡ written_form kind content.head.kind
   pub ruled : content.head.rule ≡ rule
+  pub bound : content.head.bound ≡ kind
   pub listed : content.moves ≡ moves_of verdict
 
--- a sink took a certificate of the verdict, all of it; where its table isn't of the plain bound, nothing
-abbrev pub TakesCertificate : BoundKind → GameRules → ℕ → Board → Verdict → Device → Type 0
-TakesCertificate Plain g rule b verdict sink =
-    ((bytes : List ℕ) × IsCertificateOf g rule b verdict bytes × Takes sink.old sink.new bytes) × (IsTrue sink.failed → ⊥)
-TakesCertificate Clearing g rule b verdict sink = IsUntouched sink
+-- a sink took a certificate of the verdict, all of it
+abbrev pub TakesCertificate : GameRules → ℕ → BoundKind → Board → Verdict → Device → Type 0
+TakesCertificate g rule kind b verdict sink =
+    ((bytes : List ℕ) × IsCertificateOf g rule kind b verdict bytes × Takes sink.old sink.new bytes) × (IsTrue sink.failed → ⊥)
 
--- a sink took what there is of certificates of the verdict: of a list within a weight and of giving up nothing; a table that no
--- list wins is of any bound
+-- a sink took what there is of certificates of the verdict: of giving up nothing
 abbrev pub IsCertified : GameRules → ℕ → BoundKind → Board → Verdict → Device → Type 0
-IsCertified g rule kind b (Shortest moves) sink = TakesCertificate kind g rule b (Shortest moves) sink
-IsCertified g rule kind b (Won moves floor) sink = IsUntouched sink
-IsCertified g rule kind b CannotWin sink = TakesCertificate Plain g rule b CannotWin sink
+IsCertified g rule kind b (Shortest moves) sink = TakesCertificate g rule kind b (Shortest moves) sink
+IsCertified g rule kind b (Won moves floor) sink = TakesCertificate g rule kind b (Won moves floor) sink
+IsCertified g rule kind b CannotWin sink = TakesCertificate g rule kind b CannotWin sink
 IsCertified g rule kind b (GaveUp told) sink = IsUntouched sink
 
 -- a sink failed while it was given a certificate of the verdict
-abbrev pub IsCutShort : GameRules → ℕ → Board → Verdict → Device → Type 0
-IsCutShort g rule b verdict sink =
-    ((bytes : List ℕ) × IsCertificateOf g rule b verdict bytes × TakesFront sink.old sink.new bytes) × IsTrue sink.failed
+abbrev pub IsCutShort : GameRules → ℕ → BoundKind → Board → Verdict → Device → Type 0
+IsCutShort g rule kind b verdict sink =
+    ((bytes : List ℕ) × IsCertificateOf g rule kind b verdict bytes × TakesFront sink.old sink.new bytes) × IsTrue sink.failed
 
 -- a board was answered: a verdict was decided, the sink of certificates, where there is one, took its certificate, and the
 -- sink of answers its text, and the status is told
@@ -92,7 +90,7 @@ NothingIsWritten cert sink = IfSome cert IsUntouched × IsUntouched sink
 abbrev pub IsUnanswered : GameRules → ℕ → ℕ → BoundKind → Board → ℕ → Option Device → Device → ProgramFault → Type 0
 IsUnanswered g rule weight kind b budget cert sink Memory = NothingIsWritten cert sink
 IsUnanswered g rule weight kind b budget cert sink (Write of_certificate) = (verdict : Verdict) × IsDecided g rule weight kind b budget verdict
-    × ((lent : Device) × (cert ≡ Some lent) × IsCutShort g rule b verdict lent) × IsUntouched sink
+    × ((lent : Device) × (cert ≡ Some lent) × IsCutShort g rule kind b verdict lent) × IsUntouched sink
 IsUnanswered g rule weight kind b budget cert sink (Write of_answer) = (verdict : Verdict) × IsDecided g rule weight kind b budget verdict
     × IfSome cert (IsCertified g rule kind b verdict) × TakesFront sink.old sink.new (answer_text verdict) × IsTrue sink.failed
 IsUnanswered g rule weight kind b budget cert sink other = ⊥

@@ -76,16 +76,13 @@ pub fn answer_status(answer: &Answer) -> u8
 pub fn accepted_text(alloc: Global, claim: Claim) -> Result<Vec<u8>, AllocError>
     ensures text { IfOk result (λ t. t.items ≡ accepted_text claim) }
 {
+    let mut text = Vec::from_slice(alloc, b"accepted: ")?;
     match claim {
-        Claim::Shortest(count) => {
-            let mut buffer = Buffer::new();
-            let mut text = Vec::from_slice(alloc, b"accepted: shortest ")?;
-            text.extend_from_slice(buffer.format(count).as_bytes())?;
-            text.extend_from_slice(b"\n")?;
-            Ok(text)
-        }
-        Claim::CannotWin => Vec::from_slice(alloc, b"accepted: can't be won\n"),
+        Claim::Shortest(count) => push_shortest(&mut text, count as usize)?,
+        Claim::CannotWin => text.extend_from_slice(b"can't be won\n")?,
+        Claim::Between(floor, count) => push_won(&mut text, count as usize, floor)?,
     }
+    Ok(text)
 }
 
 /// The line of a deal in a batch: its number, and its answer without moves, or `want of memory` where nothing is told.
@@ -146,12 +143,21 @@ fn shortest_text(alloc: Global, moves: &[Move]) -> Result<Vec<u8>, AllocError>
     requires texts { All HasText moves.now }
     ensures text { IfOk result (λ t. t.items ≡ shortest_line (length moves.now) ++ moves_line moves.now) }
 {
-    let mut buffer = Buffer::new();
-    let mut text = Vec::from_slice(alloc, b"shortest ")?;
-    text.extend_from_slice(buffer.format(moves.len()).as_bytes())?;
-    text.extend_from_slice(b"\n")?;
+    let mut text = Vec::new(alloc);
+    push_shortest(&mut text, moves.len())?;
     push_line(&mut text, moves)?;
     Ok(text)
+}
+
+// Appends how many moves a shortest list has.
+fn push_shortest(text: &mut Vec<u8>, count: usize) -> Result<(), AllocError>
+    ensures text { OnOk result (text.new.items ≡ text.old.items ++ shortest_line count) }
+{
+    let mut buffer = Buffer::new();
+    text.extend_from_slice(b"shortest ")?;
+    text.extend_from_slice(buffer.format(count).as_bytes())?;
+    text.extend_from_slice(b"\n")?;
+    Ok(())
 }
 
 // The lines of a list that wins, where each such list has at least so many moves.
@@ -159,14 +165,23 @@ fn won_text(alloc: Global, moves: &[Move], floor: u32) -> Result<Vec<u8>, AllocE
     requires texts { All HasText moves.now }
     ensures text { IfOk result (λ t. t.items ≡ won_line (length moves.now) floor ++ moves_line moves.now) }
 {
+    let mut text = Vec::new(alloc);
+    push_won(&mut text, moves.len(), floor)?;
+    push_line(&mut text, moves)?;
+    Ok(text)
+}
+
+// Appends how many moves a list has that wins, and how many each such list has at least.
+fn push_won(text: &mut Vec<u8>, count: usize, floor: u32) -> Result<(), AllocError>
+    ensures text { OnOk result (text.new.items ≡ text.old.items ++ won_line count floor) }
+{
     let mut buffer = Buffer::new();
-    let mut text = Vec::from_slice(alloc, b"won ")?;
-    text.extend_from_slice(buffer.format(moves.len()).as_bytes())?;
+    text.extend_from_slice(b"won ")?;
+    text.extend_from_slice(buffer.format(count).as_bytes())?;
     text.extend_from_slice(b", at least ")?;
     text.extend_from_slice(buffer.format(floor).as_bytes())?;
     text.extend_from_slice(b"\n")?;
-    push_line(&mut text, moves)?;
-    Ok(text)
+    Ok(())
 }
 
 // Appends the line of the moves.

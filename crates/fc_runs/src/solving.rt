@@ -28,8 +28,7 @@ use std::alloc::Global;
 /// most `budget` stored classes, and writes the answer: the moves of a list that wins, with weight 1 a shortest one and else
 /// one of at most `weight` times the fewest moves and a number of moves that each such list has at least, that no list of
 /// moves wins, or that more than `budget` positions can be reached. The status tells which: 0, 1 or 2. Where `cert` is given,
-/// the certificate of the answer is written to it first, whole; a list that isn't known to be shortest, a table of the
-/// clearing bound and giving up have none. Without it no table of classes is made.
+/// the certificate of the answer is written to it first, whole; giving up has none. Without it no table of classes is made.
 ///
 /// # Errors
 /// In this order: a budget outside 1 to 4,000,000; a board that can't be read; a text that is none of the game; want of
@@ -164,13 +163,13 @@ fn write_certificate<G: Game, C: Sink>(
         record { old = C.held cert.old; new = C.held cert.new; failed = C.has_failed cert.new }) }
     ensures cut { (rule weight : ℕ) (kind : BoundKind) (start : Board) (budget : ℕ) → IsPositionOf (G.game game.now) start
         → Answers (G.game game.now) rule weight kind start budget answer.now
-        → OnErr result (IsCutShort (G.game game.now) rule start (verdict_of answer.now)
+        → OnErr result (IsCutShort (G.game game.now) rule kind start (verdict_of answer.now)
         record { old = C.held cert.old; new = C.held cert.new; failed = C.has_failed cert.new }) }
 {
     match write_answer(game, answer, cert) {
         Ok(()) => Ok(()),
         Err(CertFault::Write) => Err(Failed),
-        // A list that isn't known to be shortest, a table of the clearing bound and giving up have no certificate.
+        // Giving up has no certificate.
         Err(_) => Ok(()),
     }
 }

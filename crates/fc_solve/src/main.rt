@@ -175,7 +175,7 @@ fn solve<G: Game + Drop>(
             solve_from(rt, game, limits, &mut board, cert.as_mut())?
         }
     };
-    add_notes(rt, limits, cert.is_some(), status);
+    add_notes(rt, limits, status);
     Ok(status)
 }
 
@@ -211,18 +211,9 @@ fn solve_from<G: Game + Drop, S: Source>(
     )
 }
 
-// Says on standard error what an answer with this status leaves open: that a solution has no certificate, and on giving up,
-// where a person reads it, what to try. Where this can't be written, the answer stands all the same.
-fn add_notes(rt: &HostRuntime, limits: Limits, has_cert: bool, status: u8) {
-    if status == 0 && has_cert && limits.weight > 1 {
-        let _told = eprintln!(rt;
-            "fc_solve: no certificate: the solution isn't known to be shortest"
-        );
-    } else if status == 0 && has_cert && limits.bound == BoundKind::Clearing {
-        let _told = eprintln!(rt;
-            "fc_solve: no certificate: the solution was sought by the clearing bound"
-        );
-    }
+// Says on standard error, where a person reads it, what to try after giving up. Where this can't be written, the answer
+// stands all the same.
+fn add_notes(rt: &HostRuntime, limits: Limits, status: u8) {
     if status == 2 && rt.stderr().is_terminal() {
         advise(rt, limits);
     }

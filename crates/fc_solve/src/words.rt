@@ -125,7 +125,7 @@ Example: fc_solve solve --game bakers --cells 3 boards/one-king.txt",
         Word {
             name: "cert",
             kind: Kind::FileOption,
-            help: "Writes the certificate of the answer to this file, before the answer; giving up has none, nor a solution by --within above 1 or by --bound clearing",
+            help: "Writes the certificate of the answer to this file, before the answer; giving up has none",
         },
         WITHIN,
         BOUND,

@@ -27,19 +27,40 @@ returns-in_err-rule-clause-fault c =
       (Ok ((game.game, game.cells), game.rest.now), game.ensures.read, (Err f, c.in_err-rule.ensures.fault, refl)),
     )
 
+pub returns-in_err-bound-clause-fault : goal.returns-in_err-bound-clause-fault
+returns-in_err-bound-clause-fault c =
+    let f = c.in_err-bound.field-0.0 in
+    let form = c.in_ok-form in
+    let game = c.in_ok-game in
+    let rule = c.in_ok-rule in
+    passed_on (λ f. ReadsHead c.args.bytes.now (Err f)) c.from_residual-in_err-bound.result f c.from_residual-in_err-bound.ensures.1 (
+      Ok (form.form, form.rest.now),
+      form.ensures.read,
+      (
+        Ok ((game.game, game.cells), game.rest.now),
+        game.ensures.read,
+        (Ok (rule.rule, rule.rest.now), rule.ensures.read, (Err f, c.in_err-bound.ensures.fault, refl)),
+      ),
+    )
+
 pub returns-in_err-kind-clause-fault : goal.returns-in_err-kind-clause-fault
 returns-in_err-kind-clause-fault c =
     let f = c.in_err-kind.field-0.0 in
     let form = c.in_ok-form in
     let game = c.in_ok-game in
     let rule = c.in_ok-rule in
+    let bound = c.in_ok-bound in
     passed_on (λ f. ReadsHead c.args.bytes.now (Err f)) c.from_residual-in_err-kind.result f c.from_residual-in_err-kind.ensures.1 (
       Ok (form.form, form.rest.now),
       form.ensures.read,
       (
         Ok ((game.game, game.cells), game.rest.now),
         game.ensures.read,
-        (Ok (rule.rule, rule.rest.now), rule.ensures.read, (Err f, c.in_err-kind.ensures.fault, refl)),
+        (
+          Ok (rule.rule, rule.rest.now),
+          rule.ensures.read,
+          (Ok (bound.bound, bound.rest.now), bound.ensures.read, (Err f, c.in_err-kind.ensures.fault, refl)),
+        ),
       ),
     )
 
@@ -48,12 +69,21 @@ returns-clause-read c =
     let form = c.in_ok-form in
     let game = c.in_ok-game in
     let rule = c.in_ok-rule in
-    let kind = c.in_ok-kind in (
+    let bound = c.in_ok-bound in
+    let claimed = c.in_ok-kind in (
       Ok (form.form, form.rest.now),
       form.ensures.read,
       (
         Ok ((game.game, game.cells), game.rest.now),
         game.ensures.read,
-        (Ok (rule.rule, rule.rest.now), rule.ensures.read, (Ok (kind.kind, kind.rest.now), kind.ensures.read, refl)),
+        (
+          Ok (rule.rule, rule.rest.now),
+          rule.ensures.read,
+          (
+            Ok (bound.bound, bound.rest.now),
+            bound.ensures.read,
+            (Ok ((claimed.kind, claimed.floor), claimed.rest.now), claimed.ensures.read, refl),
+          ),
+        ),
       ),
     )

@@ -1,6 +1,6 @@
 use Rattle.std.proofs.Common.{ℕ, ◌+◌, ◌↔◌, IsTrue, length, sym, ◌∙◌, subst}
 use Rattle.fc_home.specs.Settles.{Settles}
-use Rattle.fc_checker.specs.Check.{Holds}
+use Rattle.fc_checker.specs.Check.{Holds, level}
 use Rattle.fc_checker.proofs.StepLemmas.{settled_once, stays}
 use Rattle.fc_checker.proofs.steps.settled_holds.Goals as goal
 
@@ -11,7 +11,7 @@ returns g c =
     let next = c.settle-settling.new.position in
     let count = length c.settle-settling.result.items in
     let settles = subst (λ r. Settles rules r c.args.position.now count next) c.rule.ensures.value c.settle-settling.ensures.count in
-    let test = subst (λ (n : ℕ). IsTrue c.holds.result ↔ Holds content content.head.kind next (c.args.moves + n)) c.len-count.ensures.value c.holds.ensures.value in
+    let test = subst (λ (n : ℕ). IsTrue c.holds.result ↔ Holds content (level content) next (c.args.moves + n)) c.len-count.ensures.value c.holds.ensures.value in
     record {
       value = settled_once rules content c.args.position.now next count c.args.moves c.holds.result c.requires.whole settles test;
       still = λ none. stays rules c.rule.result c.args.position.now next c.settle-settling.result.items

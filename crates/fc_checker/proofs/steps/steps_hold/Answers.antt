@@ -22,14 +22,17 @@ step_holds-requires-clause-allowed g c =
     (subst (λ l. Contains l (get_or items c.loop-m.m-index d)) c.as_slice-m-items.ensures.value
     (Contains-get_or items c.loop-m.m-index d c.loop-m-test.true)))
 
-pub returns-then-not-step_holds : goal.returns-then-not-step_holds
-returns-then-not-step_holds g c =
+pub returns-then-not-step_holds-clause-value : goal.returns-then-not-step_holds-clause-value
+returns-then-not-step_holds-clause-value g c =
     let d : Move = record { from = Column 0; to = Column 0 } in
     let m = get_or c.as_slice-m-items.result.now c.loop-m.m-index d in
     let test = subst (λ x. IsTrue c.step_holds.result ↔ StepHolds (g.G.Game.game c.args.game.now) c.args.certificate.now x c.args.cost m)
     c.loop-m.invariant.same c.step_holds.ensures.value in
     let wrong = refuted c.step_holds.result test c.if-not-step_holds.true in
-    record { value = (λ yes. absurd (false≢true yes), λ all. absurd (wrong (all m))) }
+    (λ yes. absurd (false≢true yes), λ all. absurd (wrong (all m)))
+
+pub returns-then-not-step_holds-clause-same : goal.returns-then-not-step_holds-clause-same
+returns-then-not-step_holds-clause-same g c = c.step_holds.ensures.same ∙ c.loop-m.invariant.same
 
 pub loop-m-preserved : goal.loop-m-preserved
 loop-m-preserved g c =
@@ -44,21 +47,18 @@ loop-m-preserved g c =
           c.loop-m.invariant.held (test.0 c.if-not-step_holds.false);
     }
 
-pub returns : goal.returns
-returns g c =
+pub returns-clause-value : goal.returns-clause-value
+returns-clause-value g c =
     let rules = g.G.Game.game c.args.game.now in
     let moves = c.distinct_moves.result.items in
-    let items = c.as_slice-m-items.result.now in
-    record {
-      value = (
-        λ true. one_each rules c.args.certificate.now c.args.position.now c.args.cost moves c.distinct_moves.ensures.classes
-            (λ m there.
-            let at = subst (λ l. Contains l m) (sym c.as_slice-m-items.ensures.value) there in
-            subst (StepHolds rules c.args.certificate.now c.args.position.now c.args.cost) at.2
-            (c.loop-m.invariant.held at.0 m (omega (arith, at.1, c.loop-m-test.false)))),
-        λ all. refl,
-      );
-    }
+    let items = c.as_slice-m-items.result.now in (
+      λ true. one_each rules c.args.certificate.now c.args.position.now c.args.cost moves c.distinct_moves.ensures.classes
+          (λ m there.
+          let at = subst (λ l. Contains l m) (sym c.as_slice-m-items.ensures.value) there in
+          subst (StepHolds rules c.args.certificate.now c.args.position.now c.args.cost) at.2
+          (c.loop-m.invariant.held at.0 m (omega (arith, at.1, c.loop-m-test.false)))),
+      λ all. refl,
+    )
 
 pub step_holds-requires-clause-whole : goal.step_holds-requires-clause-whole
 step_holds-requires-clause-whole g c = subst IsPosition (sym c.loop-m.invariant.same) c.requires.whole
