@@ -175,29 +175,28 @@ module _ {K : Type 0} (g : Graph K) (weight budget : ℕ) where
       pub stands : Stands s busy xb mb
 
     abbrev IsChild : Child K → Type 0
-    IsChild child = g.edge xb child.cost child.key × (child.bound ≡ g.bound child.key)
+    IsChild child = g.edge xb child.cost child.key
 
     child_needed : (s : Store K) (child : Child K) → IsChild child → Doing s → IsNeeded g weight child.key
     child_needed s child edge d =
-        inr (xb, mb.cost, child.cost, d.sound.reached busy xb mb d.stands, edge.0, least)
+        inr (xb, mb.cost, child.cost, d.sound.reached busy xb mb d.stands, edge, least)
 
     puts_doing : (old new : Store K) (child : Child K) (i : ℕ) → IsChild child → Doing old → length new.stored ≤ budget
-        → Puts old new child.key (mark_of busy mb.cost child) (mb.cost + child.cost + weight * child.bound) i
+        → Puts old new child.key (mark_of busy mb.cost child) (mb.cost + child.cost + weight * g.bound child.key) i
         → mb.cost + child.cost ≤ 53 * i + 53 → Doing new
     puts_doing old new child i edge d room puts low =
         let e : Mark = mark_of busy mb.cost child in
-        let f : ℕ = mb.cost + child.cost + weight * child.bound in
+        let f : ℕ = mb.cost + child.cost + weight * g.bound child.key in
         let before = d.sound.reached busy xb mb d.stands in
-        let reached : Reached g child.key (mb.cost + child.cost) = (suc before.0, (xb, mb.cost, child.cost, before.1, edge.0, refl)) in
+        let reached : Reached g child.key (mb.cost + child.cost) = (suc before.0, (xb, mb.cost, child.cost, before.1, edge, refl)) in
         let self : mb.cost + child.cost ≤ mb.cost + child.cost = omega arith in
-        let comes : Comes g old i child.key e = inr (xb, mb, child.cost, d.stands, edge.0, self) in
+        let comes : Comes g old i child.key e = inr (xb, mb, child.cost, d.stands, edge, self) in
         let needed = child_needed old child edge d in
-        let exact : f ≡ mb.cost + child.cost + weight * g.bound child.key = ap (λ b. mb.cost + child.cost + weight * b) edge.1 in
-        let high : mb.cost + child.cost + weight * g.bound child.key ≤ f = omega (arith, exact) in
+        let high : f ≤ f = omega arith in
         let more : mb.cost ≤ e.cost = omega arith in
         record {
           sound = still_sound old new child.key e f i puts g weight budget d.sound room reached low comes needed high;
-          settled = still_settled old new child.key e f i puts g weight budget d.sound room reached low comes needed high exact busy d.settled;
+          settled = still_settled old new child.key e f i puts g weight budget d.sound room reached low comes needed high refl busy d.settled;
           stands = puts.on busy xb mb (other_number old new child.key e f i puts busy xb mb d.stands more) d.stands;
         }
 
@@ -207,18 +206,18 @@ module _ {K : Type 0} (g : Graph K) (weight budget : ℕ) where
         × HasAt new child.key (mb.cost + child.cost) × (work_left budget new ≤ work_left budget old)
 
     placed_known : (old new : Store K) (child : Child K) → Doing old
-        → Offers budget old new child.key (mark_of busy mb.cost child) (mb.cost + child.cost + weight * child.bound) Known
+        → Offers budget old new child.key (mark_of busy mb.cost child) (mb.cost + child.cost + weight * g.bound child.key) Known
         → Placed old new child
     placed_known old new child d (i, was, at, (le, same)) =
         let still_left : work_left budget old ≤ work_left budget old = omega arith in
         subst (λ s. Placed old s child) (sym same) (d, λ x c h. h, (i, was, at, le), still_left)
 
     placed_lowered : (old new : Store K) (child : Child K) → IsChild child → Doing old
-        → Offers budget old new child.key (mark_of busy mb.cost child) (mb.cost + child.cost + weight * child.bound) Lowered
+        → Offers budget old new child.key (mark_of busy mb.cost child) (mb.cost + child.cost + weight * g.bound child.key) Lowered
         → Placed old new child
     placed_lowered old new child edge d h =
         let e : Mark = mark_of busy mb.cost child in
-        let f : ℕ = mb.cost + child.cost + weight * child.bound in
+        let f : ℕ = mb.cost + child.cost + weight * g.bound child.key in
         let p = puts_lowered budget old new child.key e f h in
         let was = d.sound.low h.0 child.key h.1 h.2 in
         let less : mb.cost + child.cost < h.1.cost = h.3.0 in
@@ -232,14 +231,14 @@ module _ {K : Type 0} (g : Graph K) (weight budget : ℕ) where
         )
 
     placed_added : IsLawful g → (old new : Store K) (child : Child K) → IsChild child → Doing old
-        → Offers budget old new child.key (mark_of busy mb.cost child) (mb.cost + child.cost + weight * child.bound) Added
+        → Offers budget old new child.key (mark_of busy mb.cost child) (mb.cost + child.cost + weight * g.bound child.key) Added
         → Placed old new child
     placed_added lawful old new child edge d h =
         let e : Mark = mark_of busy mb.cost child in
-        let f : ℕ = mb.cost + child.cost + weight * child.bound in
+        let f : ℕ = mb.cost + child.cost + weight * g.bound child.key in
         let p = puts_added budget old new child.key e f h in
         let was = d.sound.low busy xb mb d.stands in
-        let step = (lawful.edges xb child.cost child.key edge.0).1 in
+        let step = (lawful.edges xb child.cost child.key edge).1 in
         let lt = stands_within old busy xb mb d.stands in
         let low : mb.cost + child.cost ≤ 53 * length old.stored + 53 = omega (arith, was, step, lt) in
         let room = offers_room budget old new child.key e f Added d.sound.room h in
@@ -275,7 +274,7 @@ module _ {K : Type 0} (g : Graph K) (weight budget : ℕ) where
 
     expands_done : IsLawful g → (children : List (Child K)) (old new : Store K) (left_out : Option K)
         → ((child : Child K) → Contains children child → IsChild child) → Doing old
-        → Expands weight budget busy mb.cost children old new left_out → Done children old new left_out
+        → Expands g weight budget busy mb.cost children old new left_out → Done children old new left_out
     expands_done lawful [] old new left_out edges d (same, none) =
         let left : work_left budget new ≡ work_left budget old = ap (work_left budget) same in
         inl (
@@ -291,7 +290,7 @@ module _ {K : Type 0} (g : Graph K) (weight budget : ℕ) where
           child.key,
           out,
           subst (λ s. IsGivenUp g weight budget s child.key busy) (sym full.3)
-              (d.sound, full.2, full.1, child_needed old child edge d, (xb, mb, child.cost, d.stands, edge.0)),
+              (d.sound, full.2, full.1, child_needed old child edge d, (xb, mb, child.cost, d.stands, edge)),
         )
     expands_done lawful (child ∷ children) old new left_out edges d (inr (mid, how, rest)) =
         let edge = edges child (front_there child children) in
@@ -318,7 +317,7 @@ module _ {K : Type 0} (g : Graph K) (weight budget : ℕ) where
         → Done number t.1 t.2 (work_least number left_out t) t.7.0 t.3 new left_out
     work_done number left_out (f, x, mark, mid, taken, not_won, le, (children, are, expands)) =
         let t : Work number left_out = (f, x, mark, mid, taken, not_won, le, (children, are, expands)) in
-        expands_done number x mark (work_least number left_out t) lawful children mid new left_out are.edges
+        expands_done number x mark (work_least number left_out t) lawful children mid new left_out (λ child there. (are.edges child there).0)
         (record {
           sound = taken_sound old mid f number kept.sound taken.kept taken.taken;
           settled = λ j y l ne at. others_settled old mid f number x mark kept taken j y l (λ _ e. ne e) at;

@@ -1,20 +1,13 @@
 -- Lemmas on stored keys: which is found, which is new, and what stands after one is put in.
-use Rattle.std.proofs.Common.{◌≡◌, ℕ, ◌+◌, ◌<◌, Bool, true, false, not, suc, zero, Some, None, Option, List, [], ◌∷◌, ◌++◌, length, cond, refl, sym, ◌∙◌, ap, subst, arith, true≢false, nat_lt, is_some}
+use Rattle.std.proofs.Common.{◌≡◌, ℕ, ◌+◌, ◌<◌, Bool, true, false, not, suc, zero, Some, None, List, [], ◌∷◌, ◌++◌, length, cond, refl, sym, ◌∙◌, ap, subst, arith, nat_lt}
 use Rattle.std.specs.Prelude.{slice_get, position}
 use Rattle.std.specs.List.{position_or_len}
 use Rattle.std.specs.Map.{keys_of, lookup}
-use Rattle.std.proofs.lemmas.Option.{none-some, cond_some}
-use Rattle.std.specs.Prelude.{Result, Ok, Err, IfOk}
+use Rattle.std.proofs.lemmas.Option.{none-some, cond_some, slice_get_within, some_pair_parts}
 use Rattle.indexmap.specs.IndexMap.{set_value_at}
 use Rattle.fc_frontier.specs.Queue.{Adds}
 use Rattle.fc_best_first.specs.declared.books.Mark.{Mark}
-use Rattle.fc_best_first.specs.declared.books.Offered.{Offered}
-use Rattle.fc_best_first.specs.declared.books.Offered.TheVariants.{Known, Lowered, Added, Full}
-use Rattle.fc_best_first.specs.Store.{Store, Stands, Meets, Offers}
-
-pub none_from_found : {X : Type 0} (o : Option X) → false ≡ is_some o → o ≡ None
-none_from_found None h = refl
-none_from_found (Some v) h = absurd (true≢false (sym h))
+use Rattle.fc_best_first.specs.Store.{Store, Stands}
 
 module _ {K X : Type 0} where
   -- a key that passes the test stands under the number
@@ -104,25 +97,15 @@ module _ {K X : Type 0} where
   push_elsewhere (d ∷ es) e (suc j) ne = push_elsewhere es e j (λ q. ne (ap suc q))
 
 module _ {K : Type 0} where
-  -- a key that is met is offered
-  pub meets-offers : {E : Type 0} (budget : ℕ) (old new : Store K) (i : ℕ) (x : K) (m : Mark) (f : ℕ) (r : Result (Offered K) E)
-      → ((was : Mark) × Stands old i x was)
-      → IfOk r (λ o. (y : K) (was : Mark) → Stands old i y was → Meets old new i was m f o)
-      → IfOk r (λ o. Offers budget old new x m f o)
-  meets-offers budget old new i x m f (Err e) at h = h
-  meets-offers budget old new i x m f (Ok Known) at h = (i, at.0, at.1, h x at.0 at.1)
-  meets-offers budget old new i x m f (Ok Lowered) at h = (i, at.0, at.1, h x at.0 at.1)
-  meets-offers budget old new i x m f (Ok Added) at h = absurd (h x at.0 at.1)
-  meets-offers budget old new i x m f (Ok (Full y)) at h = absurd (h x at.0 at.1)
-
-  -- the key that a look-up sees is the one that was sought
-  pub seen_stands : (eq : K → K → Bool) → ((x y : K) → eq x y ≡ true → x ≡ y) → (es : List (K × Mark)) (s : Store K)
-      → es ≡ s.stored → (x : K) (i : ℕ) → Sees (eq x) es i → (m : Mark) × Stands s i x m
-  seen_stands eq exact es s same x i h = (
-    h.1,
-    subst (λ fs. slice_get fs i ≡ Some (x, h.1)) same
-        (subst (λ y. slice_get es i ≡ Some (y, h.1)) (sym (exact x h.0 h.3)) h.2),
-  )
+  -- the entry that a look-up finds is of the key that was sought
+  pub found_stands : (eq : K → K → Bool) → ((x y : K) → eq x y ≡ true → x ≡ y) → (es : List (K × Mark)) (s : Store K)
+      → es ≡ s.stored → (x y : K) (m : Mark) (i : ℕ) → Some i ≡ position (eq x) (keys_of es) → slice_get es i ≡ Some (y, m)
+      → Stands s i x m
+  found_stands eq exact es s same x y m i at entry =
+      let seen = found_passes (eq x) es i at (slice_get_within es i (y, m) entry) in
+      let both = some_pair_parts seen.0 y seen.1 m (sym seen.2 ∙ entry) in
+      let own = exact x y (subst (λ k. eq x k ≡ true) both.0 seen.3) in
+      subst (λ fs. slice_get fs i ≡ Some (x, m)) same (subst (λ k. slice_get es i ≡ Some (k, m)) (sym own) entry)
 
 pub adds_along : (old was new : List (ℕ × ℕ)) (f i j : ℕ) → old ≡ was → i ≡ j → Adds old new (f, i) → Adds was new (f, j)
 adds_along old was new f i j same e h = subst (λ k. Adds was new (f, k)) e (subst (λ ps. Adds ps new (f, i)) same h)

@@ -1,13 +1,14 @@
 -- Lemmas on offering the children of a key one after the other.
-use Rattle.std.proofs.Common.{◌≡◌, ℕ, ◌+◌, ◌*◌, ◌≤◌, ◌⊎◌, Option, Some, List, ◌∷◌, length, refl, sym, ◌∙◌, ap, subst, inl, inr, arith}
+use Rattle.std.proofs.Common.{◌≡◌, ℕ, ◌+◌, ◌*◌, ◌≤◌, ◌⊎◌, suc, Option, Some, List, ◌∷◌, length, refl, sym, ◌∙◌, ap, subst, inl, inr, arith}
 use Rattle.std.proofs.lemmas.List.{length_push}
 use Rattle.indexmap.specs.Layout.{length-set_value_at}
 use Rattle.fc_best_first.specs.declared.books.Mark.{Mark}
 use Rattle.fc_best_first.specs.declared.books.Offered.{Offered}
 use Rattle.fc_best_first.specs.declared.books.Offered.TheVariants.{Known, Lowered, Added, Full}
 use Rattle.fc_best_first.specs.declared.spaces.Child.{Child}
+use Rattle.fc_best_first.specs.Graph.{Graph, Reached}
 use Rattle.fc_best_first.specs.Store.{Store, Offers}
-use Rattle.fc_best_first.specs.Turn.{Expands, mark_of}
+use Rattle.fc_best_first.specs.Turn.{AreChildren, AreReached, Expands, mark_of}
 
 module _ {K : Type 0} where
   -- no offer goes past the budget
@@ -23,36 +24,41 @@ module _ {K : Type 0} where
   offers_room budget old new x m f (Full y) room h = subst (λ s. length s.stored ≤ budget) (sym h.3) room
 
   -- a child that found its place, and the others after it
-  pub expands_on : (weight budget number cost : ℕ) (child : Child K) (children : List (Child K)) (old mid new : Store K)
-      (left_out : Option K) (r f : ℕ) (o : Offered K) → r ≡ child.cost → f ≡ cost + r + weight * child.bound
-      → ((y : K) → o ≡ Full y → ⊥)
-      → Offers budget old mid child.key (record { cost = cost + r; parent = number }) f o
-      → Expands weight budget number cost children mid new left_out
-      → Expands weight budget number cost (child ∷ children) old new left_out
-  expands_on weight budget number cost child children old mid new left_out r f o e weighed placed offers rest =
+  pub expands_on : (g : Graph K) (weight budget number cost : ℕ) (child : Child K) (children : List (Child K)) (old mid new : Store K)
+      (left_out : Option K) (r : ℕ) (o : Offered K) → r ≡ child.cost → ((y : K) → o ≡ Full y → ⊥)
+      → Offers budget old mid child.key (record { cost = cost + r; parent = number }) (cost + r + weight * g.bound child.key) o
+      → Expands g weight budget number cost children mid new left_out
+      → Expands g weight budget number cost (child ∷ children) old new left_out
+  expands_on g weight budget number cost child children old mid new left_out r o e placed offers rest =
       inr (mid, by o placed at_child, rest)
     where
-      at_child : Offers budget old mid child.key (mark_of number cost child) (cost + child.cost + weight * child.bound) o
+      at_child : Offers budget old mid child.key (mark_of number cost child) (cost + child.cost + weight * g.bound child.key) o
       at_child =
           subst (λ v. Offers budget old mid child.key (record { cost = cost + v; parent = number })
-          (cost + v + weight * child.bound) o) e
-          (subst (λ h. Offers budget old mid child.key (record { cost = cost + r; parent = number }) h o) weighed offers)
+          (cost + v + weight * g.bound child.key) o) e offers
 
       by : (p : Offered K) → ((y : K) → p ≡ Full y → ⊥)
-          → Offers budget old mid child.key (mark_of number cost child) (cost + child.cost + weight * child.bound) p
-          → Offers budget old mid child.key (mark_of number cost child) (cost + child.cost + weight * child.bound) Known
-          ⊎ (Offers budget old mid child.key (mark_of number cost child) (cost + child.cost + weight * child.bound) Lowered
-          ⊎ Offers budget old mid child.key (mark_of number cost child) (cost + child.cost + weight * child.bound) Added)
+          → Offers budget old mid child.key (mark_of number cost child) (cost + child.cost + weight * g.bound child.key) p
+          → Offers budget old mid child.key (mark_of number cost child) (cost + child.cost + weight * g.bound child.key) Known
+          ⊎ (Offers budget old mid child.key (mark_of number cost child) (cost + child.cost + weight * g.bound child.key) Lowered
+          ⊎ Offers budget old mid child.key (mark_of number cost child) (cost + child.cost + weight * g.bound child.key) Added)
       by Known q h = inl h
       by Lowered q h = inr (inl h)
       by Added q h = inr (inr h)
       by (Full y) q h = absurd (q y refl)
 
   -- a child that found no place, whatever others are after it
-  pub expands_full : (weight budget number cost : ℕ) (child : Child K) (children : List (Child K)) (old new : Store K) (key : K)
-      (r f : ℕ) (o : Offered K) → r ≡ child.cost → o ≡ Full key
+  pub expands_full : (g : Graph K) (weight budget number cost : ℕ) (child : Child K) (children : List (Child K)) (old new : Store K)
+      (key : K) (r f : ℕ) (o : Offered K) → r ≡ child.cost → o ≡ Full key
       → Offers budget old new child.key (record { cost = cost + r; parent = number }) f o
-      → Expands weight budget number cost (child ∷ children) old new (Some key)
-  expands_full weight budget number cost child children old new key r f o e is offers =
+      → Expands g weight budget number cost (child ∷ children) old new (Some key)
+  expands_full g weight budget number cost child children old new key r f o e is offers =
       let full = subst (Offers budget old new child.key (record { cost = cost + r; parent = number }) f) is offers in
       inl ((refl, full.1, full.2, full.3), ap Some full.0)
+
+  -- the children of a key that was reached can be reached
+  pub children_reached : (g : Graph K) (x : K) (children : List (Child K)) → ((d : ℕ) × Reached g x d) → AreChildren g x children
+      → AreReached g children
+  children_reached g x children (d, (edges, reached)) are child there =
+      let edge = are.edges child there in
+      ((d + child.cost, (suc edges, (x, d, child.cost, reached, edge.0, refl))), edge.1)

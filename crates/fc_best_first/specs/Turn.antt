@@ -1,5 +1,5 @@
 -- One turn of a search.
-use Rattle.std.specs.Prelude.{◌≡◌, ℕ, ◌+◌, ◌-◌, ◌*◌, ◌<◌, ◌≤◌, ◌⊎◌, List, [], ◌∷◌, length, sum_by, Contains, Option, Some, None}
+use Rattle.std.specs.Prelude.{◌≡◌, ℕ, ◌+◌, ◌-◌, ◌*◌, ◌<◌, ◌≤◌, ◌⊎◌, List, [], ◌∷◌, length, sum_by, IfSome, Contains, Option, Some, None}
 use Rattle.fc_frontier.specs.Queue.{IsLeast}
 use Rattle.fc_best_first.specs.declared.books.Mark.{Mark}
 use Rattle.fc_best_first.specs.declared.books.Offered.TheVariants.{Known, Lowered, Added, Full}
@@ -7,7 +7,7 @@ use Rattle.fc_best_first.specs.declared.spaces.Child.{Child}
 use Rattle.fc_best_first.specs.declared.turns.Status.{Status}
 use Rattle.fc_best_first.specs.declared.turns.Status.TheVariants.{Running, Won, CannotWin, GaveUp, Stopped}
 use Rattle.fc_best_first.specs.declared.turns.TheConstants.{MOST_COST}
-use Rattle.fc_best_first.specs.Graph.{Graph}
+use Rattle.fc_best_first.specs.Graph.{Graph, Reached}
 use Rattle.fc_best_first.specs.Store.{Store, Offers, IsTaken}
 
 -- the floor that a turn of a running search leaves: the same where no pair is open, else the least f of the open pairs
@@ -16,28 +16,36 @@ TakesFloor waiting old new = ((waiting ≡ []) × (new ≡ old))
     ⊎ ((number : ℕ) × Contains waiting (new, number) × IsLeast (new, number) waiting)
 
 module _ {K : Type 0} where
+  -- the child's bound is that of its key, where it is told
+  abbrev pub TellsBound : Graph K → Child K → Type 0
+  TellsBound g child = IfSome child.bound (λ b. b ≡ g.bound child.key)
+
   -- the children of a key: each is at the end of an edge, and each edge's end is one, at no more
   pub record AreChildren (g : Graph K) (x : K) (children : List (Child K)) : Type 0 where
-    pub edges : (child : Child K) → Contains children child
-        → g.edge x child.cost child.key × (child.bound ≡ g.bound child.key)
+    pub edges : (child : Child K) → Contains children child → g.edge x child.cost child.key × TellsBound g child
     pub whole : (c : ℕ) (y : K) → g.edge x c y
         → (child : Child K) × Contains children child × (child.key ≡ y) × (child.cost ≤ c)
+
+  -- each of the children is a key that can be reached, and its bound is that of its key, where it is told
+  abbrev pub AreReached : Graph K → List (Child K) → Type 0
+  AreReached g children = (child : Child K) → Contains children child → ((d : ℕ) × Reached g child.key d) × TellsBound g child
 
   -- the mark of a child of the key that is stored under this number at this cost
   abbrev pub mark_of : ℕ → ℕ → Child K → Mark
   mark_of number cost child = record { cost = cost + child.cost; parent = number }
 
-  -- the children are offered one after the other; the first that finds no place ends it
-  abbrev pub Expands : ℕ → ℕ → ℕ → ℕ → List (Child K) → Store K → Store K → Option K → Type 0
-  Expands weight budget number cost [] old new left_out = (new ≡ old) × (left_out ≡ None)
-  Expands weight budget number cost (child ∷ children) old new left_out =
-      (Offers budget old new child.key (mark_of number cost child) (cost + child.cost + weight * child.bound) (Full child.key)
+  -- the children are offered one after the other, each to be open at its cost plus its weighed bound; the first that finds
+  -- no place ends it
+  abbrev pub Expands : Graph K → ℕ → ℕ → ℕ → ℕ → List (Child K) → Store K → Store K → Option K → Type 0
+  Expands g weight budget number cost [] old new left_out = (new ≡ old) × (left_out ≡ None)
+  Expands g weight budget number cost (child ∷ children) old new left_out =
+      (Offers budget old new child.key (mark_of number cost child) (cost + child.cost + weight * g.bound child.key) (Full child.key)
       × (left_out ≡ Some child.key))
       ⊎ ((mid : Store K)
-      × (Offers budget old mid child.key (mark_of number cost child) (cost + child.cost + weight * child.bound) Known
-      ⊎ (Offers budget old mid child.key (mark_of number cost child) (cost + child.cost + weight * child.bound) Lowered
-      ⊎ Offers budget old mid child.key (mark_of number cost child) (cost + child.cost + weight * child.bound) Added))
-      × Expands weight budget number cost children mid new left_out)
+      × (Offers budget old mid child.key (mark_of number cost child) (cost + child.cost + weight * g.bound child.key) Known
+      ⊎ (Offers budget old mid child.key (mark_of number cost child) (cost + child.cost + weight * g.bound child.key) Lowered
+      ⊎ Offers budget old mid child.key (mark_of number cost child) (cost + child.cost + weight * g.bound child.key) Added))
+      × Expands g weight budget number cost children mid new left_out)
 
   -- a key that isn't won, taken at its cost plus weighed bound, is expanded
   abbrev pub ExpandsTaken : Graph K → ℕ → ℕ → Store K → Store K → ℕ → Option K → Type 0
@@ -45,7 +53,7 @@ module _ {K : Type 0} where
       (f : ℕ) × (x : K) × (mark : Mark) × (mid : Store K) × IsTaken old mid f number x mark
       × (g.won x → ⊥) × (f ≤ mark.cost + weight * g.bound x)
       × ((children : List (Child K)) × AreChildren g x children
-      × Expands weight budget number mark.cost children mid new left_out)
+      × Expands g weight budget number mark.cost children mid new left_out)
 
   -- a key that isn't won was met at a smaller cost since the pair was opened: the pair is dropped
   abbrev pub DropsTaken : Graph K → ℕ → Store K → Store K → Type 0

@@ -1,7 +1,8 @@
-ghost use Rattle.std.specs.Prelude.{◌≡◌, ◌^◌, ◌<◌, ◌≤◌, ℕ, [], length, slice_get, IfOk, IfSome, IfNone, MatchOption};
+ghost use Rattle.std.specs.Prelude.{◌≡◌, ◌^◌, ◌<◌, ◌≤◌, ℕ, [], length, slice_get, IfOk, IfSome, IfNone, OnOk, MatchOption};
 ghost use Rattle.std.specs.List.Sorted.{IsPermutation};
+ghost use Rattle.indexmap.specs.IndexMap.{set_value_at};
 ghost use Rattle.fc_frontier.specs.Queue.{Adds, IsLeast};
-ghost use Rattle.fc_best_first.specs.Store.{Store, Stands, IsNew, Meets, Offers};
+ghost use Rattle.fc_best_first.specs.Store.{Store, Stands, IsNew, Offers};
 
 use crate::keys::ExactKey;
 use fc_frontier::{Frontier, Full, Pairs};
@@ -93,33 +94,30 @@ impl<K: ExactKey, F: Frontier + Drop> Book<K, F> {
         self.entry(number).unwrap()
     }
 
-    /// Offers a key with a mark, to be open at `f`. At `Err` a growth was refused, and nothing is known of the book.
-    pub fn offer(&mut self, budget: u32, key: K, mark: Mark, f: u32) -> Result<Offered<K>, Full>
-        requires room { length self.old.stored ≤ budget }
-        ensures offers { IfOk result (λ offered. Offers budget self.old self.new key mark f offered) }
+    /// The number under which a key is stored, and its mark; `None` for a key that isn't.
+    pub fn find(&self, key: &K) -> Option<(u32, Mark)>
+        requires room { length self.now.stored ≤ 2 ^ 32 }
+        ensures value { MatchOption result (IsNew self.now key.now) (λ e. Stands self.now e.0 key.now e.1) }
     {
-        match self.table.get_index_of(&key) {
-            Some(number) => self.meet(number, mark, f),
-            None => self.add(budget, key, mark, f),
-        }
+        let (number, _, mark) = self.table.get_full(key)?;
+        Some((number as u32, *mark))
     }
 
-    // Offers a key that is stored.
-    fn meet(&mut self, number: usize, mark: Mark, f: u32) -> Result<Offered<K>, Full>
+    /// Gives the key that is stored under a number another mark, and opens it at `f`. At `Err` a growth was refused, and
+    /// nothing is known of the book.
+    pub fn lower(&mut self, number: u32, mark: Mark, f: u32) -> Result<(), Full>
         requires within { number < length self.old.stored }
-        requires room { number < 2 ^ 32 }
-        ensures offers { IfOk result (λ offered. (x : K) (was : Mark) → Stands self.old number x was → Meets self.old self.new number was mark f offered) }
+        ensures stored { OnOk result (self.new.stored ≡ set_value_at self.old.stored number mark) }
+        ensures waiting { OnOk result (Adds self.old.waiting self.new.waiting (f, number)) }
     {
-        if self.table[number].cost <= mark.cost {
-            return Ok(Offered::Known);
-        }
-        self.table[number] = mark;
-        self.queue.push(f, number as u32)?;
-        Ok(Offered::Lowered)
+        self.table[number as usize] = mark;
+        self.queue.push(f, number)?;
+        Ok(())
     }
 
-    // Offers a key that isn't stored.
-    fn add(&mut self, budget: u32, key: K, mark: Mark, f: u32) -> Result<Offered<K>, Full>
+    /// Offers a key that isn't stored with a mark, to be open at `f`. At `Err` a growth was refused, and nothing is known of
+    /// the book.
+    pub fn add(&mut self, budget: u32, key: K, mark: Mark, f: u32) -> Result<Offered<K>, Full>
         requires new { IsNew self.old key }
         ensures offers { IfOk result (λ offered. Offers budget self.old self.new key mark f offered) }
     {

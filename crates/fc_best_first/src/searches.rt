@@ -10,7 +10,7 @@ use crate::books::{Book, Mark};
 use crate::floors::least_open;
 use crate::keys::ExactKey;
 use crate::spaces::Space;
-use crate::turns::{MOST_BUDGET, Status, advance, weighed};
+use crate::turns::{MOST_BUDGET, Status, advance, f_of};
 use fc_frontier::Frontier;
 use std::alloc::Global;
 use std::marker::Model;
@@ -88,10 +88,10 @@ impl<K: ExactKey, F: Frontier + Drop, S: Space<K> + Drop> Search<K, F, S> {
         }
         let (start, walk) = space.start();
         let cost = u32::from(start.cost);
-        let f = weighed(weight, cost, start.bound);
+        let f = f_of(&space, weight, &start.key, cost, None);
         let mut book = Book::new(alloc);
         let mark = Mark { cost, parent: 0 };
-        let Ok(_offered) = book.offer(budget, start.key, mark, f) else {
+        let Ok(_offered) = book.add(budget, start.key, mark, f) else {
             return Err(SearchFault::Memory);
         };
         Ok(Search {

@@ -2,12 +2,12 @@ ghost use Rattle.std.specs.Prelude.{◌≡◌, ◌≤◌, ◌<◌, ◌↔◌, �
 ghost use Rattle.fc_best_first.specs.Graph.{Graph, IsLawful, Reached};
 ghost use Rattle.fc_best_first.specs.Turn.{AreChildren};
 
-/// A key at the end of an edge, what the edge costs, and the bound of the key.
+/// A key at the end of an edge, what the edge costs, and the bound of the key where telling it costs next to nothing.
 #[derive(Default, Drop)]
 pub struct Child<K> {
     pub key: K,
     pub cost: u8,
-    pub bound: u8,
+    pub bound: Option<u8>,
 }
 
 /// A question that a search can answer.
@@ -26,23 +26,24 @@ pub trait Space<K> {
     // How many children are left.
     ghost left: { Self.Walk → ℕ };
 
-    /// The key that starts, with its cost and its bound, and a walk to visit keys with.
+    /// The key that starts, with its cost, and a walk to visit keys with.
     fn start(&self) -> (Child<K>, Self::Walk)
         ensures starts { (graph self.now).starts result.0.key result.0.cost }
-        ensures alone { (x : K) (d : ℕ) → (graph self.now).starts x d → (x ≡ result.0.key) × (result.0.cost ≤ d) }
-        ensures bound { result.0.bound ≡ (graph self.now).bound result.0.key };
+        ensures alone { (x : K) (d : ℕ) → (graph self.now).starts x d → (x ≡ result.0.key) × (result.0.cost ≤ d) };
 
     /// Whether a key that was reached is won.
     fn is_won(&self, key: &K) -> bool
         requires reached { (d : ℕ) × Reached (graph self.now) key.now d }
         ensures value { IsTrue result ↔ (graph self.now).won key.now };
 
-    /// The lower bound of a key that was reached.
+    /// The lower bound of a key that was reached. A search asks it of the key that starts, and of each child that it opens,
+    /// one that is new, or stored at more, where the child doesn't tell it. Most children are stored at no more already.
     fn bound(&self, key: &K) -> u8
         requires reached { (d : ℕ) × Reached (graph self.now) key.now d }
         ensures value { result ≡ (graph self.now).bound key.now };
 
-    /// The lower bound of a key that was reached. Its children take the place of those that were left.
+    /// The lower bound of a key that was reached, by which a pair that was opened at more is known. Its children take the place
+    /// of those that were left.
     fn visit(&self, key: &K, walk: &mut Self::Walk) -> u8
         requires reached { (d : ℕ) × Reached (graph self.now) key.now d }
         ensures bound { result ≡ (graph self.now).bound key.now }

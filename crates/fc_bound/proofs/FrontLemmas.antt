@@ -1,5 +1,5 @@
 -- What is left of columns while cards are taken out of them.
-use Rattle.std.proofs.Common.{◌≡◌, ◌≢◌, ℕ, ◌+◌, ◌-◌, ◌<◌, ◌≤◌, zero, suc, Bool, true, false, cond, Option, Some, None, List, [], ◌∷◌, ◌++◌, length, get_or, set, take, map, refl, sym, ◌∙◌, ap, subst, ⊎_elim, arith}
+use Rattle.std.proofs.Common.{◌≡◌, ℕ, ◌+◌, ◌-◌, ◌<◌, ◌≤◌, zero, suc, Bool, true, false, cond, Option, Some, None, List, [], ◌∷◌, length, get_or, set, take, map, refl, sym, ◌∙◌, ap, subst, ⊎_elim, arith}
 use Rattle.std.specs.Prelude.{min, ◌==◌, ◌&&◌, ◌||◌, nat_lt, sum_by}
 use Rattle.std.specs.List.{list_any, range_with_len}
 use Rattle.std.proofs.lemmas.Bool.{cases_eq}
@@ -8,14 +8,13 @@ use Rattle.std.proofs.lemmas.List.{length-take-le, get_or-map, get_or-set_same, 
 use Rattle.std.proofs.lemmas.List.Folds.{list_any_more}
 use Rattle.std.proofs.lemmas.List.Sums.{sum_by-cons}
 use Rattle.std.proofs.lemmas.Option.{slice_get-get_or}
-use Rattle.fc_cards.specs.Card.{rank, suit}
 use Rattle.fc_position.specs.Board.{last_of, front_of}
 use Rattle.fc_moves.specs.GameRules.{all_cards}
-use Rattle.fc_bound.specs.Bound.{is_lower}
 use Rattle.fc_bound.specs.Clearing.{without, cards_in}
-use Rattle.fc_bound.specs.Fronts.{lowest, AreLeast, AreLeastOfAll, number_where}
+use Rattle.fc_bound.specs.declared.columns.Front.{Front}
+use Rattle.fc_bound.specs.Fronts.{lowest, number_where, IsFront, IsLeft, no_front}
 use Rattle.fc_bound.specs.Knots.{has_last, ends_with, first_with, least_last, shed}
-use Rattle.fc_bound.proofs.AboveLemmas.{or-false, lower-more}
+use Rattle.fc_bound.proofs.AboveLemmas.{or-false}
 
 -- a column of what is left is so many of the column's lowest cards
 pub lowest-at : (heights : List ℕ) (columns : List (List ℕ)) (i : ℕ) → length heights ≡ length columns
@@ -32,14 +31,6 @@ length-lowest [] [] same = refl
 length-lowest [] (x ∷ columns) same = absurd (omega (arith, same))
 length-lowest (h ∷ heights) [] same = absurd (omega (arith, same))
 length-lowest (h ∷ heights) (x ∷ columns) same = ap suc (length-lowest heights columns (omega (arith, same)))
-
-pub least_first : (least : List ℕ) (columns : List (List ℕ)) → 0 < length columns → AreLeast least (get_or columns 0 [])
-    → AreLeastOfAll least (take 1 columns)
-least_first least [] inside are = absurd (omega (arith, inside))
-least_first least (x ∷ columns) inside are = record {
-  suits = are.suits;
-  tells = λ u below. or-false (list_any (is_lower u) x) ∙ are.tells u below;
-}
 
 -- flags that say of each column what a test says
 pub flags_all : (test : List ℕ → Bool) (columns : List (List ℕ)) (flags : List Bool) → length flags ≡ length columns
@@ -120,29 +111,58 @@ lowest-without heights columns i same within =
     ∙ ap (set (lowest heights columns) i) (sym (take-shorter (get_or heights i 0) (get_or columns i []) within)
     ∙ ap front_of (sym (lowest-at heights columns i same)))
 
-pub shed-lowered : (test : List ℕ → Bool) (heights now : List ℕ) (flags : List Bool) (columns : List (List ℕ))
-    → length heights ≡ length columns → length now ≡ length columns
-    → ((i : ℕ) → i < length columns → get_or heights i 0 ≤ length (get_or columns i []))
-    → flags ≡ map test (lowest heights columns)
-    → ((i : ℕ) → i < length columns → get_or now i 0 ≡ cond (get_or flags i false) (get_or heights i 0 - 1) (get_or heights i 0))
-    → lowest now columns ≡ shed test (lowest heights columns)
-shed-lowered test [] [] flags [] same long within are lowered = refl
-shed-lowered test [] (n ∷ now) flags [] same long within are lowered = absurd (omega (arith, long))
-shed-lowered test (h ∷ heights) now flags [] same long within are lowered = absurd (omega (arith, same))
-shed-lowered test [] now flags (x ∷ columns) same long within are lowered = absurd (omega (arith, same))
-shed-lowered test (h ∷ heights) [] flags (x ∷ columns) same long within are lowered = absurd (omega (arith, long))
-shed-lowered test (h ∷ heights) (n ∷ now) flags (x ∷ columns) same long within are lowered =
-    let flag : get_or flags 0 false ≡ test (take h x) = ap (λ f. get_or f 0 false) are in
-    let height : n ≡ cond (test (take h x)) (h - 1) h = lowered 0 (omega arith) ∙ ap (λ t. cond t (h - 1) h) flag in
-    let here : take n x ≡ cond (test (take h x)) (front_of (take h x)) (take h x) =
-    ap (λ k. take k x) height ∙ elim (test (take h x)) as (λ t. take (cond t (h - 1) h) x ≡ cond t (front_of (take h x)) (take h x)) [
-      | true ↦ sym (take-shorter h x (within 0 (omega arith)))
-      | false ↦ refl
-    ] in
-    let rest = shed-lowered test heights now (map test (lowest heights columns)) columns (omega (arith, same)) (omega (arith, long))
-    (λ i inside. within (suc i) (omega (arith, inside))) refl
-    (λ i inside. lowered (suc i) (omega (arith, inside)) ∙ ap (λ f. cond (get_or f (suc i) false) (get_or heights i 0 - 1) (get_or heights i 0)) are) in
-    cc
+-- columns that have lost their last card up to some place, and those after it as they were
+pub shed_all : (test : List ℕ → Bool) (columns now : List (List ℕ)) → length now ≡ length columns
+    → ((k : ℕ) → k < length columns → get_or now k [] ≡ cond (test (get_or columns k [])) (front_of (get_or columns k [])) (get_or columns k []))
+    → now ≡ shed test columns
+shed_all test [] [] long each = refl
+shed_all test [] (n ∷ now) long each = absurd (omega (arith, long))
+shed_all test (x ∷ columns) [] long each = absurd (omega (arith, long))
+shed_all test (x ∷ columns) (n ∷ now) long each =
+    let here = each 0 (omega arith) in
+    let rest = shed_all test columns now (omega (arith, long)) (λ k inside. each (suc k) (omega (arith, inside))) in cc
+
+pub record ShedTo (test : List ℕ → Bool) (columns now : List (List ℕ)) (i : ℕ) : Type 0 where
+  pub long : length now ≡ length columns
+  pub done : (k : ℕ) → k < i → get_or now k [] ≡ cond (test (get_or columns k [])) (front_of (get_or columns k [])) (get_or columns k [])
+  pub later : (k : ℕ) → i ≤ k → get_or now k [] ≡ get_or columns k []
+
+pub shed_one : (test : List ℕ → Bool) (columns now : List (List ℕ)) (i : ℕ) → ShedTo test columns now i → i < length columns
+    → test (get_or columns i []) ≡ true → ShedTo test columns (without now i) (i + 1)
+shed_one test columns now i so inside passes =
+    let here : get_or now i [] ≡ get_or columns i [] = so.later i (omega arith) in
+    let same : i < length now = omega (arith, so.long, inside) in
+    let lost = front_of (get_or now i []) in
+    record {
+      long = length-set now i lost ∙ so.long;
+      done = λ k below. ⊎_elim
+          (λ e. let at = ap (λ j. get_or (set now i lost) j []) e ∙ get_or-set_same now i lost [] same ∙ ap front_of here in
+          let yes = ap (λ t. cond t (front_of (get_or columns i [])) (get_or columns i [])) passes in
+          let back = ap (λ j. cond (test (get_or columns j [])) (front_of (get_or columns j [])) (get_or columns j [])) e in
+          at ∙ sym yes ∙ sym back)
+          (λ ne. get_or-set_other now i k lost [] ne ∙ so.done k (omega (arith, ne, below)))
+          (cases_eq k i);
+      later = λ k above. get_or-set_other now i k lost [] (λ e. omega (arith, e, above)) ∙ so.later k (omega (arith, above));
+    }
+
+pub shed_not : (test : List ℕ → Bool) (columns now : List (List ℕ)) (i : ℕ) → ShedTo test columns now i
+    → test (get_or columns i []) ≡ false → ShedTo test columns now (i + 1)
+shed_not test columns now i so passes = record {
+  long = so.long;
+  done = λ k below. ⊎_elim
+      (λ e. let here = ap (λ j. get_or now j []) e ∙ so.later i (omega arith) in
+      let no = ap (λ t. cond t (front_of (get_or columns i [])) (get_or columns i [])) passes in
+      let back = ap (λ j. cond (test (get_or columns j [])) (front_of (get_or columns j [])) (get_or columns j [])) e in
+      here ∙ sym no ∙ sym back)
+      (λ ne. so.done k (omega (arith, ne, below)))
+      (cases_eq k i);
+  later = λ k above. so.later k (omega (arith, above));
+}
+
+pub shed_whole : (test : List ℕ → Bool) (columns now : List (List ℕ)) (i : ℕ) → ShedTo test columns now i → length columns ≤ i
+    → now ≡ shed test columns
+shed_whole test columns now i so all =
+    shed_all test columns now so.long (λ k inside. so.done k (omega (arith, inside, all)))
 
 -- the least card of a range that passes one of two tests
 fw-least : (p : ℕ → Bool) (a n : ℕ) → a ≤ 52 → a + n ≤ 52 → a ≤ first_with p (range_with_len a n)
@@ -217,40 +237,82 @@ pub last_more : (test : List ℕ → Bool) (columns : List (List ℕ)) (i : ℕ)
 unfolding all_cards
 last_more test columns i inside most = least_more_of 52 test columns i refl inside most
 
-last_none : (test : List ℕ → Bool) → least_last test [] ≡ 52
+pub last_none : (test : List ℕ → Bool) → least_last test [] ≡ 52
 last_none test = fw-none (λ u. false) all_cards (λ u. refl)
 
-pub last_first : (test : List ℕ → Bool) (columns : List (List ℕ)) → 0 < length columns
-    → number_where (test (get_or columns 0 [])) (last_of (get_or columns 0 [])) ≤ 52
-    → least_last test (take 1 columns) ≡ number_where (test (get_or columns 0 [])) (last_of (get_or columns 0 []))
-last_first test columns inside most =
-    let step = last_more test columns 0 inside most in
-    let none = last_none test in
-    omega (arith, step, none, most)
+-- the least last card of columns that pass one of two tests
+either_any : (p q r e : List ℕ → Bool) (columns : List (List ℕ)) → ((x : List ℕ) → r x ≡ (p x || q x))
+    → list_any (λ x. r x && e x) columns ≡ (list_any (λ x. p x && e x) columns || list_any (λ x. q x && e x) columns)
+either_any p q r e [] is = refl
+either_any p q r e (x ∷ columns) is =
+    ap (λ t. (t && e x) || list_any (λ x. r x && e x) columns) (is x)
+    ∙ ap (λ t. ((p x || q x) && e x) || t) (either_any p q r e columns is)
+    ∙ go (p x) (q x) (e x) (list_any (λ x. p x && e x) columns) (list_any (λ x. q x && e x) columns)
+  where
+    go : (a b c m n : Bool) → (((a || b) && c) || (m || n)) ≡ (((a && c) || m) || ((b && c) || n))
+    go true true true m n = refl
+    go true true false m n = refl
+    go true false true m n = refl
+    go true false false m n = refl
+    go false true true true n = refl
+    go false true true false n = refl
+    go false true false m n = refl
+    go false false c m n = refl
 
--- one more card of a column: its rank is the least of its suit, if no lesser one is there
-lower_or : (l lx m ry rx sy sx : ℕ) → m ≡ min l ry → (sy ≡ sx → lx ≡ l) → (now : ℕ) → (sy ≡ sx → now ≡ m) → (sy ≢ sx → now ≡ lx)
-    → (nat_lt lx rx || ((sy == sx) && nat_lt ry rx)) ≡ nat_lt now rx
-lower_or l lx m ry rx sy sx is same now here there =
-    ⊎_elim (λ e. let one = same e in let two = here e in grind (arith, nat_tests))
-    (λ ne. let two = there ne in grind (arith, nat_tests)) (cases_eq sy sx)
+same_any : (p q e : List ℕ → Bool) (columns : List (List ℕ)) → ((x : List ℕ) → p x ≡ q x)
+    → list_any (λ x. p x && e x) columns ≡ list_any (λ x. q x && e x) columns
+same_any p q e [] same = refl
+same_any p q e (x ∷ columns) same =
+    ap (λ t. (t && e x) || list_any (λ x. p x && e x) columns) (same x) ∙ ap (λ t. (q x && e x) || t) (same_any p q e columns same)
 
-pub lows_more : (least seen : List ℕ) (y s r m : ℕ) → AreLeast least seen → y < 52 → s ≡ suit y → r ≡ rank y
-    → m ≡ min (get_or least s 0) r → AreLeast (set least s m) (seen ++ y ∷ [])
-lows_more least seen y s r m are below suits ranks is =
-    let four = are.suits in
-    let inside : suit y < length least = omega arith in
-    let lesser : m ≡ min (get_or least (suit y) 0) (rank y) =
-    is ∙ ap (λ k. min (get_or least k 0) r) suits ∙ ap (min (get_or least (suit y) 0)) ranks in
-    let moved : AreLeast (set least (suit y) m) (seen ++ y ∷ []) = record {
-      suits = length-set least (suit y) m ∙ are.suits;
-      tells = λ x within. lower-more x y seen ∙ ap (λ t. t || is_lower x y) (are.tells x within)
-          ∙ lower_or (get_or least (suit y) 0) (get_or least (suit x) 0) m (rank y) (rank x) (suit y) (suit x) lesser
-          (λ e. ap (λ k. get_or least k 0) (sym e)) (get_or (set least (suit y) m) (suit x) 0)
-          (λ e. ap (λ k. get_or (set least (suit y) m) k 0) (sym e) ∙ get_or-set_same least (suit y) m 0 inside)
-          (λ ne. get_or-set_other least (suit y) (suit x) m 0 (λ e. ne (sym e)));
-    } in
-    subst (λ k. AreLeast (set least k m) (seen ++ y ∷ [])) (sym suits) moved
+none_any : (p e : List ℕ → Bool) (columns : List (List ℕ)) → ((x : List ℕ) → p x ≡ false) → list_any (λ x. p x && e x) columns ≡ false
+none_any p e [] none = refl
+none_any p e (x ∷ columns) none = ap (λ t. (t && e x) || list_any (λ x. p x && e x) columns) (none x) ∙ none_any p e columns none
+
+last_or_of : (n : ℕ) (p q r : List ℕ → Bool) (columns : List (List ℕ)) → n ≡ 52 → ((x : List ℕ) → r x ≡ (p x || q x))
+    → first_with (λ u. list_any (λ column. r column && ends_with u (last_of column)) columns) (range_with_len 0 n)
+    ≡ min (first_with (λ u. list_any (λ column. p column && ends_with u (last_of column)) columns) (range_with_len 0 n))
+    (first_with (λ u. list_any (λ column. q column && ends_with u (last_of column)) columns) (range_with_len 0 n))
+last_or_of n p q r columns is either =
+    fw-or (λ u. list_any (λ column. p column && ends_with u (last_of column)) columns)
+    (λ u. list_any (λ column. q column && ends_with u (last_of column)) columns)
+    (λ u. list_any (λ column. r column && ends_with u (last_of column)) columns) 0 n (omega (arith, is))
+    (λ u. either_any p q r (λ column. ends_with u (last_of column)) columns either)
+
+last_or : (p q r : List ℕ → Bool) (columns : List (List ℕ)) → ((x : List ℕ) → r x ≡ (p x || q x))
+    → least_last r columns ≡ min (least_last p columns) (least_last q columns)
+unfolding all_cards
+last_or p q r columns either = last_or_of 52 p q r columns refl either
+
+last_same : (p q : List ℕ → Bool) (columns : List (List ℕ)) → ((x : List ℕ) → p x ≡ q x) → least_last p columns ≡ least_last q columns
+last_same p q columns same =
+    fw-same (λ u. list_any (λ column. p column && ends_with u (last_of column)) columns)
+    (λ u. list_any (λ column. q column && ends_with u (last_of column)) columns) all_cards
+    (λ u. same_any p q (λ column. ends_with u (last_of column)) columns same)
+
+pub last_never : (p : List ℕ → Bool) (columns : List (List ℕ)) → ((x : List ℕ) → p x ≡ false) → least_last p columns ≡ 52
+last_never p columns none =
+    fw-none (λ u. list_any (λ column. p column && ends_with u (last_of column)) columns) all_cards
+    (λ u. none_any p (λ column. ends_with u (last_of column)) columns none)
+
+-- the columns that are tied to one more column
+pub partners_yes : (e : List ℕ → Bool) (k : List ℕ → List ℕ → Bool) (s : List (List ℕ)) (i : ℕ) → i < length s → e (get_or s i []) ≡ true
+    → least_last (λ column. list_any (λ o. e o && k o column) (take (i + 1) s)) s
+    ≡ min (least_last (λ column. list_any (λ o. e o && k o column) (take i s)) s) (least_last (k (get_or s i [])) s)
+partners_yes e k s i inside passes =
+    last_or (λ column. list_any (λ o. e o && k o column) (take i s)) (k (get_or s i []))
+    (λ column. list_any (λ o. e o && k o column) (take (i + 1) s)) s
+    (λ x. list_any_more (λ o. e o && k o x) s i [] inside
+    ∙ ap (λ t. list_any (λ o. e o && k o x) (take i s) || (t && k (get_or s i []) x)) passes)
+
+pub partners_no : (e : List ℕ → Bool) (k : List ℕ → List ℕ → Bool) (s : List (List ℕ)) (i : ℕ) → i < length s → e (get_or s i []) ≡ false
+    → least_last (λ column. list_any (λ o. e o && k o column) (take (i + 1) s)) s
+    ≡ least_last (λ column. list_any (λ o. e o && k o column) (take i s)) s
+partners_no e k s i inside passes =
+    last_same (λ column. list_any (λ o. e o && k o column) (take (i + 1) s)) (λ column. list_any (λ o. e o && k o column) (take i s)) s
+    (λ x. list_any_more (λ o. e o && k o x) s i [] inside
+    ∙ ap (λ t. list_any (λ o. e o && k o x) (take i s) || (t && k (get_or s i []) x)) passes
+    ∙ or-false (list_any (λ o. e o && k o x) (take i s)))
 
 -- as many cards as there are is all of them
 pub lowest_all : (heights : List ℕ) (columns : List (List ℕ)) → length heights ≡ length columns
@@ -262,3 +324,44 @@ lowest_all (h ∷ heights) (x ∷ columns) same all =
     let here : take h x ≡ x = ap (λ n. take n x) (all 0 (omega arith)) ∙ take_all (length x) x (omega arith) in
     let rest = lowest_all heights columns (omega (arith, same)) (λ k inside. all (suc k) (omega (arith, inside))) in
     cc
+
+-- one card less of a column is left
+pub left_less : (columns : List (List ℕ)) (heights : List ℕ) (fronts : List Front) (starts : List ℕ) (rows : List Front) (i n : ℕ) (front : Front)
+    → IsLeft columns heights fronts starts rows → i < 8 → n ≤ get_or heights i 0 → front ≡ get_or rows (get_or starts i 0 + n) no_front
+    → IsLeft columns (set heights i n) (set fronts i front) starts rows
+left_less columns heights fronts starts rows i n front left below less is =
+    let tall : i < length heights = omega (arith, left.each, below) in
+    let long : i < length fronts = omega (arith, left.long, below) in
+    record {
+      eight = left.eight;
+      each = length-set heights i n ∙ left.each;
+      long = length-set fronts i front ∙ left.long;
+      within = λ k inside. ⊎_elim
+          (λ e. let here = ap (λ j. get_or (set heights i n) j 0) e ∙ get_or-set_same heights i n 0 tall in
+          let same = ap (λ j. length (get_or columns j [])) e in
+          omega (arith, here, same, less, left.within i below))
+          (λ ne. let here = get_or-set_other heights i k n 0 ne in omega (arith, here, left.within k inside))
+          (cases_eq k i);
+      now = λ k inside. ⊎_elim
+          (λ e. let one : IsFront front (take n (get_or columns i [])) =
+          subst (λ f. IsFront f (take n (get_or columns i []))) (sym is) (left.table.each i below n (omega (arith, less, left.within i below))) in
+          let two = subst (λ f. IsFront f (take n (get_or columns i []))) (sym (get_or-set_same fronts i front no_front long)) one in
+          let three = subst (λ h. IsFront (get_or (set fronts i front) i no_front) (take h (get_or columns i [])))
+          (sym (get_or-set_same heights i n 0 tall)) two in
+          subst (λ j. IsFront (get_or (set fronts i front) j no_front) (take (get_or (set heights i n) j 0) (get_or columns j []))) (sym e) three)
+          (λ ne. let two = subst (λ f. IsFront f (take (get_or heights k 0) (get_or columns k []))) (sym (get_or-set_other fronts i k front no_front ne)) (left.now k inside) in
+          subst (λ h. IsFront (get_or (set fronts i front) k no_front) (take h (get_or columns k []))) (sym (get_or-set_other heights i k n 0 ne)) two)
+          (cases_eq k i);
+      table = left.table;
+    }
+
+-- what each column of what is left tells
+pub left_at : (columns : List (List ℕ)) (heights : List ℕ) (fronts : List Front) (starts : List ℕ) (rows : List Front) (i : ℕ)
+    → IsLeft columns heights fronts starts rows → i < 8 → IsFront (get_or fronts i no_front) (get_or (lowest heights columns) i [])
+left_at columns heights fronts starts rows i left below =
+    subst (IsFront (get_or fronts i no_front)) (sym (lowest-at heights columns i (left.each ∙ sym left.eight))) (left.now i below)
+
+pub left_eight : (columns : List (List ℕ)) (heights : List ℕ) (fronts : List Front) (starts : List ℕ) (rows : List Front)
+    → IsLeft columns heights fronts starts rows → length (lowest heights columns) ≡ 8
+left_eight columns heights fronts starts rows left =
+    length-lowest heights columns (left.each ∙ sym left.eight) ∙ left.eight

@@ -1,5 +1,5 @@
 -- How knots are counted step by step, and that no more are met than there are cards.
-use Rattle.std.proofs.Common.{◌≡◌, ℕ, ◌+◌, ◌-◌, ◌<◌, ◌≤◌, zero, suc, Bool, true, false, cond, Option, Some, None, List, [], ◌∷◌, length, get_or, map, refl, ◌∙◌, ap, arith}
+use Rattle.std.proofs.Common.{◌≡◌, ℕ, ◌+◌, ◌-◌, ◌<◌, ◌≤◌, zero, suc, Bool, true, false, cond, Option, Some, None, List, [], ◌∷◌, length, get_or, refl, ◌∙◌, ap, arith}
 use Rattle.std.specs.Prelude.{◌==◌, ◌&&◌, ◌||◌, not, count_by}
 use Rattle.std.specs.List.{list_any}
 use Rattle.std.proofs.lemmas.List.{length-take-le}
@@ -10,11 +10,6 @@ use Rattle.fc_bound.specs.Clearing.{waits, cards_in}
 use Rattle.fc_bound.specs.Knots.{has_last, ends_with, waits_above, is_loose, are_knotted, first_with, first_knotted, second_knotted, is_in_knot, shed, knots, knot_count}
 use Rattle.fc_bound.proofs.AboveLemmas.{or-true}
 use Rattle.fc_bound.proofs.HeldLemmas.{found}
-
--- flags that say what a test says
-pub any_flag : (test : List ℕ → Bool) (columns : List (List ℕ)) → list_any (λ flag. flag) (map test columns) ≡ list_any test columns
-any_flag test [] = refl
-any_flag test (x ∷ columns) = ap (λ t. test x || t) (any_flag test columns)
 
 -- one step
 pub knots_loose : (columns : List (List ℕ)) → list_any (is_loose columns) columns ≡ true → (steps : ℕ)

@@ -1,4 +1,5 @@
 pub mod AboveLemmas
+pub mod BitLemmas
 pub mod ClearingAbove
 pub mod ClearingLemmas
 pub mod ClearingOrders

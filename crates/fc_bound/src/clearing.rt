@@ -6,26 +6,22 @@ ghost use Rattle.fc_bound.specs.Clearing.{cards_in, clearing_cost, clearing_boun
 ghost use Rattle.fc_bound.specs.Knots.{has_last};
 
 use crate::bounds::{GREATEST_BOUND, away};
-use crate::columns::{Left, lows_of};
-use crate::knots::{has_flag, knot_count};
+use crate::columns::{Left, Table};
+use crate::knots::knot_count;
 use fc_position::Position;
 
-// Whether all cards can be taken out at so much. Loose cards go first; then some one column of the knot does in a best
-// order, so these alone are tried, unless more knots are met than may be paid.
-fn costs_at_most(left: &Left<'_>, most: u8) -> bool
-    requires few { cards_in left.now ≤ 52 }
-    requires cards { All AllCards left.now }
-    ensures value { IsTrue result ↔ clearing_cost left.now ≤ most }
+// Whether all cards can be taken out at so much. Loose cards go first, and are taken out in place; then some one column of
+// the knot goes first in a best order, so these alone are tried, each on a copy, unless more knots are met than may be paid.
+fn costs_at_most(left: &mut Left<'_>, most: u8) -> bool
+    requires few { cards_in left.old ≤ 52 }
+    requires cards { All AllCards left.old }
+    ensures value { IsTrue result ↔ clearing_cost left.old ≤ most }
 {
-    let loose = left.loose();
-    if has_flag(loose.as_slice()) {
-        let met = left.count_above();
+    if let Some(met) = left.take_loose() {
         if most < met {
             return false;
         }
-        let mut rest = left.copy();
-        rest.shed(loose);
-        return costs_at_most(&rest, most - met);
+        return costs_at_most(left, most - met);
     }
     if !left.has_cards() {
         return true;
@@ -41,7 +37,7 @@ fn costs_at_most(left: &Left<'_>, most: u8) -> bool
         if may_go(left, knot, i) {
             let mut rest = left.copy();
             rest.take(i);
-            if costs_at_most(&rest, most - 1) {
+            if costs_at_most(&mut rest, most - 1) {
                 return true;
             }
         }
@@ -78,11 +74,12 @@ pub fn clearing_bound(position: &Position) -> u8
     ensures most { result ≤ GREATEST_BOUND }
     ensures whole { IsPosition position.now }
 {
-    let lows = lows_of(position);
-    let left = Left::new(position, &lows);
+    let mut table = Table::blank();
+    table.fill(position);
+    let left = Left::new(position, &table);
     let away = away(position);
     for cost in count_knots(&left)..52 {
-        if costs_at_most(&left, cost) {
+        if costs_at_most(&mut left.copy(), cost) {
             return away + cost;
         }
     }

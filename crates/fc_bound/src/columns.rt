@@ -1,22 +1,164 @@
-ghost use Rattle.std.specs.Prelude.{◌≡◌, ℕ, ◌+◌, ◌-◌, ◌*◌, ◌<◌, ◌≤◌, ◌==◌, ◌&&◌, ◌||◌, Bool, false, cond, min, nat_lt, List, [], ◌∷◌, Some, length, map, count_by, slice_index, slice_index_or};
+ghost use Rattle.std.specs.Prelude.{◌≡◌, ℕ, ◌+◌, ◌<◌, ◌≤◌, ◌==◌, ◌&&◌, ◌||◌, Bool, true, false, not, nat_lt, bit_and, bit_or, List, [], ◌∷◌, Some, IfSome, IfNone, length, map, count_by, slice_index_or};
 ghost use Rattle.std.specs.List.{list_any};
 ghost use Rattle.fc_position.specs.Board.{last_of};
 ghost use Rattle.fc_position.specs.Position.{IsPosition};
-ghost use Rattle.fc_bound.specs.Clearing.{waits, without, cards_in};
-ghost use Rattle.fc_bound.specs.Fronts.{AreLeast, AreLeastOfAll, AreLows, AreLowsOf, AreElsewhere, number_where};
-ghost use Rattle.fc_bound.specs.Knots.{has_last, ends_with, waits_above, is_loose, are_knotted, least_last, is_in_knot, shed};
+ghost use Rattle.fc_bound.specs.Bound.{is_lower};
+ghost use Rattle.fc_bound.specs.Clearing.{without, cards_in};
+ghost use Rattle.fc_bound.specs.Fronts.{AreBits, Tells, IsFront, AreFrontsOf, AreFronts, no_front};
+ghost use Rattle.fc_bound.specs.Knots.{has_last, ends_with, waits_in, waits_above, is_loose, are_knotted, least_last, first_knotted, second_knotted, is_in_knot, shed};
 
 use fc_cards::Card;
 use fc_position::Position;
 use std::marker::Model;
 
-// The lowest cards of the columns of a position, while cards are taken out of them. Of each column and each number of its
-// lowest cards it is known which ranks of the suits are the least, so that taking cards is to count them.
+// The bits of the clubs, which are every fourth.
+const CLUBS: u64 = 0x1_1111_1111_1111;
+
+// What a column with some of its lowest cards tells: one bit a card for its cards, and for the lower cards of the suit of
+// its last card, and the number of that card, 52 where there is none.
+#[derive(Clone, Copy)]
+pub(crate) struct Front {
+    cards: u64,
+    lower: u64,
+    last: u8,
+}
+
+impl Front {
+    // Whether there is a last card.
+    #[inline]
+    fn has_last(self) -> bool
+        ensures value { (cards : List ℕ) → IsFront self cards → result ≡ has_last (last_of cards) }
+    {
+        self.last < 52
+    }
+
+    // Whether the last card is the one with this number.
+    #[inline]
+    fn ends_with(self, number: u8) -> bool
+        ensures value { (cards : List ℕ) → IsFront self cards → result ≡ ends_with number (last_of cards) }
+    {
+        self.has_last() && self.last == number
+    }
+
+    // Whether the last card waits for a card of the other column.
+    #[inline]
+    fn waits_in(self, other: Front) -> bool
+        ensures value { (cards others : List ℕ) → IsFront self cards → IsFront other others → result ≡ waits_in cards others }
+    {
+        other.cards & self.lower != 0
+    }
+
+    // Whether the last card may leave at once, where these are the bits of all cards that are left.
+    #[inline]
+    fn is_loose(self, all: u64) -> bool
+        ensures value { (columns : List (List ℕ)) (cards : List ℕ) → IsFront self cards → Tells all columns → result ≡ is_loose columns cards }
+    {
+        self.has_last() && (all & self.lower == 0 || self.waits_in(self))
+    }
+
+    // Whether the last cards wait for cards of each other's columns.
+    #[inline]
+    fn is_knotted(self, other: Front) -> bool
+        ensures value { (cards others : List ℕ) → IsFront self cards → IsFront other others → result ≡ are_knotted cards others }
+    {
+        self.waits_in(other) && other.waits_in(self)
+    }
+
+    // Whether the last card is one with these two numbers, of which the first may be 52 for all columns.
+    #[inline]
+    fn is_in_knot(self, first: u8, second: u8) -> bool
+        ensures value { (cards : List ℕ) → IsFront self cards
+            → result ≡ ((first == 52) || (ends_with first (last_of cards) || ends_with second (last_of cards))) }
+    {
+        first == 52 || self.ends_with(first) || self.ends_with(second)
+    }
+}
+
+// The fronts of all columns of a position, for each number of their lowest cards: a column's begin at its start.
+#[derive(Drop)]
+pub(crate) struct Table {
+    rows: [Front; 60],
+    starts: [u8; 8],
+}
+
+impl Table {
+    // A table with no fronts in it, to be filled in its place.
+    #[inline]
+    pub(crate) fn blank() -> Table
+        ensures rows { length result.rows ≡ 60 }
+        ensures starts { length result.starts ≡ 8 }
+    {
+        let front = Front {
+            cards: 0,
+            lower: 0,
+            last: 0,
+        };
+        Table {
+            rows: [front; 60],
+            starts: [0; 8],
+        }
+    }
+
+    // Fills the table with the fronts of a position.
+    #[inline]
+    pub(crate) fn fill(&mut self, position: &Position)
+        requires rows { length self.old.rows ≡ 60 }
+        requires starts { length self.old.starts ≡ 8 }
+        ensures fronts { AreFronts position.now.columns self.new.starts self.new.rows }
+    {
+        let mut start = 0;
+        for i in 0..8 {
+            let cards = position.column(i);
+            self.starts[i as usize] = start as u8;
+            add_fronts(&mut self.rows, cards, start);
+            start += cards.len() + 1;
+        }
+    }
+}
+
+// Puts the fronts of a column into the rows from its start on.
+#[inline]
+fn add_fronts(rows: &mut [Front; 60], cards: &[Card], start: usize)
+    requires low { start + length cards.now < 60 }
+    ensures fronts { AreFrontsOf start cards.now rows.new }
+    ensures others { (k : ℕ) → k < start → slice_index_or rows.new k no_front ≡ slice_index_or rows.old k no_front }
+    ensures rows { length rows.new ≡ 60 }
+{
+    let mut bits = 0;
+    let mut at = start;
+    rows[at] = Front {
+        cards: 0,
+        lower: 0,
+        last: 52,
+    };
+    for card in cards {
+        bits |= 1 << card.index();
+        at += 1;
+        rows[at] = Front {
+            cards: bits,
+            lower: lower_cards(*card),
+            last: card.index(),
+        };
+    }
+}
+
+// The bits of the lower cards of the card's suit.
+#[inline]
+fn lower_cards(card: Card) -> u64
+    ensures value { AreBits result (is_lower card) }
+{
+    let index = card.index();
+    CLUBS << (index % 4) & ((1 << index) - 1)
+}
+
+// The lowest cards of the columns of a position, while cards are taken out of them: how many are left of each column, and
+// what they tell.
 #[derive(Drop)]
 pub(crate) struct Left<'a> {
     position: &'a Position,
-    lows: &'a [[u8; 4]; 424],
+    table: &'a Table,
     heights: [u8; 8],
+    fronts: [Front; 8],
 }
 
 impl<'a> Model for Left<'a> {
@@ -27,151 +169,78 @@ impl<'a> Model for Left<'a> {
 
     ghost view = { λ s. lowest s.heights s.position.now.columns };
 
-    ghost invariant = { λ s. IsLeft s.position.now.columns s.heights s.lows.now };
+    ghost invariant = { λ s. IsLeft s.position.now.columns s.heights s.fronts s.table.now.starts s.table.now.rows };
 }
 
 impl<'a> Left<'a> {
     // All cards of the columns.
     #[inline]
-    pub(crate) fn new(position: &'a Position, lows: &'a [[u8; 4]; 424]) -> Left<'a>
-        requires lows { AreLows position.now.columns lows.now }
-        requires rows { length lows.now ≡ 424 }
+    pub(crate) fn new(position: &'a Position, table: &'a Table) -> Left<'a>
+        requires fronts { AreFronts position.now.columns table.now.starts table.now.rows }
         ensures value { result ≡ position.now.columns }
         ensures whole { IsPosition position.now }
     {
         let mut heights = [position.column(0).len() as u8; 8];
-        for i in 1..8 {
-            heights[i as usize] = position.column(i).len() as u8;
+        let mut fronts = [table.rows[0]; 8];
+        for i in 0..8 {
+            let height = position.column(i).len() as u8;
+            let start = table.starts[i as usize];
+            heights[i as usize] = height;
+            fronts[i as usize] = table.rows[(start + height) as usize];
         }
         Left {
             position,
-            lows,
+            table,
             heights,
+            fronts,
         }
     }
 
     // The same cards.
+    #[inline]
     pub(crate) fn copy(&self) -> Left<'a>
         ensures value { result ≡ self.now }
         ensures eight { length self.now ≡ 8 }
     {
         Left {
             position: self.position,
-            lows: self.lows,
+            table: self.table,
             heights: self.heights,
+            fronts: self.fronts,
         }
     }
 
-    // The cards of a column that are left.
+    // What the cards of a column that are left tell.
     #[inline]
-    pub(crate) fn cards(&self, i: u8) -> &[Card]
+    fn front(&self, i: u8) -> Front
         requires there { i < 8 }
-        ensures value { result.now ≡ slice_index_or self.now i [] }
+        ensures value { IsFront result (slice_index_or self.now i []) }
         ensures eight { length self.now ≡ 8 }
     {
-        let height = self.heights[i as usize] as usize;
-        let column = self.position.column(i);
-        &column[..height]
+        self.fronts[i as usize]
     }
 
-    // The last card of a column.
+    // Whether a card is left in the column.
     #[inline]
-    pub(crate) fn last(&self, i: u8) -> Option<Card>
+    pub(crate) fn has_last(&self, i: u8) -> bool
         requires there { i < 8 }
-        ensures value { result ≡ last_of (slice_index_or self.now i []) }
+        ensures value { result ≡ has_last (last_of (slice_index_or self.now i [])) }
         ensures eight { length self.now ≡ 8 }
     {
-        self.cards(i).last().copied()
+        self.front(i).has_last()
     }
 
-    // The least rank of each suit in a column, 14 where there is none.
+    // The bits of all cards that are left.
     #[inline]
-    fn least_in(&self, i: u8) -> [u8; 4]
-        requires there { i < 8 }
-        ensures value { AreLeast result (slice_index_or self.now i []) }
+    fn cards(&self) -> u64
+        ensures value { Tells result self.now }
         ensures eight { length self.now ≡ 8 }
     {
-        let height = self.heights[i as usize] as usize;
-        self.lows[53 * i as usize + height]
-    }
-
-    // The least rank of each suit in all columns, 14 where there is none.
-    #[inline]
-    fn least(&self) -> [u8; 4]
-        ensures value { AreLeastOfAll result self.now }
-        ensures eight { length self.now ≡ 8 }
-    {
-        let mut least = self.least_in(0);
+        let mut all = self.front(0).cards;
         for i in 1..8 {
-            let here = self.least_in(i);
-            let lesser = less(least, here);
-            least = lesser;
+            all |= self.front(i).cards;
         }
-        least
-    }
-
-    // Whether a lower card of the suit of the card is left in the column.
-    #[inline]
-    pub(crate) fn waits_in(&self, card: Card, j: u8) -> bool
-        requires there { j < 8 }
-        ensures value { result ≡ waits (slice_index_or self.now j [] ∷ []) (Some card) }
-    {
-        let least = self.least_in(j);
-        least[card.suit().index() as usize] < card.rank()
-    }
-
-    // Whether the last card of the column waits for a card beneath it.
-    #[inline]
-    fn waits_above(&self, i: u8) -> bool
-        requires there { i < 8 }
-        ensures value { result ≡ waits_above (slice_index_or self.now i []) }
-        ensures eight { length self.now ≡ 8 }
-    {
-        match self.last(i) {
-            Some(card) => self.waits_in(card, i),
-            None => false,
-        }
-    }
-
-    // Whether the last card of the column may leave at once.
-    #[inline]
-    fn is_loose(&self, least: [u8; 4], i: u8) -> bool
-        requires least { AreLeastOfAll least self.now }
-        requires there { i < 8 }
-        ensures value { result ≡ is_loose self.now (slice_index_or self.now i []) }
-    {
-        match self.last(i) {
-            Some(card) => {
-                least[card.suit().index() as usize] >= card.rank() || self.waits_in(card, i)
-            }
-            None => false,
-        }
-    }
-
-    // Which columns have a last card that may leave at once.
-    #[inline]
-    pub(crate) fn loose(&self) -> [bool; 8]
-        ensures value { result ≡ map (is_loose self.now) self.now }
-    {
-        let least = self.least();
-        let mut loose = [false; 8];
-        for i in 0..8 {
-            loose[i as usize] = self.is_loose(least, i);
-        }
-        loose
-    }
-
-    // How many last cards wait for a card beneath them.
-    #[inline]
-    pub(crate) fn count_above(&self) -> u8
-        ensures value { result ≡ count_by waits_above self.now }
-        ensures most { result ≤ 8 }
-    {
-        let mut count = self.waits_above(0) as u8;
-        for i in 1..8 {
-            count += self.waits_above(i) as u8;
-        }
-        count
+        all
     }
 
     // Whether a card is left.
@@ -195,151 +264,39 @@ impl<'a> Left<'a> {
         size
     }
 
-    // Whether the column ends with the card of this number.
-    #[inline]
-    fn ends_with(&self, i: u8, number: u8) -> bool
-        requires there { i < 8 }
-        ensures value { result ≡ ends_with number (last_of (slice_index_or self.now i [])) }
-        ensures eight { length self.now ≡ 8 }
-    {
-        match self.last(i) {
-            Some(card) => card.index() == number,
-            None => false,
-        }
-    }
-
-    // Whether the last cards of the two columns wait for cards of each other's.
-    #[inline]
-    fn are_knotted(&self, i: u8, j: u8) -> bool
-        requires first { i < 8 }
-        requires second { j < 8 }
-        ensures value { result ≡ are_knotted (slice_index_or self.now i []) (slice_index_or self.now j []) }
-        ensures eight { length self.now ≡ 8 }
-    {
-        match (self.last(i), self.last(j)) {
-            (Some(one), Some(other)) => self.waits_in(one, j) && self.waits_in(other, i),
-            _ => false,
-        }
-    }
-
-    // Whether the column is knotted with another.
-    fn is_knotted(&self, i: u8) -> bool
-        requires there { i < 8 }
-        ensures value { result ≡ list_any (are_knotted (slice_index_or self.now i [])) self.now }
-        ensures eight { length self.now ≡ 8 }
-    {
-        let mut knotted = self.are_knotted(i, 0);
-        for j in 1..8 {
-            knotted = knotted || self.are_knotted(i, j);
-        }
-        knotted
-    }
-
-    // Whether the column is knotted with the one that ends with the card of this number.
-    fn is_partner(&self, first: u8, i: u8) -> bool
-        requires there { i < 8 }
-        ensures value { result ≡ list_any (λ other. ends_with first (last_of other)
-            && are_knotted other (slice_index_or self.now i [])) self.now }
-        ensures eight { length self.now ≡ 8 }
-    {
-        let mut partner = self.ends_with(0, first) && self.are_knotted(0, i);
-        for j in 1..8 {
-            partner = partner || self.ends_with(j, first) && self.are_knotted(j, i);
-        }
-        partner
-    }
-
-    // The least number of the last cards of these columns, 52 where there is none.
-    fn least_last(&self, flags: [bool; 8]) -> u8
-        ensures value { (test : List ℕ → Bool) → flags ≡ map test self.now → result ≡ least_last test self.now }
-        ensures eight { length self.now ≡ 8 }
-    {
-        let mut least = self.number_where(flags[0], 0);
-        for i in 1..8 {
-            least = least.min(self.number_where(flags[i as usize], i));
-        }
-        least
-    }
-
-    // The number of the last card of the column if there is one and the column is flagged, 52 otherwise.
-    fn number_where(&self, flag: bool, i: u8) -> u8
-        requires there { i < 8 }
-        ensures value { result ≡ number_where flag (last_of (slice_index_or self.now i [])) }
-        ensures most { result ≤ 52 }
-        ensures eight { length self.now ≡ 8 }
-    {
-        match self.last(i) {
-            Some(card) if flag => card.index(),
-            _ => 52,
-        }
-    }
-
-    // Which columns are knotted with another.
-    fn knotted(&self) -> [bool; 8]
-        ensures value { result ≡ map (λ column. list_any (are_knotted column) self.now) self.now }
-    {
-        let mut knotted = [self.is_knotted(0); 8];
-        for i in 1..8 {
-            knotted[i as usize] = self.is_knotted(i);
-        }
-        knotted
-    }
-
-    // Which columns are knotted with the one that ends with the card of this number.
-    fn partners(&self, first: u8) -> [bool; 8]
-        ensures value { result ≡ map (λ column. list_any (λ other. ends_with first (last_of other)
-            && are_knotted other column) self.now) self.now }
-    {
-        let mut partners = [self.is_partner(first, 0); 8];
-        for i in 1..8 {
-            partners[i as usize] = self.is_partner(first, i);
-        }
-        partners
-    }
-
-    // Whether the column ends with one of the cards of these two numbers, of which the first may be 52 for all columns.
-    fn is_in_knot(&self, first: u8, second: u8, i: u8) -> bool
-        requires there { i < 8 }
-        ensures value { result ≡ ((first == 52) || (ends_with first (last_of (slice_index_or self.now i []))
-            || ends_with second (last_of (slice_index_or self.now i [])))) }
-        ensures eight { length self.now ≡ 8 }
-    {
-        let ends = self.ends_with(i, first) || self.ends_with(i, second);
-        first == 52 || ends
-    }
-
-    // The columns of the knot.
-    pub(crate) fn knot(&self) -> [bool; 8]
-        ensures value { result ≡ map (is_in_knot self.now) self.now }
-    {
-        let first = self.least_last(self.knotted());
-        let second = self.least_last(self.partners(first));
-        let mut knot = [false; 8];
-        for i in 0..8 {
-            knot[i as usize] = self.is_in_knot(first, second, i);
-        }
-        knot
-    }
-
-    // Whether a card is left in the column.
-    pub(crate) fn has_last(&self, i: u8) -> bool
-        requires there { i < 8 }
-        ensures value { result ≡ has_last (last_of (slice_index_or self.now i [])) }
-        ensures eight { length self.now ≡ 8 }
-    {
-        match self.last(i) {
-            Some(_) => true,
-            None => false,
-        }
-    }
-
     // Takes out the last card of a column, if it has one.
+    #[inline]
     pub(crate) fn take(&mut self, i: u8)
         requires there { i < 8 }
         ensures value { self.new ≡ without self.old i }
     {
-        let height = self.heights[i as usize];
-        self.heights[i as usize] = height.saturating_sub(1);
+        let height = self.heights[i as usize].saturating_sub(1);
+        let start = self.table.starts[i as usize];
+        self.heights[i as usize] = height;
+        self.fronts[i as usize] = self.table.rows[(start + height) as usize];
+    }
+
+    // Takes out the last cards that may leave at once: how many wait for a card beneath them, `None` where there is none.
+    #[inline]
+    pub(crate) fn take_loose(&mut self) -> Option<u8>
+        ensures met { IfSome result (λ met. met ≡ count_by waits_above self.old) }
+        ensures some_loose { IfSome result (λ met. list_any (is_loose self.old) self.old ≡ true) }
+        ensures taken { IfSome result (λ met. self.new ≡ shed (is_loose self.old) self.old) }
+        ensures none_loose { IfNone result (list_any (is_loose self.old) self.old ≡ false) }
+        ensures same { IfNone result (self.new ≡ self.old) }
+    {
+        let all = self.cards();
+        let mut met = 0;
+        let mut any = false;
+        for i in 0..8 {
+            let front = self.front(i);
+            met += front.waits_in(front) as u8;
+            if front.is_loose(all) {
+                any = true;
+                self.take(i);
+            }
+        }
+        if any { Some(met) } else { None }
     }
 
     // Takes out the last card of each of these columns.
@@ -347,7 +304,92 @@ impl<'a> Left<'a> {
     pub(crate) fn shed(&mut self, flags: [bool; 8])
         ensures value { (test : List ℕ → Bool) → flags ≡ map test self.old → self.new ≡ shed test self.old }
     {
-        self.heights = lowered(self.heights, flags);
+        for i in 0..8 {
+            if flags[i as usize] {
+                self.take(i);
+            }
+        }
+    }
+
+    // Whether the column is knotted with another.
+    #[inline]
+    fn is_knotted(&self, i: u8) -> bool
+        requires there { i < 8 }
+        ensures value { result ≡ list_any (are_knotted (slice_index_or self.now i [])) self.now }
+        ensures eight { length self.now ≡ 8 }
+    {
+        let front = self.front(i);
+        let mut knotted = front.is_knotted(self.front(0));
+        for j in 1..8 {
+            knotted = front.is_knotted(self.front(j)) || knotted;
+        }
+        knotted
+    }
+
+    // The least number of the last cards of columns that are knotted with another, 52 where there is none.
+    #[inline]
+    fn first_knotted(&self) -> u8
+        ensures value { result ≡ first_knotted self.now }
+        ensures eight { length self.now ≡ 8 }
+    {
+        let fronts = &self.fronts;
+        let mut first = 52;
+        for i in 0..8 {
+            let last = fronts[i as usize].last;
+            if last < first && self.is_knotted(i) {
+                first = last;
+            }
+        }
+        first
+    }
+
+    // The least number of the last cards of columns that are knotted with this one, 52 where there is none.
+    #[inline]
+    fn least_partner(&self, i: u8) -> u8
+        requires there { i < 8 }
+        ensures value { result ≡ least_last (are_knotted (slice_index_or self.now i [])) self.now }
+        ensures eight { length self.now ≡ 8 }
+    {
+        let front = self.front(i);
+        let mut least = 52;
+        for j in 0..8 {
+            let other = self.front(j);
+            if other.last < least && front.is_knotted(other) {
+                least = other.last;
+            }
+        }
+        least
+    }
+
+    // The least number of the last cards of columns that are knotted with the one that ends with the card of this number.
+    #[inline]
+    fn second_knotted(&self, first: u8) -> u8
+        ensures value { result ≡ least_last (λ column. list_any (λ other. ends_with first (last_of other)
+            && are_knotted other column) self.now) self.now }
+        ensures eight { length self.now ≡ 8 }
+    {
+        let fronts = &self.fronts;
+        let mut second = 52;
+        for i in 0..8 {
+            if fronts[i as usize].ends_with(first) {
+                second = self.least_partner(i).min(second);
+            }
+        }
+        second
+    }
+
+    // The columns of the knot.
+    #[inline]
+    pub(crate) fn knot(&self) -> [bool; 8]
+        ensures value { result ≡ map (is_in_knot self.now) self.now }
+    {
+        let first = self.first_knotted();
+        let second = self.second_knotted(first);
+        let mut knot = [false; 8];
+        for i in 0..8 {
+            knot[i as usize] = self.front(i).is_in_knot(first, second);
+        }
+        knot
     }
 }
 
@@ -357,66 +399,4 @@ fn has_more(heights: &[u8]) -> bool
     ensures value { result ≡ list_any (λ height. nat_lt 0 height) heights.now }
 {
     heights.iter().any(|height| *height > 0)
-}
-
-// In one list, the least rank of each suit among each number of the lowest cards of each column, 14 where there is none.
-pub(crate) fn lows_of(position: &Position) -> [[u8; 4]; 424]
-    ensures lows { AreLows position.now.columns result }
-    ensures rows { length result ≡ 424 }
-{
-    let mut lows = [[14; 4]; 424];
-    for i in 0..8 {
-        add_lows(&mut lows, position.column(i), i);
-    }
-    lows
-}
-
-// Puts a column's least ranks into the list.
-#[inline]
-fn add_lows(lows: &mut [[u8; 4]; 424], cards: &[Card], i: u8)
-    requires there { i < 8 }
-    requires low { length cards.now ≤ 52 }
-    ensures lows { AreLowsOf i cards.now lows.new }
-    ensures others { (k : ℕ) → AreElsewhere i k → slice_index_or lows.new k [] ≡ slice_index_or lows.old k [] }
-    ensures rows { length lows.new ≡ 424 }
-{
-    let mut least = [14; 4];
-    let mut at = 53 * i as usize;
-    lows[at] = least;
-    for card in cards {
-        let suit = card.suit().index() as usize;
-        least[suit] = least[suit].min(card.rank());
-        at += 1;
-        lows[at] = least;
-    }
-}
-
-// By suit, the lesser rank of the two.
-#[inline]
-fn less(one: [u8; 4], other: [u8; 4]) -> [u8; 4]
-    ensures suits { length result ≡ 4 }
-    ensures value { (s : ℕ) → s < 4 → slice_index result s ≡ min (slice_index one s) (slice_index other s) }
-{
-    [
-        one[0].min(other[0]),
-        one[1].min(other[1]),
-        one[2].min(other[2]),
-        one[3].min(other[3]),
-    ]
-}
-
-// The heights, each with a flag less by one.
-#[inline]
-fn lowered(heights: [u8; 8], flags: [bool; 8]) -> [u8; 8]
-    ensures each { length result ≡ 8 }
-    ensures value { (i : ℕ) → i < 8 → slice_index result i
-        ≡ cond (slice_index_or flags i false) (slice_index heights i - 1) (slice_index heights i) }
-{
-    let mut lowered = heights;
-    for i in 0..8 {
-        if flags[i] {
-            lowered[i] = lowered[i].saturating_sub(1);
-        }
-    }
-    lowered
 }

@@ -1,11 +1,10 @@
 ghost use Rattle.std.specs.Prelude.{◌≡◌, ℕ, suc, ◌+◌, ◌≤◌, IfSome, IfNone};
-ghost use Rattle.std.specs.List.{list_any};
 ghost use Rattle.fc_position.specs.Position.{IsPosition};
 ghost use Rattle.fc_bound.specs.Clearing.{cards_in};
 ghost use Rattle.fc_bound.specs.Knots.{knots, knot_count, knot_bound};
 
 use crate::bounds::{GREATEST_BOUND, away};
-use crate::columns::{Left, lows_of};
+use crate::columns::{Left, Table};
 use fc_position::Position;
 
 // Takes out the loose cards, or else a knot: how many knots are met so; `None` where no card is left.
@@ -14,10 +13,7 @@ fn round(left: &mut Left<'_>) -> Option<u8>
     ensures met { IfSome result (λ met. (steps : ℕ) → knots (suc steps) left.old ≡ met + knots steps left.new) }
     ensures none { IfNone result ((steps : ℕ) → knots steps left.old ≡ 0) }
 {
-    let loose = left.loose();
-    if has_flag(loose.as_slice()) {
-        let met = left.count_above();
-        left.shed(loose);
+    if let Some(met) = left.take_loose() {
         return Some(met);
     }
     if left.has_cards() {
@@ -26,14 +22,6 @@ fn round(left: &mut Left<'_>) -> Option<u8>
         return Some(1);
     }
     None
-}
-
-// Whether one of the flags is set.
-#[inline]
-pub(crate) fn has_flag(flags: &[bool]) -> bool
-    ensures value { result ≡ list_any (λ flag. flag) flags.now }
-{
-    flags.iter().any(|flag| *flag)
 }
 
 // How many knots are met until no card is left; it takes all cards out.
@@ -59,7 +47,8 @@ pub fn knot_bound(position: &Position) -> u8
     ensures most { result ≤ GREATEST_BOUND }
     ensures whole { IsPosition position.now }
 {
-    let lows = lows_of(position);
-    let mut left = Left::new(position, &lows);
+    let mut table = Table::blank();
+    table.fill(position);
+    let mut left = Left::new(position, &table);
     away(position) + knot_count(&mut left)
 }

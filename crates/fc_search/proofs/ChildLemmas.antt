@@ -1,6 +1,6 @@
 -- The children of a class are the ends of its edges.
 use Rattle.std.proofs.Common.{◌≡◌, ℕ, zero, suc, ◌+◌, ◌≤◌, List, [], ◌∷◌, ◌++◌, reverse, refl, sym, ◌∙◌, ap, subst, arith}
-use Rattle.std.specs.Prelude.{Contains}
+use Rattle.std.specs.Prelude.{Contains, IfSome, None}
 use Rattle.std.proofs.lemmas.List.{reverse-append}
 use Rattle.std.proofs.lemmas.List.Elements.{Contains-append_right}
 use Rattle.std.proofs.lemmas.List.Sorted.{Contains-permutation, IsPermutation-reverse}
@@ -31,9 +31,10 @@ use Rattle.fc_search.specs.Children.{IsChildOf, IsSettled, AreAllowed, AreChildr
 
 -- a child's bound is that of its key
 pub child_bound : (g : GameRules) (rule : ℕ) (kind : BoundKind) (z : Board) (moves : ℕ) (child : Child (List ℕ)) → IsPositionOf g z
-    → IsSettled g rule kind z moves child → child.bound ≡ guide_of kind (spelled child.key)
+    → IsSettled g rule kind z moves child → IfSome child.bound (λ b. b ≡ guide_of kind (spelled child.key))
 child_bound g rule kind z moves child p (q, count, settles, key, cost, low) =
-    low ∙ (bounds_lower kind).0.alike q (spelled child.key) (key_spells g q child.key (settles_keep g rule z q count p settles) key).1
+    subst (λ k. IfSome child.bound (λ b. b ≡ k))
+    ((bounds_lower kind).0.alike q (spelled child.key) (key_spells g q child.key (settles_keep g rule z q count p settles) key).1) low
 
 -- of class-mates that settle, the one child has the key of what the other settles to, at as many moves
 pub child_once : (g : GameRules) (rule : ℕ) (kind : BoundKind) (x z : Board) (moves count : ℕ) (child : Child (List ℕ)) (y : List ℕ) → IsPositionOf g x
@@ -53,8 +54,8 @@ child_exists : (g : GameRules) (rule : ℕ) (kind : BoundKind) (b : Board) (m : 
     → (child : Child (List ℕ)) × IsChildOf g rule kind b m child
 child_exists g rule kind b m (z, step) =
     let settling = every_settles g rule z in (
-      record { key = (has_key settling.1).0; cost = 1 + settling.0; bound = guide_of kind settling.1 },
-      (z, step, (settling.1, settling.0, settling.2, (has_key settling.1).1, refl, refl)),
+      record { key = (has_key settling.1).0; cost = 1 + settling.0; bound = None },
+      (z, step, (settling.1, settling.0, settling.2, (has_key settling.1).1, refl, tt)),
     )
 
 -- allowed moves have their children
@@ -127,6 +128,13 @@ pub next_child : (g : GameRules) (rule : ℕ) (kind : BoundKind) (b : Board) (mo
     → AreChildrenBy g rule kind b (reverse rest) children → AreChildrenBy g rule kind b (reverse moves) (child ∷ children)
 next_child g rule kind b moves rest m child children e is are =
     subst (λ l. AreChildrenBy g rule kind b l (child ∷ children)) (sym (ap reverse e ∙ reverse-append rest (m ∷ []))) (is, are)
+
+-- this child starts
+pub settled_starts : (g : GameRules) (rule : ℕ) (kind : BoundKind) (p : Board) (child : Child (List ℕ)) → IsSettled g rule kind p 0 child
+    → SettlesTo g rule p child.cost child.key
+settled_starts g rule kind p child (q, count, settles, key, cost, low) =
+    let same : count ≡ child.cost = omega (arith, cost) in
+    subst (λ n. SettlesTo g rule p n child.key) same (q, settles, key)
 
 -- what starts is this child, at no less
 pub start_alone : (g : GameRules) (rule : ℕ) (kind : BoundKind) (p : Board) (child : Child (List ℕ)) → IsPositionOf g p → IsSettled g rule kind p 0 child

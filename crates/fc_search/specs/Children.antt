@@ -1,5 +1,5 @@
 -- The children of a class: where the steps of its position lead, once settled.
-use Rattle.std.specs.Prelude.{◌≡◌, ◌≢◌, ℕ, ◌+◌, Some, List, [], ◌∷◌, Contains}
+use Rattle.std.specs.Prelude.{◌≡◌, ◌≢◌, ℕ, ◌+◌, IfSome, Some, List, [], ◌∷◌, Contains}
 use Rattle.fc_cards.specs.declared.places.Place.{Place}
 use Rattle.fc_position.specs.Board.{Board, playable}
 use Rattle.fc_moves.specs.declared.steps.Move.{Move}
@@ -17,10 +17,10 @@ use Rattle.fc_best_first.specs.declared.spaces.Child.{Child}
 abbrev pub Spells : List ℕ → Board → Type 0
 Spells key b = IsCanonical b × (key ≡ board_bytes b)
 
--- the child is of what the board settles to, at a cost of so many moves and those of settling
+-- the child is of what the board settles to, at a cost of so many moves and those of settling, with its bound where it is told
 abbrev pub IsSettled : GameRules → ℕ → BoundKind → Board → ℕ → Child (List ℕ) → Type 0
 IsSettled g rule kind z moves child = (q : Board) × (count : ℕ) × Settles g rule z count q × IsKeyOf q child.key
-    × (child.cost ≡ moves + count) × (child.bound ≡ guide_of kind q)
+    × (child.cost ≡ moves + count) × IfSome child.bound (λ b. b ≡ guide_of kind q)
 
 -- the child is of where the move leads, once settled
 abbrev pub IsChildOf : GameRules → ℕ → BoundKind → Board → Move → Child (List ℕ) → Type 0

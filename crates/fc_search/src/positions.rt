@@ -18,7 +18,7 @@ ghost use Rattle.fc_tables.proofs.BoundLemmas.{bounds_lower};
 
 use arrayvec::ArrayVec;
 use fc_best_first::{Child, Space};
-use fc_bound::{BoundKind, is_held_back, knot_bound};
+use fc_bound::{BoundKind, is_held_back};
 use fc_canonical::{distinct_moves, position_of};
 use fc_cards::Place;
 use fc_classes::ClassKey;
@@ -115,23 +115,17 @@ impl<G: Game + Drop> Positions<G> {
 }
 
 // The class that the position settles to by the rule, where so many moves led to the position.
-fn settled<G: Game>(
-    game: &G,
-    rule: u8,
-    kind: BoundKind,
-    position: Position,
-    moves: u8,
-) -> Child<ClassKey>
+fn settled<G: Game>(game: &G, rule: u8, position: Position, moves: u8) -> Child<ClassKey>
     requires known { rule ≤ GREATEST_RULE }
     requires few { moves ≤ 1 }
-    ensures settled { IsSettled (G.game game.now) rule kind position moves result }
+    ensures settled { (kind : BoundKind) → IsSettled (G.game game.now) rule kind position moves result }
 {
     let mut position = position;
     let settling = settle(game, &mut position, rule);
     Child {
         key: ClassKey::of(&position),
         cost: moves + settling.len() as u8,
-        bound: kind.guide(&position),
+        bound: None,
     }
 }
 
@@ -143,11 +137,11 @@ fn settled_already<G: Game>(
     kind: BoundKind,
     position: &Position,
     from: Place,
-    bound: u8,
+    bound: Option<u8>,
     key: Option<ClassKey>,
 ) -> Option<Child<ClassKey>>
     requires known { rule ≤ GREATEST_RULE }
-    requires bound { bound ≡ guide_of kind position.now }
+    requires bound { IfSome bound (λ b. b ≡ guide_of kind position.now) }
     requires key { IfSome key (IsKeyOf position.now) }
     requires others { OthersStay rule (G.game game.now) position.now from }
     ensures settled { IfSome result (IsSettled (G.game game.now) rule kind position.now 1) }
@@ -186,14 +180,20 @@ fn key_after(key: &ClassKey, position: &Position, m: Move) -> Option<ClassKey>
     key.moved(position, card, m.from, m.to)
 }
 
-// Moves a card, not home, and tells the bound of where it leads, by the bound of where it was moved from. The plain bound
-// changes only by whether the card is held back, before and after.
-fn shift<G: Game>(game: &G, kind: BoundKind, position: &mut Position, bound: u8, m: Move) -> u8
+// Moves a card, not home, and tells the plain bound of where it leads, by the bound of where it was moved from: it changes
+// only by whether the card is held back, before and after.
+fn shift<G: Game>(
+    game: &G,
+    kind: BoundKind,
+    position: &mut Position,
+    bound: u8,
+    m: Move,
+) -> Option<u8>
     requires bound { bound ≡ guide_of kind position.old }
     requires allowed { Allows (G.game game.now) position.old m }
     requires away { m.to ≢ Home }
     ensures step { Step (G.game game.now) position.old m position.new }
-    ensures bound { result ≡ guide_of kind position.new }
+    ensures bound { IfSome result (λ b. b ≡ guide_of kind position.new) }
     ensures whole { IsPosition position.new }
 {
     match kind {
@@ -201,11 +201,11 @@ fn shift<G: Game>(game: &G, kind: BoundKind, position: &mut Position, bound: u8,
             let before = is_held_back(position, m.from) as u8;
             apply(game, position, m);
             let after = is_held_back(position, m.to) as u8;
-            bound + after - before
+            Some(bound + after - before)
         }
         BoundKind::Clearing => {
             apply(game, position, m);
-            knot_bound(position)
+            None
         }
     }
 }
@@ -241,20 +241,14 @@ fn child_by_shift<G: Game>(
 }
 
 // The child to which a move leads, made on a copy of the position.
-fn child_by_copy<G: Game>(
-    game: &G,
-    rule: u8,
-    kind: BoundKind,
-    position: &Position,
-    m: Move,
-) -> Child<ClassKey>
+fn child_by_copy<G: Game>(game: &G, rule: u8, position: &Position, m: Move) -> Child<ClassKey>
     requires known { rule ≤ GREATEST_RULE }
     requires allowed { Allows (G.game game.now) position.now m }
-    ensures child { IsChildOf (G.game game.now) rule kind position.now m result }
+    ensures child { (kind : BoundKind) → IsChildOf (G.game game.now) rule kind position.now m result }
 {
     let mut next = position.copy();
     apply(game, &mut next, m);
-    settled(game, rule, kind, next, 1)
+    settled(game, rule, next, 1)
 }
 
 // The child to which a move leads. The position is as it was.
@@ -278,7 +272,7 @@ fn child_by<G: Game>(
 {
     match child_by_shift(game, rule, kind, position, key, bound, m) {
         Some(child) => child,
-        None => child_by_copy(game, rule, kind, position, m),
+        None => child_by_copy(game, rule, position, m),
     }
 }
 
@@ -292,7 +286,7 @@ impl<G: Game + Drop> Space<ClassKey> for Positions<G> {
     ghost left = { λ w. length w.moves };
 
     fn start(&self) -> (Child<ClassKey>, Children<G>) {
-        let child = settled(&self.game, self.rule, self.bound, self.start.copy(), 0);
+        let child = settled(&self.game, self.rule, self.start.copy(), 0);
         let walk = self.walk(&child.key);
         (child, walk)
     }

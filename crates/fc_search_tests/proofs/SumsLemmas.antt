@@ -1,10 +1,10 @@
 -- Lemmas on the tests' own question: its children.
-use Rattle.std.proofs.Common.{◌≡◌, ℕ, ◌+◌, ◌-◌, ◌≤◌, suc, zero, Some, None, Option, ◌++◌, refl, sym, ap, subst, inl, inr, ⊎_elim, arith}
-use Rattle.std.specs.Prelude.{Contains, option_to_list}
+use Rattle.std.proofs.Common.{◌≡◌, ℕ, ◌+◌, ◌≤◌, suc, zero, Some, None, Option, ◌++◌, refl, ap, sym, subst, inl, inr, ⊎_elim, arith}
+use Rattle.std.specs.Prelude.{Contains, IfSome, option_to_list}
 use Rattle.std.proofs.lemmas.List.Elements.{Contains-append_cases, Contains-append_left, Contains-append_right}
 use Rattle.fc_best_first.specs.declared.spaces.Child.{Child}
 use Rattle.fc_search_tests.specs.Sums.{IsChildOf, sums}
-use Rattle.fc_best_first.specs.Turn.{AreChildren}
+use Rattle.fc_best_first.specs.Turn.{AreChildren, TellsBound}
 
 one_of : (o : Option (Child ℕ)) (child : Child ℕ) → Contains (option_to_list o) child → o ≡ Some child
 one_of None child h = absurd (omega (arith, h.1))
@@ -12,8 +12,12 @@ one_of (Some other) child (zero, lt, e) = ap (λ c. Some c) e
 one_of (Some other) child (suc k, lt, e) = absurd (omega (arith, lt))
 
 is_one : (goal x size cost : ℕ) (o : Option (Child ℕ)) (child : Child ℕ) → IsChildOf goal x size cost o → o ≡ Some child
-    → (child.key ≡ x + size) × (child.cost ≡ cost) × (child.bound ≡ goal - (x + size)) × (x + size ≤ goal)
-is_one goal x size cost o child h e = subst (IsChildOf goal x size cost) e h
+    → (child.key ≡ x + size) × (child.cost ≡ cost) × (child.key ≤ goal) × TellsBound (sums goal) child
+is_one goal x size cost o child h e =
+    let own : IsChildOf goal x size cost (Some child) = subst (IsChildOf goal x size cost) e h in
+    let key = own.0 in
+    let le = own.2 in
+    (own.0, own.1, omega (arith, key, le), subst (λ o. IfSome o (λ b. b ≡ (sums goal).bound child.key)) (sym own.3) tt)
 
 has_one : (goal x size cost : ℕ) (o : Option (Child ℕ)) → IsChildOf goal x size cost o → (c y : ℕ) → y ≤ goal
     → y ≡ x + size → c ≡ cost → (child : Child ℕ) × Contains (option_to_list o) child × (child.key ≡ y) × (child.cost ≤ c)
@@ -23,29 +27,20 @@ has_one goal x size cost (Some child) h c y le e f =
     let key : child.key ≡ y = (let a = h.0 in omega (arith, a, e)) in
     (child, (0, omega arith, refl), key, low)
 
-child_edge : (goal x size cost : ℕ) (child : Child ℕ)
-    → (child.key ≡ x + size) × (child.cost ≡ cost) × (child.bound ≡ goal - (x + size)) × (x + size ≤ goal)
-    → (child.key ≤ goal) × (child.bound ≡ goal - child.key)
-child_edge goal x size cost child (key, at_cost, bound, le) =
-    (omega (arith, key, le), subst (λ y. child.bound ≡ goal - y) (sym key) bound)
-
 pub sums_children : (goal x : ℕ) (a b c : Option (Child ℕ)) → IsChildOf goal x 2 3 a → IsChildOf goal x 4 4 b
     → IsChildOf goal x 6 9 c → AreChildren (sums goal) x (option_to_list a ++ (option_to_list b ++ option_to_list c))
 sums_children goal x a b c one two three = record {
   edges = λ child there. ⊎_elim
       (λ first.
       let h = is_one goal x 2 3 a child one (one_of a child first) in
-      let e = child_edge goal x 2 3 child h in
-      ((e.0, inl (h.0, h.1)), e.1))
+      ((h.2, inl (h.0, h.1)), h.3))
       (λ rest. ⊎_elim
       (λ second.
       let h = is_one goal x 4 4 b child two (one_of b child second) in
-      let e = child_edge goal x 4 4 child h in
-      ((e.0, inr (inl (h.0, h.1))), e.1))
+      ((h.2, inr (inl (h.0, h.1))), h.3))
       (λ third.
       let h = is_one goal x 6 9 c child three (one_of c child third) in
-      let e = child_edge goal x 6 9 child h in
-      ((e.0, inr (inr (h.0, h.1))), e.1))
+      ((h.2, inr (inr (h.0, h.1))), h.3))
       (Contains-append_cases (option_to_list b) (option_to_list c) child rest))
       (Contains-append_cases (option_to_list a) (option_to_list b ++ option_to_list c) child there);
   whole = λ cost y edge. ⊎_elim

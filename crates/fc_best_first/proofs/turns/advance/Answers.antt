@@ -1,5 +1,6 @@
 use Rattle.std.proofs.Common.{arith}
 use Rattle.fc_best_first.proofs.KeptLemmas.{taken_floor, taken_within, entry_reached, entry_low}
+use Rattle.fc_best_first.proofs.TurnLemmas.{children_reached}
 use Rattle.fc_best_first.proofs.turns.advance.Goals as goal
 
 pub at-requires : goal.at-requires
@@ -50,3 +51,10 @@ returns-in-Some-2-clause-floor g c = taken_floor c.args.book.now.waiting c.take.
 pub returns-in-None-clause-floor : goal.returns-in-None-clause-floor
 returns-in-None-clause-floor g c = taken_floor c.args.book.now.waiting c.take.new.self.waiting c.in-Some.f c.in-Some.number c.args.floor.now
     c.in-Some.ensures.taken c.in-Some.ensures.least
+
+pub expand-requires-clause-reached : goal.expand-requires-clause-reached
+expand-requires-clause-reached g c = λ children rest.
+    children_reached (g.S.Space.graph c.args.space.now) c.at.result.0.now children
+    (entry_reached (g.S.Space.graph c.args.space.now) c.args.weight c.args.budget c.args.book.now c.take.new.self c.in-Some.number _ _
+    c.requires.kept.sound c.in-Some.ensures.kept c.at.ensures.stands)
+    (c.visit-bound.ensures.children children rest)

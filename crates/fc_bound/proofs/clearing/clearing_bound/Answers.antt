@@ -1,4 +1,4 @@
-use Rattle.std.proofs.Common.{[], sym, ap, subst, arith}
+use Rattle.std.proofs.Common.{[], sym, ◌∙◌, ap, subst, arith}
 use Rattle.fc_position.proofs.BoardLemmas.{cards_most}
 use Rattle.fc_bound.specs.Bound.{is_away}
 use Rattle.fc_bound.specs.Clearing.{cards_in, clearing_cost, clearing_bound}
@@ -19,12 +19,12 @@ count_knots-cost-requires-clause-cards c =
 
 pub costs_at_most-requires-clause-few : goal.costs_at_most-requires-clause-few
 costs_at_most-requires-clause-few c =
-    let all = ap cards_in c.new-left.ensures.value in
+    let all = ap cards_in (c.copy.ensures.value ∙ c.new-left.ensures.value) in
     omega (arith, all, cards_most c.args.position.now c.new-left.ensures.whole)
 
 pub costs_at_most-requires-clause-cards : goal.costs_at_most-requires-clause-cards
 costs_at_most-requires-clause-cards c =
-    subst AreCards (sym c.new-left.ensures.value) (position_cards c.args.position.now c.new-left.ensures.whole)
+    subst AreCards (sym (c.copy.ensures.value ∙ c.new-left.ensures.value)) (position_cards c.args.position.now c.new-left.ensures.whole)
 
 pub overflow_add-result : goal.overflow_add-result
 overflow_add-result c =
@@ -34,8 +34,9 @@ pub returns-then-costs_at_most-clause-value : goal.returns-then-costs_at_most-cl
 unfolding clearing_bound
 returns-then-costs_at_most-clause-value c =
     let same = ap clearing_cost c.new-left.ensures.value in
+    let copied = ap clearing_cost c.copy.ensures.value in
     let most = c.costs_at_most.ensures.value.0 c.if-costs_at_most.true in
-    omega (arith, c.away-away.ensures.value, same, most, c.loop-cost.invariant)
+    omega (arith, c.away-away.ensures.value, same, copied, most, c.loop-cost.invariant)
 
 pub returns-then-costs_at_most-clause-most : goal.returns-then-costs_at_most-clause-most
 returns-then-costs_at_most-clause-most c =

@@ -1,31 +1,29 @@
-use Rattle.std.proofs.Common.{◌≡◌, Bool, true, false, sym, ◌∙◌, ap, arith}
+use Rattle.std.proofs.Common.{◌≡◌, false, true, ap, sym, ◌∙◌, arith}
 use Rattle.std.specs.List.{list_any}
-use Rattle.fc_bound.specs.Knots.{is_loose, is_in_knot, knots}
-use Rattle.fc_bound.proofs.KnotSteps.{any_flag, knots_loose, knots_knot, knots_none}
+use Rattle.fc_position.specs.Board.{last_of}
+use Rattle.fc_bound.specs.Knots.{has_last, is_in_knot, knots, shed}
+use Rattle.fc_bound.proofs.KnotSteps.{knots_loose, knots_knot, knots_none}
 use Rattle.fc_bound.proofs.knots.round.Goals as goal
 
-pub returns-then-has_flag-clause-met : goal.returns-then-has_flag-clause-met
-returns-then-has_flag-clause-met c = λ steps.
+pub returns-in-Some-clause-met : goal.returns-in-Some-clause-met
+returns-in-Some-clause-met c = λ steps.
     let s = c.args.left.now in
-    let any : list_any (is_loose s) s ≡ true =
-    sym (any_flag (is_loose s) s) ∙ ap (list_any (λ (flag : Bool). flag)) (sym c.loose-loose.ensures.value)
-    ∙ ap (list_any (λ (flag : Bool). flag)) (sym c.as_slice.ensures) ∙ sym c.has_flag.ensures.value ∙ c.if-has_flag.true in
-    let after = ap (knots steps) (c.shed.ensures.value (is_loose s) c.loose-loose.ensures.value) in
-    omega (arith, knots_loose s any steps, c.count_above-met.ensures.value, after)
+    let after = ap (knots steps) c.in-Some.ensures.taken in
+    omega (arith, knots_loose s c.in-Some.ensures.some_loose steps, c.in-Some.ensures.met, after)
 
 pub returns-then-has_cards-clause-met : goal.returns-then-has_cards-clause-met
 returns-then-has_cards-clause-met c = λ steps.
     let s = c.args.left.now in
-    let none : list_any (is_loose s) s ≡ false =
-    sym (any_flag (is_loose s) s) ∙ ap (list_any (λ (flag : Bool). flag)) (sym c.loose-loose.ensures.value)
-    ∙ ap (list_any (λ (flag : Bool). flag)) (sym c.as_slice.ensures) ∙ sym c.has_flag.ensures.value ∙ c.if-has_flag.false in
-    let after = ap (knots steps) (c.shed-then-has_cards.ensures.value (is_in_knot s) c.knot-knot.ensures.value) in
-    omega (arith, knots_knot s none (sym c.has_cards.ensures.value ∙ c.if-has_cards.true) steps, after)
+    let same = c.in_default.ensures.same in
+    let after = ap (knots steps) (c.shed.ensures.value (is_in_knot c.take_loose.new.self) c.knot-knot.ensures.value
+    ∙ ap (λ v. shed (is_in_knot v) v) same) in
+    let some_last : list_any (λ column. has_last (last_of column)) s ≡ true =
+    ap (list_any (λ column. has_last (last_of column))) (sym same) ∙ sym c.has_cards.ensures.value ∙ c.if-has_cards.true in
+    omega (arith, knots_knot s c.in_default.ensures.none_loose some_last steps, after)
 
 pub returns-clause-none : goal.returns-clause-none
 returns-clause-none c =
     let s = c.args.left.now in
-    let none : list_any (is_loose s) s ≡ false =
-    sym (any_flag (is_loose s) s) ∙ ap (list_any (λ (flag : Bool). flag)) (sym c.loose-loose.ensures.value)
-    ∙ ap (list_any (λ (flag : Bool). flag)) (sym c.as_slice.ensures) ∙ sym c.has_flag.ensures.value ∙ c.if-has_flag.false in
-    knots_none s none (sym c.has_cards.ensures.value ∙ c.if-has_cards.false)
+    let no_last : list_any (λ column. has_last (last_of column)) s ≡ false =
+    ap (list_any (λ column. has_last (last_of column))) (sym c.in_default.ensures.same) ∙ sym c.has_cards.ensures.value ∙ c.if-has_cards.false in
+    knots_none s c.in_default.ensures.none_loose no_last

@@ -1,4 +1,4 @@
-use Rattle.std.proofs.Common.{◌≡◌, ℕ, ◌+◌, ◌*◌, ◌≤◌, sym, ◌∙◌, ap, subst, refl, arith}
+use Rattle.std.proofs.Common.{ℕ, ◌≤◌, sym, subst, refl, arith}
 use Rattle.fc_best_first.specs.declared.books.Mark.{Mark}
 use Rattle.fc_best_first.proofs.SearchLemmas.{first_offered, begins_kept, begins_floor}
 use Rattle.fc_best_first.proofs.searches.Search.new.Goals as goal
@@ -10,21 +10,19 @@ invariant_of-result g c =
     let cost : ℕ = c.from-cost.result in
     let mark : Mark = record { cost = cost; parent = 0 } in
     let weight = c.args.weight in
-    let f : ℕ = c.weighed-f.result in
+    let f : ℕ = c.f_of-f.result in
     let some_room : 1 ≤ c.args.budget = omega arith in
-    let first = first_offered c.args.budget c.new-book.result c.offer.new.self key mark f c.in-Ok._offered
+    let first = first_offered c.args.budget c.new-book.result c.add.new.self key mark f c.in-Ok._offered
     c.new-book.ensures.stored c.new-book.ensures.waiting some_room c.in-Ok.ensures.offers in
-    let exact : f ≡ cost + weight * graph.bound key =
-    c.weighed-f.ensures.value ∙ ap (λ b. cost + weight * b) c.start-start.ensures.bound in
     let most : c.args.budget ≤ 4000000 = omega arith in
-    let kept = begins_kept graph weight c.args.budget c.offer.new.self key mark f first.0 first.1
+    let kept = begins_kept graph weight c.args.budget c.add.new.self key mark f first.0 first.1
     (g.met.S.Space.lawful c.args.space) some_room
     (subst (graph.starts key) (sym c.from-cost.ensures) c.start-start.ensures.starts)
     (λ y d h. let a = c.start-start.ensures.alone y d h in (a.0, subst (λ k. k ≤ d) (sym c.from-cost.ensures) a.1))
-    refl exact in (
+    refl c.f_of-f.ensures.value in (
       c.requires.weight,
       most,
       kept,
-      begins_floor graph weight c.args.budget c.offer.new.self key mark f first.0 first.1 (g.met.S.Space.lawful c.args.space)
+      begins_floor graph weight c.args.budget c.add.new.self key mark f first.0 first.1 (g.met.S.Space.lawful c.args.space)
           c.requires.weight.least kept,
     )

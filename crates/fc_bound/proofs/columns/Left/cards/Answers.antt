@@ -1,15 +1,22 @@
-use Rattle.std.proofs.Common.{ℕ, List, [], length, take, get_or, sym, ◌∙◌, ap}
-use Rattle.fc_bound.proofs.FrontLemmas.{lowest-at, length-lowest}
+use Rattle.std.proofs.Common.{subst, arith}
+use Rattle.std.proofs.lemmas.List.{take_all}
+use Rattle.fc_bound.specs.Fronts.{Tells}
+use Rattle.fc_bound.proofs.BitLemmas.{tells_first, tells_column}
 use Rattle.fc_bound.proofs.columns.Left.cards.Goals as goal
+
+pub loop-i-init : goal.loop-i-init
+loop-i-init c = record {
+  all = tells_first c.front-all.result.cards c.args.self.now (omega (arith, c.front-all.ensures.eight)) c.front-all.ensures.value.tells;
+  eight = c.front-all.ensures.eight;
+}
+
+pub loop-i-preserved : goal.loop-i-preserved
+loop-i-preserved c = record {
+  all = tells_column c.loop-i.all c.front-all-in-loop-i.result.cards c.args.self.now c.loop-i.i (omega (arith, c.loop-i-test.true, c.front-all-in-loop-i.ensures.eight))
+      c.loop-i.invariant.all c.front-all-in-loop-i.ensures.value.tells;
+  eight = c.front-all-in-loop-i.ensures.eight;
+}
 
 pub returns-clause-value : goal.returns-clause-value
 returns-clause-value c =
-    ap (take (get_or c.self.inside.heights c.args.i 0)) c.column-column.ensures.value
-    ∙ sym (lowest-at c.self.inside.heights c.self.inside.position.now.columns c.args.i (c.self.invariant.each ∙ sym c.self.invariant.eight))
-    ∙ ap (λ (v : List (List ℕ)). get_or v c.args.i []) c.self.view_is
-
-pub returns-clause-eight : goal.returns-clause-eight
-returns-clause-eight c =
-    ap (λ (v : List (List ℕ)). length v) (sym c.self.view_is)
-    ∙ length-lowest c.self.inside.heights c.self.inside.position.now.columns (c.self.invariant.each ∙ sym c.self.invariant.eight)
-    ∙ c.self.invariant.eight
+    subst (Tells c.loop-i.all) (take_all c.loop-i.i c.args.self.now (omega (arith, c.loop-i-test.false, c.loop-i.invariant.eight))) c.loop-i.invariant.all
