@@ -10,7 +10,7 @@ walk-walk-requires g c =
     let kind = c.args.self.now.bound in
     let child = c.settled-child.result in
     let settled = subst (λ b. IsSettled game rule kind b 0 child) c.copy.ensures.value (c.settled-child.ensures.settled kind) in
-    record { reached = (child.cost, (0, settled_starts game rule kind c.args.self.now.start child settled)); }
+    record { reached = (child.cost, (0, settled_starts game rule kind c.args.self.now.start child settled)) }
 
 pub returns-clause-starts : goal.returns-clause-starts
 returns-clause-starts g c =
