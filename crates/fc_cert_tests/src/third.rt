@@ -3,6 +3,7 @@
 ghost use Rattle.std.specs.Prelude.{◌≤◌, length};
 
 use crate::given::{board, fault_of, free_cell, sure};
+use fc_answers::MoveList;
 use fc_bound::BoundKind;
 use fc_cert::{CertFault, Claim, write_answer};
 use fc_checker::{CheckFault, check};
@@ -235,11 +236,16 @@ fn other_forms_have_no_floor(rt: HostRuntime) {
     assert!(rt; fault_of(rt.alloc(), &first) == Some(CertFault::BadKind));
 }
 
+// How many moves a list has: the boards here have short ones.
+fn count(moves: &MoveList) -> u32 {
+    moves.len().min(1000) as u32
+}
+
 // What an answer claims; `None` where it gave up.
 fn claim_of(answer: &Answer) -> Option<Claim> {
     match answer {
-        Answer::Shortest(moves, _) => Some(Claim::Shortest(moves.len() as u32)),
-        Answer::Won(moves, floor, _) => Some(Claim::Between(*floor, moves.len() as u32)),
+        Answer::Shortest(moves, _) => Some(Claim::Shortest(count(moves))),
+        Answer::Won(moves, floor, _) => Some(Claim::Between(*floor, count(moves))),
         Answer::CannotWin(_) => Some(Claim::CannotWin),
         Answer::GaveUp(_) => None,
     }
