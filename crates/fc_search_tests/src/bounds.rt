@@ -1,9 +1,9 @@
 //! The bounds of random small boards, beside the clearing bound by a plain program of its definition and what the plain search
-//! finds. The cards of these boards stand in the first three columns, at most eight of them.
+//! finds. The cards of these boards stand in the first three columns, at most twelve of them.
 
 use crate::given::{bakers_game, free_cell};
 use crate::plain::{self, Found};
-use crate::random::{Numbers, random_board};
+use crate::random::{Numbers, random_board, random_board_of};
 use fc_bound::{bound, clearing_bound, knot_bound};
 use fc_cards::{Card, Suit};
 use fc_moves::{Game, Kings};
@@ -11,13 +11,13 @@ use fc_position::Position;
 use std::alloc::Global;
 use std::process::Abort;
 
-// What is left of three columns is one number below 729: how many cards of each, as digits to the base of nine.
-const STEPS: [usize; 3] = [81, 9, 1];
+// What is left of three columns is one number below 2197: how many cards of each, as digits to the base of thirteen.
+const STEPS: [usize; 3] = [169, 13, 1];
 
 // The cards of a column that are left.
 fn cards_left(position: &Position, left: usize, column: u8) -> &[Card] {
     let step = STEPS[column as usize % 3];
-    let height = left.checked_div(step).unwrap_or(0) % 9;
+    let height = left.checked_div(step).unwrap_or(0) % 13;
     let cards = position.column(column % 8);
     cards.get(..height).unwrap_or(&[])
 }
@@ -35,13 +35,13 @@ fn waits(position: &Position, left: usize, card: Card) -> bool {
 }
 
 // The least cost of taking all cards out of what is left, by those of what is left one card later.
-fn least_cost(position: &Position, costs: &[u32; 729], left: usize) -> u32 {
+fn least_cost(position: &Position, costs: &[u32; 2197], left: usize) -> u32 {
     let mut least = if left == 0 { 0 } else { u32::MAX };
     for column in 0..3u8 {
         if let Some(card) = cards_left(position, left, column).last() {
             let fee = u32::from(waits(position, left, *card));
             let rest = left.saturating_sub(STEPS[column as usize % 3]);
-            least = least.min(fee.saturating_add(costs[rest % 729]));
+            least = least.min(fee.saturating_add(costs[rest % 2197]));
         }
     }
     least
@@ -49,16 +49,16 @@ fn least_cost(position: &Position, costs: &[u32; 729], left: usize) -> u32 {
 
 // The clearing cost of a board's columns.
 fn clearing_cost(position: &Position) -> u32 {
-    let mut costs = [0; 729];
-    for left in 0..729usize {
-        costs[left % 729] = least_cost(position, &costs, left);
+    let mut costs = [0; 2197];
+    for left in 0..2197usize {
+        costs[left % 2197] = least_cost(position, &costs, left);
     }
     let mut whole = 0usize;
     for column in 0..3u8 {
         let height = position.column(column).len();
-        whole = whole.saturating_mul(9).saturating_add(height);
+        whole = whole.saturating_mul(13).saturating_add(height);
     }
-    costs[whole % 729]
+    costs[whole % 2197]
 }
 
 // How many cards are not home.
@@ -95,6 +95,8 @@ fn check_boards<G: Game>(rt: &impl Abort, alloc: Global, game: &G, seed: u32) {
     let mut numbers = Numbers::new(seed);
     for _ in 0..15 {
         let board = random_board(rt, &mut numbers, u32::from(game.cells()));
+        check_board(rt, alloc, game, &board);
+        let board = random_board_of(rt, &mut numbers, 3, u32::from(game.cells()));
         check_board(rt, alloc, game, &board);
     }
 }

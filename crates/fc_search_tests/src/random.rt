@@ -39,11 +39,16 @@ fn leave(rt: &impl Abort, left: &mut ArrayVec<Card, 52>, suit: Suit, count: u8) 
     }
 }
 
-// None, the king, or the king and the queen of each suit left; how many of each are home.
-fn draw(rt: &impl Abort, numbers: &mut Numbers, left: &mut ArrayVec<Card, 52>) -> [u8; 4] {
+// At most so many of the highest cards of each suit left; how many of each are home.
+fn draw(
+    rt: &impl Abort,
+    numbers: &mut Numbers,
+    most: u32,
+    left: &mut ArrayVec<Card, 52>,
+) -> [u8; 4] {
     let mut homes = [13u8; 4];
     for (home, suit) in homes.iter_mut().zip([Suit::C, Suit::D, Suit::H, Suit::S]) {
-        let count = u8::try_from(numbers.below(3)).unwrap_or(0);
+        let count = u8::try_from(numbers.below(most.saturating_add(1))).unwrap_or(0);
         *home = 13u8.saturating_sub(count);
         leave(rt, left, suit, count);
     }
@@ -69,11 +74,17 @@ fn put(
 
 /// A board with none, the king, or the king and the queen of each suit left, in random columns, and in so many of the cells.
 pub fn random_board(rt: &impl Abort, numbers: &mut Numbers, cells: u32) -> Position {
+    random_board_of(rt, numbers, 2, cells)
+}
+
+/// A board with at most so many of the highest cards of each suit left, twelve in all, in three random columns, and in so many
+/// of the cells.
+pub fn random_board_of(rt: &impl Abort, numbers: &mut Numbers, most: u32, cells: u32) -> Position {
     let mut left = ArrayVec::new();
-    let homes = draw(rt, numbers, &mut left);
+    let homes = draw(rt, numbers, most, &mut left);
     let mut columns: [ArrayVec<Card, 52>; 8] = Default::default();
     let mut held = [None; 4];
-    for _ in 0..8 {
+    for _ in 0..12 {
         let count = left.len();
         if count == 0 {
             break;
