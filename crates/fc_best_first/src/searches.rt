@@ -88,7 +88,7 @@ impl<K: ExactKey, F: Frontier + Drop, S: Space<K> + Drop> Search<K, F, S> {
         }
         let (start, walk) = space.start();
         let cost = u32::from(start.cost);
-        let f = f_of(&space, weight, &start.key, cost, None);
+        let f = f_of(&space, weight, &start.key, cost, start.bound);
         let mut book = Book::new(alloc);
         let mark = Mark { cost, parent: 0 };
         let Ok(_offered) = book.add(budget, start.key, mark, f) else {

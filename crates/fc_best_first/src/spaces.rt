@@ -1,6 +1,6 @@
 ghost use Rattle.std.specs.Prelude.{◌≡◌, ◌≤◌, ◌<◌, ◌↔◌, ℕ, List, [], ◌∷◌, IsTrue, IfSome, MatchOption};
 ghost use Rattle.fc_best_first.specs.Graph.{Graph, IsLawful, Reached};
-ghost use Rattle.fc_best_first.specs.Turn.{AreChildren};
+ghost use Rattle.fc_best_first.specs.Turn.{AreChildren, TellsBound};
 
 /// A key at the end of an edge, what the edge costs, and the bound of the key where telling it costs next to nothing.
 #[derive(Default, Drop)]
@@ -29,6 +29,7 @@ pub trait Space<K> {
     /// The key that starts, with its cost, and a walk to visit keys with.
     fn start(&self) -> (Child<K>, Self::Walk)
         ensures starts { (graph self.now).starts result.0.key result.0.cost }
+        ensures told { TellsBound (graph self.now) result.0 }
         ensures alone { (x : K) (d : ℕ) → (graph self.now).starts x d → (x ≡ result.0.key) × (result.0.cost ≤ d) };
 
     /// Whether a key that was reached is won.

@@ -1,6 +1,6 @@
 use Rattle.std.proofs.Common.{subst}
 use Rattle.fc_search.specs.Children.{IsSettled}
-use Rattle.fc_search.proofs.ChildLemmas.{settled_starts, start_alone}
+use Rattle.fc_search.proofs.ChildLemmas.{child_bound, settled_starts, start_alone}
 use Rattle.fc_search.proofs.positions.PositionsSpaceClassKey.start.Goals as goal
 
 pub walk-walk-requires : goal.walk-walk-requires
@@ -29,3 +29,12 @@ returns-clause-alone g c =
     let child = c.settled-child.result in
     let settled = subst (λ b. IsSettled game rule kind b 0 child) c.copy.ensures.value (c.settled-child.ensures.settled kind) in
     start_alone game rule kind c.args.self.now.start child c.args.self.now.fits settled
+
+pub returns-clause-told : goal.returns-clause-told
+returns-clause-told g c =
+    let game = g.G.Game.game c.args.self.now.game in
+    let rule = c.args.self.now.rule in
+    let kind = c.args.self.now.bound in
+    let child = c.settled-child.result in
+    let settled = subst (λ b. IsSettled game rule kind b 0 child) c.copy.ensures.value (c.settled-child.ensures.settled kind) in
+    child_bound game rule kind c.args.self.now.start 0 child c.args.self.now.fits settled
