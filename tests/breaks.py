@@ -1,7 +1,7 @@
 #!/usr/bin/env python3
 """Tries the wrong edits crates/NAME/breaks/*.edit, many in one check: the prover must refuse each in the function that it changes.
 
-usage, at the top of the repository:  breaks.py [--alone] [--follow LOG] [--lanes N] [NAME..]
+usage, at the top of the repository:  breaks.py [--alone] [--more] [--follow LOG] [--lanes N] [NAME..]
 
 An edit is a file as `rt must-fail` reads it: a line 'file: src/lib.rt', then pairs of lines 'old: TEXT' and 'new: TEXT', each
 old TEXT standing once in that file. A line 'fn: MODULE::NAME' names the function that must be refused, where the edit changes
@@ -13,7 +13,7 @@ stands beside it under a name of its own, with the same contract and proof, and 
 function that calls itself has no copies, nor has a trait's method unless its impl states the contract again; their further edits
 go to further waves. An edit is refused where a goal of a function that it changes stays open; that the function calls one that
 isn't proved does not count. What a wave does not settle is tried alone.
---alone tries each edit by itself. --follow LOG tries a crate's edits as soon as the `rt ci` that writes LOG says that the crate is
+--alone tries each edit by itself. --more tries the edits of breaks/more/ too, further ones of functions that have one. --follow LOG tries a crate's edits as soon as the `rt ci` that writes LOG says that the crate is
 proved, over the libraries that it builds; else those that have changed are built first. The last line is 'N passed, M failed'.
 """
 import argparse
@@ -340,10 +340,18 @@ def try_wave(crate, wave, kept):
     return {edit.name: wrong.get(edit.name) for edit in wave}, None, seconds
 
 
-def try_crate(crate, is_alone):
-    """Tries all edits of a crate. Returns how many were refused, and what is wrong with each other by its name."""
+def names_of_edits(crate, has_more):
+    """The names of a crate's edits, and with more those of its further ones."""
     folder = f"{crate.folder}/breaks"
-    names = sorted(os.listdir(folder)) if os.path.isdir(folder) else []
+    found = [it for it in os.listdir(folder) if it != "more"]
+    if has_more and os.path.isdir(f"{folder}/more"):
+        found += [f"more/{it}" for it in os.listdir(f"{folder}/more")]
+    return sorted(found)
+
+
+def try_crate(crate, is_alone, has_more):
+    """Tries all edits of a crate. Returns how many were refused, and what is wrong with each other by its name."""
+    names = names_of_edits(crate, has_more)
     edits, failed, again, used = [], {}, [], 0.0
     for name in names:
         try:
@@ -400,17 +408,18 @@ def followed(crates, log):
         time.sleep(1)
 
 
-def tried(crate, is_ready, is_alone):
+def tried(crate, is_ready, is_alone, has_more):
     """Tries a crate's edits, where what they stand on is built."""
     if is_ready:
-        return try_crate(crate, is_alone)
+        return try_crate(crate, is_alone, has_more)
     print(f"breaks {crate.name}: not tried, since it or a library below it is not proved", flush=True)
-    return 0, dict.fromkeys(os.listdir(f"{crate.folder}/breaks"), "not tried")
+    return 0, dict.fromkeys(names_of_edits(crate, has_more), "not tried")
 
 
 def main():
     words = argparse.ArgumentParser(description="Tries the wrong edits of breaks/, which the prover must refuse.")
     words.add_argument("--alone", action="store_true", help="try each edit by itself")
+    words.add_argument("--more", action="store_true", help="try the edits of breaks/more/ too")
     words.add_argument("--follow", metavar="LOG", help="follow the `rt ci` that writes this file")
     words.add_argument("--lanes", type=int, default=0, help="how many crates at a time (default: one a processor, as memory allows)")
     words.add_argument("names", nargs="*", metavar="NAME", help="the crates to try (default: all)")
@@ -425,7 +434,7 @@ def main():
         os.nice(5)
     with ThreadPoolExecutor(given.lanes or lanes) as pool:
         ready = followed(crates, given.follow) if given.follow else built(crates)
-        runs = [pool.submit(tried, crate, is_ready, given.alone) for crate, is_ready in ready]
+        runs = [pool.submit(tried, crate, is_ready, given.alone, given.more) for crate, is_ready in ready]
         counts = [it.result() for it in runs]
     passed, failed = sum(it for it, _ in counts), sum(len(it) for _, it in counts)
     print(f"{passed} passed, {failed} failed")

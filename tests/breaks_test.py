@@ -118,7 +118,7 @@ def tried(crate, edits):
         with open(f"crates/sample/breaks/{name}.edit", "w", encoding="utf-8") as it:
             it.write(text)
     with contextlib.redirect_stdout(io.StringIO()):
-        return breaks.try_crate(crate, False)
+        return breaks.try_crate(crate, False, False)
 
 
 def main():
@@ -145,8 +145,12 @@ def main():
             for name, (_, want) in edits.items():
                 expect(name, re.search(want, wrong.get(f"{name}.edit", "")) if want else f"{name}.edit" not in wrong)
             expect("the refused ones are counted", passed == sum(want is None for _, want in edits.values()))
+        os.mkdir("crates/sample/breaks/more")
+        os.rename("crates/sample/breaks/sum_one_more.edit", "crates/sample/breaks/more/sum_one_more.edit")
+        expect("further edits are left out", breaks.names_of_edits(crate, False) == ["sum_misspelt.edit"])
+        expect("further edits are found", breaks.names_of_edits(crate, True) == ["more/sum_one_more.edit", "sum_misspelt.edit"])
         os.chdir("/")
-    count = len(EDITS) + len(MISSPELT) + len(OWNERS) + len(PLACES) + 3
+    count = len(EDITS) + len(MISSPELT) + len(OWNERS) + len(PLACES) + 5
     print(f"{count - failed} passed, {failed} failed")
     return 1 if failed else 0
 

@@ -66,7 +66,8 @@ impl<'a> Certificate<'a> {
     pub fn head(&self) -> Head
         ensures value { result ≡ self.now.head }
     {
-        self.head
+        let Certificate { head, .. } = self;
+        *head
     }
 
     /// The code of the game.
