@@ -1,0 +1,62 @@
+-- Board texts as they are copied from elsewhere, and the plain text that each stands for.
+use Rattle.std.specs.Prelude.{ℕ, zero, suc, ◌+◌, ◌-◌, ◌==◌, ◌||◌, ◌&&◌, Bool, true, false, cond, List, [], ◌∷◌, Option, Some, None, option_map, nat_lt}
+use Rattle.fc_text.specs.Line.{is_blank, is_line_end}
+
+-- the mark of byte order (U+FEFF) that a text may begin with says nothing
+abbrev pub after_mark : List ℕ → List ℕ
+after_mark (a ∷ b ∷ c ∷ bytes) = cond ((a == 239) && (b == 187) && (c == 191)) bytes (a ∷ b ∷ c ∷ bytes)
+after_mark bytes = bytes
+
+-- the letter of the suit whose symbol, U+2660 to U+2667, ends with this byte: spades and clubs are black, the other symbols
+-- of theirs white, hearts and diamonds the other way round
+abbrev pub suit_of_symbol : ℕ → Option ℕ
+suit_of_symbol b = cond ((b == 160) || (b == 164)) (Some 83)
+    (cond ((b == 161) || (b == 165)) (Some 72)
+    (cond ((b == 162) || (b == 166)) (Some 68)
+    (cond ((b == 163) || (b == 167)) (Some 67) None)))
+
+-- how many bytes are the selector of a symbol's shape, U+FE0E or U+FE0F, that may follow the symbol
+abbrev pub selector_len : List ℕ → ℕ
+selector_len (a ∷ b ∷ c ∷ bytes) = cond ((a == 239) && (b == 184) && ((c == 142) || (c == 143))) 3 0
+selector_len bytes = 0
+
+-- a no-break space (U+00A0) stands for a space
+abbrev pub space_sign : List ℕ → Option (ℕ × ℕ)
+space_sign (a ∷ b ∷ bytes) = cond ((a == 194) && (b == 160)) (Some (32, 2)) None
+space_sign bytes = None
+
+-- the sign that a text begins with: the byte that it stands for, and how many bytes it has
+abbrev pub sign_of : List ℕ → Option (ℕ × ℕ)
+sign_of (a ∷ b ∷ c ∷ bytes) = cond ((a == 226) && (b == 153))
+    (option_map (λ letter. (letter, 3 + selector_len bytes)) (suit_of_symbol c))
+    (space_sign (a ∷ b ∷ c ∷ bytes))
+sign_of bytes = space_sign bytes
+
+-- the sign that stands here, a byte that begins no other being one of itself
+abbrev pub sign_or : ℕ → Option (ℕ × ℕ) → ℕ × ℕ
+sign_or b None = (b, 1)
+sign_or b (Some sign) = sign
+
+-- each sign is replaced by the byte that it stands for, past so many bytes that are passed over
+abbrev pub without_signs : ℕ → List ℕ → List ℕ
+without_signs passed [] = []
+without_signs (suc passed) (b ∷ bytes) = without_signs passed bytes
+without_signs zero (b ∷ bytes) = (sign_or b (sign_of (b ∷ bytes))).0
+    ∷ without_signs ((sign_or b (sign_of (b ∷ bytes))).1 - 1) bytes
+
+-- a byte is the digit of the column that has so many labels before it
+abbrev pub is_next_digit : ℕ → ℕ → Bool
+is_next_digit count b = nat_lt count 8 && (b == 49 + count)
+
+-- columns may be numbered, `1:` to `8:` first in their lines: the n-th such label of a text, if it is n, says nothing but
+-- that a column follows, which its colon says alone
+abbrev pub without_labels : Bool → ℕ → List ℕ → List ℕ
+without_labels is_first count [] = []
+without_labels is_first count (b ∷ []) = b ∷ []
+without_labels is_first count (b ∷ c ∷ bytes) = cond (is_first && is_next_digit count b && (c == 58))
+    (without_labels false (1 + count) (c ∷ bytes))
+    (b ∷ without_labels (is_line_end b || (is_first && is_blank b)) count (c ∷ bytes))
+
+-- the plain text that a text stands for
+abbrev pub plain : List ℕ → List ℕ
+plain text = without_labels true 0 (without_signs 0 (after_mark text))

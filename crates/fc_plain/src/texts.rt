@@ -1,0 +1,70 @@
+ghost use Rattle.std.specs.Prelude.{◌≡◌, ℕ, List, ◌+◌, ◌≤◌, ◌↔◌, length, IsSome, IsTrue, IsErrOf, IfOk, IfSome};
+ghost use Rattle.fc_io.specs.Moves.{Gives, GivesAtMost, IsAllTold, TellsAtLeast, Stays};
+ghost use Rattle.fc_plain.specs.Plain.{plain};
+
+use crate::labels::without_labels;
+use crate::signs::{after_mark, without_signs};
+use arrayvec::ArrayVec;
+use fc_io::{ReadFault, Source, read_up_to};
+use std::marker::Model;
+
+/// The most bytes that a text may have that is made plain. A plain board text has at most 4,096.
+pub const MOST_BYTES: usize = 16_384;
+
+/// A board text that was made plain, seen by contracts as its bytes.
+#[derive(Debug, Drop)]
+pub struct PlainText {
+    bytes: ArrayVec<u8, MOST_BYTES>,
+}
+
+impl Model for PlainText {
+    ghost use Rattle.std.specs.Prelude.{ℕ, List};
+
+    ghost Value = { List ℕ };
+
+    ghost view = { λ s. s.bytes.items };
+}
+
+impl PlainText {
+    /// The plain text that a text stands for: a mark of byte order before it is left out, symbols of suits and no-break
+    /// spaces are replaced, and so are the numbers of columns that are numbered in order (`1:` to `8:`). Nothing else
+    /// changes. `None` for a text of more than 16,384 bytes.
+    pub fn of(text: &[u8]) -> Option<PlainText>
+        ensures value { IfSome result (λ plain_text. plain_text ≡ plain text.now) }
+        ensures some { IsSome result ↔ length text.now ≤ MOST_BYTES }
+    {
+        if text.len() > MOST_BYTES {
+            return None;
+        }
+        let spelled = without_signs(after_mark(text));
+        Some(PlainText {
+            bytes: without_labels(spelled.as_slice()),
+        })
+    }
+
+    /// The plain text of all that a source gives.
+    ///
+    /// # Errors
+    /// `Failed` exactly where the source has failed, `TooLong` where it gave more than 16,384 bytes. Never `Memory`.
+    pub fn read<S: Source>(source: &mut S) -> Result<PlainText, ReadFault>
+        ensures value { IfOk result (λ plain_text. (bytes : List ℕ) × Gives (S.told source.old) (S.told source.new) bytes
+            × IsAllTold (S.told source.old) bytes × (length bytes ≤ MOST_BYTES) × (plain_text ≡ plain bytes)) }
+        ensures taken { GivesAtMost (S.told source.old) (S.told source.new) (MOST_BYTES + 1) }
+        ensures long { IsErrOf result ReadFault.TooLong → TellsAtLeast (S.told source.old) (MOST_BYTES + 1) }
+        ensures memory { IsErrOf result ReadFault.Memory → ⊥ }
+        ensures fault { IsErrOf result ReadFault.Failed ↔ IsTrue (S.has_failed source.new) }
+        ensures stays { IsTrue (S.has_failed source.old) → IsErrOf result ReadFault.Failed }
+        ensures unmoved { IsTrue (S.has_failed source.old) → Stays (S.told source.old) (S.told source.new) }
+    {
+        let mut room = [0; MOST_BYTES + 1];
+        let count = read_up_to(source, &mut room)?;
+        PlainText::of(&room[..count]).ok_or(ReadFault::TooLong)
+    }
+
+    /// Its bytes, at most 16,384.
+    pub fn bytes(&self) -> &[u8]
+        ensures value { result.now ≡ self.now }
+    {
+        self.bytes.as_slice()
+    }
+}

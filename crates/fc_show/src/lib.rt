@@ -1,0 +1,8 @@
+//! Boards drawn as players see them: what is in the cells and at home above the columns, which go downward. No call
+//! allocates.
+#![tactic(auto)]
+
+pub use drawings::{Drawing, MOST_BYTES, draw};
+
+mod drawings;
+mod entries;

@@ -1,0 +1,27 @@
+# Completion of fc_solve's words in bash:  . docs/fc_solve.bash
+
+_fc_solve() {
+  local word=${COMP_WORDS[COMP_CWORD]} before=${COMP_WORDS[COMP_CWORD - 1]} words
+  local game="--game --kings --cells" search="--budget --within --bound --rule"
+  case $before in
+    --game) words="freecell bakers" ;;
+    --bound) words="plain clearing" ;;
+    --cells) words="0 1 2 3 4" ;;
+    --rule) words="0 1 2" ;;
+    --within) words="1 2 3 4 5 6 7 8 9 10" ;;
+    --budget) words="100k 1M max" ;;
+    --cert) ;;
+    *)
+      case ${COMP_WORDS[1]} in
+        "$word") words="deal show solve check replay batch help --help --version" ;;
+        show) words="--plain --deal $game --help" ;;
+        solve) words="--cert --deal $search $game --help" ;;
+        batch) words="$search $game --help" ;;
+        check | replay) words="$game --help" ;;
+        help) words="deal show solve check replay batch" ;;
+      esac
+      ;;
+  esac
+  mapfile -t COMPREPLY < <(compgen -W "$words" -- "$word")
+}
+complete -o default -F _fc_solve fc_solve ./fc_solve
