@@ -4,4 +4,5 @@ pub mod Checking
 pub mod Devices
 pub mod Fault
 pub mod Runs
+pub mod Showing
 pub mod Solving

@@ -5,6 +5,7 @@ pub use batches::{MOST_DEALS, run_batch};
 pub use checking::run_check;
 pub use faults::{Input, Output, ProgramFault};
 pub use runs::{run_deal, run_replay};
+pub use showing::{Look, run_show};
 pub use solving::run_solve;
 
 mod answers;
@@ -12,4 +13,5 @@ mod batches;
 mod checking;
 mod faults;
 mod runs;
+mod showing;
 mod solving;

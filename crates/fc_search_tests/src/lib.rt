@@ -24,6 +24,8 @@ mod runs;
 #[cfg(test)]
 mod searches;
 #[cfg(test)]
+mod shows;
+#[cfg(test)]
 mod spaces;
 #[cfg(test)]
 mod weights;

@@ -1,53 +1,63 @@
 //! The program: FreeCell boards dealt, solved with answers that are proved, and moves replayed.
 #![tactic(auto)]
 
+mod boards;
+mod endings;
+mod notes;
 mod words;
 
 ghost use Rattle.std.specs.Prelude.{◌≤◌, IfSome};
 
+use boards::{BoardSource, create, find_board, is_number, open, read_text};
 use clap::ArgMatches;
 use clap::error::ErrorKind;
+use endings::{Ending, end_of, of_run, tell};
 use fc_bound::BoundKind;
-use fc_io::{FromReader, Source, ToWriter};
+use fc_io::{FromSlice, ToWriter};
 use fc_moves::{BakersGame, FreeCell, Game, Kings};
-use fc_runs::{Input, Output, ProgramFault, run_batch, run_check, run_deal, run_replay, run_solve};
-use std::fs::{self, File};
+use fc_plain::{PlainText, read_count};
+use fc_runs::{
+    Input, Look, ProgramFault, run_batch, run_check, run_deal, run_replay, run_show, run_solve,
+};
+use std::fs::File;
 use std::io::IsTerminal;
 use std::process::ExitCode;
 use std::{env, io};
-use words::{DEFAULT_BUDGET, DEFAULT_RULE, DEFAULT_WEIGHT, GREATEST_WEIGHT};
+use words::{DEFAULT_BUDGET, DEFAULT_RULE, DEFAULT_WEIGHT, GREATEST_BUDGET, GREATEST_WEIGHT};
 
 /// The exit status of a command line that is refused.
 const REFUSED: u8 = 3;
 
 fn main(rt: HostRuntime) -> ExitCode {
     match follow_words(&rt) {
-        Ok(status) => ExitCode::from(status),
-        Err(fault) => {
-            // Where even this can't be written, the status still tells it.
-            let _told = eprintln!(rt; "fc_solve: {fault}");
-            ExitCode::from(fault.status())
-        }
+        Ok(status) | Err(Ending::Told(status)) => ExitCode::from(status),
+        Err(Ending::Fault(fault)) => ExitCode::from(tell(&rt, &fault)),
     }
 }
 
 // Reads the command line, and does what it says.
-fn follow_words(rt: &HostRuntime) -> Result<u8, ProgramFault> {
+fn follow_words(rt: &HostRuntime) -> Result<u8, Ending> {
     let alloc = rt.alloc();
     let args = match env::args(rt) {
         Ok(args) => args,
         Err(error) if error.kind() == io::ErrorKind::OutOfMemory => {
-            return Err(ProgramFault::Memory);
+            return Err(Ending::Fault(ProgramFault::Memory));
         }
-        Err(_) => {
-            let _told = eprintln!(rt; "fc_solve: the command line is not UTF-8");
-            return Ok(REFUSED);
-        }
+        Err(_) => return Ok(refuse(rt, "the command line is not UTF-8")),
     };
-    let words: Vec<String> = args.collect(alloc)?;
+    let mut words: Vec<String> = args.collect(alloc)?;
+    if words.get(1).is_some_and(|word| is_number(word.as_str())) {
+        // (`fc_solve 617` is `fc_solve solve 617`)
+        let inserted = words.insert(1, String::from_str(alloc, "solve")?);
+        if inserted.is_err() {
+            return Err(Ending::Fault(ProgramFault::Memory));
+        }
+    }
     match words::command(alloc)?.try_get_matches_from(words.as_slice()) {
         Ok(matches) => follow_matches(rt, &matches),
-        Err(error) if error.kind() == ErrorKind::OutOfMemory => Err(ProgramFault::Memory),
+        Err(error) if error.kind() == ErrorKind::OutOfMemory => {
+            Err(Ending::Fault(ProgramFault::Memory))
+        }
         Err(error) => {
             let _told = error.print(rt);
             Ok(if error.exit_code() == 0 { 0 } else { REFUSED })
@@ -55,14 +65,22 @@ fn follow_words(rt: &HostRuntime) -> Result<u8, ProgramFault> {
     }
 }
 
+// Says why the command line is refused.
+fn refuse(rt: &HostRuntime, reason: &str) -> u8 {
+    let _told = eprintln!(rt; "fc_solve: {reason}");
+    REFUSED
+}
+
 // Does what a command line that was read says.
-fn follow_matches(rt: &HostRuntime, matches: &ArgMatches<'_>) -> Result<u8, ProgramFault> {
+fn follow_matches(rt: &HostRuntime, matches: &ArgMatches<'_>) -> Result<u8, Ending> {
     if let Some(words) = matches.subcommand_matches("deal") {
-        let number = words.get_one::<u32>("N").unwrap_or(0);
-        return run_deal(number, &mut ToWriter::new(rt.stdout()));
+        return deal(rt, words);
     }
     if let Some(words) = matches.subcommand_matches("solve") {
         return choose_game(rt, words, Task::Solve);
+    }
+    if let Some(words) = matches.subcommand_matches("show") {
+        return choose_game(rt, words, Task::Show);
     }
     if let Some(words) = matches.subcommand_matches("check") {
         return choose_game(rt, words, Task::Check);
@@ -76,17 +94,24 @@ fn follow_matches(rt: &HostRuntime, matches: &ArgMatches<'_>) -> Result<u8, Prog
     }
 }
 
+// Prints the deal that the words name.
+fn deal(rt: &HostRuntime, words: &ArgMatches<'_>) -> Result<u8, Ending> {
+    let number = words.get_one::<u32>("N").unwrap_or(0);
+    of_run(run_deal(number, &mut ToWriter::new(rt.stdout())))
+}
+
 /// What is done with boards of a game.
 #[derive(Clone, Copy)]
 enum Task {
     Solve,
+    Show,
     Check,
     Replay,
     Batch,
 }
 
 // Does the task with the game that the words name.
-fn choose_game(rt: &HostRuntime, words: &ArgMatches<'_>, task: Task) -> Result<u8, ProgramFault> {
+fn choose_game(rt: &HostRuntime, words: &ArgMatches<'_>, task: Task) -> Result<u8, Ending> {
     let cells = words.get_one::<u8>("cells").unwrap_or(4);
     let (Some(free_cell), Some(bakers)) = (FreeCell::new(cells), BakersGame::new(cells)) else {
         return Ok(REFUSED);
@@ -106,9 +131,10 @@ fn perform<G: Game + Drop>(
     game: &G,
     words: &ArgMatches<'_>,
     task: Task,
-) -> Result<u8, ProgramFault> {
+) -> Result<u8, Ending> {
     match task {
         Task::Solve => solve(rt, game, words),
+        Task::Show => show(rt, game, words),
         Task::Check => check(rt, game, words),
         Task::Replay => replay(rt, game, words),
         Task::Batch => batch(rt, game, words),
@@ -124,13 +150,13 @@ struct Limits {
     bound: BoundKind,
 }
 
-// What the words say of a search; `None` where there is no such home rule or weight.
+// What the words say of a search; `None` where their budget is no number.
 fn limits_of(words: &ArgMatches<'_>) -> Option<Limits>
     ensures rule { IfSome result (λ limits. limits.rule ≤ DEFAULT_RULE) }
     ensures least { IfSome result (λ limits. DEFAULT_WEIGHT ≤ limits.weight) }
     ensures greatest { IfSome result (λ limits. limits.weight ≤ GREATEST_WEIGHT) }
 {
-    let budget = words.get_one::<u32>("budget").unwrap_or(DEFAULT_BUDGET);
+    let budget = budget_of(words)?;
     let rule = words.get_one::<u8>("rule").unwrap_or(DEFAULT_RULE);
     let weight = words.get_one::<u8>("within").unwrap_or(DEFAULT_WEIGHT);
     if rule > DEFAULT_RULE || weight < DEFAULT_WEIGHT || weight > GREATEST_WEIGHT {
@@ -152,45 +178,72 @@ fn bound_of(words: &ArgMatches<'_>) -> BoundKind {
     }
 }
 
-// Solves the board of a file, or of the standard input where no file is named.
-fn solve<G: Game + Drop>(
-    rt: &HostRuntime,
-    game: &G,
-    words: &ArgMatches<'_>,
-) -> Result<u8, ProgramFault> {
+// How many classes may be stored, as the words say.
+fn budget_of(words: &ArgMatches<'_>) -> Option<u32> {
+    match words.get_str("budget") {
+        None => Some(DEFAULT_BUDGET),
+        Some("max") => Some(GREATEST_BUDGET),
+        Some(text) => read_count(text.as_bytes()),
+    }
+}
+
+// What is said of a budget that is no number.
+const NO_BUDGET: &str = "--budget is a number, such as 100000, 100_000, 100k, 4M or 1e6, or max";
+
+// Where the board comes from that the words name.
+fn source_of<'a>(rt: &HostRuntime, words: &ArgMatches<'a>) -> Result<BoardSource<'a>, Ending> {
+    match words.get_one::<u32>("deal") {
+        Some(number) => Ok(BoardSource::Deal(number)),
+        None => find_board(rt, words.get_str("BOARD")),
+    }
+}
+
+// Solves the board that the words name.
+fn solve<G: Game + Drop>(rt: &HostRuntime, game: &G, words: &ArgMatches<'_>) -> Result<u8, Ending> {
     let Some(limits) = limits_of(words) else {
-        return Ok(REFUSED);
+        return Ok(refuse(rt, NO_BUDGET));
     };
-    let mut cert = match words.get_str("cert") {
+    let source = source_of(rt, words)?;
+    let cert = match words.get_str("cert") {
         Some(path) => Some(ToWriter::new(create(rt, path)?)),
         None => None,
     };
-    let status = match words.get_str("BOARD") {
-        Some(path) => {
-            let mut board = open(rt, path, Input::Board)?;
-            solve_from(rt, game, limits, &mut board, cert.as_mut())?
-        }
-        None => {
-            let mut board = FromReader::new(rt.stdin());
-            solve_from(rt, game, limits, &mut board, cert.as_mut())?
-        }
-    };
+    if limits.budget == 0 || limits.budget > GREATEST_BUDGET {
+        // (before anything is read)
+        return Err(Ending::Fault(ProgramFault::Budget));
+    }
+    let text = read_text(rt, source)?;
+    if is_blank(&text) {
+        return Ok(refuse(rt, NO_BOARD));
+    }
+    let result = solve_text(rt, game, limits, text.bytes(), cert);
+    let status = end_of(rt, result, text.bytes(), game.cells())?;
     add_notes(rt, limits, status);
     Ok(status)
 }
 
-// Solves the board of a source.
-fn solve_from<G: Game + Drop, S: Source>(
+// What is said of a text with nothing in it.
+const NO_BOARD: &str = "the board is empty: its text has nothing but blanks";
+
+// Whether a text has nothing but blanks.
+fn is_blank(text: &PlainText) -> bool {
+    text.bytes().iter().all(|byte| byte.is_ascii_whitespace())
+}
+
+// Solves the board of a text.
+fn solve_text<G: Game + Drop>(
     rt: &HostRuntime,
     game: &G,
     limits: Limits,
-    board: &mut S,
-    cert: Option<&mut ToWriter<File>>,
+    text: &[u8],
+    cert: Option<ToWriter<File>>,
 ) -> Result<u8, ProgramFault>
     requires rule { limits.rule ≤ DEFAULT_RULE }
     requires least { DEFAULT_WEIGHT ≤ limits.weight }
     requires greatest { limits.weight ≤ GREATEST_WEIGHT }
 {
+    let mut cert = cert;
+    let mut board = FromSlice::new(text);
     let mut out = ToWriter::new(rt.stdout());
     let Limits {
         budget,
@@ -204,10 +257,10 @@ fn solve_from<G: Game + Drop, S: Source>(
         rule,
         weight,
         bound,
-        board,
+        &mut board,
         budget,
         &mut out,
-        cert,
+        cert.as_mut(),
     )
 }
 
@@ -231,11 +284,7 @@ fn advise(rt: &HostRuntime, limits: Limits) {
 }
 
 // Searches the numbered deals that the words name.
-fn batch<G: Game + Drop>(
-    rt: &HostRuntime,
-    game: &G,
-    words: &ArgMatches<'_>,
-) -> Result<u8, ProgramFault> {
+fn batch<G: Game + Drop>(rt: &HostRuntime, game: &G, words: &ArgMatches<'_>) -> Result<u8, Ending> {
     let (Some(from), Some(to)) = (words.get_one::<u32>("FROM"), words.get_one::<u32>("TO")) else {
         return Ok(REFUSED);
     };
@@ -248,10 +297,10 @@ fn batch<G: Game + Drop>(
         },
     ) = limits_of(words)
     else {
-        return Ok(REFUSED);
+        return Ok(refuse(rt, NO_BUDGET));
     };
     let mut out = ToWriter::new(rt.stdout());
-    run_batch(
+    of_run(run_batch(
         rt.alloc(),
         game,
         rule,
@@ -261,49 +310,57 @@ fn batch<G: Game + Drop>(
         to,
         budget,
         &mut out,
-    )
+    ))
 }
 
-// Checks the certificate of a file for the board of a file.
-fn check<G: Game>(rt: &HostRuntime, game: &G, words: &ArgMatches<'_>) -> Result<u8, ProgramFault> {
+// Shows the board that the words name.
+fn show<G: Game>(rt: &HostRuntime, game: &G, words: &ArgMatches<'_>) -> Result<u8, Ending> {
+    let text = read_text(rt, source_of(rt, words)?)?;
+    if is_blank(&text) {
+        return Ok(refuse(rt, NO_BOARD));
+    }
+    let look = if words.get_flag("plain") {
+        Look::Text
+    } else if rt.stdout().is_terminal() {
+        Look::Coloured
+    } else {
+        Look::Drawn
+    };
+    let mut out = ToWriter::new(rt.stdout());
+    let result = run_show(game, look, &mut FromSlice::new(text.bytes()), &mut out);
+    end_of(rt, result, text.bytes(), game.cells())
+}
+
+// Checks the certificate of a file for the board that the words name.
+fn check<G: Game>(rt: &HostRuntime, game: &G, words: &ArgMatches<'_>) -> Result<u8, Ending> {
     let (Some(board), Some(cert)) = (words.get_str("BOARD"), words.get_str("CERT")) else {
         return Ok(REFUSED);
     };
-    let mut board = open(rt, board, Input::Board)?;
+    let source = find_board(rt, Some(board))?;
     let mut cert = open(rt, cert, Input::Cert)?;
+    let text = read_text(rt, source)?;
+    if is_blank(&text) {
+        return Ok(refuse(rt, NO_BOARD));
+    }
+    let mut board = FromSlice::new(text.bytes());
     let mut out = ToWriter::new(rt.stdout());
-    run_check(rt.alloc(), game, &mut board, &mut cert, &mut out)
+    let result = run_check(rt.alloc(), game, &mut board, &mut cert, &mut out);
+    end_of(rt, result, text.bytes(), game.cells())
 }
 
-// Replays the moves of a file on the board of a file.
-fn replay<G: Game>(rt: &HostRuntime, game: &G, words: &ArgMatches<'_>) -> Result<u8, ProgramFault> {
+// Replays the moves of a file on the board that the words name.
+fn replay<G: Game>(rt: &HostRuntime, game: &G, words: &ArgMatches<'_>) -> Result<u8, Ending> {
     let (Some(board), Some(moves)) = (words.get_str("BOARD"), words.get_str("MOVES")) else {
         return Ok(REFUSED);
     };
-    let mut board = open(rt, board, Input::Board)?;
+    let source = find_board(rt, Some(board))?;
     let mut moves = open(rt, moves, Input::Moves)?;
+    let text = read_text(rt, source)?;
+    if is_blank(&text) {
+        return Ok(refuse(rt, NO_BOARD));
+    }
+    let mut board = FromSlice::new(text.bytes());
     let mut out = ToWriter::new(rt.stdout());
-    run_replay(rt.alloc(), game, &mut board, &mut moves, &mut out)
-}
-
-// The file with this path, to be read as this input.
-fn open(rt: &HostRuntime, path: &str, input: Input) -> Result<FromReader<File>, ProgramFault> {
-    let likely_len = match fs::metadata(rt, path) {
-        Ok(metadata) => metadata.len() as usize,
-        Err(_) => 0,
-    };
-    match File::open(rt, path) {
-        Ok(file) => Ok(FromReader::with_likely_len(file, likely_len)),
-        Err(error) if error.kind() == io::ErrorKind::OutOfMemory => Err(ProgramFault::Memory),
-        Err(_) => Err(ProgramFault::Read(input)),
-    }
-}
-
-// The file with this path, made or emptied, for a certificate.
-fn create(rt: &HostRuntime, path: &str) -> Result<File, ProgramFault> {
-    match File::create(rt, path) {
-        Ok(file) => Ok(file),
-        Err(error) if error.kind() == io::ErrorKind::OutOfMemory => Err(ProgramFault::Memory),
-        Err(_) => Err(ProgramFault::Write(Output::Cert)),
-    }
+    let result = run_replay(rt.alloc(), game, &mut board, &mut moves, &mut out);
+    end_of(rt, result, text.bytes(), game.cells())
 }

@@ -3,7 +3,7 @@
 use clap::{Arg, ArgAction, Command, value_parser};
 use std::alloc::{AllocError, Global};
 
-/// The budget where none is given, in stored classes.
+/// The budget where none is given, in stored classes of positions.
 pub const DEFAULT_BUDGET: u32 = 100_000;
 
 /// The home rule where none is given, and the greatest one.
@@ -15,12 +15,16 @@ pub const DEFAULT_WEIGHT: u8 = 1;
 /// The greatest weight.
 pub const GREATEST_WEIGHT: u8 = 10;
 
+/// The greatest budget.
+pub const GREATEST_BUDGET: u32 = 4_000_000;
+
 /// What a word of a subcommand is.
 #[derive(Clone, Copy)]
 enum Kind {
-    /// An option with a number, what help calls the number, and the number where none is given.
-    Number(&'static str, &'static str),
-    /// The same with a number from the first of these to the second.
+    /// An option with a budget.
+    Budget,
+    /// An option with a number from the first of these to the second, what help calls it, and the number where none is
+    /// given.
     Between(u8, u8, &'static str, &'static str),
     /// An option with the name of a game.
     Game,
@@ -30,10 +34,12 @@ enum Kind {
     Flag,
     /// A number that stands by itself.
     DealNumber,
-    /// A file that must be named.
-    File,
-    /// A file that may be named.
-    OptionalFile,
+    /// An option with the number of a deal, in place of a board.
+    DealOption,
+    /// A word that must stand there.
+    Needed,
+    /// A word that may stand there.
+    Optional,
     /// An option with a file.
     FileOption,
 }
@@ -60,7 +66,7 @@ static BOUNDS: [&str; 2] = ["plain", "clearing"];
 const GAME: Word = Word {
     name: "game",
     kind: Kind::Game,
-    help: "Columns are built down in turning colours (freecell) or in suit (bakers)",
+    help: "Columns go down in turning colours (freecell) or in suit (bakers)",
 };
 
 const KINGS: Word = Word {
@@ -77,32 +83,54 @@ const CELLS: Word = Word {
 
 const BUDGET: Word = Word {
     name: "budget",
-    kind: Kind::Number("B", "100000"),
-    help: "How many classes of positions may be stored, 1 to 4000000",
+    kind: Kind::Budget,
+    help: "How many positions to keep before giving up, to 4M or max",
 };
 
 const RULE: Word = Word {
     name: "rule",
     kind: Kind::Between(0, DEFAULT_RULE, "R", "2"),
-    help: "Which cards go home at once: none (0), those on which no card left can stand (1), or all free cards (2)",
+    help: "Cards that go home at once: none (0), safe ones (1), all (2)",
 };
 
 const WITHIN: Word = Word {
     name: "within",
     kind: Kind::Between(DEFAULT_WEIGHT, GREATEST_WEIGHT, "W", "1"),
-    help: "A solution of at most W times the fewest moves, 1 to 10; with 1 a shortest one",
+    help: "At most W times the fewest moves, 1 to 10; found far sooner",
 };
 
 const BOUND: Word = Word {
     name: "bound",
     kind: Kind::Bound,
-    help: "The lower bound that the search goes by: cards that stand above a lower one of their suit (plain), or all cards that must leave their column before they can go home (clearing), which takes longer a class and needs far fewer",
+    help: "How to look ahead: clearing finds most, plain is quicker a step",
+};
+
+const BOARD: &str = "A file, - for standard input, or the number of a deal";
+
+// `[BOARD]` and `--deal N`.
+const OPTIONAL_BOARD: Word = Word {
+    name: "BOARD",
+    kind: Kind::Optional,
+    help: BOARD,
+};
+
+const DEAL_OPTION: Word = Word {
+    name: "deal",
+    kind: Kind::DealOption,
+    help: "The numbered deal in place of BOARD, 1 to 1000000",
+};
+
+// `BOARD`.
+const NEEDED_BOARD: Word = Word {
+    name: "BOARD",
+    kind: Kind::Needed,
+    help: BOARD,
 };
 
 // `deal N`.
 const DEAL: Subcommand = Subcommand {
     name: "deal",
-    about: "Prints a numbered deal: eight columns, the deepest card first",
+    about: "Prints a numbered deal: eight columns, each from its deepest card on",
     after_help: "Example: fc_solve deal 617",
     words: &[Word {
         name: "N",
@@ -111,21 +139,45 @@ const DEAL: Subcommand = Subcommand {
     }],
 };
 
-// `solve [--budget B] [--cert FILE] [--within W] [--bound NAME] [GAME] [--rule R] [BOARD]`.
+// `show [--plain] [GAME] [--deal N] [BOARD]`.
+const SHOW: Subcommand = Subcommand {
+    name: "show",
+    about: "Draws a board as it is read, its columns downward, to see that it is the one you mean",
+    after_help: "Example: fc_solve show 617",
+    words: &[
+        Word {
+            name: "plain",
+            kind: Kind::Flag,
+            help: "Prints the board's text, which every command reads",
+        },
+        GAME,
+        KINGS,
+        CELLS,
+        DEAL_OPTION,
+        OPTIONAL_BOARD,
+    ],
+};
+
+// `solve [--budget B] [--cert FILE] [--within W] [--bound NAME] [GAME] [--rule R] [--deal N] [BOARD]`.
 const SOLVE: Subcommand = Subcommand {
     name: "solve",
-    about: "Prints a shortest solution in one-card moves, or with --within one at most W times as long, or that the board can't be won, or that it gave up",
-    after_help: "Moves are two letters, from where to where: columns 1 to 8, cells a to d, home h.
-The status is 0 for a solution, 1 where the board can't be won, 2 on giving up, 3 for what was asked or read and
-isn't right, 4 for want of memory, 5 where reading or writing failed.
+    about: "Prints a shortest solution, move by move, or that the board can't be won, or that it gave up",
+    after_help: "Moves are two letters, from where to where: columns 1 to 8, cells a to d, home h. Each takes
+one card. `show` draws the board as it is read.
 
-Example: fc_solve solve --game bakers --cells 3 boards/one-king.txt",
+Status: 0 a solution, 1 can't be won, 2 gave up, 3 something asked or read isn't right,
+4 want of memory, 5 reading or writing failed.
+
+Examples:
+  fc_solve solve 617                                 a shortest solution of deal 617
+  fc_solve solve --within 2 --bound clearing 1       one of deal 1, at most twice as long
+  fc_solve solve --game bakers --cells 3 boards/one-king.txt",
     words: &[
         BUDGET,
         Word {
             name: "cert",
             kind: Kind::FileOption,
-            help: "Writes the certificate of the answer to this file, before the answer; giving up has none",
+            help: "Writes a proof of the answer to FILE, for `check`",
         },
         WITHIN,
         BOUND,
@@ -133,11 +185,8 @@ Example: fc_solve solve --game bakers --cells 3 boards/one-king.txt",
         KINGS,
         CELLS,
         RULE,
-        Word {
-            name: "BOARD",
-            kind: Kind::OptionalFile,
-            help: "The file of the board's text; standard input where none is given",
-        },
+        DEAL_OPTION,
+        OPTIONAL_BOARD,
     ],
 };
 
@@ -145,22 +194,17 @@ Example: fc_solve solve --game bakers --cells 3 boards/one-king.txt",
 const CHECK: Subcommand = Subcommand {
     name: "check",
     about: "Says what a certificate proves of a board, or why it proves nothing; it searches nothing",
-    after_help: "The status is 0 where the certificate is accepted, 3 where it is refused, 4 for want of memory, 5 where reading or
-writing failed.
+    after_help: "Status: 0 accepted, 3 refused, 4 want of memory, 5 reading or writing failed.
 
 Example: fc_solve check boards/locked.txt boards/locked.cert",
     words: &[
         GAME,
         KINGS,
         CELLS,
-        Word {
-            name: "BOARD",
-            kind: Kind::File,
-            help: "The file of the board's text",
-        },
+        NEEDED_BOARD,
         Word {
             name: "CERT",
-            kind: Kind::File,
+            kind: Kind::Needed,
             help: "The file of the certificate, as `solve --cert` writes it",
         },
     ],
@@ -175,14 +219,10 @@ const REPLAY: Subcommand = Subcommand {
         GAME,
         KINGS,
         CELLS,
-        Word {
-            name: "BOARD",
-            kind: Kind::File,
-            help: "The file of the board's text",
-        },
+        NEEDED_BOARD,
         Word {
             name: "MOVES",
-            kind: Kind::File,
+            kind: Kind::Needed,
             help: "The file of the moves, two letters each, parted by blanks or lines",
         },
     ],
@@ -191,9 +231,9 @@ const REPLAY: Subcommand = Subcommand {
 // `batch FROM TO [--budget B] [--within W] [--bound NAME] [GAME] [--rule R]`.
 const BATCH: Subcommand = Subcommand {
     name: "batch",
-    about: "Searches up to 32 numbered deals in turns, and prints a line for each: its number and its answer, without moves",
-    after_help: "The status is the greatest of the lines': 0 for a solution, 1 where a deal can't be won, 2 on giving up, 4 for want of
-memory; and 3 for what was asked and isn't right, 5 where writing failed.
+    about: "Solves up to 32 numbered deals side by side, and prints a line for each, without moves",
+    after_help: "Status: the greatest of the lines': 0 a solution, 1 can't be won, 2 gave up, 4 want of memory;
+and 3 for what was asked and isn't right, 5 where writing failed.
 
 Example: fc_solve batch 11982 11982",
     words: &[
@@ -217,17 +257,17 @@ Example: fc_solve batch 11982 11982",
     ],
 };
 
-static SUBCOMMANDS: [Subcommand; 5] = [DEAL, SOLVE, CHECK, REPLAY, BATCH];
+static SUBCOMMANDS: [Subcommand; 6] = [DEAL, SHOW, SOLVE, CHECK, REPLAY, BATCH];
 
-/// The program's command line: `deal`, `solve`, `check`, `replay` and `batch`.
+/// The program's command line: `deal`, `show`, `solve`, `check`, `replay` and `batch`.
 pub fn command<'a>(alloc: Global) -> Result<Command<'a>, AllocError> {
     let mut command = Command::new(alloc, "fc_solve")
         .bin_name("fc_solve")?
         .version("0.1.0")
         .about(
-            "Deals FreeCell boards, solves them with answers that are proved, checks certificates, and replays moves.",
+            "Solves FreeCell in the fewest moves, or proves that a board can't be won. `fc_solve 617` solves deal 617.",
         )
-        .after_help("Example: fc_solve deal 1 | fc_solve solve --budget 1000")
+        .after_help("First of all: fc_solve solve --bound clearing 941")
         .subcommand_required(true)
         .arg_required_else_help(true);
     for subcommand in &SUBCOMMANDS {
@@ -245,18 +285,16 @@ fn subcommand_of<'a>(
         .about(subcommand.about)
         .after_help(subcommand.after_help);
     for word in subcommand.words {
-        command = command.arg(arg_of(alloc, word))?;
+        command = command.arg(arg_of(alloc, word)?)?;
     }
     Ok(command)
 }
 
 // A word as an argument.
-fn arg_of<'a>(alloc: Global, word: &'static Word) -> Arg<'a> {
+fn arg_of<'a>(alloc: Global, word: &'static Word) -> Result<Arg<'a>, AllocError> {
     let arg = Arg::new(alloc, word.name).help(word.help);
-    match word.kind {
-        Kind::Number(value, default) => {
-            with_value(arg, word.name, value, default).value_parser(value_parser!(u32))
-        }
+    Ok(match word.kind {
+        Kind::Budget => with_value(arg, word.name, "B", "100000"),
         Kind::Between(least, most, value, default) => {
             let parser = value_parser!(u8).range(i64::from(least)..=i64::from(most));
             with_value(arg, word.name, value, default).value_parser(parser)
@@ -269,10 +307,15 @@ fn arg_of<'a>(alloc: Global, word: &'static Word) -> Arg<'a> {
         }
         Kind::Flag => arg.long(word.name).action(ArgAction::SetTrue),
         Kind::DealNumber => arg.required(true).value_parser(value_parser!(u32)),
-        Kind::File => arg.required(true),
-        Kind::OptionalFile => arg,
+        Kind::DealOption => arg
+            .long(word.name)
+            .value_name("N")
+            .value_parser(value_parser!(u32))
+            .conflicts_with("BOARD")?,
+        Kind::Needed => arg.required(true),
+        Kind::Optional => arg,
         Kind::FileOption => arg.long(word.name).value_name("FILE"),
-    }
+    })
 }
 
 // The argument as an option with a value, which has this name and this default.

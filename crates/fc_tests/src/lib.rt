@@ -13,6 +13,8 @@ mod deals;
 #[cfg(test)]
 mod devices;
 #[cfg(test)]
+mod drawings;
+#[cfg(test)]
 mod frontiers;
 pub mod games;
 #[cfg(test)]
@@ -21,6 +23,8 @@ mod given;
 mod home;
 #[cfg(test)]
 mod moves;
+#[cfg(test)]
+mod plain;
 #[cfg(test)]
 mod positions;
 #[cfg(test)]

@@ -6,6 +6,7 @@ mod faults;
 mod pieces;
 mod printed;
 mod spellings;
+mod spots;
 mod witness;
 
 use crate::given::sure;

@@ -16,4 +16,5 @@ pub mod PieceLemmas
 pub mod PrintLemmas
 pub mod PrintedLines
 pub mod ReaderLemmas
+pub mod SpotLemmas
 pub mod TokenLemmas

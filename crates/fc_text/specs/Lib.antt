@@ -6,3 +6,4 @@ pub mod Line
 pub mod Printed
 pub mod Reading
 pub mod Spelling
+pub mod Spot

@@ -7,6 +7,7 @@ pub use boards::read_board;
 pub use faults::BoardFault;
 pub use pieces::{Gaps, Tokens};
 pub use printers::print_board;
+pub use spots::{Spot, first_spot_of, last_spot_of, spot_of};
 
 mod boards;
 mod drafts;
@@ -16,4 +17,5 @@ mod lines;
 mod pieces;
 mod printers;
 mod readers;
+mod spots;
 mod tokens;

@@ -1,0 +1,97 @@
+//! How the program ends early, and what it says of it on standard error: the line of the fault, and then perhaps one more,
+//! which tells where it lies and why. Where a line can't be written, the status still tells the fault.
+
+use crate::notes::add_note;
+use fc_runs::ProgramFault;
+use std::alloc::AllocError;
+use std::{fs, io};
+
+/// Why the program ends early.
+#[derive(Clone, Copy)]
+pub enum Ending {
+    /// A fault that is still to be told.
+    Fault(ProgramFault),
+    /// What was wrong is told; the status.
+    Told(u8),
+}
+
+impl From<ProgramFault> for Ending {
+    ghost use Rattle.std.specs.Prelude.{◌≡◌};
+    ghost use Rattle.fc_solve.specs.declared.endings.Ending.TheVariants.{Fault};
+
+    ghost from_gives = { λ fault ending. ending ≡ Fault fault };
+
+    fn from(fault: ProgramFault) -> Ending {
+        Ending::Fault(fault)
+    }
+}
+
+impl From<AllocError> for Ending {
+    ghost use Rattle.std.specs.Prelude.{◌≡◌};
+    ghost use Rattle.fc_solve.specs.declared.endings.Ending.TheVariants.{Fault};
+    ghost use Rattle.fc_runs.specs.declared.faults.ProgramFault.TheVariants.{Memory};
+
+    ghost from_gives = { λ _ ending. ending ≡ Fault Memory };
+
+    fn from(_refused: AllocError) -> Ending {
+        Ending::Fault(ProgramFault::Memory)
+    }
+}
+
+/// Says what the fault is.
+pub fn tell(rt: &HostRuntime, fault: &ProgramFault) -> u8 {
+    let _told = eprintln!(rt; "fc_solve: {fault}");
+    fault.status()
+}
+
+/// Says that a file can't be opened or made, and why.
+pub fn tell_of_file(rt: &HostRuntime, fault: ProgramFault, path: &str, error: io::Error) -> Ending {
+    if error.kind() == io::ErrorKind::OutOfMemory {
+        return Ending::Fault(ProgramFault::Memory);
+    }
+    let status = tell(rt, &fault);
+    let _told = eprintln!(rt; "fc_solve: {path}: {error}");
+    Ending::Told(status)
+}
+
+/// Says that a file was opened and not read.
+pub fn tell_of_reading(rt: &HostRuntime, fault: ProgramFault, path: &str) -> Ending {
+    let status = tell(rt, &fault);
+    let is_folder = match fs::metadata(rt, path) {
+        Ok(metadata) => metadata.is_dir(),
+        Err(_) => false,
+    };
+    if is_folder {
+        let _told = eprintln!(rt; "fc_solve: {path}: it is a folder");
+    } else {
+        let _told = eprintln!(rt; "fc_solve: {path}: it can't be read to its end");
+    }
+    Ending::Told(status)
+}
+
+/// Ends as a run did that read no board.
+pub fn of_run(ran: Result<u8, ProgramFault>) -> Result<u8, Ending> {
+    match ran {
+        Ok(status) => Ok(status),
+        Err(fault) => Err(Ending::Fault(fault)),
+    }
+}
+
+/// Ends as a run did on a board's text, for a game with so many cells: a fault of the board is told, with where it lies.
+pub fn end_of(
+    rt: &HostRuntime,
+    ran: Result<u8, ProgramFault>,
+    text: &[u8],
+    cells: u8,
+) -> Result<u8, Ending> {
+    match ran {
+        Ok(status) => Ok(status),
+        Err(fault) => {
+            let status = tell(rt, &fault);
+            if let ProgramFault::Board(fault) = fault {
+                add_note(rt, fault, text, cells);
+            }
+            Err(Ending::Told(status))
+        }
+    }
+}

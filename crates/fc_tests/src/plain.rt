@@ -1,0 +1,109 @@
+//! Texts and counts as people type them.
+
+use crate::given::sure;
+use fc_io::testing::Failing;
+use fc_io::{FromSlice, ReadFault};
+use fc_plain::{MOST_BYTES, PlainText, read_count};
+use std::process::Abort;
+
+// A text stands for this plain one.
+fn check_plain(rt: &impl Abort, text: &[u8], plain: &[u8]) {
+    let made = PlainText::of(text).expect(rt, "a short text");
+    assert!(rt; made.bytes() == plain);
+    let read = sure(rt, PlainText::read(&mut FromSlice::new(text)));
+    assert!(rt; read.bytes() == plain);
+}
+
+#[test]
+fn what_is_copied_is_made_plain(rt: HostRuntime) {
+    let rows: [(&[u8], &[u8]); 18] = [
+        (b"", b""),
+        (b": 4C 2C\n:\n", b": 4C 2C\n:\n"),
+        // The mark of byte order counts at the beginning alone.
+        (b"\xEF\xBB\xBFKC", b"KC"),
+        (b"KC\xEF\xBB\xBF", b"KC\xEF\xBB\xBF"),
+        (b"\xEF\xBB\xBF1: KC", b": KC"),
+        // Symbols of suits, black and white, with the selectors of their shapes.
+        (
+            b"A\xE2\x99\xA3 2\xE2\x99\xA6 3\xE2\x99\xA5 4\xE2\x99\xA0",
+            b"AC 2D 3H 4S",
+        ),
+        (
+            b"A\xE2\x99\xA7 2\xE2\x99\xA2 3\xE2\x99\xA1 4\xE2\x99\xA4",
+            b"AC 2D 3H 4S",
+        ),
+        (
+            b"10\xE2\x99\xA5\xEF\xB8\x8F J\xE2\x99\xA0\xEF\xB8\x8E",
+            b"10H JS",
+        ),
+        (b"K\xEF\xB8\x8F", b"K\xEF\xB8\x8F"),
+        (b"K\xE2\x99\xA8", b"K\xE2\x99\xA8"),
+        (b"K\xE2\x99", b"K\xE2\x99"),
+        // No-break spaces.
+        (b"KC\xC2\xA0QD\xC2\xA1", b"KC QD\xC2\xA1"),
+        // Numbers of columns, in order.
+        (b"1: KC\n2:QD\n 3: JC", b": KC\n:QD\n : JC"),
+        (b"2: KC\n1: QD\n3: JC", b"2: KC\n: QD\n3: JC"),
+        (b"FC: 1: KC\n1: 2: QD", b"FC: 1: KC\n: 2: QD"),
+        (b"1 : KC\n10: QD", b"1 : KC\n10: QD"),
+        (
+            b"1:\n2:\n3:\n4:\n5:\n6:\n7:\n8:\n9:\n",
+            b":\n:\n:\n:\n:\n:\n:\n:\n9:\n",
+        ),
+        (b"\r\n1: KC\r\n", b"\r\n: KC\r\n"),
+    ];
+    for (text, plain) in rows.as_slice() {
+        check_plain(&rt, *text, *plain);
+    }
+}
+
+#[test]
+fn a_text_of_more_than_16384_bytes_is_too_long(rt: HostRuntime) {
+    let text = [b' '; MOST_BYTES + 1];
+    assert!(&rt; PlainText::of(&text[1..]).is_some());
+    assert!(&rt; PlainText::of(text.as_slice()).is_none());
+    let read = PlainText::read(&mut FromSlice::new(text.as_slice()));
+    assert!(&rt; read.err() == Some(ReadFault::TooLong));
+}
+
+#[test]
+fn a_text_that_cannot_be_read_is_none(rt: HostRuntime) {
+    let mut source = Failing::new(FromSlice::new(b"KC QD"), 3);
+    assert!(&rt; PlainText::read(&mut source).err() == Some(ReadFault::Failed));
+}
+
+#[test]
+fn counts_are_read(rt: HostRuntime) {
+    let rows: [(&str, Option<u32>); 27] = [
+        ("0", Some(0)),
+        ("7", Some(7)),
+        ("100000", Some(100_000)),
+        ("100_000", Some(100_000)),
+        ("4_", Some(4)),
+        ("007", Some(7)),
+        ("100k", Some(100_000)),
+        ("100K", Some(100_000)),
+        ("4M", Some(4_000_000)),
+        ("4m", Some(4_000_000)),
+        ("1e6", Some(1_000_000)),
+        ("12E1_0", Some(4_294_967_295)),
+        ("1e0", Some(1)),
+        ("0e99999999999", Some(0)),
+        ("4294967295", Some(4_294_967_295)),
+        ("4294967296", Some(4_294_967_295)),
+        ("99999999999999999999", Some(4_294_967_295)),
+        ("5000M", Some(4_294_967_295)),
+        ("", None),
+        ("_4", None),
+        ("k", None),
+        ("4kk", None),
+        ("4 M", None),
+        ("-1", None),
+        ("1.5M", None),
+        ("1e", None),
+        ("many", None),
+    ];
+    for (text, count) in rows.as_slice() {
+        assert!(&rt; read_count(text.as_bytes()) == *count, "{text}");
+    }
+}
