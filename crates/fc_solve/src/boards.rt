@@ -1,6 +1,6 @@
 //! Where a board comes from, and its text as the runs read it.
 
-use crate::endings::{Ending, tell_of_file, tell_of_reading};
+use crate::endings::{Ending, tell_of_file, tell_of_length, tell_of_reading};
 use fc_io::{FromReader, ReadFault, ToArray};
 use fc_plain::PlainText;
 use fc_runs::{Input, Output, ProgramFault, run_deal};
@@ -46,23 +46,32 @@ pub fn is_number(word: &str) -> bool {
 
 /// The text of a board, made plain.
 pub fn read_text(rt: &HostRuntime, source: BoardSource<'_>) -> Result<PlainText, Ending> {
-    let text = match source {
-        BoardSource::Deal(number) => return deal_text(number),
+    match source {
+        BoardSource::Deal(number) => deal_text(number),
         BoardSource::File(mut file, path) => match PlainText::read(&mut file) {
             Ok(text) => Ok(text),
-            Err(fault) => return Err(tell_of_reading(rt, text_fault(fault), path)),
+            Err(ReadFault::Failed) => Err(tell_of_reading(rt, Input::Board, path)),
+            Err(fault) => Err(unread(rt, fault)),
         },
         BoardSource::Input => {
             let input = rt.stdin();
             if input.is_terminal() {
                 let _told = eprintln!(rt; "fc_solve: reading a board; Ctrl-D ends it");
             }
-            PlainText::read(&mut FromReader::new(input))
+            match PlainText::read(&mut FromReader::new(input)) {
+                Ok(text) => Ok(text),
+                Err(fault) => Err(unread(rt, fault)),
+            }
         }
-    };
-    match text {
-        Ok(text) => Ok(text),
-        Err(fault) => Err(Ending::Fault(text_fault(fault))),
+    }
+}
+
+// Ends where no text of a board was read; that it is too long is told with what to do.
+fn unread(rt: &HostRuntime, fault: ReadFault) -> Ending {
+    match fault {
+        ReadFault::Failed => Ending::Fault(ProgramFault::Read(Input::Board)),
+        ReadFault::TooLong => tell_of_length(rt),
+        ReadFault::Memory => Ending::Fault(ProgramFault::Memory),
     }
 }
 
@@ -73,15 +82,6 @@ fn deal_text(number: u32) -> Result<PlainText, Ending> {
     match PlainText::of(text.held()) {
         Some(text) => Ok(text),
         None => Err(Ending::Fault(ProgramFault::Board(BoardFault::TooLong))),
-    }
-}
-
-// Why no text of a board was read, as a fault of the program.
-fn text_fault(fault: ReadFault) -> ProgramFault {
-    match fault {
-        ReadFault::Failed => ProgramFault::Read(Input::Board),
-        ReadFault::TooLong => ProgramFault::Board(BoardFault::TooLong),
-        ReadFault::Memory => ProgramFault::Memory,
     }
 }
 

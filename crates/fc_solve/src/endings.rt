@@ -2,7 +2,8 @@
 //! which tells where it lies and why. Where a line can't be written, the status still tells the fault.
 
 use crate::notes::add_note;
-use fc_runs::ProgramFault;
+use fc_runs::{Input, ProgramFault};
+use fc_text::BoardFault;
 use std::alloc::AllocError;
 use std::{fs, io};
 
@@ -54,18 +55,26 @@ pub fn tell_of_file(rt: &HostRuntime, fault: ProgramFault, path: &str, error: io
     Ending::Told(status)
 }
 
-/// Says that a file was opened and not read.
-pub fn tell_of_reading(rt: &HostRuntime, fault: ProgramFault, path: &str) -> Ending {
-    let status = tell(rt, &fault);
+/// Says that a file was opened and can't be read.
+pub fn tell_of_reading(rt: &HostRuntime, input: Input, path: &str) -> Ending {
+    let status = tell(rt, &ProgramFault::Read(input));
     let is_folder = match fs::metadata(rt, path) {
         Ok(metadata) => metadata.is_dir(),
         Err(_) => false,
     };
-    if is_folder {
-        let _told = eprintln!(rt; "fc_solve: {path}: it is a folder");
+    let why = if is_folder {
+        "it is a folder"
     } else {
-        let _told = eprintln!(rt; "fc_solve: {path}: it can't be read to its end");
-    }
+        "it can't be read to its end"
+    };
+    let _told = eprintln!(rt; "fc_solve: {path}: {why}");
+    Ending::Told(status)
+}
+
+/// Says that the text of a board is too long, and what to do.
+pub fn tell_of_length(rt: &HostRuntime) -> Ending {
+    let status = tell(rt, &ProgramFault::Board(BoardFault::TooLong));
+    add_note(rt, BoardFault::TooLong, &[], 0);
     Ending::Told(status)
 }
 

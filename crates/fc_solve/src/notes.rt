@@ -7,7 +7,10 @@ use fc_text::{BoardFault, Spot, first_spot_of, last_spot_of, spot_of};
 /// is one.
 pub fn add_note(rt: &HostRuntime, fault: BoardFault, text: &[u8], cells: u8) {
     match fault {
-        BoardFault::TooLong => note(rt, "a board's text has at most 4096 bytes"),
+        BoardFault::TooLong => note(
+            rt,
+            "a board's text has at most 4096 bytes: keep the lines of one board alone",
+        ),
         BoardFault::RepeatedLine(line) => {
             let _told = eprintln!(rt;
                 "fc_solve: line {line}: a line above tells it already: keep one board alone"
@@ -98,7 +101,17 @@ fn is_of_solver(spot: &Spot<'_>) -> bool {
 }
 
 // The words that lines of Freecell Solver begin with, other than those of a board.
-static SOLVERS_WORDS: [&str; 6] = ["Move", "This", "Total", "I", "Iterated", "Standard"];
+static SOLVERS_WORDS: [&str; 9] = [
+    "Move",
+    "This",
+    "Total",
+    "I",
+    "Iteration:",
+    "Depth:",
+    "Stored-States:",
+    "Scan:",
+    "Standard",
+];
 
 // Whether a token is a number with a colon.
 fn is_label(token: &[u8]) -> bool {

@@ -66,7 +66,7 @@ static BOUNDS: [&str; 2] = ["plain", "clearing"];
 const GAME: Word = Word {
     name: "game",
     kind: Kind::Game,
-    help: "Columns go down in turning colours (freecell) or in suit (bakers)",
+    help: "freecell (columns in turning colours) or bakers (in suit)",
 };
 
 const KINGS: Word = Word {
@@ -102,7 +102,7 @@ const WITHIN: Word = Word {
 const BOUND: Word = Word {
     name: "bound",
     kind: Kind::Bound,
-    help: "How to look ahead: clearing finds most, plain is quicker a step",
+    help: "How to look ahead: plain, or clearing, which answers far more",
 };
 
 const BOARD: &str = "A file, - for standard input, or the number of a deal";
@@ -169,8 +169,8 @@ Status: 0 a solution, 1 can't be won, 2 gave up, 3 something asked or read isn't
 4 want of memory, 5 reading or writing failed.
 
 Examples:
-  fc_solve solve 617                                 a shortest solution of deal 617
-  fc_solve solve --within 2 --bound clearing 1       one of deal 1, at most twice as long
+  fc_solve solve 941                            a shortest solution of deal 941
+  fc_solve solve --within 2 --bound clearing 1  one of deal 1, at most twice as long
   fc_solve solve --game bakers --cells 3 boards/one-king.txt",
     words: &[
         BUDGET,
@@ -264,10 +264,13 @@ pub fn command<'a>(alloc: Global) -> Result<Command<'a>, AllocError> {
     let mut command = Command::new(alloc, "fc_solve")
         .bin_name("fc_solve")?
         .version("0.1.0")
-        .about(
-            "Solves FreeCell in the fewest moves, or proves that a board can't be won. `fc_solve 617` solves deal 617.",
+        .about("Solves FreeCell in the fewest moves, or proves that a board can't be won.")
+        .after_help(
+            "Examples:
+  fc_solve 941                                  a shortest solution of deal 941
+  fc_solve show 941                             the board of deal 941
+  fc_solve solve --within 2 --bound clearing 1  a solution of deal 1, quickly",
         )
-        .after_help("First of all: fc_solve solve --bound clearing 941")
         .subcommand_required(true)
         .arg_required_else_help(true);
     for subcommand in &SUBCOMMANDS {
@@ -300,10 +303,14 @@ fn arg_of<'a>(alloc: Global, word: &'static Word) -> Result<Arg<'a>, AllocError>
             with_value(arg, word.name, value, default).value_parser(parser)
         }
         Kind::Game => {
-            with_value(arg, word.name, "NAME", "freecell").value_parser(GAMES.as_slice())
+            with_value(arg, word.name, "NAME", "freecell")
+                .value_parser(GAMES.as_slice())
+                .hide_possible_values(true)
         }
         Kind::Bound => {
-            with_value(arg, word.name, "NAME", "plain").value_parser(BOUNDS.as_slice())
+            with_value(arg, word.name, "NAME", "plain")
+                .value_parser(BOUNDS.as_slice())
+                .hide_possible_values(true)
         }
         Kind::Flag => arg.long(word.name).action(ArgAction::SetTrue),
         Kind::DealNumber => arg.required(true).value_parser(value_parser!(u32)),

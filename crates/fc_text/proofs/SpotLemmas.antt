@@ -1,6 +1,6 @@
 -- Where in a text its fault lies, and where a card is told.
-use Rattle.std.proofs.Common.{◌≡◌, ◌≢◌, ◌↔◌, ℕ, zero, suc, ◌+◌, ◌≤◌, ◌<◌, Bool, true, false, eqb, Option, Some, None, MatchOption, IfSome, IfNone, IsTrue, List, [], ◌∷◌, ◌++◌, length, map, take, drop, get_or, set, ◌⊎◌, inl, inr, refl, sym, ◌∙◌, ap, subst, ⊎_elim, arith}
-use Rattle.std.specs.Prelude.{Contains, slice_get, slice_index_or, slice_set}
+use Rattle.std.proofs.Common.{◌≡◌, ◌↔◌, ℕ, zero, suc, ◌+◌, ◌≤◌, ◌<◌, Bool, true, false, eqb, Option, Some, None, MatchOption, IfSome, IfNone, IsTrue, List, [], ◌∷◌, ◌++◌, length, map, take, drop, get_or, set, ◌⊎◌, inl, inr, refl, sym, ◌∙◌, ap, subst, ⊎_elim, arith}
+use Rattle.std.specs.Prelude.{Contains, slice_index_or}
 use Rattle.std.proofs.lemmas.List.{append_assoc, append-nil, drop_more, get_or_at, get_or-set_same, get_or-set_other, get_or-take, length-append, length-map, length-take, same_from_push, take-append-drop}
 use Rattle.std.proofs.lemmas.List.Elements.{Contains-push, Contains-push_cases, Contains-append_left}
 use Rattle.std.proofs.lemmas.Option.{slice_get_within, get_or_from_slice_get}
@@ -13,7 +13,7 @@ use Rattle.fc_text.specs.declared.lines.LineKind.{LineKind}
 use Rattle.fc_text.specs.declared.lines.LineKind.TheVariants.{Foundations, Freecells, Column}
 use Rattle.fc_text.specs.Line.{Line, parts_of, is_line_end, without_return, line_of, lines_of, board_lines}
 use Rattle.fc_text.specs.Spelling.{SpellsCard, SpellsHome}
-use Rattle.fc_text.specs.Fault.{IsNoCard, HasBadCard, HasBadFoundation, HasTooManyCells, HasTooManyColumns, IsLineFault}
+use Rattle.fc_text.specs.Fault.{NamesSuitTwice, HasBadCard, HasBadFoundation, HasTooManyCells, HasTooManyColumns, IsLineFault}
 use Rattle.fc_text.specs.Board.{HasLineFault, IsBoardFault, line_fault}
 use Rattle.fc_text.specs.Spot.{AreNamed, AreNoted, HasCard, HasLine, HasNamed, HasSpelled, IsBadHome, IsBadToken, IsFirstBad, IsFirstSpelled, IsLastIn, IsLastOf, IsLastSpelled, IsSpot, IsSpotIn, LiesAtNone, NamesSuit, NoneHasCard, NoneIsBad}
 use Rattle.fc_text.proofs.HomeLemmas.{home_suit_once}
@@ -89,12 +89,6 @@ line_here P lines left after line count p first = (
   },
   p.so,
 )
-
--- where fewer lines stand, none has the number
-pub no_such_line : (lines : List Line) (number : ℕ) → (0 < number → length lines < number) → (line : Line) → HasLine lines number line → ⊥
-no_such_line lines number few line there =
-    let size = ap length there.parts in
-    omega (arith, size, length-append there.above (line ∷ there.below), there.place, few)
 
 -- one line has a number
 line_once : (lines : List Line) (number : ℕ) (l m : Line) → HasLine lines number l → HasLine lines number m → l ≡ m
@@ -197,18 +191,22 @@ bad_card n Freecells tokens bad none =
 bad_card n Column tokens bad none =
     none (take bad.1.0 tokens) (drop (bad.1.0 + 1) tokens) bad.0 (parted_at tokens bad.1.0 bad.0 bad.1.1 bad.1.2) bad.2
 
+named_before : (tokens : List (List ℕ)) (twice : NamesSuitTwice tokens) → Contains (take twice.second tokens) twice.one.0
+named_before tokens twice =
+    let second = slice_get_within tokens twice.second twice.other.0 twice.other.2 in (
+      twice.first,
+      omega (arith, length-take twice.second tokens, twice.order, second),
+      get_or-take twice.second tokens twice.first twice.one.0 twice.order ∙ get_or_from_slice_get tokens twice.first twice.one.0 twice.one.0 twice.one.2,
+    )
+
 bad_foundation : (n : ℕ) (kind : LineKind) (tokens : List (List ℕ)) → HasBadFoundation kind tokens → NoneIsBad n BadFoundation kind tokens → ⊥
 bad_foundation n Foundations tokens bad none = ⊎_elim
     (λ (token, found, nothing). none (take found.0 tokens) (drop (found.0 + 1) tokens) token (parted_at tokens found.0 token found.1 found.2) (inl nothing))
     (λ twice.
     let second = slice_get_within tokens twice.second twice.other.0 twice.other.2 in
     let other = get_or_from_slice_get tokens twice.second twice.other.0 twice.other.0 twice.other.2 in
-    let one = get_or_from_slice_get tokens twice.first twice.one.0 twice.one.0 twice.one.2 in
-    let before : Contains (take twice.second tokens) twice.one.0 =
-    (twice.first, omega (arith, length-take twice.second tokens, twice.order, second),
-    get_or-take twice.second tokens twice.first twice.one.0 twice.order ∙ one) in
     none (take twice.second tokens) (drop (twice.second + 1) tokens) twice.other.0 (parted_at tokens twice.second twice.other.0 second other)
-    (inr (twice.suit, twice.below, (twice.other.1, twice.other.3), (twice.one.0, before, (twice.one.1, twice.one.3)))))
+    (inr (twice.suit, twice.below, (twice.other.1, twice.other.3), (twice.one.0, named_before tokens twice, (twice.one.1, twice.one.3)))))
     bad
 bad_foundation n Freecells tokens bad none = bad
 bad_foundation n Column tokens bad none = bad
@@ -379,11 +377,12 @@ pub cases_then : {A : Type 0} (r : Option A) (P Q : Type 0) (R S : A → Type 0)
 cases_then None P Q R S given f g = f given
 cases_then (Some x) P Q R S given f g = g x given
 
--- what holds of an option's value, and without one
+-- what holds of the value, where there is one
 pub some_case : {A : Type 0} (r : Option A) (P : Type 0) (R : A → Type 0) → MatchOption r P R → IfSome r R
 some_case None P R given = tt
 some_case (Some x) P R given = given
 
+-- what holds where there is no value
 pub none_case : {A : Type 0} (r : Option A) (P : Type 0) (R : A → Type 0) → MatchOption r P R → IfNone r P
 none_case None P R given = given
 none_case (Some x) P R given = tt

@@ -113,17 +113,19 @@ pub record IsSpelled (c : ℕ) (tokens : List (List ℕ)) (place : ℕ) (token :
   pub number : place ≡ length before + 1
   pub here : SpellsCard token c
 
--- the first, and the last, of the tokens that spells the card
+-- the first of the tokens that spells the card
 abbrev pub IsFirstSpelled : ℕ → List (List ℕ) → ℕ → List ℕ → Type 0
 IsFirstSpelled c tokens place token = (there : IsSpelled c tokens place token) × (HasSpelled c there.before → ⊥)
 
+-- the last of the tokens that spells the card
 abbrev pub IsLastSpelled : ℕ → List (List ℕ) → ℕ → List ℕ → Type 0
 IsLastSpelled c tokens place token = (there : IsSpelled c tokens place token) × (HasSpelled c there.behind → ⊥)
 
--- the first token, and the last, at which a column or cells have the card
+-- the first token at which a column or cells have the card
 abbrev pub IsFirstIn : ℕ → Line → ℕ → List ℕ → Type 0
 IsFirstIn c line place token = (line.kind ≢ Foundations) × IsFirstSpelled c line.tokens place token
 
+-- the last token at which a column or cells have the card
 abbrev pub IsLastIn : ℕ → Line → ℕ → List ℕ → Type 0
 IsLastIn c line place token = (line.kind ≢ Foundations) × IsLastSpelled c line.tokens place token
 

@@ -1,4 +1,4 @@
-ghost use Rattle.std.specs.Prelude.{◌≡◌, ℕ, ◌↔◌, List, [], ◌∷◌, ◌++◌, length, IfSome, IfNone, IsTrue};
+ghost use Rattle.std.specs.Prelude.{◌≡◌, ◌≢◌, ℕ, ◌↔◌, List, [], ◌∷◌, ◌++◌, length, IfSome, IfNone, IsTrue};
 ghost use Rattle.fc_text.specs.Board.{IsBoardFault, line_fault};
 ghost use Rattle.fc_text.specs.Line.{Line, board_lines, line_of, tokens_of, without_return};
 ghost use Rattle.fc_text.specs.Spelling.{SpellsCard};
@@ -167,11 +167,8 @@ fn first_in_line(line: &[u8], card: Card) -> Option<(usize, &[u8])>
     ensures first { IfSome result (λ found. IsFirstIn card (line_of (without_return line.now)) found.0 found.1.now) }
     ensures none { IfNone result (HasCard card (line_of (without_return line.now)) → ⊥) }
 {
-    let (kind, piece) = sorted_line(without_return(line));
-    match kind {
-        LineKind::Foundations => None,
-        LineKind::Freecells | LineKind::Column => first_spelled(piece, card),
-    }
+    let piece = dealt_piece(line)?;
+    first_spelled(piece, card)
 }
 
 // The first token of a piece of a line that spells the card, and its number, from 1.
@@ -194,11 +191,8 @@ fn last_in_line(line: &[u8], card: Card) -> Option<(usize, &[u8])>
     ensures last { IfSome result (λ found. IsLastIn card (line_of (without_return line.now)) found.0 found.1.now) }
     ensures none { IfNone result (HasCard card (line_of (without_return line.now)) → ⊥) }
 {
-    let (kind, piece) = sorted_line(without_return(line));
-    match kind {
-        LineKind::Foundations => None,
-        LineKind::Freecells | LineKind::Column => last_spelled(piece, card),
-    }
+    let piece = dealt_piece(line)?;
+    last_spelled(piece, card)
 }
 
 // The last token of a piece of a line that spells the card, and its number, from 1.
@@ -215,6 +209,19 @@ fn last_spelled(piece: &[u8], card: Card) -> Option<(usize, &[u8])>
         }
     }
     last
+}
+
+// The piece of a line of a column or of cells that its tokens stand in.
+fn dealt_piece(line: &[u8]) -> Option<&[u8]>
+    ensures outside { IfSome result (λ piece. (line_of (without_return line.now)).kind ≢ LineKind.Foundations) }
+    ensures piece { IfSome result (λ piece. (line_of (without_return line.now)).tokens ≡ tokens_of piece.now) }
+    ensures none { IfNone result ((line_of (without_return line.now)).kind ≡ LineKind.Foundations) }
+{
+    let (kind, piece) = sorted_line(without_return(line));
+    match kind {
+        LineKind::Foundations => None,
+        LineKind::Freecells | LineKind::Column => Some(piece),
+    }
 }
 
 // Whether a token spells the card.

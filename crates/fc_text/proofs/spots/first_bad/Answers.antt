@@ -1,7 +1,7 @@
 use Rattle.std.proofs.Common.{sym, ◌∙◌, ap, refl, arith}
 use Rattle.fc_text.specs.Line.{is_blank, tokens_of}
 use Rattle.fc_text.proofs.PartLemmas.{length-tokens_between}
-use Rattle.fc_text.proofs.SpotLemmas.{none_bad, none_named, none_push, pass_next, pass_none, pass_room}
+use Rattle.fc_text.proofs.SpotLemmas.{bad_here, none_bad, none_named, none_push, pass_next, pass_none, pass_room}
 use Rattle.fc_text.proofs.spots.first_bad.Goals as goal
 
 pub loop-token-init : goal.loop-token-init
@@ -20,6 +20,11 @@ overflow_add-place c =
     let most = pass_room _ _ _ _ _ _ c.loop-token.invariant c.in-Some.ensures.steps in
     let few = length-tokens_between is_blank c.args.piece.now in
     omega (arith, most, few)
+
+pub returns-then-is_bad-clause-bad : goal.returns-then-is_bad-clause-bad
+returns-then-is_bad-clause-bad c =
+    bad_here c.args.cells c.args.fault c.args.kind c.loop-token.named _ _ _ _ _ c.loop-token.invariant c.in-Some.ensures.steps
+    (λ before size noted. (c.is_bad.ensures.bad before size noted).0 c.if-is_bad.true)
 
 pub loop-token-preserved : goal.loop-token-preserved
 loop-token-preserved c =
