@@ -161,7 +161,7 @@ const SHOW: Subcommand = Subcommand {
 // `solve [--budget B] [--cert FILE] [--within W] [--bound NAME] [GAME] [--rule R] [--deal N] [BOARD]`.
 const SOLVE: Subcommand = Subcommand {
     name: "solve",
-    about: "Prints a shortest solution, move by move, or that the board can't be won, or that it gave up",
+    about: "Prints a shortest solution, or that the board can't be won, or that it gave up",
     after_help: "Moves are two letters, from where to where: columns 1 to 8, cells a to d, home h. Each takes
 one card. `show` draws the board as it is read.
 
