@@ -71,6 +71,13 @@ impl<K: ExactKey, F: Frontier + Drop> Book<K, F> {
         self.queue.iter()
     }
 
+    /// How many pairs are open.
+    pub fn open(&self) -> u128
+        ensures size { result ≡ length self.now.waiting }
+    {
+        self.queue.len()
+    }
+
     /// How many keys are stored.
     pub fn len(&self) -> usize
         ensures size { result ≡ length self.now.stored }

@@ -155,6 +155,13 @@ impl<K: ExactKey, F: Frontier + Drop, S: Space<K> + Drop> Search<K, F, S> {
         least_open(&self.space, &self.book, self.weight, most)
     }
 
+    /// How many pairs are open. It is counted anew.
+    pub fn open(&self) -> u128
+        ensures size { result ≡ length self.now.store.waiting }
+    {
+        self.book.open()
+    }
+
     /// How many keys are stored.
     pub fn len(&self) -> usize
         ensures size { result ≡ length self.now.store.stored }

@@ -1,6 +1,5 @@
 -- Tokens that play, and one more.
-use Rattle.std.proofs.Common.{◌≡◌, ℕ, List, [], ◌∷◌, ◌++◌, length, refl, sym, ◌∙◌, ap, subst, append-nil, arith}
-use Rattle.std.proofs.lemmas.List.Concat.{flat_map-append, flat_map-cons}
+use Rattle.std.proofs.Common.{◌≡◌, ℕ, List, [], ◌∷◌, ◌++◌, length, refl, sym, ◌∙◌, ap, subst, arith}
 use Rattle.fc_cards.specs.declared.places.Place.{Place}
 use Rattle.fc_cards.specs.declared.places.Place.TheVariants.{Column, Cell, Home}
 use Rattle.fc_position.specs.Board.{Board}
@@ -8,11 +7,9 @@ use Rattle.fc_moves.specs.declared.steps.Move.{Move}
 use Rattle.fc_moves.specs.GameRules.{GameRules}
 use Rattle.fc_moves.specs.MoveText.{IsThere, move_text, place_letter}
 use Rattle.fc_moves.specs.Run.{Run}
-use Rattle.fc_moves.specs.Step.{Step}
 use Rattle.fc_moves.proofs.StepLemmas.{move_same, source_is_there}
-use Rattle.fc_text.specs.Printed.{board_text}
 use Rattle.fc_replay.specs.Token.{SpellsMove}
-use Rattle.fc_replay.specs.Played.{SpellMoves, Passes, Plays, board_after, boards_text}
+use Rattle.fc_replay.specs.Played.{SpellMoves, Passes, board_after}
 use Rattle.fc_replay.specs.Laws.{PlayedTokensRun}
 
 -- no letter is of two places
@@ -38,52 +35,46 @@ spelled_once token m n one two =
     (letter_once m.to n.to one.0.to two.0.to to)
 
 -- one more token that spells a move
-spell_push : (tokens : List (List ℕ)) (ms : List Move) (token : List ℕ) (m : Move) → SpellMoves tokens ms → SpellsMove token m
+pub spell_push : (tokens : List (List ℕ)) (ms : List Move) (token : List ℕ) (m : Move) → SpellMoves tokens ms → SpellsMove token m
     → SpellMoves (tokens ++ token ∷ []) (ms ++ m ∷ [])
 spell_push [] ms token m none one = subst (λ l. SpellMoves (token ∷ []) (l ++ m ∷ [])) (sym none) (one, refl)
 spell_push (t ∷ tokens) [] token m none one = absurd none
 spell_push (t ∷ tokens) (n ∷ ms) token m (first, others) one = (first, spell_push tokens ms token m others one)
 
--- one more step
-passes_push : (g : GameRules) (b : Board) (ms : List Move) (boards : List Board) (m : Move) (c : Board) → Passes g b ms boards
-    → Step g (board_after b boards) m c → Passes g b (ms ++ m ∷ []) (boards ++ c ∷ [])
-passes_push g b [] boards m c none step =
-    subst (λ bs. Step g (board_after b bs) m c → Passes g b (m ∷ []) (bs ++ c ∷ [])) (sym none) (λ s. (s, refl)) step
-passes_push g b (n ∷ ms) [] m c none step = absurd none
-passes_push g b (n ∷ ms) (d ∷ boards) m c (first, others) step = (first, passes_push g d ms boards m c others step)
+-- moves and those that go on from where they lead
+pub passes_append : (g : GameRules) (b : Board) (ms ns : List Move) (boards others : List Board) → Passes g b ms boards
+    → Passes g (board_after b boards) ns others → Passes g b (ms ++ ns) (boards ++ others)
+passes_append g b [] ns boards others none on =
+    subst (λ bs. Passes g (board_after b bs) ns others → Passes g b ns (bs ++ others)) (sym none) (λ p. p) on
+passes_append g b (m ∷ ms) ns [] others none on = absurd none
+passes_append g b (m ∷ ms) ns (c ∷ boards) others (step, rest) on = (step, passes_append g c ms ns boards others rest on)
 
--- one more token that plays
-pub plays_push : (g : GameRules) (b : Board) (tokens : List (List ℕ)) (boards : List Board) (token : List ℕ) (m : Move) (c : Board)
-    → Plays g b tokens boards → SpellsMove token m → Step g (board_after b boards) m c
-    → Plays g b (tokens ++ token ∷ []) (boards ++ c ∷ [])
-plays_push g b tokens boards token m c played spelled step = record {
-  moves = played.moves ++ m ∷ [];
-  spelled = spell_push tokens played.moves token m played.spelled spelled;
-  passed = passes_push g b played.moves boards m c played.passed step;
-}
+-- a run passes boards
+pub run_passes : (g : GameRules) (b : Board) (ms : List Move) (c : Board) → Run g b ms c → (boards : List Board) × Passes g b ms boards
+run_passes g b [] c run = ([], refl)
+run_passes g b (m ∷ ms) c (mid, step, run) =
+    let others = run_passes g mid ms c run in
+    (mid ∷ others.0, (step, others.1))
 
 pub board_after_push : (b : Board) (boards : List Board) (c : Board) → board_after b (boards ++ c ∷ []) ≡ c
 board_after_push b [] c = refl
 board_after_push b (d ∷ boards) c = board_after_push d boards c
 
-pub boards_text_push : (n : ℕ) (boards : List Board) (c : Board)
-    → boards_text n (boards ++ c ∷ []) ≡ boards_text n boards ++ board_text n c
-boards_text_push n boards c =
-    flat_map-append (board_text n) boards (c ∷ [])
-    ∙ ap (λ l. boards_text n boards ++ l) (flat_map-cons (board_text n) c [] ∙ append-nil (board_text n c))
-
--- no token plays through no board
-pub plays_none : (g : GameRules) (b : Board) → Plays g b [] []
-plays_none g b = record { moves = []; spelled = refl; passed = refl }
-
+-- no move passes a board
 pub no_moves_pass : (g : GameRules) (b : Board) (ms : List Move) (boards : List Board) → ms ≡ [] → Passes g b ms boards → boards ≡ []
 no_moves_pass g b [] boards e passed = passed
 no_moves_pass g b (m ∷ ms) boards e passed = absurd (cc e)
 
-pub none_played : (g : GameRules) (b : Board) (tokens : List (List ℕ)) (boards : List Board) → tokens ≡ [] → Plays g b tokens boards
-    → boards ≡ []
-none_played g b [] boards e played = no_moves_pass g b played.moves boards played.spelled played.passed
-none_played g b (t ∷ tokens) boards e played = absurd (cc e)
+-- no move spells a token, and no token a move
+pub none_spelled : (tokens : List (List ℕ)) (ms : List Move) → ms ≡ [] → SpellMoves tokens ms → tokens ≡ []
+none_spelled [] ms e spelled = refl
+none_spelled (t ∷ tokens) [] e spelled = absurd spelled
+none_spelled (t ∷ tokens) (m ∷ ms) e spelled = absurd (cc e)
+
+pub spelled_length : (tokens : List (List ℕ)) (ms : List Move) → SpellMoves tokens ms → length tokens ≡ length ms
+spelled_length [] ms none = sym (ap length none)
+spelled_length (t ∷ tokens) [] none = absurd none
+spelled_length (t ∷ tokens) (m ∷ ms) (one, others) = omega (arith, spelled_length tokens ms others)
 
 -- the moves of tokens that play are a run
 passed_run : (g : GameRules) (b : Board) (tokens : List (List ℕ)) (ms : List Move) (boards : List Board) → SpellMoves tokens ms
@@ -96,6 +87,12 @@ passed_run g b (t ∷ tokens) (m ∷ ms) [] spelled none = absurd none
 passed_run g b (t ∷ tokens) (m ∷ ms) (c ∷ boards) (one, spelled) (step, passed) =
     let others = passed_run g c tokens ms boards spelled passed in
     ((c, step, others.0), omega (arith, others.1), omega (arith, others.2))
+
+-- as many boards are passed as there are moves
+pub passed_length : (g : GameRules) (b : Board) (ms : List Move) (boards : List Board) → Passes g b ms boards → length boards ≡ length ms
+passed_length g b [] boards none = ap length none
+passed_length g b (m ∷ ms) [] none = absurd none
+passed_length g b (m ∷ ms) (c ∷ boards) (one, others) = omega (arith, passed_length g c ms boards others)
 
 pub played_tokens_run : PlayedTokensRun
 played_tokens_run g b tokens boards played = passed_run g b tokens played.moves boards played.spelled played.passed

@@ -1,3 +1,5 @@
 pub mod Laws
+pub mod Page
 pub mod Played
+pub mod Refusal
 pub mod Token

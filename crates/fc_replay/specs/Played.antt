@@ -1,7 +1,9 @@
 -- What a list of tokens plays: the boards after its moves, and why it stops.
-use Rattle.std.specs.Prelude.{◌≡◌, ℕ, ◌+◌, ◌<◌, List, [], ◌∷◌, ◌++◌, length, Option, Result, Ok, Err}
+use Rattle.std.specs.Prelude.{◌≡◌, ℕ, ◌+◌, ◌<◌, ◌↔◌, List, [], ◌∷◌, ◌++◌, take, length, Option, Some, None, Result, Ok, Err, IfOk, MatchResult, IsTrue}
 use Rattle.std.specs.List.{flat_map}
 use Rattle.fc_position.specs.Board.{Board}
+use Rattle.fc_position.specs.Position.{IsWon}
+use Rattle.fc_io.specs.declared.devices.Failed.{Failed}
 use Rattle.fc_io.specs.Moves.{Takes, TakesFront}
 use Rattle.fc_moves.specs.declared.steps.Move.{Move}
 use Rattle.fc_moves.specs.GameRules.{GameRules}
@@ -9,6 +11,11 @@ use Rattle.fc_moves.specs.Step.{Step, Allows}
 use Rattle.fc_text.specs.Printed.{board_text}
 use Rattle.fc_replay.specs.declared.faults.ReplayFault.{ReplayFault}
 use Rattle.fc_replay.specs.declared.faults.ReplayFault.TheVariants.{BadMove, NotAllowed, Write}
+use Rattle.fc_replay.specs.declared.pages.Page.{Page}
+use Rattle.fc_replay.specs.declared.refusals.Refusal.{Refusal}
+use Rattle.fc_replay.specs.declared.replays.Ended.{Ended}
+use Rattle.fc_replay.specs.Page.{pages_text}
+use Rattle.fc_replay.specs.Refusal.{IsWhy}
 use Rattle.fc_replay.specs.Token.{SpellsMove, IsNoMove}
 
 -- the tokens spell these moves, one each
@@ -80,6 +87,45 @@ pub record Replays (g : GameRules) (b : Board) (tokens : List (List ℕ)) (old n
   pub boards : List Board
   pub ends : Ends g b tokens boards result
   pub written : Writes old new (boards_text g.cells boards) result
+
+-- what a replay answers, by the number of its moves alone
+abbrev pub counted : Result Ended ReplayFault → Result ℕ ReplayFault
+counted (Ok ended) = Ok ended.moves
+counted (Err fault) = Err fault
+
+-- a replay of the tokens that writes pages: the moves that it makes, which are those of the tokens at the front, the boards
+-- after them, how it ends, that their pages were written, and at its end whether the last board is won
+pub record ReplaysAs (page : Page) (g : GameRules) (b : Board) (tokens : List (List ℕ)) (old new : Option (List ℕ)) (result : Result Ended ReplayFault) : Type 0 where
+  pub moves : List Move
+  pub boards : List Board
+  pub spelled : SpellMoves (take (length moves) tokens) moves
+  pub passed : Passes g b moves boards
+  pub ends : Ends g b tokens boards (counted result)
+  pub written : Writes old new (pages_text page g.cells 1 moves boards) (counted result)
+  pub won : IfOk result (λ ended. IsTrue ended.is_won ↔ IsWon (board_after b boards))
+
+-- the moves were made: the boards after them, that their pages were written, or a front of them where the sink failed,
+-- and else how many they are and whether the last board is won
+pub record PlaysAs (page : Page) (g : GameRules) (b : Board) (moves : List Move) (old new : Option (List ℕ)) (result : Result Ended Failed) : Type 0 where
+  pub boards : List Board
+  pub passed : Passes g b moves boards
+  pub written : MatchResult result (λ _. Takes old new (pages_text page g.cells 1 moves boards)) (λ _. TakesFront old new (pages_text page g.cells 1 moves boards))
+  pub count : IfOk result (λ ended. ended.moves ≡ length moves)
+  pub won : IfOk result (λ ended. IsTrue ended.is_won ↔ IsWon (board_after b boards))
+
+-- the token is no move, where nothing is told of it; else it spells a move that is refused for this
+abbrev pub IsReason : GameRules → Option Refusal → Board → List ℕ → Type 0
+IsReason g None b token = IsNoMove token
+IsReason g (Some refusal) b token = (m : Move) × SpellsMove token m × IsWhy g b m refusal
+
+-- the tokens before a step, which count from 1, play, and this is the token of the step, and why it doesn't
+pub record IsFirstStop (g : GameRules) (b : Board) (tokens : List (List ℕ)) (step : ℕ) (token : List ℕ) (refusal : Option Refusal) : Type 0 where
+  pub boards : List Board
+  pub stops : StopsAt (λ c here. (here ≡ token) × IsReason g refusal c here) g b tokens boards step
+
+-- all of the tokens play
+abbrev pub PlayAll : GameRules → Board → List (List ℕ) → Type 0
+PlayAll g b tokens = (boards : List Board) × Plays g b tokens boards
 
 -- the first token is an allowed move
 abbrev pub BeginsWithStep : GameRules → Board → List (List ℕ) → Type 0

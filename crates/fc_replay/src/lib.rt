@@ -1,10 +1,19 @@
-//! The boards of a list of moves, as players and solvers write such lists. No call allocates.
+//! The boards of a list of moves, as players and solvers write such lists, and why the rules refuse a move. No call
+//! allocates.
 #![tactic(auto)]
 
 pub use faults::ReplayFault;
-pub use replays::replay;
+pub use pages::Page;
+pub use plays::play;
+pub use refusals::{Refusal, refusal_of};
+pub use replays::{Ended, replay, replay_as};
+pub use stops::{Stop, first_stop};
 
 mod faults;
 pub mod laws;
+mod pages;
+mod plays;
+mod refusals;
 mod replays;
+mod stops;
 mod tokens;

@@ -2,14 +2,24 @@ ghost use Rattle.std.specs.Prelude.{◌≤◌, ◌⊎◌, ◌↔◌, length, IsT
 ghost use Rattle.fc_io.specs.Moves.{Stays};
 ghost use Rattle.fc_position.specs.Position.{Fits};
 ghost use Rattle.fc_replay.specs.Token.{move_tokens};
-ghost use Rattle.fc_replay.specs.Played.{Replays, BeginsWithStep};
+ghost use Rattle.fc_replay.specs.Played.{Replays, ReplaysAs, BeginsWithStep};
 
 use crate::faults::ReplayFault;
+use crate::pages::{Page, write_page};
 use crate::tokens::{MoveGaps, read_token};
-use fc_io::{Sink, write_all};
+use fc_io::Sink;
 use fc_moves::{Game, allows, apply};
 use fc_position::Position;
-use fc_text::{Tokens, print_board};
+use fc_text::Tokens;
+
+/// What a list of moves came to.
+#[derive(Clone, Copy, Debug, PartialEq, Eq)]
+pub struct Ended {
+    /// How many moves there were.
+    pub moves: u32,
+    /// Whether every card is home after them.
+    pub is_won: bool,
+}
 
 /// Plays a text of moves from a position that fits the game, writes the printed board after each move to `sink`, one
 /// straight after the other, and answers the number of moves.
@@ -38,6 +48,35 @@ pub fn replay<G: Game, K: Sink>(
         → IsErrOf result ReplayFault.Write }
     ensures unmoved { IsTrue (K.has_failed sink.old) → Stays (K.held sink.old) (K.held sink.new) }
 {
+    match replay_as(game, position, text, Page::Board, sink) {
+        Ok(ended) => Ok(ended.moves),
+        Err(fault) => Err(fault),
+    }
+}
+
+/// Plays a text of moves as `replay` does, and writes a page after each move: what it says of a step is chosen by the
+/// caller. Steps count from 1. It answers the number of moves, and whether the last board is won.
+///
+/// # Errors
+/// Those of `replay`, pages standing where boards do there.
+pub fn replay_as<G: Game, K: Sink>(
+    game: &G,
+    position: &Position,
+    text: &[u8],
+    page: Page,
+    sink: &mut K,
+) -> Result<Ended, ReplayFault>
+    requires fits { Fits (G.game game.now).cells position.now }
+    requires short { length text.now ≤ 1048576 }
+    ensures replayed { ReplaysAs page (G.game game.now) position.now (move_tokens text.now)
+        (K.held sink.old) (K.held sink.new) result }
+    ensures fault { IsTrue (K.has_failed sink.new)
+        ↔ (IsErrOf result ReplayFault.Write ⊎ IsTrue (K.has_failed sink.old)) }
+    ensures stays { IsTrue (K.has_failed sink.old)
+        → BeginsWithStep (G.game game.now) position.now (move_tokens text.now)
+        → IsErrOf result ReplayFault.Write }
+    ensures unmoved { IsTrue (K.has_failed sink.old) → Stays (K.held sink.old) (K.held sink.new) }
+{
     let mut board = position.copy();
     let mut steps = 0;
     for token in Tokens::new(text, MoveGaps) {
@@ -49,7 +88,10 @@ pub fn replay<G: Game, K: Sink>(
             return Err(ReplayFault::NotAllowed(steps));
         }
         apply(game, &mut board, m);
-        write_all(sink, print_board(&board, game.cells()).as_bytes())?;
+        write_page(page, game.cells(), steps, m, &board, sink)?;
     }
-    Ok(steps)
+    Ok(Ended {
+        moves: steps,
+        is_won: board.is_won(),
+    })
 }

@@ -7,7 +7,9 @@ use Rattle.fc_deal.specs.Deal.{IsDealNumber, dealt_board}
 use Rattle.fc_deal.specs.DealText.{deal_text}
 use Rattle.fc_replay.specs.declared.faults.ReplayFault.{ReplayFault}
 use Rattle.fc_replay.specs.declared.faults.ReplayFault.TheVariants.{BadMove, NotAllowed, Write as unwritten}
-use Rattle.fc_replay.specs.Played.{Replays}
+use Rattle.fc_replay.specs.declared.pages.Page.{Page}
+use Rattle.fc_replay.specs.declared.replays.Ended.{Ended}
+use Rattle.fc_replay.specs.Played.{Replays, ReplaysAs}
 use Rattle.fc_replay.specs.Token.{move_tokens}
 use Rattle.fc_runs.specs.declared.runs.TheConstants.{LONGEST_MOVES}
 use Rattle.fc_runs.specs.declared.faults.Input.TheVariants.{Board as of_board, Moves as of_moves}
@@ -49,15 +51,33 @@ pub record IsReplayed (g : GameRules) (board moves sink : Device) (status : ℕ)
 abbrev pub IsBoardAlone : GameRules → Device → Device → Type 0
 IsBoardAlone g board sink = ((b : Board) × GivesBoard g.cells board b) × Stays sink.old sink.new
 
+-- the same of a replay that writes pages
+pub record IsReplayAs (page : Page) (g : GameRules) (board moves sink : Device) (result : Result Ended ReplayFault) : Type 0 where
+  pub start : Board
+  pub given : GivesBoard g.cells board start
+  pub text : List ℕ
+  pub read : GivesWhole moves text
+  pub replayed : ReplaysAs page g start (move_tokens text) sink.old sink.new result
+
+pub record IsReplayedAs (page : Page) (g : GameRules) (board moves sink : Device) (ended : Ended) : Type 0 where
+  pub replay : IsReplayAs page g board moves sink (Ok ended)
+  pub sound : IsTrue sink.failed → move_tokens replay.text ≡ []
+
 -- why a replay didn't run to its end, each fault only where those before it have no cause; before the moves are replayed
--- nothing is written
+-- nothing is written. What holds where the replay itself ended with a fault is told of that fault
+abbrev pub IsFaultOfReplay : (ReplayFault → Type 0) → GameRules → Device → Device → Device → ProgramFault → Type 0
+IsFaultOfReplay Of g board moves sink (Read of_board) = IsTrue board.failed × Stays moves.old moves.new × Stays sink.old sink.new
+IsFaultOfReplay Of g board moves sink (bad_board fault) = GivesFault g.cells board fault × Stays moves.old moves.new × Stays sink.old sink.new
+IsFaultOfReplay Of g board moves sink (Read of_moves) = IsBoardAlone g board sink × IsTrue moves.failed
+IsFaultOfReplay Of g board moves sink (TooLong of_moves) = IsBoardAlone g board sink × TellsAtLeast moves.old (LONGEST_MOVES + 1) × (IsTrue moves.failed → ⊥)
+IsFaultOfReplay Of g board moves sink Memory = IsBoardAlone g board sink × TellsAtLeast moves.old 1 × (IsTrue moves.failed → ⊥)
+IsFaultOfReplay Of g board moves sink (Moves (BadMove step)) = Of (BadMove step)
+IsFaultOfReplay Of g board moves sink (Moves (NotAllowed step)) = Of (NotAllowed step)
+IsFaultOfReplay Of g board moves sink (Write of_answer) = Of unwritten × IsTrue sink.failed
+IsFaultOfReplay Of g board moves sink other = ⊥
+
 abbrev pub IsReplayFault : GameRules → Device → Device → Device → ProgramFault → Type 0
-IsReplayFault g board moves sink (Read of_board) = IsTrue board.failed × Stays moves.old moves.new × Stays sink.old sink.new
-IsReplayFault g board moves sink (bad_board fault) = GivesFault g.cells board fault × Stays moves.old moves.new × Stays sink.old sink.new
-IsReplayFault g board moves sink (Read of_moves) = IsBoardAlone g board sink × IsTrue moves.failed
-IsReplayFault g board moves sink (TooLong of_moves) = IsBoardAlone g board sink × TellsAtLeast moves.old (LONGEST_MOVES + 1) × (IsTrue moves.failed → ⊥)
-IsReplayFault g board moves sink Memory = IsBoardAlone g board sink × TellsAtLeast moves.old 1 × (IsTrue moves.failed → ⊥)
-IsReplayFault g board moves sink (Moves (BadMove step)) = IsReplayOf g board moves sink (Err (BadMove step))
-IsReplayFault g board moves sink (Moves (NotAllowed step)) = IsReplayOf g board moves sink (Err (NotAllowed step))
-IsReplayFault g board moves sink (Write of_answer) = IsReplayOf g board moves sink (Err unwritten) × IsTrue sink.failed
-IsReplayFault g board moves sink other = ⊥
+IsReplayFault g board moves sink fault = IsFaultOfReplay (λ e. IsReplayOf g board moves sink (Err e)) g board moves sink fault
+
+abbrev pub IsReplayFaultAs : Page → GameRules → Device → Device → Device → ProgramFault → Type 0
+IsReplayFaultAs page g board moves sink fault = IsFaultOfReplay (λ e. IsReplayAs page g board moves sink (Err e)) g board moves sink fault

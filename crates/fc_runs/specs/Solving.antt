@@ -9,6 +9,8 @@ use Rattle.fc_answers.specs.declared.answers.Verdict.{Verdict}
 use Rattle.fc_answers.specs.declared.answers.Verdict.TheVariants.{Shortest, Won, CannotWin, GaveUp}
 use Rattle.fc_best_first.specs.Search.{IsBudget}
 use Rattle.fc_search.specs.Search.{IsVerdict, IsRunToEnd}
+use Rattle.fc_watch.specs.declared.listeners.Progress.{Progress}
+use Rattle.fc_watch.specs.Watch.{IsFarOf}
 use Rattle.fc_cert.specs.declared.claims.Claim.{Claim}
 use Rattle.fc_cert.specs.declared.claims.Claim.TheVariants as claim
 use Rattle.fc_cert.specs.Claim.{IsCertificate, written_form}
@@ -114,6 +116,10 @@ IsStartFault g budget source other = ⊥
 abbrev pub IsGivenUnanswered : GameRules → ℕ → ℕ → BoundKind → ℕ → Device → Option Device → Device → ProgramFault → Type 0
 IsGivenUnanswered g rule weight kind budget source cert sink fault =
     IsBudget budget × ((start : Board) × GivesBoard g.cells source start × IsUnanswered g rule weight kind start budget cert sink fault)
+
+-- what is heard of a search is true of the position that the source gave
+abbrev pub IsHeardOf : GameRules → ℕ → ℕ → BoundKind → ℕ → Device → Progress → Type 0
+IsHeardOf g rule weight kind budget source far = (start : Board) × GivesBoard g.cells source start × IsFarOf g rule weight kind start budget far
 
 -- why solving was not answered: no position was given, and nothing was written; or one was, and wasn't answered
 abbrev pub IsSolveFault : GameRules → ℕ → ℕ → BoundKind → ℕ → Device → Option Device → Device → ProgramFault → Type 0

@@ -4,9 +4,9 @@
 pub use batches::{MOST_DEALS, run_batch};
 pub use checking::run_check;
 pub use faults::{Input, Output, ProgramFault};
-pub use runs::{run_deal, run_replay};
+pub use runs::{LONGEST_MOVES, run_deal, run_replay, run_replay_as};
 pub use showing::{Look, run_show};
-pub use solving::run_solve;
+pub use solving::{run_solve, run_solve_heard};
 
 mod answers;
 mod batches;

@@ -4,14 +4,14 @@ ghost use Rattle.std.specs.Prelude.{◌≡◌, ◌+◌, ◌≤◌, IfOk, IfErr};
 ghost use Rattle.fc_io.specs.Moves.{GivesAtMost};
 ghost use Rattle.fc_runs.specs.Devices.{GivesBoard, IsReadFault};
 ghost use Rattle.fc_runs.specs.Fault.{replay_fault};
-ghost use Rattle.fc_runs.specs.Runs.{IsDealt, IsDealFault, IsReplayed, IsReplayFault};
+ghost use Rattle.fc_runs.specs.Runs.{IsDealt, IsDealFault, IsReplayed, IsReplayFault, IsReplayedAs, IsReplayFaultAs};
 
 use crate::faults::{Input, Output, ProgramFault, read_fault};
 use fc_deal::{deal, deal_text};
 use fc_io::{Sink, Source, read_to_vec, read_up_to, write_all};
 use fc_moves::Game;
 use fc_position::Position;
-use fc_replay::{ReplayFault, replay};
+use fc_replay::{Ended, Page, ReplayFault, replay_as};
 use fc_text::read_board;
 use std::alloc::Global;
 
@@ -19,7 +19,7 @@ use std::alloc::Global;
 pub(crate) const LONGEST_BOARD: usize = 4096;
 
 /// The most bytes that a text of moves may have.
-const LONGEST_MOVES: usize = 1_048_576;
+pub const LONGEST_MOVES: usize = 1_048_576;
 
 // Reads a board of a game with so many cells.
 pub(crate) fn read_position<S: Source>(board: &mut S, cells: u8) -> Result<Position, ProgramFault>
@@ -85,13 +85,43 @@ pub fn run_replay<G: Game, B: Source, M: Source, K: Sink>(
     ensures taken_board { GivesAtMost (B.told board.old) (B.told board.new) (LONGEST_BOARD + 1) }
     ensures taken_moves { GivesAtMost (M.told moves.old) (M.told moves.new) (LONGEST_MOVES + 1) }
 {
+    match run_replay_as(alloc, game, board, moves, Page::Board, out) {
+        Ok(_) => Ok(0),
+        Err(fault) => Err(fault),
+    }
+}
+
+/// Reads a board of the game and a text of moves, and writes a page after each move. It answers the number of moves, and
+/// whether the last board is won.
+///
+/// # Errors
+/// Those of `run_replay`, pages standing where boards do there.
+pub fn run_replay_as<G: Game, B: Source, M: Source, K: Sink>(
+    alloc: Global,
+    game: &G,
+    board: &mut B,
+    moves: &mut M,
+    page: Page,
+    out: &mut K,
+) -> Result<Ended, ProgramFault>
+    ensures replayed { IfOk result (IsReplayedAs page (G.game game.now)
+        record { old = B.told board.old; new = B.told board.new; failed = B.has_failed board.new }
+        record { old = M.told moves.old; new = M.told moves.new; failed = M.has_failed moves.new }
+        record { old = K.held out.old; new = K.held out.new; failed = K.has_failed out.new }) }
+    ensures fault { IfErr result (IsReplayFaultAs page (G.game game.now)
+        record { old = B.told board.old; new = B.told board.new; failed = B.has_failed board.new }
+        record { old = M.told moves.old; new = M.told moves.new; failed = M.has_failed moves.new }
+        record { old = K.held out.old; new = K.held out.new; failed = K.has_failed out.new }) }
+    ensures taken_board { GivesAtMost (B.told board.old) (B.told board.new) (LONGEST_BOARD + 1) }
+    ensures taken_moves { GivesAtMost (M.told moves.old) (M.told moves.new) (LONGEST_MOVES + 1) }
+{
     let start = read_position(board, game.cells())?;
     let text = match read_to_vec(alloc, moves, LONGEST_MOVES) {
         Ok(text) => text,
         Err(fault) => return Err(read_fault(Input::Moves, fault)),
     };
-    match replay(game, &start, text.as_slice(), out) {
-        Ok(_) => Ok(0),
+    match replay_as(game, &start, text.as_slice(), page, out) {
+        Ok(ended) => Ok(ended),
         Err(fault) => Err(replay_fault(fault)),
     }
 }

@@ -10,7 +10,8 @@ ghost use Rattle.fc_answers.specs.Verdict.{CanBeWritten, verdict_of};
 ghost use Rattle.fc_best_first.specs.Search.{IsBudget, IsWeight};
 ghost use Rattle.fc_search.specs.Search.{Answers};
 ghost use Rattle.fc_runs.specs.Devices.{GivesBoard, IsHandedBack, lent};
-ghost use Rattle.fc_runs.specs.Solving.{IsAnswered, IsCertified, IsCutShort, IsSolved, IsSolveFault, IsStartFault, IsUnanswered};
+ghost use Rattle.fc_watch.specs.Watch.{Hears, IsFarOf};
+ghost use Rattle.fc_runs.specs.Solving.{IsAnswered, IsCertified, IsCutShort, IsHeardOf, IsSolved, IsSolveFault, IsStartFault, IsUnanswered};
 
 use crate::answers::{answer_status, answer_text, verdict_status, verdict_text};
 use crate::faults::{Output, ProgramFault};
@@ -21,7 +22,8 @@ use fc_home::GREATEST_RULE;
 use fc_io::{Failed, Sink, Source, write_all};
 use fc_moves::Game;
 use fc_position::Position;
-use fc_search::{Answer, MOST_BUDGET, decide, solve};
+use fc_search::{Answer, MOST_BUDGET};
+use fc_watch::{Listener, Unheard, decide, solve};
 use std::alloc::Global;
 
 /// Reads a board of the game, searches under a home rule of at most 2 by a weight of 1 to 10 and a kind of bound, with at
@@ -59,9 +61,57 @@ pub fn run_solve<G: Game + Drop, S: Source, K: Sink, C: Sink>(
     ensures back { IsHandedBack cert.entry cert.exit }
 {
     let start = read_start(game, board, budget)?;
+    let nobody = &mut Unheard;
     match cert {
-        Some(cert) => certify(alloc, game, rule, weight, bound, &start, budget, out, cert),
-        None => tell(alloc, game, rule, weight, bound, &start, budget, out),
+        Some(cert) => certify(
+            alloc, game, rule, weight, bound, &start, budget, out, cert, nobody,
+        ),
+        None => tell(
+            alloc, game, rule, weight, bound, &start, budget, out, nobody,
+        ),
+    }
+}
+
+/// Solves as `run_solve` does, and the listener hears how far the search is, while it runs and when it ends: what it hears is
+/// true of the board that was given.
+///
+/// # Errors
+/// Those of `run_solve`.
+pub fn run_solve_heard<G: Game + Drop, S: Source, K: Sink, C: Sink, L: Listener>(
+    alloc: Global,
+    game: &G,
+    rule: u8,
+    weight: u8,
+    bound: BoundKind,
+    board: &mut S,
+    budget: u32,
+    out: &mut K,
+    cert: Option<&mut C>,
+    listener: &mut L,
+) -> Result<u8, ProgramFault>
+    requires rule { rule ≤ GREATEST_RULE }
+    requires weight { IsWeight weight }
+    ensures answered { IfOk result (IsSolved (G.game game.now) rule weight bound budget
+        record { old = S.told board.old; new = S.told board.new; failed = S.has_failed board.new }
+        (lent C.held C.has_failed cert.entry cert.exit)
+        record { old = K.held out.old; new = K.held out.new; failed = K.has_failed out.new }) }
+    ensures fault { IfErr result (IsSolveFault (G.game game.now) rule weight bound budget
+        record { old = S.told board.old; new = S.told board.new; failed = S.has_failed board.new }
+        (lent C.held C.has_failed cert.entry cert.exit)
+        record { old = K.held out.old; new = K.held out.new; failed = K.has_failed out.new }) }
+    ensures taken { GivesAtMost (S.told board.old) (S.told board.new) (LONGEST_BOARD + 1) }
+    ensures back { IsHandedBack cert.entry cert.exit }
+    ensures heard { Hears (L.heard listener.old) (L.heard listener.new) (IsHeardOf (G.game game.now) rule weight bound budget
+        record { old = S.told board.old; new = S.told board.new; failed = S.has_failed board.new }) }
+{
+    let start = read_start(game, board, budget)?;
+    match cert {
+        Some(cert) => certify(
+            alloc, game, rule, weight, bound, &start, budget, out, cert, listener,
+        ),
+        None => tell(
+            alloc, game, rule, weight, bound, &start, budget, out, listener,
+        ),
     }
 }
 
@@ -85,7 +135,7 @@ fn read_start<G: Game, S: Source>(
 }
 
 // Writes the answer for a position, without a table.
-fn tell<G: Game + Drop, K: Sink>(
+fn tell<G: Game + Drop, K: Sink, L: Listener>(
     alloc: Global,
     game: &G,
     rule: u8,
@@ -94,6 +144,7 @@ fn tell<G: Game + Drop, K: Sink>(
     start: &Position,
     budget: u32,
     out: &mut K,
+    listener: &mut L,
 ) -> Result<u8, ProgramFault>
     requires rule { rule ≤ GREATEST_RULE }
     requires weight { IsWeight weight }
@@ -103,8 +154,9 @@ fn tell<G: Game + Drop, K: Sink>(
         record { old = K.held out.old; new = K.held out.new; failed = K.has_failed out.new }) }
     ensures fault { IfErr result (IsUnanswered (G.game game.now) rule weight bound start.now budget None
         record { old = K.held out.old; new = K.held out.new; failed = K.has_failed out.new }) }
+    ensures heard { Hears (L.heard listener.old) (L.heard listener.new) (IsFarOf (G.game game.now) rule weight bound start.now budget) }
 {
-    let Ok(verdict) = decide(alloc, game, rule, weight, bound, start, budget) else {
+    let Ok(verdict) = decide(alloc, game, rule, weight, bound, start, budget, listener) else {
         return Err(ProgramFault::Memory);
     };
     let text = verdict_text(alloc, &verdict)?;
@@ -115,7 +167,7 @@ fn tell<G: Game + Drop, K: Sink>(
 }
 
 // Writes the certificate of the answer for a position, and then the answer.
-fn certify<G: Game + Drop, K: Sink, C: Sink>(
+fn certify<G: Game + Drop, K: Sink, C: Sink, L: Listener>(
     alloc: Global,
     game: &G,
     rule: u8,
@@ -125,6 +177,7 @@ fn certify<G: Game + Drop, K: Sink, C: Sink>(
     budget: u32,
     out: &mut K,
     cert: &mut C,
+    listener: &mut L,
 ) -> Result<u8, ProgramFault>
     requires rule { rule ≤ GREATEST_RULE }
     requires weight { IsWeight weight }
@@ -136,8 +189,9 @@ fn certify<G: Game + Drop, K: Sink, C: Sink>(
     ensures fault { IfErr result (IsUnanswered (G.game game.now) rule weight bound start.now budget
         (Some record { old = C.held cert.old; new = C.held cert.new; failed = C.has_failed cert.new })
         record { old = K.held out.old; new = K.held out.new; failed = K.has_failed out.new }) }
+    ensures heard { Hears (L.heard listener.old) (L.heard listener.new) (IsFarOf (G.game game.now) rule weight bound start.now budget) }
 {
-    let Ok(answer) = solve(alloc, game, rule, weight, bound, start, budget) else {
+    let Ok(answer) = solve(alloc, game, rule, weight, bound, start, budget, listener) else {
         return Err(ProgramFault::Memory);
     };
     let text = answer_text(alloc, &answer)?;

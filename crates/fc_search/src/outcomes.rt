@@ -44,6 +44,20 @@ impl<F: Frontier + Drop, G: Game + Drop> Search<F, G> {
         self.search.floor().div_ceil(weight)
     }
 
+    /// How many classes are stored.
+    pub fn len(&self) -> usize
+        ensures size { result ≡ length self.now.store.stored }
+    {
+        self.search.len()
+    }
+
+    /// How many entries are open. They are counted anew.
+    pub fn open(&self) -> u128
+        ensures size { result ≡ length self.now.store.waiting }
+    {
+        self.search.open()
+    }
+
     // What is told where the class with this number is won: only by weight 1 its cost is known to be the least.
     fn won_outcome(&self, number: u32) -> Outcome
         requires held { Holds (classes_of self.now.question) self.now.question.weight self.now.budget self.now.store self.now.status }

@@ -1,0 +1,44 @@
+-- Elements of a list that has one more, and how many cards a sequence has at most.
+use Rattle.std.proofs.Common.{◌≡◌, ◌⊎◌, ℕ, ◌+◌, zero, suc, List, [], ◌∷◌, ◌++◌, length, take, drop, Some, refl, sym, ◌∙◌, ap, inl, inr, ⊎_elim, zero-add, arith}
+use Rattle.std.specs.Prelude.{slice_get, OnOk, Result, Ok, Err}
+
+-- an element stays where it is
+pub get_old : {X : Type 0} (xs ys : List X) (i : ℕ) (x : X) → slice_get xs i ≡ Some x → slice_get (xs ++ ys) i ≡ Some x
+get_old [] ys i x e = absurd (cc e)
+get_old (z ∷ zs) ys zero x e = e
+get_old (z ∷ zs) ys (suc i) x e = get_old zs ys i x e
+
+-- an element of a list that has one more was there, or is the new one
+pub get_cases : {X : Type 0} (xs : List X) (y : X) (i : ℕ) (x : X) → slice_get (xs ++ y ∷ []) i ≡ Some x
+    → (slice_get xs i ≡ Some x) ⊎ ((i ≡ length xs) × (y ≡ x))
+get_cases [] y zero x e = inr (refl, cc e)
+get_cases [] y (suc i) x e = absurd (cc e)
+get_cases (z ∷ zs) y zero x e = inl e
+get_cases (z ∷ zs) y (suc i) x e =
+    ⊎_elim (λ found. inl found) (λ new. inr (ap suc new.0, new.1)) (get_cases zs y i x e)
+
+-- the element at a place is at an earlier one past some
+pub get_drop : {X : Type 0} (n : ℕ) (xs : List X) (i : ℕ) (x : X) → slice_get (drop n xs) i ≡ Some x → slice_get xs (n + i) ≡ Some x
+get_drop zero xs i x e = ap (λ k. slice_get xs k) (zero-add i) ∙ e
+get_drop (suc n) [] i x e = absurd (cc e)
+get_drop (suc n) (z ∷ zs) i x e =
+    let place : suc n + i ≡ suc (n + i) = omega arith in
+    ap (λ k. slice_get (z ∷ zs) k) place ∙ get_drop n zs i x e
+
+pub drop_get : {X : Type 0} (n : ℕ) (xs : List X) (i : ℕ) (x : X) → slice_get xs (n + i) ≡ Some x → slice_get (drop n xs) i ≡ Some x
+drop_get zero xs i x e = ap (λ k. slice_get xs k) (sym (zero-add i)) ∙ e
+drop_get (suc n) [] i x e = absurd (cc e)
+drop_get (suc n) (z ∷ zs) i x e =
+    let place : suc (n + i) ≡ suc n + i = omega arith in
+    drop_get n zs i x (ap (λ k. slice_get (z ∷ zs) k) place ∙ e)
+
+-- so many elements and the next one
+pub take_next : {X : Type 0} (xs : List X) (n : ℕ) (x : X) → slice_get xs n ≡ Some x → take (suc n) xs ≡ take n xs ++ x ∷ []
+take_next [] n x e = absurd (cc e)
+take_next (z ∷ zs) zero x e = ap (λ y. y ∷ []) (cc e)
+take_next (z ∷ zs) (suc n) x e = ap (λ l. z ∷ l) (take_next zs n x e)
+
+-- what holds holds where a result is right
+pub on_ok : {A E : Type 0} (r : Result A E) (P : Type 0) → P → OnOk r P
+on_ok (Ok x) P p = p
+on_ok (Err e) P p = tt

@@ -1,0 +1,13 @@
+pub mod BoardLemmas
+pub mod CardLemmas
+pub mod CellLemmas
+mod CountLemmas
+mod EndLemmas
+mod GetLemmas
+mod GrowLemmas
+pub mod LieLemmas
+pub mod OverLemmas
+mod PathLemmas
+pub mod RunLemmas
+pub mod SpaceLemmas
+mod TreeLemmas

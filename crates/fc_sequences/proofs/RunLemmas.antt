@@ -1,0 +1,28 @@
+-- Moves added to a list, in turn.
+use Rattle.std.proofs.Common.{Result, Ok, Err, List, [], ◌∷◌, ◌++◌, ◌∙◌, ap, subst}
+use Rattle.std.specs.Prelude.{OnOk}
+use Rattle.std.proofs.lemmas.List.{append_assoc}
+use Rattle.fc_position.specs.Board.{Board}
+use Rattle.fc_moves.specs.declared.steps.Move.{Move}
+use Rattle.fc_moves.specs.GameRules.{GameRules, IsPositionOf}
+use Rattle.fc_moves.specs.Run.{Run}
+use Rattle.fc_moves.proofs.StepLemmas.{run_keeps}
+use Rattle.fc_sequences.specs.Carry.{AddsRun}
+
+-- runs are joined
+run_on : (g : GameRules) (b c d : Board) (ms ns : List Move) → Run g b ms c → Run g c ns d → Run g b (ms ++ ns) d
+run_on g b c d [] ns same more = subst (λ x. Run g x ns d) same more
+run_on g b c d (m ∷ ms) ns (mid, step, rest) more = (mid, step, run_on g mid c d ms ns rest more)
+
+pub adds_on : (g : GameRules) (b c d : Board) (xs ys zs : List Move) → AddsRun g b xs c ys → AddsRun g c ys d zs → AddsRun g b xs d zs
+adds_on g b c d xs ys zs (ms, one, run) (ns, two, more) =
+    (ms ++ ns, two ∙ ap (λ l. l ++ ns) one ∙ append_assoc xs ms ns, run_on g b c d ms ns run more)
+
+-- what moves run to from a position of the game is one
+pub adds_keeps : (g : GameRules) (b c : Board) (xs ys : List Move) → IsPositionOf g b → AddsRun g b xs c ys → IsPositionOf g c
+adds_keeps g b c xs ys fits (ms, long, run) = run_keeps g b c ms fits run
+
+-- what is known where a call succeeds gives what is wanted there
+pub where_ok : {T E P Q : Type 0} (r : Result T E) → OnOk r P → (P → Q) → OnOk r Q
+where_ok (Ok x) p f = f p
+where_ok (Err e) p f = p

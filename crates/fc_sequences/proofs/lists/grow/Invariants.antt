@@ -1,0 +1,8 @@
+use Rattle.std.proofs.Common.{◌<◌, length}
+use Rattle.fc_sequences.specs.Tree.{IsGrown}
+use Rattle.fc_sequences.proofs.lists.grow.Given as goal
+
+-- the boards to which the entries so far lead, of which there are some
+abbrev pub invariant-loop-index : goal.invariant-loop-index
+invariant-loop-index g l =
+    IsGrown (g.G.Game.game l.game) l.position l.pairs l.nodes.items l.index l.start × (l.start < length l.nodes.items)

@@ -1,0 +1,33 @@
+-- Lists of entries that are played one by one, and the one-card moves that do it.
+use Rattle.std.specs.Prelude.{◌≡◌, ◌≢◌, ◌-◌, ◌<◌, ◌≤◌, List, [], ◌∷◌, ◌++◌, length, take, All, AllPairs}
+use Rattle.fc_position.specs.Board.{Board}
+use Rattle.fc_moves.specs.declared.steps.Move.{Move}
+use Rattle.fc_moves.specs.GameRules.{GameRules}
+use Rattle.fc_moves.specs.Run.{Run}
+use Rattle.fc_sequences.specs.declared.lists.ListFault.{ListFault}
+use Rattle.fc_sequences.specs.declared.lists.ListFault.TheVariants.{Refused, TooMany, Memory}
+use Rattle.fc_sequences.specs.declared.lists.TheConstants.{MOST_BOARDS}
+use Rattle.fc_sequences.specs.declared.pairs.Pair.{Pair}
+use Rattle.fc_sequences.specs.Pair.{PlaysPair}
+
+-- the entries are played one by one, each with some number of cards, from the one board to the other
+abbrev pub Follows : GameRules → Board → List Pair → Board → Type 0
+Follows g b [] c = c ≡ b
+Follows g b (p ∷ ps) c = (mid : Board) × PlaysPair g b p mid × Follows g mid ps c
+
+-- the moves expand the entries: for each entry in turn they are one-card moves that the rules allow, to the board on which
+-- just its cards were moved
+abbrev pub Expands : GameRules → Board → List Pair → List Move → Board → Type 0
+Expands g b [] ms c = (ms ≡ []) × (c ≡ b)
+Expands g b (p ∷ ps) ms c = (mid : Board) × (front : List Move) × (rest : List Move)
+    × PlaysPair g b p mid × Run g b front mid × (ms ≡ front ++ rest) × Expands g mid ps rest c
+
+-- why a list isn't expanded: with no numbers of cards the entries up to this step, which counts from 1, are played, though
+-- those before it are with some; or the first so many entries lead to more boards than are kept, no two of them the same; or
+-- memory was wanted
+abbrev pub IsListFault : GameRules → Board → List Pair → ListFault → Type 0
+IsListFault g b ps (Refused step) = (1 ≤ step) × (step ≤ length ps)
+    × ((c : Board) → Follows g b (take step ps) c → ⊥) × ((c : Board) × Follows g b (take (step - 1) ps) c)
+IsListFault g b ps (TooMany step) = (boards : List Board) × (MOST_BOARDS < length boards)
+    × AllPairs (λ x y. x ≢ y) boards × All (Follows g b (take step ps)) boards
+IsListFault g b ps Memory = Unit {0}

@@ -1,0 +1,5 @@
+pub mod Carry
+pub mod Following
+pub mod Pair
+pub mod Sequence
+pub mod Tree

@@ -1,0 +1,13 @@
+//! Sequences moved at once, as players count them: how many cards the rules of a game allow, and the one-card moves that do
+//! it; and lists in standard notation, whose entries may move sequences.
+#![tactic(auto)]
+
+pub use carries::{carry, may_carry};
+pub use lists::{ListFault, MOST_BOARDS, expand};
+pub use pairs::{Pair, read_pair};
+
+mod carries;
+mod lists;
+mod pairs;
+mod spaces;
+mod trees;

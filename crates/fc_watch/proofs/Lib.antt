@@ -1,0 +1,3 @@
+pub mod FarLemmas
+pub mod HearLemmas
+pub mod TurnLemmas

@@ -1,0 +1,80 @@
+-- Turns that are made one after the other, and how many there may be.
+use Rattle.std.proofs.Common.{◌≡◌, ℕ, ◌+◌, ◌-◌, ◌*◌, ◌^◌, ◌≤◌, suc, zero, Result, Ok, Err, List, length, refl, sym, ◌∙◌, ap, subst, inl, inr, zero-add, arith}
+use Rattle.std.specs.Prelude.{MatchResult, sum_by}
+use Rattle.std.proofs.Math.Nat.{mul-le-mul}
+use Rattle.std.proofs.lemmas.List.Sorted.{length_permutation}
+use Rattle.fc_best_first.specs.declared.books.Mark.{Mark}
+use Rattle.fc_best_first.specs.declared.turns.Status.{Status}
+use Rattle.fc_best_first.specs.declared.turns.Status.TheVariants.{Running, Won, CannotWin, GaveUp, Stopped}
+use Rattle.fc_best_first.specs.declared.turns.TheConstants.{MOST_BUDGET}
+use Rattle.fc_best_first.specs.declared.searches.Step.{Step}
+use Rattle.fc_best_first.specs.declared.searches.Step.TheVariants.{Running as running}
+use Rattle.fc_best_first.specs.declared.searches.SearchFault.{SearchFault}
+use Rattle.fc_best_first.specs.declared.searches.SearchFault.TheVariants.{Memory}
+use Rattle.fc_best_first.specs.Graph.{Graph, IsLawful}
+use Rattle.fc_best_first.specs.Store.{Store}
+use Rattle.fc_best_first.specs.Search.{Begins, Turns, TurnsOn, reply_of}
+use Rattle.fc_best_first.specs.Turn.{work_left}
+use Rattle.fc_search.specs.Search.{Question, classes_of}
+
+module _ {K : Type 0} (g : Graph K) (weight budget : ℕ) where
+  -- some turns, and then some more
+  pub turns_both : (first then : ℕ) (before between after : Status K) (old mid new : Store K)
+      → TurnsOn first g weight budget before old mid between → TurnsOn then g weight budget between mid new after
+      → TurnsOn (first + then) g weight budget before old new after
+  turns_both zero then before between after old mid new (same, stays) more =
+      let count : then ≡ 0 + then = omega arith in
+      subst (λ n. TurnsOn n g weight budget before old new after) count
+      (subst (λ s. TurnsOn then g weight budget s old new after) stays
+      (subst (λ s. TurnsOn then g weight budget between s new after) same more))
+  turns_both (suc first) then before between after old mid new (next, state, told, one, rest) more =
+      let count : suc (first + then) ≡ suc first + then = omega arith in
+      subst (λ n. TurnsOn n g weight budget before old new after) count
+      (next, state, told, one, turns_both first then state between after next mid new rest more)
+
+  -- one turn more
+  pub turns_more : (turns : ℕ) (before between after : Status K) (old mid new : Store K) (reply : Result Step SearchFault)
+      → TurnsOn turns g weight budget before old mid between → Turns g weight budget between mid new after reply
+      → TurnsOn (turns + 1) g weight budget before old new after
+  turns_more turns before between after old mid new reply some one =
+      turns_both turns 1 before between after old mid new some (new, after, reply, one, (refl, refl))
+
+  -- what a turn of a running search replies, by the status that it leaves
+  pub turn_replies : (after : Status K) (old new : Store K) (reply : Result Step SearchFault)
+      → Turns g weight budget Running old new after reply
+      → MatchResult reply (λ step. reply_of after ≡ Ok step) (λ f. (f ≡ Memory) × (after ≡ Stopped))
+  turn_replies after old new (Ok step) (inl (takes, same)) = sym same
+  turn_replies after old new (Ok step) (inr (stopped, same)) = absurd (cc)
+  turn_replies Running old new (Err f) (inl (takes, same)) = absurd (cc)
+  turn_replies (Won number) old new (Err f) (inl (takes, same)) = absurd (cc)
+  turn_replies CannotWin old new (Err f) (inl (takes, same)) = absurd (cc)
+  turn_replies (GaveUp y number) old new (Err f) (inl (takes, same)) = absurd (cc)
+  turn_replies Stopped old new (Err f) (inl (takes, same)) = absurd takes
+  turn_replies after old new (Err f) (inr (stopped, same)) = (cc, stopped)
+
+  -- a status that replies that there is more to do
+  pub replies_running : (status : Status K) → reply_of status ≡ Ok running → status ≡ Running
+  replies_running Running h = refl
+  replies_running (Won number) h = absurd (cc)
+  replies_running CannotWin h = absurd (cc)
+  replies_running (GaveUp y number) h = absurd (cc)
+  replies_running Stopped h = absurd (cc)
+
+-- a turn of a search that is still of the question and the budget with which it began
+pub turn_along : (q first : Question) (budget most : ℕ) (before after : Status (List ℕ)) (old new : Store (List ℕ)) (reply : Result Step SearchFault)
+    → q ≡ first → budget ≡ most → Turns (classes_of q) q.weight budget before old new after reply
+    → Turns (classes_of first) first.weight most before old new after reply
+turn_along q first budget most before after old new reply asked budgeted turn =
+    subst (λ p. Turns (classes_of p) p.weight most before old new after reply) asked
+    (subst (λ b. Turns (classes_of q) q.weight b before old new after reply) budgeted turn)
+
+-- how much a search may do that has had no turn
+module _ {K : Type 0} (g : Graph K) (weight : ℕ) where
+  pub begun_work : (budget : ℕ) (s : Store K) → IsLawful g → Begins g weight s → budget ≤ MOST_BUDGET → work_left budget s ≤ 2 ^ 60
+  begun_work budget s lawful (x, cost, starts, stored, waiting) few =
+      let low : cost ≤ 53 = lawful.starts x cost starts in
+      let one : length s.waiting ≡ 1 = length_permutation _ s.waiting waiting in
+      let sum : sum_by (λ e. e.1.cost) s.stored ≡ cost = ap (sum_by (λ (e : K × Mark). e.1.cost)) stored ∙ zero-add cost in
+      let each : (budget - length s.stored) * (53 * budget + 54) ≤ 4000000 * (53 * 4000000 + 54) =
+      mul-le-mul {n₂ = 4000000} {m₂ = 53 * 4000000 + 54} (omega (arith, few)) (omega (arith, few)) in
+      omega (arith, low, one, sum, each)
