@@ -15,9 +15,10 @@ _fc_solve() {
       case ${COMP_WORDS[1]} in
         "$word") words="deal show solve check replay batch help --help --version" ;;
         show) words="--plain --deal $game --help" ;;
-        solve) words="--cert --deal $search $game --help" ;;
-        batch) words="$search $game --help" ;;
-        check | replay) words="$game --help" ;;
+        solve) words="--cert --deal --boards --stats --quiet $search $game --help" ;;
+        batch) words="--table $search $game --help" ;;
+        replay) words="--numbered --sequences $game --help" ;;
+        check) words="$game --help" ;;
         help) words="deal show solve check replay batch" ;;
       esac
       ;;

@@ -8,6 +8,7 @@ pub use plays::play;
 pub use refusals::{Refusal, refusal_of};
 pub use replays::{Ended, replay, replay_as};
 pub use stops::{Stop, first_stop};
+pub use tokens::MoveGaps;
 
 mod faults;
 pub mod laws;

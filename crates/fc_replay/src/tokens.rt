@@ -4,9 +4,9 @@ ghost use Rattle.fc_replay.specs.Token.{is_gap, SpellsMove, IsNoMove};
 use fc_moves::{Move, read_move};
 use fc_text::Gaps;
 
-/// What parts moves: spaces, tabs, CR and LF.
+//// What parts moves: spaces, tabs, CR and LF.
 #[derive(Debug, Drop)]
-pub(crate) struct MoveGaps;
+pub struct MoveGaps;
 
 impl Gaps for MoveGaps {
     ghost gap = { is_gap };

@@ -13,7 +13,7 @@ use Rattle.fc_replay.proofs.PageLemmas.{replays_printed}
 use Rattle.fc_runs.specs.declared.faults.Input.TheVariants.{Board as of_board, Moves as of_moves, Cert as of_certificate}
 use Rattle.fc_runs.specs.declared.faults.Output.TheVariants.{Answer as of_answer, Cert as certificate_out}
 use Rattle.fc_runs.specs.declared.faults.ProgramFault.{ProgramFault}
-use Rattle.fc_runs.specs.declared.faults.ProgramFault.TheVariants.{Number, Range, Budget, Board as bad_board, TooLong, Moves, Cert, Read, Write, Memory}
+use Rattle.fc_runs.specs.declared.faults.ProgramFault.TheVariants.{Number, Range, Budget, Board as bad_board, TooLong, Moves, TooManyWays, Cert, Read, Write, Memory}
 use Rattle.fc_runs.specs.Devices.{Device}
 use Rattle.fc_runs.specs.Runs.{IsReplayAs, IsReplayed, IsReplayedAs, IsReplayFault, IsReplayFaultAs, IsReplayOf}
 
@@ -62,6 +62,7 @@ fault_printed g board moves sink Memory is = is
 fault_printed g board moves sink (Moves (BadMove step)) is = replay_printed g board moves sink (Err (BadMove step)) is
 fault_printed g board moves sink (Moves (NotAllowed step)) is = replay_printed g board moves sink (Err (NotAllowed step)) is
 fault_printed g board moves sink (Moves unwritten) is = is
+fault_printed g board moves sink (TooManyWays step) is = is
 fault_printed g board moves sink (Write of_answer) is = (replay_printed g board moves sink (Err unwritten) is.0, is.1)
 fault_printed g board moves sink (Write certificate_out) is = is
 fault_printed g board moves sink (Number n) is = is

@@ -6,12 +6,14 @@ use Rattle.fc_checker.specs.declared.faults.CheckFault.{CheckFault}
 use Rattle.fc_checker.specs.declared.faults.CheckFault.TheVariants as check
 use Rattle.fc_replay.specs.declared.faults.ReplayFault.{ReplayFault}
 use Rattle.fc_replay.specs.declared.faults.ReplayFault.TheVariants.{BadMove, NotAllowed, Write as unwritten}
+use Rattle.fc_sequences.specs.declared.lists.ListFault.{ListFault}
+use Rattle.fc_sequences.specs.declared.lists.ListFault.TheVariants.{Refused, TooMany, Memory as no_room}
 use Rattle.fc_runs.specs.declared.faults.Input.{Input}
 use Rattle.fc_runs.specs.declared.faults.Input.TheVariants.{Board as of_board, Moves as of_moves, Cert as of_certificate}
 use Rattle.fc_runs.specs.declared.faults.Output.{Output}
 use Rattle.fc_runs.specs.declared.faults.Output.TheVariants.{Answer as of_answer, Cert as certificate_out}
 use Rattle.fc_runs.specs.declared.faults.ProgramFault.{ProgramFault}
-use Rattle.fc_runs.specs.declared.faults.ProgramFault.TheVariants.{Number, Range, Budget, Board, TooLong, Moves, Cert, Read, Write, Memory}
+use Rattle.fc_runs.specs.declared.faults.ProgramFault.TheVariants.{Number, Range, Budget, Board, TooLong, Moves, TooManyWays, Cert, Read, Write, Memory}
 
 -- 3 for what was asked, 4 for want of memory, 5 for a device
 abbrev pub fault_status : ProgramFault → ℕ
@@ -21,6 +23,7 @@ fault_status Budget = 3
 fault_status (Board fault) = 3
 fault_status (TooLong input) = 3
 fault_status (Moves fault) = 3
+fault_status (TooManyWays step) = 3
 fault_status (Cert fault) = 3
 fault_status (Read input) = 5
 fault_status (Write output) = 5
@@ -37,6 +40,12 @@ abbrev pub replay_fault : ReplayFault → ProgramFault
 replay_fault (BadMove step) = Moves (BadMove step)
 replay_fault (NotAllowed step) = Moves (NotAllowed step)
 replay_fault unwritten = Write of_answer
+
+-- why a list of entries wasn't expanded, as a fault of the program
+abbrev pub list_fault : ListFault → ProgramFault
+list_fault (Refused step) = Moves (NotAllowed step)
+list_fault (TooMany step) = TooManyWays step
+list_fault no_room = Memory
 
 -- why bytes weren't accepted, as a fault of the program
 abbrev pub check_fault : CheckFault → ProgramFault

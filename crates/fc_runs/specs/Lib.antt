@@ -4,5 +4,7 @@ pub mod Checking
 pub mod Devices
 pub mod Fault
 pub mod Runs
+pub mod Sequences
 pub mod Showing
 pub mod Solving
+pub mod Tabling

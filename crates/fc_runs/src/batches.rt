@@ -68,7 +68,7 @@ pub fn run_batch<G: Game + Drop, K: Sink>(
 }
 
 // How many deals are asked for.
-fn deals_of(from: u32, to: u32, budget: u32) -> Result<u32, ProgramFault>
+pub(crate) fn deals_of(from: u32, to: u32, budget: u32) -> Result<u32, ProgramFault>
     ensures asked { IfOk result (IsAsked from to budget) }
     ensures fault { IfErr result (IsUnasked from to budget) }
 {

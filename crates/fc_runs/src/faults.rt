@@ -73,6 +73,10 @@ pub enum ProgramFault {
     /// A step is no move or isn't allowed; it is never a fault of the sink.
     #[error("{0}")]
     Moves(ReplayFault),
+    /// The entries of a list up to this step, which counts from 1, lead to more than 1,000 boards, since how many cards go
+    /// to empty columns isn't told.
+    #[error("step {0}: too many ways: tell how many cards go to an empty column")]
+    TooManyWays(u32),
     /// The bytes are no certificate of the board; it is never want of memory.
     #[error("certificate refused: {0}")]
     Cert(CheckFault),
@@ -99,6 +103,7 @@ impl ProgramFault {
             | ProgramFault::Board(_)
             | ProgramFault::TooLong(_)
             | ProgramFault::Moves(_)
+            | ProgramFault::TooManyWays(_)
             | ProgramFault::Cert(_) => 3,
             ProgramFault::Memory => 4,
             ProgramFault::Read(_) | ProgramFault::Write(_) => 5,

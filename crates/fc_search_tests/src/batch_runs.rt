@@ -4,7 +4,7 @@ use crate::given::free_cell;
 use fc_bound::BoundKind;
 use fc_io::ToArray;
 use fc_io::testing::Failing;
-use fc_runs::{MOST_DEALS, Output, ProgramFault, run_batch};
+use fc_runs::{MOST_DEALS, Output, ProgramFault, run_batch, run_table};
 use std::alloc::Global;
 use std::process::Abort;
 
@@ -102,5 +102,50 @@ fn lines_are_cut_where_the_sink_fails(rt: HostRuntime) {
         );
         let wanted = Err(ProgramFault::Write(Output::Answer));
         assert!(rt; result == wanted && out.device.held() == &printed[..count]);
+    }
+}
+
+// The names of a table's columns.
+const NAMES: &[u8] = b"deal\tanswer\tmoves\tfloor\tclasses\tturns\tmost_open\n";
+
+#[test]
+fn a_table_has_a_row_for_each_deal(rt: HostRuntime) {
+    let mut out = ToArray::<500>::new();
+    let game = free_cell(&rt, 4);
+    let result = run_table(
+        rt.alloc(),
+        &game,
+        2,
+        1,
+        BoundKind::Plain,
+        24,
+        26,
+        1,
+        &mut out,
+    );
+    assert!(rt; result == Ok(2));
+    let mut lines = out.held().split_inclusive(|byte| *byte == b'\n');
+    assert!(rt; lines.next() == Some(NAMES));
+    for start in ["24\tgave up\t\t", "25\tgave up\t\t", "26\tgave up\t\t"] {
+        let line = lines.next().expect(&rt, "a row");
+        assert!(rt; line.starts_with(start.as_bytes()));
+    }
+    assert!(rt; lines.next().is_none());
+}
+
+#[test]
+fn tables_are_refused(rt: HostRuntime) {
+    for row in &ROWS {
+        let Row(from, to, budget, wanted, _) = *row;
+        let mut out = Failing::new(ToArray::<100>::new(), 3);
+        let game = free_cell(&rt, 4);
+        let plain = BoundKind::Plain;
+        let result = run_table(rt.alloc(), &game, 2, 1, plain, from, to, budget, &mut out);
+        let (fault, written) = match wanted {
+            Ok(_) => (ProgramFault::Write(Output::Answer), &NAMES[..3]),
+            Err(fault) => (fault, &NAMES[..0]),
+        };
+        assert!(rt; result == Err(fault));
+        assert!(rt; out.device.held() == written);
     }
 }

@@ -14,6 +14,10 @@ mod classes;
 #[cfg(test)]
 mod given;
 #[cfg(test)]
+mod heard;
+#[cfg(test)]
+mod lists;
+#[cfg(test)]
 mod plain;
 #[cfg(test)]
 mod random;

@@ -19,6 +19,16 @@ pub enum BoardSource<'a> {
     Input,
 }
 
+impl BoardSource<'_> {
+    /// The number of the deal, if it is one.
+    pub fn deal(&self) -> Option<u32> {
+        match self {
+            BoardSource::Deal(number) => Some(*number),
+            _ => None,
+        }
+    }
+}
+
 /// What the word of a board names: standard input where there is none or it is `-`, a deal where it is a number and no
 /// file, else a file.
 pub fn find_board<'a>(rt: &HostRuntime, word: Option<&'a str>) -> Result<BoardSource<'a>, Ending> {

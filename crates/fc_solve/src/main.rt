@@ -3,7 +3,9 @@
 
 mod boards;
 mod endings;
+mod moves;
 mod notes;
+mod watching;
 mod words;
 
 ghost use Rattle.std.specs.Prelude.{◌≤◌, IfSome};
@@ -13,16 +15,24 @@ use clap::ArgMatches;
 use clap::error::ErrorKind;
 use endings::{Ending, end_of, of_run, tell};
 use fc_bound::BoundKind;
-use fc_io::{FromSlice, ToWriter};
+use fc_io::{FromSlice, Sink, ToArray, ToWriter, write_all};
 use fc_moves::{BakersGame, FreeCell, Game, Kings};
 use fc_plain::{PlainText, read_count};
+use fc_replay::Page;
 use fc_runs::{
-    Input, Look, ProgramFault, run_batch, run_check, run_deal, run_replay, run_show, run_solve,
+    Input, Look, Output, ProgramFault, run_batch, run_check, run_deal, run_replay_as,
+    run_replay_sequences, run_show, run_solve_heard, run_table,
+};
+use fc_text::read_board;
+use moves::{
+    MovesSource, find_moves, read_moves, tell_end, tell_entry, tell_stop, without_answer,
+    without_rulers,
 };
 use std::fs::File;
 use std::io::IsTerminal;
 use std::process::ExitCode;
 use std::{env, io};
+use watching::Teller;
 use words::{DEFAULT_BUDGET, DEFAULT_RULE, DEFAULT_WEIGHT, GREATEST_BUDGET, GREATEST_WEIGHT};
 
 /// The exit status of a command line that is refused.
@@ -204,6 +214,7 @@ fn solve<G: Game + Drop>(rt: &HostRuntime, game: &G, words: &ArgMatches<'_>) -> 
         return Ok(refuse(rt, NO_BUDGET));
     };
     let source = source_of(rt, words)?;
+    let deal = source.deal();
     let cert = match words.get_str("cert") {
         Some(path) => Some(ToWriter::new(create(rt, path)?)),
         None => None,
@@ -216,9 +227,21 @@ fn solve<G: Game + Drop>(rt: &HostRuntime, game: &G, words: &ArgMatches<'_>) -> 
     if is_blank(&text) {
         return Ok(refuse(rt, NO_BOARD));
     }
-    let result = solve_text(rt, game, limits, text.bytes(), cert);
+    let is_shown = rt.stderr().is_terminal() && !words.get_flag("quiet");
+    let mut teller = Teller::new(rt, deal, is_shown);
+    let result = if words.get_flag("boards") {
+        solve_in_pages(rt, game, limits, text.bytes(), cert, &mut teller)
+    } else {
+        let mut out = ToWriter::new(rt.stdout());
+        solve_text(rt, game, limits, text.bytes(), cert, &mut out, &mut teller)
+    };
+    if words.get_flag("stats") {
+        teller.tell_stats();
+    }
     let status = end_of(rt, result, text.bytes(), game.cells())?;
-    add_notes(rt, limits, status);
+    if !words.get_flag("quiet") {
+        add_notes(rt, limits, deal, status);
+    }
     Ok(status)
 }
 
@@ -230,13 +253,15 @@ fn is_blank(text: &PlainText) -> bool {
     text.bytes().iter().all(|byte| byte.is_ascii_whitespace())
 }
 
-// Solves the board of a text.
-fn solve_text<G: Game + Drop>(
+// Solves the board of a text, and tells how far the search is.
+fn solve_text<G: Game + Drop, K: Sink>(
     rt: &HostRuntime,
     game: &G,
     limits: Limits,
     text: &[u8],
     cert: Option<ToWriter<File>>,
+    out: &mut K,
+    teller: &mut Teller<'_>,
 ) -> Result<u8, ProgramFault>
     requires rule { limits.rule ≤ DEFAULT_RULE }
     requires least { DEFAULT_WEIGHT ≤ limits.weight }
@@ -244,14 +269,13 @@ fn solve_text<G: Game + Drop>(
 {
     let mut cert = cert;
     let mut board = FromSlice::new(text);
-    let mut out = ToWriter::new(rt.stdout());
     let Limits {
         budget,
         rule,
         weight,
         bound,
     } = limits;
-    run_solve(
+    let result = run_solve_heard(
         rt.alloc(),
         game,
         rule,
@@ -259,27 +283,80 @@ fn solve_text<G: Game + Drop>(
         bound,
         &mut board,
         budget,
-        &mut out,
+        out,
         cert.as_mut(),
-    )
+        teller,
+    );
+    teller.clear();
+    result
+}
+
+// Solves the board of a text, and shows the board after each move of the answer, if it has moves.
+fn solve_in_pages<G: Game + Drop>(
+    rt: &HostRuntime,
+    game: &G,
+    limits: Limits,
+    text: &[u8],
+    cert: Option<ToWriter<File>>,
+    teller: &mut Teller<'_>,
+) -> Result<u8, ProgramFault>
+    requires rule { limits.rule ≤ DEFAULT_RULE }
+    requires least { DEFAULT_WEIGHT ≤ limits.weight }
+    requires greatest { limits.weight ≤ GREATEST_WEIGHT }
+{
+    let mut answer = ToArray::<LONGEST_ANSWER>::new();
+    let status = solve_text(rt, game, limits, text, cert, &mut answer, teller)?;
+    let (told, moves) = split_answer(answer.held());
+    let mut out = ToWriter::new(rt.stdout());
+    let Ok(()) = write_all(&mut out, told) else {
+        return Err(ProgramFault::Write(Output::Answer));
+    };
+    let page = if rt.stdout().is_terminal() {
+        Page::Coloured
+    } else {
+        Page::Drawn
+    };
+    let (mut board, mut moves) = (FromSlice::new(text), FromSlice::new(moves));
+    run_replay_as(rt.alloc(), game, &mut board, &mut moves, page, &mut out)?;
+    Ok(status)
+}
+
+// The most bytes of an answer that is held to be shown.
+const LONGEST_ANSWER: usize = 32_768;
+
+// The first line of an answer, and the moves below it.
+fn split_answer(answer: &[u8]) -> (&[u8], &[u8]) {
+    match answer.iter().position(|byte| *byte == b'\n') {
+        Some(end) => answer.split_at(end + 1),
+        None => (answer, &[]),
+    }
 }
 
 // Says on standard error, where a person reads it, what to try after giving up. Where this can't be written, the answer
 // stands all the same.
-fn add_notes(rt: &HostRuntime, limits: Limits, status: u8) {
+fn add_notes(rt: &HostRuntime, limits: Limits, deal: Option<u32>, status: u8) {
     if status == 2 && rt.stderr().is_terminal() {
-        advise(rt, limits);
+        advise(rt, limits, deal);
     }
 }
 
 // Says what to try after giving up.
-fn advise(rt: &HostRuntime, limits: Limits) {
-    if limits.bound == BoundKind::Plain {
-        let _told = eprintln!(rt;
-            "fc_solve: gave up: try --bound clearing, --within 2, or a greater --budget"
-        );
-    } else if limits.weight == 1 {
-        let _told = eprintln!(rt; "fc_solve: gave up: try --within 2, or a greater --budget");
+fn advise(rt: &HostRuntime, limits: Limits, deal: Option<u32>) {
+    let Some(advice) = advice_for(limits) else {
+        return;
+    };
+    let _told = match deal {
+        Some(number) => eprintln!(rt; "fc_solve: deal {number}: gave up: try {advice}"),
+        None => eprintln!(rt; "fc_solve: gave up: try {advice}"),
+    };
+}
+
+// What to try after giving up, if there is anything.
+fn advice_for(limits: Limits) -> Option<&'static str> {
+    match (limits.bound, limits.weight) {
+        (BoundKind::Plain, _) => Some("--bound clearing, --within 2, or a greater --budget"),
+        (BoundKind::Clearing, 1) => Some("--within 2, or a greater --budget"),
+        _ => None,
     }
 }
 
@@ -299,18 +376,12 @@ fn batch<G: Game + Drop>(rt: &HostRuntime, game: &G, words: &ArgMatches<'_>) -> 
     else {
         return Ok(refuse(rt, NO_BUDGET));
     };
-    let mut out = ToWriter::new(rt.stdout());
-    of_run(run_batch(
-        rt.alloc(),
-        game,
-        rule,
-        weight,
-        bound,
-        from,
-        to,
-        budget,
-        &mut out,
-    ))
+    let (alloc, mut out) = (rt.alloc(), ToWriter::new(rt.stdout()));
+    of_run(if words.get_flag("table") {
+        run_table(alloc, game, rule, weight, bound, from, to, budget, &mut out)
+    } else {
+        run_batch(alloc, game, rule, weight, bound, from, to, budget, &mut out)
+    })
 }
 
 // Shows the board that the words name.
@@ -348,19 +419,90 @@ fn check<G: Game>(rt: &HostRuntime, game: &G, words: &ArgMatches<'_>) -> Result<
     end_of(rt, result, text.bytes(), game.cells())
 }
 
-// Replays the moves of a file on the board that the words name.
+// Replays the moves of a list on the board that the words name.
 fn replay<G: Game>(rt: &HostRuntime, game: &G, words: &ArgMatches<'_>) -> Result<u8, Ending> {
     let (Some(board), Some(moves)) = (words.get_str("BOARD"), words.get_str("MOVES")) else {
         return Ok(REFUSED);
     };
+    if board == "-" && moves == "-" {
+        return Ok(refuse(rt, ONE_INPUT));
+    }
     let source = find_board(rt, Some(board))?;
-    let mut moves = open(rt, moves, Input::Moves)?;
+    let moves = find_moves(rt, moves)?;
     let text = read_text(rt, source)?;
     if is_blank(&text) {
         return Ok(refuse(rt, NO_BOARD));
     }
-    let mut board = FromSlice::new(text.bytes());
+    let page = if words.get_flag("numbered") {
+        Page::Numbered
+    } else {
+        Page::Board
+    };
+    if words.get_flag("sequences") {
+        replay_sequences(rt, game, text.bytes(), moves, page)
+    } else {
+        replay_text(rt, game, text.bytes(), moves, page)
+    }
+}
+
+// What is said where the board and the moves are both to be read from standard input.
+const ONE_INPUT: &str = "BOARD and MOVES can't both be standard input";
+
+// Replays the moves of a list on the board of a text; what is wrong with the board comes before what is with the moves.
+fn replay_text<G: Game>(
+    rt: &HostRuntime,
+    game: &G,
+    text: &[u8],
+    moves: MovesSource,
+    page: Page,
+) -> Result<u8, Ending> {
+    let position = match read_board(text, game.cells()) {
+        Ok(position) => position,
+        Err(fault) => return end_of(rt, Err(ProgramFault::Board(fault)), text, game.cells()),
+    };
+    let list = read_moves(rt, moves)?;
+    let list = without_answer(list.as_slice());
     let mut out = ToWriter::new(rt.stdout());
-    let result = run_replay(rt.alloc(), game, &mut board, &mut moves, &mut out);
-    end_of(rt, result, text.bytes(), game.cells())
+    let (mut board, mut moves) = (FromSlice::new(text), FromSlice::new(list));
+    match run_replay_as(rt.alloc(), game, &mut board, &mut moves, page, &mut out) {
+        Ok(ended) => {
+            tell_end(rt, ended);
+            Ok(0)
+        }
+        Err(fault) => {
+            let status = tell(rt, &fault);
+            if let ProgramFault::Moves(_) = fault {
+                tell_stop(rt, game, &position, list);
+            }
+            Err(Ending::Told(status))
+        }
+    }
+}
+
+// Replays a list whose entries may move sequences; what is wrong with the board comes before what is with the list.
+fn replay_sequences<G: Game>(
+    rt: &HostRuntime,
+    game: &G,
+    text: &[u8],
+    moves: MovesSource,
+    page: Page,
+) -> Result<u8, Ending> {
+    if let Err(fault) = read_board(text, game.cells()) {
+        return end_of(rt, Err(ProgramFault::Board(fault)), text, game.cells());
+    }
+    let list = read_moves(rt, moves)?;
+    let list = without_rulers(list.as_slice());
+    let mut out = ToWriter::new(rt.stdout());
+    let (mut board, mut entries) = (FromSlice::new(text), FromSlice::new(list));
+    match run_replay_sequences(rt.alloc(), game, &mut board, &mut entries, page, &mut out) {
+        Ok(ended) => {
+            tell_end(rt, ended);
+            Ok(0)
+        }
+        Err(fault) => {
+            let status = tell(rt, &fault);
+            tell_entry(rt, fault, list);
+            Err(Ending::Told(status))
+        }
+    }
 }

@@ -158,7 +158,8 @@ const SHOW: Subcommand = Subcommand {
     ],
 };
 
-// `solve [--budget B] [--cert FILE] [--within W] [--bound NAME] [GAME] [--rule R] [--deal N] [BOARD]`.
+// `solve [--budget B] [--cert FILE] [--within W] [--bound NAME] [--boards] [--stats] [--quiet] [GAME] [--rule R] [--deal N]
+// [BOARD]`.
 const SOLVE: Subcommand = Subcommand {
     name: "solve",
     about: "Prints a shortest solution, or that the board can't be won, or that it gave up",
@@ -181,6 +182,21 @@ Examples:
         },
         WITHIN,
         BOUND,
+        Word {
+            name: "boards",
+            kind: Kind::Flag,
+            help: "Numbers the moves, and draws the board after each",
+        },
+        Word {
+            name: "stats",
+            kind: Kind::Flag,
+            help: "Ends with a line of numbers of the search, on standard error",
+        },
+        Word {
+            name: "quiet",
+            kind: Kind::Flag,
+            help: "Doesn't say on a terminal how far the search is",
+        },
         GAME,
         KINGS,
         CELLS,
@@ -210,12 +226,27 @@ Example: fc_solve check boards/locked.txt boards/locked.cert",
     ],
 };
 
-// `replay [GAME] BOARD MOVES`.
+// `replay [--numbered] [--sequences] [GAME] BOARD MOVES`.
 const REPLAY: Subcommand = Subcommand {
     name: "replay",
     about: "Prints the board after each move, up to the first that isn't allowed",
-    after_help: "Example: fc_solve replay boards/three-spades.txt moves.txt",
+    after_help: "It says on standard error whether the board is won at the end, or why a move isn't allowed.
+
+Examples:
+  fc_solve replay boards/three-spades.txt moves.txt
+  fc_solve 941 | fc_solve replay 941 -
+  fc-solve -m -sn board.txt | fc_solve replay --sequences board.txt -",
     words: &[
+        Word {
+            name: "numbered",
+            kind: Kind::Flag,
+            help: "Prints the number and the move above each board",
+        },
+        Word {
+            name: "sequences",
+            kind: Kind::Flag,
+            help: "Expands entries that move several cards, as other solvers print them",
+        },
         GAME,
         KINGS,
         CELLS,
@@ -223,12 +254,12 @@ const REPLAY: Subcommand = Subcommand {
         Word {
             name: "MOVES",
             kind: Kind::Needed,
-            help: "The file of the moves, two letters each, parted by blanks or lines",
+            help: "A file of moves, or - for standard input: two letters each, or what `solve` prints",
         },
     ],
 };
 
-// `batch FROM TO [--budget B] [--within W] [--bound NAME] [GAME] [--rule R]`.
+// `batch FROM TO [--table] [--budget B] [--within W] [--bound NAME] [GAME] [--rule R]`.
 const BATCH: Subcommand = Subcommand {
     name: "batch",
     about: "Solves up to 32 numbered deals side by side, and prints a line for each, without moves",
@@ -246,6 +277,11 @@ Example: fc_solve batch 11982 11982",
             name: "TO",
             kind: Kind::DealNumber,
             help: "The number of the last deal",
+        },
+        Word {
+            name: "table",
+            kind: Kind::Flag,
+            help: "Prints a table parted by tabs, with numbers of each search",
         },
         BUDGET,
         WITHIN,

@@ -5,10 +5,13 @@ ghost use Rattle.std.specs.Prelude.{◌≤◌, length};
 use crate::boards::{THREE_SPADES, TWO_KINGS};
 use crate::given::{board_for, free_cell, sure};
 use arrayvec::ArrayString;
+use fc_cards::Place;
 use fc_io::testing::Failing;
 use fc_io::{Sink, ToArray};
-use fc_moves::{Game, Kings};
-use fc_replay::{ReplayFault, replay};
+use fc_moves::{Game, Kings, Move};
+use fc_replay::{
+    Ended, Page, Refusal, ReplayFault, first_stop, play, refusal_of, replay, replay_as,
+};
 use std::fmt::Write;
 use std::process::Abort;
 
@@ -169,4 +172,89 @@ fn tells_faults(rt: HostRuntime) {
     check_told(&rt, ReplayFault::BadMove(1), "step 1: not a move");
     check_told(&rt, ReplayFault::NotAllowed(12), "step 12: not allowed");
     check_told(&rt, ReplayFault::Write, "the boards can't be written");
+}
+
+// The pages of two moves, below their numbers.
+const NUMBERED: &str = "\
+1. 1a
+Foundations: H-J C-K D-K S-J
+Freecells: KH - - -
+: QS
+: QH KS
+:
+:
+:
+:
+:
+:
+2. 1h
+Foundations: H-J C-K D-K S-Q
+Freecells: KH - - -
+:
+: QH KS
+:
+:
+:
+:
+:
+:
+";
+
+#[test]
+fn writes_pages(rt: HostRuntime) {
+    let game = free_cell(&rt, 4);
+    let start = board_for(&rt, &game, TWO_KINGS);
+    let ended = Ended {
+        moves: 2,
+        is_won: false,
+    };
+    let mut out = ToArray::<400>::new();
+    let told = replay_as(&game, &start, b"1A 1h", Page::Numbered, &mut out);
+    assert!(rt; told == Ok(ended));
+    assert!(rt; out.held() == NUMBERED.as_bytes());
+}
+
+// The first step of a list of two kings that stops it, and why.
+fn stops<G: Game>(rt: &impl Abort, game: &G, list: &[u8], step: u32, refusal: Option<Refusal>) {
+    let start = board_for(rt, game, TWO_KINGS);
+    let stop = first_stop(game, &start, list).expect(rt, "a stop");
+    assert!(rt; stop.step == step && stop.refusal == refusal);
+}
+
+#[test]
+fn says_why_a_move_is_refused(rt: HostRuntime) {
+    let game = free_cell(&rt, 4);
+    let stopped = [
+        (&b"3a"[..], 1, Some(Refusal::NoCard)),
+        (b"11", 1, Some(Refusal::NoWay)),
+        (b"1a ab", 2, Some(Refusal::NoWay)),
+        (b"1a 2a", 2, Some(Refusal::TakenCell)),
+        (b"12", 1, Some(Refusal::NoStand)),
+        (b"1a 2h", 2, Some(Refusal::NotNext)),
+        (b"1a 1h xy", 3, None),
+    ];
+    for (list, step, refusal) in stopped {
+        stops(&rt, &game, list, step, refusal);
+    }
+    stops(&rt, &free_cell(&rt, 0), b"1a", 1, Some(Refusal::NoSuchCell));
+    stops(&rt, &Kings::new(game), b"1a 13", 2, Some(Refusal::NoOpen));
+}
+
+#[test]
+fn a_list_that_plays_has_no_stop(rt: HostRuntime) {
+    let game = free_cell(&rt, 4);
+    let start = board_for(&rt, &game, TWO_KINGS);
+    assert!(rt; first_stop(&game, &start, b"1a 1h").is_none());
+    let first = Move {
+        from: Place::Column(0),
+        to: Place::Cell(0),
+    };
+    assert!(rt; refusal_of(&game, &start, first).is_none());
+    let mut out = ToArray::<10>::new();
+    let none = play(&game, &start, &[], Page::Drawn, &mut out);
+    let ended = Ended {
+        moves: 0,
+        is_won: false,
+    };
+    assert!(rt; none == Ok(ended));
 }

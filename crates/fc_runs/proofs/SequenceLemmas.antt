@@ -1,0 +1,137 @@
+-- Lists of entries: their tokens, the moves that they are expanded to, and why they aren't.
+use Rattle.std.proofs.Common.{◌≡◌, ⊎_elim, inr, ℕ, suc, ◌+◌, ◌<◌, ◌≤◌, List, [], ◌∷◌, ◌++◌, length, refl, sym, ◌∙◌, ap, subst, append_assoc, append-nil, length-append, arith}
+use Rattle.std.specs.Prelude.{◌⊎◌, Result, Ok, IsErr}
+use Rattle.fc_io.specs.declared.devices.Failed.{Failed}
+use Rattle.fc_io.specs.Moves.{Stays}
+use Rattle.fc_position.specs.Board.{Board}
+use Rattle.fc_moves.specs.declared.steps.Move.{Move}
+use Rattle.fc_moves.specs.GameRules.{GameRules}
+use Rattle.fc_text.proofs.PartLemmas.{length-tokens_between}
+use Rattle.fc_sequences.specs.declared.lists.ListFault.{ListFault}
+use Rattle.fc_sequences.specs.declared.lists.ListFault.TheVariants.{Refused, TooMany, Memory as no_room}
+use Rattle.fc_sequences.specs.declared.pairs.Pair.{Pair}
+use Rattle.fc_sequences.specs.Following.{IsListFault}
+use Rattle.fc_sequences.specs.Pair.{SpellsPair, IsNoPair}
+use Rattle.fc_replay.specs.declared.pages.Page.{Page}
+use Rattle.fc_replay.specs.declared.replays.Ended.{Ended}
+use Rattle.fc_replay.specs.Token.{is_gap, move_tokens}
+use Rattle.fc_runs.specs.declared.faults.Input.TheVariants.{Board as of_board, Moves as of_moves, Cert as of_certificate}
+use Rattle.fc_runs.specs.declared.faults.ProgramFault.{ProgramFault}
+use Rattle.fc_runs.specs.declared.faults.ProgramFault.TheVariants.{Number, Range, Budget, Board as bad_board, TooLong, Moves, TooManyWays, Cert, Read, Write, Memory}
+use Rattle.fc_replay.specs.declared.faults.ReplayFault.TheVariants.{BadMove, NotAllowed, Write as unwritten_page}
+use Rattle.fc_runs.specs.Devices.{Device}
+use Rattle.fc_runs.specs.Fault.{list_fault}
+use Rattle.fc_runs.specs.Sequences.{AreGiven, IsFirstNoPair, IsLeft, IsListFaultAs, IsUnplayed, IsUnread, SpellPairs}
+
+-- one more token that spells an entry
+spell_pair : (tokens : List (List ℕ)) (pairs : List Pair) (token : List ℕ) (pair : Pair) → SpellPairs tokens pairs → SpellsPair token pair
+    → SpellPairs (tokens ++ token ∷ []) (pairs ++ pair ∷ [])
+spell_pair [] pairs token pair none spells = subst (λ l. SpellPairs (token ∷ []) (l ++ pair ∷ [])) (sym none) (spells, refl)
+spell_pair (t ∷ tokens) [] token pair spelled spells = absurd spelled
+spell_pair (t ∷ tokens) (p ∷ pairs) token pair (first, rest) spells = (first, spell_pair tokens pairs token pair rest spells)
+
+-- there are as many entries as tokens
+pairs_length : (tokens : List (List ℕ)) (pairs : List Pair) → SpellPairs tokens pairs → length pairs ≡ length tokens
+pairs_length [] pairs none = ap length none
+pairs_length (t ∷ tokens) [] spelled = absurd spelled
+pairs_length (t ∷ tokens) (p ∷ pairs) (first, rest) = ap suc (pairs_length tokens pairs rest)
+
+-- the tokens so far spell these entries, and the others are left
+pub record Listed (text rest : List ℕ) (pairs : List Pair) : Type 0 where
+  pub front : List (List ℕ)
+  pub parts : front ++ move_tokens rest ≡ move_tokens text
+  pub spelled : SpellPairs front pairs
+
+pub listed_none : (text rest : List ℕ) (pairs : List Pair) → rest ≡ text → pairs ≡ [] → Listed text rest pairs
+listed_none text rest pairs same none = record { front = []; parts = ap move_tokens same; spelled = none }
+
+pub listed_next : (text rest more : List ℕ) (pairs : List Pair) (token : List ℕ) (pair : Pair) → Listed text rest pairs
+    → move_tokens rest ≡ token ∷ move_tokens more → SpellsPair token pair → Listed text more (pairs ++ pair ∷ [])
+listed_next text rest more pairs token pair so first spells = record {
+  front = so.front ++ token ∷ [];
+  parts = append_assoc so.front (token ∷ []) (move_tokens more) ∙ ap (λ l. so.front ++ l) (sym first) ∙ so.parts;
+  spelled = spell_pair so.front pairs token pair so.spelled spells;
+}
+
+-- no more entries than bytes
+pub listed_few : (text rest : List ℕ) (pairs : List Pair) → Listed text rest pairs → length pairs ≤ length text
+listed_few text rest pairs so =
+    let size = ap length so.parts in
+    let count = pairs_length so.front pairs so.spelled in
+    omega (arith, count, size, length-append so.front (move_tokens rest), length-tokens_between is_gap text)
+
+-- the next token is no entry
+pub listed_bad : (text rest : List ℕ) (more : List (List ℕ)) (pairs : List Pair) (token : List ℕ) → Listed text rest pairs
+    → move_tokens rest ≡ token ∷ more → IsNoPair token → IsFirstNoPair (move_tokens text) (length pairs + 1)
+listed_bad text rest more pairs token so first none = record {
+  front = so.front;
+  token = token;
+  rest = more;
+  parts = sym so.parts ∙ ap (λ l. so.front ++ l) first;
+  place = ap (λ n. n + 1) (pairs_length so.front pairs so.spelled);
+  pairs = pairs;
+  spelled = so.spelled;
+  none = none;
+}
+
+-- all tokens are entries
+pub listed_all : (text rest : List ℕ) (pairs : List Pair) → Listed text rest pairs → move_tokens rest ≡ [] → SpellPairs (move_tokens text) pairs
+listed_all text rest pairs so none =
+    subst (λ l. SpellPairs l pairs) (sym (append-nil so.front) ∙ ap (λ l. so.front ++ l) (sym none) ∙ so.parts) so.spelled
+
+-- what wasn't read isn't played
+pub unread_unplayed : (g : GameRules) (b : Board) (tokens : List (List ℕ)) (fault : ProgramFault) → IsUnread tokens fault → IsUnplayed g b tokens fault
+unread_unplayed g b tokens (Moves (NotAllowed step)) is = absurd is
+unread_unplayed g b tokens (Moves (BadMove step)) is = is
+unread_unplayed g b tokens (Moves unwritten_page) is = is
+unread_unplayed g b tokens (TooManyWays step) is = absurd is
+unread_unplayed g b tokens (TooLong of_board) is = is
+unread_unplayed g b tokens (TooLong of_moves) is = absurd is
+unread_unplayed g b tokens (TooLong of_certificate) is = is
+unread_unplayed g b tokens (Number n) is = is
+unread_unplayed g b tokens Range is = is
+unread_unplayed g b tokens Budget is = is
+unread_unplayed g b tokens (bad_board fault) is = is
+unread_unplayed g b tokens (Cert fault) is = is
+unread_unplayed g b tokens (Read input) is = is
+unread_unplayed g b tokens (Write output) is = is
+unread_unplayed g b tokens Memory is = is
+
+-- what isn't expanded isn't played
+pub unexpanded : (g : GameRules) (b : Board) (tokens : List (List ℕ)) (pairs : List Pair) (fault : ListFault) → SpellPairs tokens pairs
+    → IsListFault g b pairs fault → IsUnplayed g b tokens (list_fault fault)
+unexpanded g b tokens pairs (Refused step) spelled here = record { pairs = pairs; spelled = spelled; here = here }
+unexpanded g b tokens pairs (TooMany step) spelled here = record { pairs = pairs; spelled = spelled; here = here }
+unexpanded g b tokens pairs no_room spelled here = tt
+
+left : (g : GameRules) (board moves sink : Device) (start : Board) (text : List ℕ) (fault : ProgramFault)
+    → AreGiven g board moves start text → IsUnplayed g start (move_tokens text) fault → Stays sink.old sink.new → IsLeft g board moves sink fault
+left g board moves sink start text fault given why unwritten = record { start = start; text = text; given = given; why = why; unwritten = unwritten }
+
+-- why a list is left: a board and a text of entries were given, and these aren't played
+pub left_for : (page : Page) (g : GameRules) (board moves sink : Device) (start : Board) (text : List ℕ) (fault : ProgramFault)
+    → AreGiven g board moves start text → IsUnplayed g start (move_tokens text) fault → Stays sink.old sink.new
+    → IsListFaultAs page g board moves sink fault
+left_for page g board moves sink start text (Moves (NotAllowed step)) given why unwritten = left g board moves sink start text (Moves (NotAllowed step)) given why unwritten
+left_for page g board moves sink start text (Moves (BadMove step)) given why unwritten = left g board moves sink start text (Moves (BadMove step)) given why unwritten
+left_for page g board moves sink start text (Moves unwritten_page) given why unwritten = absurd why
+left_for page g board moves sink start text (TooManyWays step) given why unwritten = left g board moves sink start text (TooManyWays step) given why unwritten
+left_for page g board moves sink start text (TooLong of_board) given why unwritten = absurd why
+left_for page g board moves sink start text (TooLong of_moves) given why unwritten = inr (left g board moves sink start text (TooLong of_moves) given why unwritten)
+left_for page g board moves sink start text (TooLong of_certificate) given why unwritten = absurd why
+left_for page g board moves sink start text (Number n) given why unwritten = absurd why
+left_for page g board moves sink start text Range given why unwritten = absurd why
+left_for page g board moves sink start text Budget given why unwritten = absurd why
+left_for page g board moves sink start text (bad_board fault) given why unwritten = absurd why
+left_for page g board moves sink start text (Cert fault) given why unwritten = absurd why
+left_for page g board moves sink start text (Read input) given why unwritten = absurd why
+left_for page g board moves sink start text (Write output) given why unwritten = absurd why
+left_for page g board moves sink start text Memory given why unwritten = (((start, given.board_is), unwritten), given.text_is.sound)
+
+-- moves that were made to their end over a sink that has failed are none
+pub none_made : (steps : List Move) (result : Result Ended Failed) (ended : Ended) (Before : Type 0) → result ≡ Ok ended
+    → IsErr result ⊎ Before → (Before → 0 < length steps → IsErr result) → steps ≡ []
+none_made [] result ended Before is failed stays = refl
+none_made (m ∷ ms) result ended Before is failed stays =
+    let never : IsErr result → ⊥ = λ wrong. absurd (cc (wrong, is)) in
+    ⊎_elim (λ wrong. absurd (never wrong)) (λ before. absurd (never (stays before (omega arith)))) failed

@@ -1,0 +1,117 @@
+-- Tables of deals: what is told of a deal, and the rows that tell it.
+use Rattle.std.proofs.Common.{◌≡◌, ◌∙◌, ℕ, zero, suc, ◌+◌, ◌<◌, List, [], ◌∷◌, ◌++◌, length, map, Option, Some, refl, sym, ap, subst, arith, IsTrue}
+use Rattle.std.specs.Prelude.{IfSome, max, slice_get}
+use Rattle.std.proofs.lemmas.List.{flat_map_more, length-append, map_push}
+use Rattle.fc_io.specs.Moves.{Takes, TakesFront}
+use Rattle.fc_io.proofs.MoveLemmas.{Takes-both, takes_then_front}
+use Rattle.fc_moves.specs.GameRules.{GameRules}
+use Rattle.fc_bound.specs.declared.kinds.BoundKind.{BoundKind}
+use Rattle.fc_runs.specs.declared.tabling.Row.{Row}
+use Rattle.fc_runs.specs.Batches.{IsToldOf, greatest_status, told_status}
+use Rattle.fc_runs.specs.Tabling.{AreRows, AreTabled, IsTableCutShort, line_of, names_text, row_text, table_text}
+use Rattle.fc_runs.specs.Devices.{Device}
+use Rattle.fc_runs.proofs.BatchLemmas.{greatest_more}
+
+-- a row after others
+last_row : (rows : List Row) (row : Row) (P : ℕ → Row → Type 0) → ((i : ℕ) (x : Row) → slice_get rows i ≡ Some x → P i x)
+    → P (length rows) row → (i : ℕ) (x : Row) → slice_get (rows ++ row ∷ []) i ≡ Some x → P i x
+last_row [] row P all last zero x at = subst (P 0) (cc at) last
+last_row [] row P all last (suc i) x at = absurd (cc at)
+last_row (y ∷ rows) row P all last zero x at = all 0 x at
+last_row (y ∷ rows) row P all last (suc i) x at =
+    last_row rows row (λ j z. P (suc j) z) (λ j z there. all (suc j) z there) last i x at
+
+-- one more row that is right
+one_more_row : (g : GameRules) (rule weight : ℕ) (kind : BoundKind) (budget from count : ℕ) (rows : List Row) (row : Row) → AreRows g rule weight kind budget from rows
+    → length rows ≡ count → row.deal ≡ from + count → IfSome row.told (IsToldOf g rule weight kind budget (from + count))
+    → AreRows g rule weight kind budget from (rows ++ row ∷ [])
+one_more_row g rule weight kind budget from count rows row right whole deal told = record {
+  rising = last_row rows row (λ i x. x.deal ≡ from + i) right.rising (deal ∙ ap (λ n. from + n) (sym whole));
+  right = last_row rows row (λ i x. IfSome x.told (IsToldOf g rule weight kind budget x.deal)) right.right
+      (subst (λ n. IfSome row.told (IsToldOf g rule weight kind budget n)) (sym deal) told);
+}
+
+-- the names and so many rows were written, and this is the greatest of their statuses
+pub record RowsAreWritten (g : GameRules) (rule weight : ℕ) (kind : BoundKind) (budget from count : ℕ) (old new : Option (List ℕ)) (status : ℕ) : Type 0 where
+  pub rows : List Row
+  pub right : AreRows g rule weight kind budget from rows
+  pub whole : length rows ≡ count
+  pub written : Takes old new (table_text rows)
+  pub greatest : status ≡ greatest_status (map line_of rows)
+
+no_rows : (g : GameRules) (rule weight : ℕ) (kind : BoundKind) (budget from : ℕ) → AreRows g rule weight kind budget from []
+no_rows g rule weight kind budget from = record {
+  rising = λ i row at. absurd (cc at);
+  right = λ i row at. absurd (cc at);
+}
+
+-- the names were written, and no row yet
+pub names_written : (g : GameRules) (rule weight : ℕ) (kind : BoundKind) (budget from : ℕ) (old new : Option (List ℕ)) → Takes old new names_text
+    → RowsAreWritten g rule weight kind budget from 0 old new 0
+names_written g rule weight kind budget from old new taken = record {
+  rows = [];
+  right = no_rows g rule weight kind budget from;
+  whole = refl;
+  written = taken;
+  greatest = refl;
+}
+
+-- the names were cut short
+pub names_cut_short : (g : GameRules) (rule weight : ℕ) (kind : BoundKind) (budget from count : ℕ) (sink : Device) → TakesFront sink.old sink.new names_text
+    → IsTrue sink.failed → IsTableCutShort g rule weight kind budget from count sink
+names_cut_short g rule weight kind budget from count sink front failed = record {
+  rows = [];
+  right = no_rows g rule weight kind budget from;
+  some = omega arith;
+  front = front;
+  failed = failed;
+}
+
+-- the text of one row more
+text_more : (rows : List Row) (row : Row) → table_text rows ++ row_text row ≡ table_text (rows ++ row ∷ [])
+text_more rows row = flat_map_more row_text names_text rows row
+
+pub one_more_written : (g : GameRules) (rule weight : ℕ) (kind : BoundKind) (budget from count : ℕ) (old mid new : Option (List ℕ)) (status next : ℕ) (row : Row)
+    → RowsAreWritten g rule weight kind budget from count old mid status → row.deal ≡ from + count
+    → IfSome row.told (IsToldOf g rule weight kind budget (from + count)) → Takes mid new (row_text row) → next ≡ max status (told_status row.told)
+    → RowsAreWritten g rule weight kind budget from (count + 1) old new next
+one_more_written g rule weight kind budget from count old mid new status next row so_far deal told taken greater =
+    let whole = so_far.whole in
+    record {
+      rows = so_far.rows ++ row ∷ [];
+      right = one_more_row g rule weight kind budget from count so_far.rows row so_far.right whole deal told;
+      whole = omega (arith, whole, length-append so_far.rows (row ∷ []));
+      written = subst (Takes old new) (text_more so_far.rows row)
+          (Takes-both old mid new (table_text so_far.rows) (row_text row) so_far.written taken);
+      greatest = greater ∙ ap (λ s. max s (told_status row.told)) so_far.greatest
+          ∙ sym (ap greatest_status (map_push line_of so_far.rows row) ∙ greatest_more (map line_of so_far.rows) (line_of row));
+    }
+
+-- and one that was cut short
+pub row_cut_short : (g : GameRules) (rule weight : ℕ) (kind : BoundKind) (budget from count most : ℕ) (mid : Option (List ℕ)) (sink : Device) (status : ℕ) (row : Row)
+    → RowsAreWritten g rule weight kind budget from count sink.old mid status → row.deal ≡ from + count
+    → IfSome row.told (IsToldOf g rule weight kind budget (from + count)) → TakesFront mid sink.new (row_text row) → count < most → IsTrue sink.failed
+    → IsTableCutShort g rule weight kind budget from most sink
+row_cut_short g rule weight kind budget from count most mid sink status row so_far deal told front within failed =
+    let whole = so_far.whole in
+    record {
+      rows = so_far.rows ++ row ∷ [];
+      right = one_more_row g rule weight kind budget from count so_far.rows row so_far.right whole deal told;
+      some = omega (arith, whole, within, length-append so_far.rows (row ∷ []));
+      front = subst (TakesFront sink.old sink.new) (text_more so_far.rows row)
+          (takes_then_front sink.old mid sink.new (table_text so_far.rows) (row_text row) so_far.written front);
+      failed = failed;
+    }
+
+-- all rows are written to a sink that hasn't failed
+pub all_tabled : (g : GameRules) (rule weight : ℕ) (kind : BoundKind) (budget from count : ℕ) (sink : Device) (status : ℕ)
+    → RowsAreWritten g rule weight kind budget from count sink.old sink.new status → (IsTrue sink.failed → ⊥)
+    → AreTabled g rule weight kind budget from count sink status
+all_tabled g rule weight kind budget from count sink status all sound = record {
+  rows = all.rows;
+  right = all.right;
+  whole = all.whole;
+  written = all.written;
+  sound = sound;
+  greatest = all.greatest;
+}

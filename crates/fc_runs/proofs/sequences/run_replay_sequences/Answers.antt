@@ -1,0 +1,86 @@
+use Rattle.std.proofs.Common.{rules, ◌<◌, length, Ok, refl, sym, subst}
+use Rattle.std.specs.Prelude.{IfErr, IsTrue}
+use Rattle.fc_moves.specs.Run.{Run}
+use Rattle.fc_sequences.proofs.RunLemmas.{expands_run}
+use Rattle.fc_replay.specs.Played.{PlaysAs}
+use Rattle.fc_replay.specs.Token.{move_tokens}
+use Rattle.fc_replay.proofs.ReplayLoop.{err_is}
+use Rattle.fc_runs.specs.Devices.{Device, GivesBoard, GivesWhole}
+use Rattle.fc_runs.specs.Sequences.{AreGiven, IsExpanded, IsListFaultAs, IsPlayOf, IsUnplayed}
+use Rattle.fc_runs.proofs.SequenceLemmas.{left_for, none_made}
+use Rattle.fc_runs.proofs.sequences.run_replay_sequences.Goals as goal
+
+pub returns-in_err-steps-clause-fault : goal.returns-in_err-steps-clause-fault
+returns-in_err-steps-clause-fault g c =
+    let board : Device = record {
+      old = g.B.Source.told c.args.board.now;
+      new = g.B.Source.told c.read_position.new.board;
+      failed = g.B.Source.has_failed c.read_position.new.board;
+    } in
+    let moves : Device = record {
+      old = g.M.Source.told c.args.moves.now;
+      new = g.M.Source.told c.read_to_vec.new.source;
+      failed = g.M.Source.has_failed c.read_to_vec.new.source;
+    } in
+    let sink : Device = record {
+      old = g.K.Sink.held c.args.out.now;
+      new = g.K.Sink.held c.args.out.now;
+      failed = g.K.Sink.has_failed c.args.out.now;
+    } in
+    let given : GivesBoard (g.G.Game.game c.args.game.now).cells board c.in_ok-start.start = search rules in
+    let read : GivesWhole moves c.in-Ok.text.items = search rules in
+    let why : IsUnplayed (g.G.Game.game c.args.game.now) c.in_ok-start.start (move_tokens c.in-Ok.text.items) c.in_err-steps.field-0.0 =
+    subst (λ l. IsUnplayed (g.G.Game.game c.args.game.now) c.in_ok-start.start (move_tokens l) c.in_err-steps.field-0.0)
+    c.as_slice.ensures.value c.in_err-steps.ensures.fault in
+    subst (λ r. IfErr r (IsListFaultAs c.args.page (g.G.Game.game c.args.game.now) board moves sink))
+    (err_is _ c.in_err-steps.field-0.0 c.from_residual-in_err-steps.result c.from_residual-in_err-steps.ensures)
+    (left_for c.args.page (g.G.Game.game c.args.game.now) board moves sink c.in_ok-start.start c.in-Ok.text.items c.in_err-steps.field-0.0
+    record { board_is = given; text_is = read } why refl)
+
+pub play-requires-clause-run : goal.play-requires-clause-run
+play-requires-clause-run g c =
+    let all = c.in_ok-steps.ensures.expanded in (
+      all.last,
+      subst (λ l. Run (g.G.Game.game c.args.game.now) c.in_ok-start.start l all.last) (sym c.as_slice-2.ensures.value)
+          (expands_run (g.G.Game.game c.args.game.now) c.in_ok-start.start all.last all.pairs c.in_ok-steps.steps.items all.expanded),
+    )
+
+pub returns-in-Ok-play-clause-played : goal.returns-in-Ok-play-clause-played
+returns-in-Ok-play-clause-played g c =
+    let board : Device = record {
+      old = g.B.Source.told c.args.board.now;
+      new = g.B.Source.told c.read_position.new.board;
+      failed = g.B.Source.has_failed c.read_position.new.board;
+    } in
+    let moves : Device = record {
+      old = g.M.Source.told c.args.moves.now;
+      new = g.M.Source.told c.read_to_vec.new.source;
+      failed = g.M.Source.has_failed c.read_to_vec.new.source;
+    } in
+    let sink : Device = record {
+      old = g.K.Sink.held c.args.out.now;
+      new = g.K.Sink.held c.play.new.sink;
+      failed = g.K.Sink.has_failed c.play.new.sink;
+    } in
+    let given : GivesBoard (g.G.Game.game c.args.game.now).cells board c.in_ok-start.start = search rules in
+    let read : GivesWhole moves c.in-Ok.text.items = search rules in
+    let expanded : IsExpanded (g.G.Game.game c.args.game.now) c.in_ok-start.start (move_tokens c.in-Ok.text.items) c.in_ok-steps.steps.items =
+    subst (λ l. IsExpanded (g.G.Game.game c.args.game.now) c.in_ok-start.start (move_tokens l) c.in_ok-steps.steps.items)
+    c.as_slice.ensures.value c.in_ok-steps.ensures.expanded in
+    let played : PlaysAs c.args.page (g.G.Game.game c.args.game.now) c.in_ok-start.start c.in_ok-steps.steps.items sink.old sink.new (Ok c.in-Ok-play.ended) =
+    subst (λ l. PlaysAs c.args.page (g.G.Game.game c.args.game.now) c.in_ok-start.start l sink.old sink.new (Ok c.in-Ok-play.ended))
+    c.as_slice-2.ensures.value c.in-Ok-play.ensures.played in
+    record {
+      play = record {
+        start = c.in_ok-start.start;
+        text = c.in-Ok.text.items;
+        given = record { board_is = given; text_is = read };
+        steps = c.in_ok-steps.steps.items;
+        expanded = expanded;
+        played = played;
+      };
+      sound = λ failed.
+          none_made c.in_ok-steps.steps.items c.play.result c.in-Ok-play.ended (IsTrue (g.K.Sink.has_failed c.args.out.now)) c.in-Ok-play.is
+          (c.play.ensures.fault.0 failed)
+          (λ before some. c.play.ensures.stays before (subst (λ l. 0 < length l) (sym c.as_slice-2.ensures.value) some));
+    }

@@ -1,0 +1,109 @@
+-- What replaying a list in standard notation promises, whose entries may move sequences, over any source and any sink.
+use Rattle.std.specs.Prelude.{◌≡◌, ◌⊎◌, ℕ, ◌+◌, ◌<◌, List, [], ◌∷◌, ◌++◌, length, Result, Ok, Err, IsTrue}
+use Rattle.fc_io.specs.declared.devices.Failed.{Failed}
+use Rattle.fc_io.specs.Moves.{Stays, TellsAtLeast}
+use Rattle.fc_position.specs.Board.{Board}
+use Rattle.fc_position.specs.Position.{IsWon}
+use Rattle.fc_moves.specs.declared.steps.Move.{Move}
+use Rattle.fc_moves.specs.GameRules.{GameRules}
+use Rattle.fc_sequences.specs.declared.lists.ListFault.{ListFault}
+use Rattle.fc_sequences.specs.declared.lists.ListFault.TheVariants.{Refused, TooMany}
+use Rattle.fc_sequences.specs.declared.pairs.Pair.{Pair}
+use Rattle.fc_sequences.specs.Following.{Expands, Follows, IsListFault}
+use Rattle.fc_sequences.specs.Pair.{SpellsPair, IsNoPair}
+use Rattle.fc_replay.specs.declared.faults.ReplayFault.TheVariants.{BadMove, NotAllowed}
+use Rattle.fc_replay.specs.declared.pages.Page.{Page}
+use Rattle.fc_replay.specs.declared.replays.Ended.{Ended}
+use Rattle.fc_replay.specs.Played.{PlaysAs}
+use Rattle.fc_replay.specs.Token.{move_tokens}
+use Rattle.fc_runs.specs.declared.runs.TheConstants.{LONGEST_MOVES}
+use Rattle.fc_runs.specs.declared.faults.Input.TheVariants.{Board as of_board, Moves as of_moves}
+use Rattle.fc_runs.specs.declared.faults.Output.TheVariants.{Answer as of_answer}
+use Rattle.fc_runs.specs.declared.faults.ProgramFault.{ProgramFault}
+use Rattle.fc_runs.specs.declared.faults.ProgramFault.TheVariants.{Board as bad_board, TooLong, Moves, TooManyWays, Read, Write, Memory}
+use Rattle.fc_runs.specs.Devices.{Device, GivesBoard, GivesFault, GivesWhole}
+use Rattle.fc_runs.specs.Runs.{IsBoardAlone}
+
+-- the tokens spell these entries, one each
+abbrev pub SpellPairs : List (List ℕ) → List Pair → Type 0
+SpellPairs [] pairs = pairs ≡ []
+SpellPairs (token ∷ tokens) [] = ⊥
+SpellPairs (token ∷ tokens) (pair ∷ pairs) = SpellsPair token pair × SpellPairs tokens pairs
+
+-- the token of a step, which counts from 1, is the first that spells no entry
+pub record IsFirstNoPair (tokens : List (List ℕ)) (step : ℕ) : Type 0 where
+  pub front : List (List ℕ)
+  pub token : List ℕ
+  pub rest : List (List ℕ)
+  pub parts : tokens ≡ front ++ token ∷ rest
+  pub place : step ≡ length front + 1
+  pub pairs : List Pair
+  pub spelled : SpellPairs front pairs
+  pub none : IsNoPair token
+
+-- why a text wasn't read as entries: a token is none, or memory was wanted
+abbrev pub IsUnread : List (List ℕ) → ProgramFault → Type 0
+IsUnread tokens (Moves (BadMove step)) = IsFirstNoPair tokens step
+IsUnread tokens Memory = Unit {0}
+IsUnread tokens other = ⊥
+
+-- the tokens spell entries, and these one-card moves, which the rules allow, play them one by one: to a won board, where with
+-- some numbers of cards they lead to one
+pub record IsExpanded (g : GameRules) (b : Board) (tokens : List (List ℕ)) (moves : List Move) : Type 0 where
+  pub pairs : List Pair
+  pub spelled : SpellPairs tokens pairs
+  pub last : Board
+  pub expanded : Expands g b pairs moves last
+  pub won : (c : Board) → Follows g b pairs c → IsWon c → IsWon last
+
+-- the tokens spell entries, and for this they aren't expanded
+pub record HasListFault (g : GameRules) (b : Board) (tokens : List (List ℕ)) (fault : ListFault) : Type 0 where
+  pub pairs : List Pair
+  pub spelled : SpellPairs tokens pairs
+  pub here : IsListFault g b pairs fault
+
+-- why the tokens aren't played: one spells no entry; or the entries up to a step can't be played, with whatever numbers of
+-- cards, or lead to too many boards; or they are expanded to more moves than are counted; or memory was wanted
+abbrev pub IsUnplayed : GameRules → Board → List (List ℕ) → ProgramFault → Type 0
+IsUnplayed g b tokens (Moves (NotAllowed step)) = HasListFault g b tokens (Refused step)
+IsUnplayed g b tokens (TooManyWays step) = HasListFault g b tokens (TooMany step)
+IsUnplayed g b tokens (TooLong of_moves) = (moves : List Move) × IsExpanded g b tokens moves × (4294967295 < length moves)
+IsUnplayed g b tokens fault = IsUnread tokens fault
+
+-- a board and a text of entries were given
+pub record AreGiven (g : GameRules) (board moves : Device) (start : Board) (text : List ℕ) : Type 0 where
+  pub board_is : GivesBoard g.cells board start
+  pub text_is : GivesWhole moves text
+
+-- the entries were expanded, and making the moves ended so, the sink taking the pages
+pub record IsPlayOf (page : Page) (g : GameRules) (board moves sink : Device) (result : Result Ended Failed) : Type 0 where
+  pub start : Board
+  pub text : List ℕ
+  pub given : AreGiven g board moves start text
+  pub steps : List Move
+  pub expanded : IsExpanded g start (move_tokens text) steps
+  pub played : PlaysAs page g start steps sink.old sink.new result
+
+-- a list was played to its end; a sink that has failed was given no page
+pub record IsPlayed (page : Page) (g : GameRules) (board moves sink : Device) (ended : Ended) : Type 0 where
+  pub play : IsPlayOf page g board moves sink (Ok ended)
+  pub sound : IsTrue sink.failed → play.steps ≡ []
+
+-- a board and a text of entries were given that aren't played, and nothing was written
+pub record IsLeft (g : GameRules) (board moves sink : Device) (fault : ProgramFault) : Type 0 where
+  pub start : Board
+  pub text : List ℕ
+  pub given : AreGiven g board moves start text
+  pub why : IsUnplayed g start (move_tokens text) fault
+  pub unwritten : Stays sink.old sink.new
+
+-- why a list wasn't played to its end, each fault only where those before it have no cause
+abbrev pub IsListFaultAs : Page → GameRules → Device → Device → Device → ProgramFault → Type 0
+IsListFaultAs page g board moves sink (Read of_board) = IsTrue board.failed × Stays moves.old moves.new × Stays sink.old sink.new
+IsListFaultAs page g board moves sink (bad_board fault) = GivesFault g.cells board fault × Stays moves.old moves.new × Stays sink.old sink.new
+IsListFaultAs page g board moves sink (Read of_moves) = IsBoardAlone g board sink × IsTrue moves.failed
+IsListFaultAs page g board moves sink (TooLong of_moves) =
+    (IsBoardAlone g board sink × TellsAtLeast moves.old (LONGEST_MOVES + 1) × (IsTrue moves.failed → ⊥)) ⊎ IsLeft g board moves sink (TooLong of_moves)
+IsListFaultAs page g board moves sink Memory = IsBoardAlone g board sink × (IsTrue moves.failed → ⊥)
+IsListFaultAs page g board moves sink (Write of_answer) = ((failed : Failed) × IsPlayOf page g board moves sink (Err failed)) × IsTrue sink.failed
+IsListFaultAs page g board moves sink fault = IsLeft g board moves sink fault

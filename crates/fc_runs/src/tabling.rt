@@ -1,0 +1,273 @@
+//! A table of several numbered deals, which are searched one after the other, over any sink.
+
+ghost use Rattle.std.specs.Prelude.{◌≡◌, ◌+◌, ◌≤◌, ◌++◌, length, None, Some, IfOk, IfErr, IfSome, OnErr};
+ghost use Rattle.fc_deal.specs.Deal.{IsDealNumber};
+ghost use Rattle.fc_best_first.specs.Search.{IsBudget, IsWeight};
+ghost use Rattle.fc_answers.specs.Verdict.{CanBeWritten, outcome_of};
+ghost use Rattle.arrayvec.specs.ArrayString.{array_string_len};
+ghost use Rattle.fc_watch.specs.Watch.{Hears};
+ghost use Rattle.fc_runs.specs.Batches.{IsToldOf};
+ghost use Rattle.fc_runs.specs.Tabling.{AreTabled, IsTabled, IsTableCutShort, IsTableFault, answer_name, far_text, floor_of, moves_of, number_text, row_text};
+
+use crate::answers::told_status;
+use crate::batches::deals_of;
+use crate::faults::{Output, ProgramFault};
+use arrayvec::ArrayString;
+use fc_answers::{Outcome, Verdict};
+use fc_bound::BoundKind;
+use fc_deal::deal;
+use fc_home::GREATEST_RULE;
+use fc_io::{Failed, Sink, write_all};
+use fc_moves::Game;
+use fc_search::SearchFault;
+use fc_watch::{Listener, Progress, decide};
+use itoa::Buffer;
+use std::alloc::Global;
+
+/// A row of a table: a deal, its answer without moves, or `None` where memory was wanted, and what its search told last.
+#[derive(Clone, Copy)]
+struct Row {
+    deal: u32,
+    told: Option<Outcome>,
+    far: Option<Progress>,
+}
+
+/// Who keeps what a search told last.
+#[derive(Clone, Copy)]
+struct Last {
+    far: Option<Progress>,
+}
+
+impl Listener for Last {
+    ghost use Rattle.std.specs.Prelude.{None};
+
+    ghost heard = { λ _. None };
+
+    fn hear(&mut self, far: Progress)
+        ensures heard { Hears None None (λ told. told ≡ far) }
+        ensures kept { self.new.far ≡ Some far }
+    {
+        self.far = Some(far);
+    }
+}
+
+/// Searches the deals `from` to `to` of the game, one after the other, each under a home rule of at most 2 by a weight of 1 to
+/// 10 and a kind of bound, with at most `budget` stored classes, and writes a table parted by tabs: a line of the columns'
+/// names, and a row for each deal, rising, as soon as its search has ended. A row has the number of the deal; `shortest`,
+/// `won`, `can't be won`, `gave up` or `want of memory`; how many moves the list has; a floor, which no list that wins has
+/// fewer moves than, as the answer tells it, or else the search; and what the search told of itself last: its classes, its
+/// turns, and the most that was open. A cell is empty where there is nothing to tell. Where memory is wanted for one deal, the
+/// next one goes on. The status is the greatest of the rows': 0 for a solution, 1 where a deal can't be won, 2 on giving up, 4
+/// for want of memory. Of what a search told of itself nothing is proved: these numbers are only tested.
+///
+/// # Errors
+/// In this order: a number outside 1 to 1,000,000, `from` before `to`; no deal or more than 32; a budget outside 1 to
+/// 4,000,000, and nothing is written; or a table that can't be written, of which a front may be.
+pub fn run_table<G: Game + Drop, K: Sink>(
+    alloc: Global,
+    game: &G,
+    rule: u8,
+    weight: u8,
+    bound: BoundKind,
+    from: u32,
+    to: u32,
+    budget: u32,
+    out: &mut K,
+) -> Result<u8, ProgramFault>
+    requires rule { rule ≤ GREATEST_RULE }
+    requires weight { IsWeight weight }
+    ensures tabled { IfOk result (IsTabled (G.game game.now) rule weight bound from to budget
+        record { old = K.held out.old; new = K.held out.new; failed = K.has_failed out.new }) }
+    ensures fault { IfErr result (IsTableFault (G.game game.now) rule weight bound from to budget
+        record { old = K.held out.old; new = K.held out.new; failed = K.has_failed out.new }) }
+{
+    let count = deals_of(from, to, budget)?;
+    match write_table(alloc, game, rule, weight, bound, from, count, budget, out) {
+        Ok(status) => Ok(status),
+        Err(_) => Err(ProgramFault::Write(Output::Answer)),
+    }
+}
+
+// Writes the names of the columns, and a row for each of so many deals; the greatest status of the rows.
+fn write_table<G: Game + Drop, K: Sink>(
+    alloc: Global,
+    game: &G,
+    rule: u8,
+    weight: u8,
+    bound: BoundKind,
+    from: u32,
+    count: u32,
+    budget: u32,
+    out: &mut K,
+) -> Result<u8, Failed>
+    requires rule { rule ≤ GREATEST_RULE }
+    requires weight { IsWeight weight }
+    requires first { 1 ≤ from }
+    requires last { from + count ≤ 1000001 }
+    requires budgeted { IsBudget budget }
+    ensures tabled { IfOk result (AreTabled (G.game game.now) rule weight bound budget from count
+        record { old = K.held out.old; new = K.held out.new; failed = K.has_failed out.new }) }
+    ensures cut { OnErr result (IsTableCutShort (G.game game.now) rule weight bound budget from count
+        record { old = K.held out.old; new = K.held out.new; failed = K.has_failed out.new }) }
+{
+    write_all(
+        out,
+        b"deal\tanswer\tmoves\tfloor\tclasses\tturns\tmost_open\n",
+    )?;
+    let mut greatest = 0;
+    for i in 0..count {
+        let row = row_of(alloc, game, rule, weight, bound, from + i, budget);
+        let Ok(()) = write_all(out, row_text(&row).as_bytes()) else {
+            return Err(Failed);
+        };
+        greatest = greatest.max(told_status(row.told));
+    }
+    Ok(greatest)
+}
+
+// The row of a deal, which is searched.
+fn row_of<G: Game + Drop>(
+    alloc: Global,
+    game: &G,
+    rule: u8,
+    weight: u8,
+    bound: BoundKind,
+    number: u32,
+    budget: u32,
+) -> Row
+    requires rule { rule ≤ GREATEST_RULE }
+    requires weight { IsWeight weight }
+    requires deal { IsDealNumber number }
+    requires budgeted { IsBudget budget }
+    ensures deal { result.deal ≡ number }
+    ensures right { IfSome result.told (IsToldOf (G.game game.now) rule weight bound budget number) }
+{
+    let mut last = Last { far: None };
+    let told = told_of(alloc, game, rule, weight, bound, number, budget, &mut last);
+    Row {
+        deal: number,
+        told: told.ok(),
+        far: last.far,
+    }
+}
+
+// What the search of a deal answers, without moves.
+fn told_of<G: Game + Drop, L: Listener>(
+    alloc: Global,
+    game: &G,
+    rule: u8,
+    weight: u8,
+    bound: BoundKind,
+    number: u32,
+    budget: u32,
+    listener: &mut L,
+) -> Result<Outcome, SearchFault>
+    requires rule { rule ≤ GREATEST_RULE }
+    requires weight { IsWeight weight }
+    requires deal { IsDealNumber number }
+    requires budgeted { IsBudget budget }
+    ensures told { IfOk result (IsToldOf (G.game game.now) rule weight bound budget number) }
+    ensures fault { IfErr result (λ fault. fault ≡ SearchFault.Memory) }
+{
+    let position = deal(number).unwrap();
+    let verdict = decide(
+        alloc, game, rule, weight, bound, &position, budget, listener,
+    )?;
+    Ok(outcome_of(&verdict))
+}
+
+// A verdict without its moves.
+fn outcome_of(verdict: &Verdict) -> Outcome
+    requires written { CanBeWritten verdict.now }
+    ensures value { result ≡ outcome_of verdict.now }
+{
+    match verdict {
+        Verdict::Shortest(moves) => Outcome::Shortest(moves.len() as u32),
+        Verdict::Won(moves, floor) => Outcome::Won(moves.len() as u32, *floor),
+        Verdict::CannotWin => Outcome::CannotWin,
+        Verdict::GaveUp(budget) => Outcome::GaveUp(*budget),
+    }
+}
+
+// The text of a row: six numbers of at most 40 digits, what the answer is called, and seven ends of cells.
+fn row_text(row: &Row) -> ArrayString<264>
+    ensures text { result.bytes ≡ row_text row.now }
+{
+    let mut buffer = Buffer::new();
+    let mut text = ArrayString::new();
+    text.push_str(buffer.format(row.deal));
+    text.push_str("\t");
+    text.push_str(answer_name(row.told));
+    text.push_str("\t");
+    push_number(&mut text, moves_of(row.told));
+    text.push_str("\t");
+    push_number(&mut text, floor_of(row.told, row.far));
+    text.push_str("\t");
+    push_far(&mut text, row.far);
+    text
+}
+
+// What an answer is called.
+fn answer_name(told: Option<Outcome>) -> &'static str
+    ensures value { result.now ≡ answer_name told }
+    ensures short { length result.now ≤ 14 }
+{
+    match told {
+        Some(Outcome::Shortest(_)) => "shortest",
+        Some(Outcome::Won(_, _)) => "won",
+        Some(Outcome::CannotWin) => "can't be won",
+        Some(Outcome::GaveUp(_)) => "gave up",
+        None => "want of memory",
+    }
+}
+
+// How many moves an answer has.
+fn moves_of(told: Option<Outcome>) -> Option<u32>
+    ensures value { result ≡ moves_of told }
+{
+    match told {
+        Some(Outcome::Shortest(count) | Outcome::Won(count, _)) => Some(count),
+        _ => None,
+    }
+}
+
+// How many moves each list that wins has at least.
+fn floor_of(told: Option<Outcome>, far: Option<Progress>) -> Option<u32>
+    ensures value { result ≡ floor_of told far }
+{
+    match told {
+        Some(Outcome::Shortest(floor) | Outcome::Won(_, floor)) => Some(floor),
+        Some(Outcome::CannotWin) => None,
+        _ => Some(far?.at_least),
+    }
+}
+
+// Appends a number, if there is one.
+fn push_number(text: &mut ArrayString<264>, number: Option<u32>)
+    requires room { array_string_len text.old ≤ 200 }
+    ensures text { text.new.bytes ≡ text.old.bytes ++ number_text number }
+    ensures short { array_string_len text.new ≤ array_string_len text.old + 40 }
+{
+    let mut buffer = Buffer::new();
+    if let Some(number) = number {
+        text.push_str(buffer.format(number));
+    }
+}
+
+// Appends what a search told of itself, and the end of a row.
+fn push_far(text: &mut ArrayString<264>, far: Option<Progress>)
+    requires room { array_string_len text.old ≤ 138 }
+    ensures text { text.new.bytes ≡ text.old.bytes ++ far_text far }
+{
+    let mut buffer = Buffer::new();
+    let Some(far) = far else {
+        text.push_str("\t\t\n");
+        return;
+    };
+    text.push_str(buffer.format(far.classes));
+    text.push_str("\t");
+    text.push_str(buffer.format(far.turns));
+    text.push_str("\t");
+    text.push_str(buffer.format(far.most_open));
+    text.push_str("\n");
+}
