@@ -18,10 +18,10 @@ use fc_bound::BoundKind;
 use fc_io::{FromSlice, Sink, ToArray, ToWriter, write_all};
 use fc_moves::{BakersGame, FreeCell, Game, Kings};
 use fc_plain::{PlainText, read_count};
-use fc_replay::Page;
+use fc_replay::{Page, replay_as};
 use fc_runs::{
-    Input, Look, Output, ProgramFault, run_batch, run_check, run_deal, run_replay_as,
-    run_replay_sequences, run_show, run_solve_heard, run_table,
+    Input, LONGEST_MOVES, Look, Output, ProgramFault, run_batch, run_check, run_deal,
+    run_replay_as, run_replay_sequences, run_show, run_solve_heard, run_table,
 };
 use fc_text::read_board;
 use moves::{
@@ -316,9 +316,29 @@ fn solve_in_pages<G: Game + Drop>(
     } else {
         Page::Drawn
     };
-    let (mut board, mut moves) = (FromSlice::new(text), FromSlice::new(moves));
-    run_replay_as(rt.alloc(), game, &mut board, &mut moves, page, &mut out)?;
+    show_moves(game, text, moves, page, &mut out)?;
     Ok(status)
+}
+
+// Shows the board after each move of an answer to the board of a text. No memory is asked for, so none can be wanted behind
+// an answer's first line.
+fn show_moves<G: Game, K: Sink>(
+    game: &G,
+    text: &[u8],
+    moves: &[u8],
+    page: Page,
+    out: &mut K,
+) -> Result<(), ProgramFault> {
+    let Ok(position) = read_board(text, game.cells()) else {
+        return Ok(());
+    };
+    if moves.len() > LONGEST_MOVES {
+        return Ok(());
+    }
+    match replay_as(game, &position, moves, page, out) {
+        Ok(_) => Ok(()),
+        Err(_) => Err(ProgramFault::Write(Output::Answer)),
+    }
 }
 
 // The most bytes of an answer that is held to be shown.
