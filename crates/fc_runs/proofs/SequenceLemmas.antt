@@ -1,5 +1,5 @@
 -- Lists of entries: their tokens, the moves that they are expanded to, and why they aren't.
-use Rattle.std.proofs.Common.{◌≡◌, ⊎_elim, inr, ℕ, suc, ◌+◌, ◌<◌, ◌≤◌, List, [], ◌∷◌, ◌++◌, length, refl, sym, ◌∙◌, ap, subst, append_assoc, append-nil, length-append, arith}
+use Rattle.std.proofs.Common.{◌≡◌, ⊎_elim, inr, ℕ, suc, ◌+◌, ◌<◌, ◌≤◌, List, [], ◌∷◌, ◌++◌, length, refl, sym, ◌∙◌, ap, subst, append_assoc, length-append, arith}
 use Rattle.std.specs.Prelude.{◌⊎◌, Result, Ok, IsErr}
 use Rattle.fc_io.specs.declared.devices.Failed.{Failed}
 use Rattle.fc_io.specs.Moves.{Stays}
@@ -7,10 +7,7 @@ use Rattle.fc_position.specs.Board.{Board}
 use Rattle.fc_moves.specs.declared.steps.Move.{Move}
 use Rattle.fc_moves.specs.GameRules.{GameRules}
 use Rattle.fc_text.proofs.PartLemmas.{length-tokens_between}
-use Rattle.fc_sequences.specs.declared.lists.ListFault.{ListFault}
-use Rattle.fc_sequences.specs.declared.lists.ListFault.TheVariants.{Refused, TooMany, Memory as no_room}
 use Rattle.fc_sequences.specs.declared.pairs.Pair.{Pair}
-use Rattle.fc_sequences.specs.Following.{IsListFault}
 use Rattle.fc_sequences.specs.Pair.{SpellsPair, IsNoPair}
 use Rattle.fc_replay.specs.declared.pages.Page.{Page}
 use Rattle.fc_replay.specs.declared.replays.Ended.{Ended}
@@ -20,8 +17,7 @@ use Rattle.fc_runs.specs.declared.faults.ProgramFault.{ProgramFault}
 use Rattle.fc_runs.specs.declared.faults.ProgramFault.TheVariants.{Number, Range, Budget, Board as bad_board, TooLong, Moves, TooManyWays, Cert, Read, Write, Memory}
 use Rattle.fc_replay.specs.declared.faults.ReplayFault.TheVariants.{BadMove, NotAllowed, Write as unwritten_page}
 use Rattle.fc_runs.specs.Devices.{Device}
-use Rattle.fc_runs.specs.Fault.{list_fault}
-use Rattle.fc_runs.specs.Sequences.{AreGiven, IsFirstNoPair, IsLeft, IsListFaultAs, IsUnplayed, IsUnread, SpellPairs}
+use Rattle.fc_runs.specs.Sequences.{AreGiven, IsFirstNoPair, IsLeft, IsListFaultAs, IsUnplayed, SpellPairs}
 
 -- one more token that spells an entry
 spell_pair : (tokens : List (List ℕ)) (pairs : List Pair) (token : List ℕ) (pair : Pair) → SpellPairs tokens pairs → SpellsPair token pair
@@ -41,9 +37,6 @@ pub record Listed (text rest : List ℕ) (pairs : List Pair) : Type 0 where
   pub front : List (List ℕ)
   pub parts : front ++ move_tokens rest ≡ move_tokens text
   pub spelled : SpellPairs front pairs
-
-pub listed_none : (text rest : List ℕ) (pairs : List Pair) → rest ≡ text → pairs ≡ [] → Listed text rest pairs
-listed_none text rest pairs same none = record { front = []; parts = ap move_tokens same; spelled = none }
 
 pub listed_next : (text rest more : List ℕ) (pairs : List Pair) (token : List ℕ) (pair : Pair) → Listed text rest pairs
     → move_tokens rest ≡ token ∷ move_tokens more → SpellsPair token pair → Listed text more (pairs ++ pair ∷ [])
@@ -73,36 +66,6 @@ listed_bad text rest more pairs token so first none = record {
   spelled = so.spelled;
   none = none;
 }
-
--- all tokens are entries
-pub listed_all : (text rest : List ℕ) (pairs : List Pair) → Listed text rest pairs → move_tokens rest ≡ [] → SpellPairs (move_tokens text) pairs
-listed_all text rest pairs so none =
-    subst (λ l. SpellPairs l pairs) (sym (append-nil so.front) ∙ ap (λ l. so.front ++ l) (sym none) ∙ so.parts) so.spelled
-
--- what wasn't read isn't played
-pub unread_unplayed : (g : GameRules) (b : Board) (tokens : List (List ℕ)) (fault : ProgramFault) → IsUnread tokens fault → IsUnplayed g b tokens fault
-unread_unplayed g b tokens (Moves (NotAllowed step)) is = absurd is
-unread_unplayed g b tokens (Moves (BadMove step)) is = is
-unread_unplayed g b tokens (Moves unwritten_page) is = is
-unread_unplayed g b tokens (TooManyWays step) is = absurd is
-unread_unplayed g b tokens (TooLong of_board) is = is
-unread_unplayed g b tokens (TooLong of_moves) is = absurd is
-unread_unplayed g b tokens (TooLong of_certificate) is = is
-unread_unplayed g b tokens (Number n) is = is
-unread_unplayed g b tokens Range is = is
-unread_unplayed g b tokens Budget is = is
-unread_unplayed g b tokens (bad_board fault) is = is
-unread_unplayed g b tokens (Cert fault) is = is
-unread_unplayed g b tokens (Read input) is = is
-unread_unplayed g b tokens (Write output) is = is
-unread_unplayed g b tokens Memory is = is
-
--- what isn't expanded isn't played
-pub unexpanded : (g : GameRules) (b : Board) (tokens : List (List ℕ)) (pairs : List Pair) (fault : ListFault) → SpellPairs tokens pairs
-    → IsListFault g b pairs fault → IsUnplayed g b tokens (list_fault fault)
-unexpanded g b tokens pairs (Refused step) spelled here = record { pairs = pairs; spelled = spelled; here = here }
-unexpanded g b tokens pairs (TooMany step) spelled here = record { pairs = pairs; spelled = spelled; here = here }
-unexpanded g b tokens pairs no_room spelled here = tt
 
 left : (g : GameRules) (board moves sink : Device) (start : Board) (text : List ℕ) (fault : ProgramFault)
     → AreGiven g board moves start text → IsUnplayed g start (move_tokens text) fault → Stays sink.old sink.new → IsLeft g board moves sink fault

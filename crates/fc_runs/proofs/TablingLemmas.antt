@@ -1,5 +1,5 @@
 -- Tables of deals: what is told of a deal, and the rows that tell it.
-use Rattle.std.proofs.Common.{◌≡◌, ◌∙◌, ℕ, zero, suc, ◌+◌, ◌<◌, List, [], ◌∷◌, ◌++◌, length, map, Option, Some, refl, sym, ap, subst, arith, IsTrue}
+use Rattle.std.proofs.Common.{◌≡◌, ◌∙◌, ℕ, zero, suc, ◌+◌, ◌<◌, List, [], ◌∷◌, ◌++◌, length, map, Option, Some, sym, ap, subst, arith, IsTrue}
 use Rattle.std.specs.Prelude.{IfSome, max, slice_get}
 use Rattle.std.proofs.lemmas.List.{flat_map_more, length-append, map_push}
 use Rattle.fc_io.specs.Moves.{Takes, TakesFront}
@@ -8,7 +8,7 @@ use Rattle.fc_moves.specs.GameRules.{GameRules}
 use Rattle.fc_bound.specs.declared.kinds.BoundKind.{BoundKind}
 use Rattle.fc_runs.specs.declared.tabling.Row.{Row}
 use Rattle.fc_runs.specs.Batches.{IsToldOf, greatest_status, told_status}
-use Rattle.fc_runs.specs.Tabling.{AreRows, AreTabled, IsTableCutShort, line_of, names_text, row_text, table_text}
+use Rattle.fc_runs.specs.Tabling.{AreRows, IsTableCutShort, line_of, names_text, row_text, table_text}
 use Rattle.fc_runs.specs.Devices.{Device}
 use Rattle.fc_runs.proofs.BatchLemmas.{greatest_more}
 
@@ -38,34 +38,6 @@ pub record RowsAreWritten (g : GameRules) (rule weight : ℕ) (kind : BoundKind)
   pub whole : length rows ≡ count
   pub written : Takes old new (table_text rows)
   pub greatest : status ≡ greatest_status (map line_of rows)
-
-no_rows : (g : GameRules) (rule weight : ℕ) (kind : BoundKind) (budget from : ℕ) → AreRows g rule weight kind budget from []
-no_rows g rule weight kind budget from = record {
-  rising = λ i row at. absurd (cc at);
-  right = λ i row at. absurd (cc at);
-}
-
--- the names were written, and no row yet
-pub names_written : (g : GameRules) (rule weight : ℕ) (kind : BoundKind) (budget from : ℕ) (old new : Option (List ℕ)) → Takes old new names_text
-    → RowsAreWritten g rule weight kind budget from 0 old new 0
-names_written g rule weight kind budget from old new taken = record {
-  rows = [];
-  right = no_rows g rule weight kind budget from;
-  whole = refl;
-  written = taken;
-  greatest = refl;
-}
-
--- the names were cut short
-pub names_cut_short : (g : GameRules) (rule weight : ℕ) (kind : BoundKind) (budget from count : ℕ) (sink : Device) → TakesFront sink.old sink.new names_text
-    → IsTrue sink.failed → IsTableCutShort g rule weight kind budget from count sink
-names_cut_short g rule weight kind budget from count sink front failed = record {
-  rows = [];
-  right = no_rows g rule weight kind budget from;
-  some = omega arith;
-  front = front;
-  failed = failed;
-}
 
 -- the text of one row more
 text_more : (rows : List Row) (row : Row) → table_text rows ++ row_text row ≡ table_text (rows ++ row ∷ [])
@@ -102,16 +74,3 @@ row_cut_short g rule weight kind budget from count most mid sink status row so_f
           (takes_then_front sink.old mid sink.new (table_text so_far.rows) (row_text row) so_far.written front);
       failed = failed;
     }
-
--- all rows are written to a sink that hasn't failed
-pub all_tabled : (g : GameRules) (rule weight : ℕ) (kind : BoundKind) (budget from count : ℕ) (sink : Device) (status : ℕ)
-    → RowsAreWritten g rule weight kind budget from count sink.old sink.new status → (IsTrue sink.failed → ⊥)
-    → AreTabled g rule weight kind budget from count sink status
-all_tabled g rule weight kind budget from count sink status all sound = record {
-  rows = all.rows;
-  right = all.right;
-  whole = all.whole;
-  written = all.written;
-  sound = sound;
-  greatest = all.greatest;
-}

@@ -91,11 +91,6 @@ along_last g b ps nodes leaf here ms node along found =
     let same : along.node ≡ node = cc (sym along.stands ∙ ap (slice_get nodes) along.leads ∙ found) in
     subst (λ n. Expands g b (take n.depth ps) ms n.position) same (subst (Expands g b (take along.node.depth ps) ms) along.place along.expanded)
 
--- the board before a path's first is on it, too
-pub leads_more : (g : GameRules) (b : Board) (ps : List Pair) (nodes : List Node) (number : ℕ) (path : List ℕ) (leaf : ℕ) (node : Node)
-    → slice_get nodes number ≡ Some node → 0 < number → Leads nodes number path leaf → Leads nodes node.parent (number ∷ path) leaf
-leads_more g b ps nodes number path leaf node found later leads = ((node, found, refl, later), leads)
-
 -- the board that a later one came from has a smaller number
 pub parent_below : (g : GameRules) (b : Board) (ps : List Pair) (nodes : List Node) (number : ℕ) (d : Node) → IsTree g b ps nodes
     → number < length nodes → 0 < number → (get_or nodes number d).parent < number

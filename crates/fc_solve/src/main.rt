@@ -5,6 +5,7 @@ mod boards;
 mod endings;
 mod moves;
 mod notes;
+mod streams;
 mod watching;
 mod words;
 
@@ -32,6 +33,7 @@ use std::fs::File;
 use std::io::IsTerminal;
 use std::process::ExitCode;
 use std::{env, io};
+use streams::StandIns;
 use watching::Teller;
 use words::{DEFAULT_BUDGET, DEFAULT_RULE, DEFAULT_WEIGHT, GREATEST_BUDGET, GREATEST_WEIGHT};
 
@@ -39,6 +41,7 @@ use words::{DEFAULT_BUDGET, DEFAULT_RULE, DEFAULT_WEIGHT, GREATEST_BUDGET, GREAT
 const REFUSED: u8 = 3;
 
 fn main(rt: HostRuntime) -> ExitCode {
+    let _stand_ins = StandIns::new(&rt);
     match follow_words(&rt) {
         Ok(status) | Err(Ending::Told(status)) => ExitCode::from(status),
         Err(Ending::Fault(fault)) => ExitCode::from(tell(&rt, &fault)),

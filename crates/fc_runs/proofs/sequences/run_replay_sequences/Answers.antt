@@ -6,7 +6,7 @@ use Rattle.fc_replay.specs.Played.{PlaysAs}
 use Rattle.fc_replay.specs.Token.{move_tokens}
 use Rattle.fc_replay.proofs.ReplayLoop.{err_is}
 use Rattle.fc_runs.specs.Devices.{Device, GivesBoard, GivesWhole}
-use Rattle.fc_runs.specs.Sequences.{AreGiven, IsExpanded, IsListFaultAs, IsPlayOf, IsUnplayed}
+use Rattle.fc_runs.specs.Sequences.{IsExpanded, IsListFaultAs, IsUnplayed}
 use Rattle.fc_runs.proofs.SequenceLemmas.{left_for, none_made}
 use Rattle.fc_runs.proofs.sequences.run_replay_sequences.Goals as goal
 
