@@ -5,6 +5,7 @@ mod boards;
 mod endings;
 mod moves;
 mod notes;
+mod shown;
 mod streams;
 mod watching;
 mod words;

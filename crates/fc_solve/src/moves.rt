@@ -2,6 +2,7 @@
 
 use crate::boards::open;
 use crate::endings::Ending;
+use crate::shown::{front_of, rest_of};
 use fc_io::{FromReader, ReadFault, read_to_vec};
 use fc_moves::Game;
 use fc_position::Position;
@@ -91,8 +92,7 @@ pub fn tell_stop<G: Game>(rt: &HostRuntime, game: &G, position: &Position, text:
     let Some(Stop { token, refusal, .. }) = first_stop(game, position, text) else {
         return;
     };
-    let shown = token[..token.len().min(LONGEST_SHOWN)].escape_ascii();
-    let more = rest_of(token);
+    let (shown, more) = (front_of(token).escape_ascii(), rest_of(token));
     let _told = match refusal {
         Some(refusal) => eprintln!(rt; "fc_solve: '{shown}{more}': {refusal}"),
         None => eprintln!(rt;
@@ -110,14 +110,13 @@ pub fn tell_entry(rt: &HostRuntime, fault: ProgramFault, text: &[u8]) {
         ),
         ProgramFault::Moves(ReplayFault::NotAllowed(step)) => (
             step,
-            "moves no sequence that may go there, with the free cells and the empty columns that there are",
+            "can't be played: no cards may go that way, with the free cells and the empty columns that there are",
         ),
         ProgramFault::TooManyWays(step) => (step, "is where there are more than 1000 boards"),
         _ => return,
     };
     if let Some(token) = token_of(text, step) {
-        let shown = token[..token.len().min(LONGEST_SHOWN)].escape_ascii();
-        let more = rest_of(token);
+        let (shown, more) = (front_of(token).escape_ascii(), rest_of(token));
         let _told = eprintln!(rt; "fc_solve: '{shown}{more}' {reason}");
     }
 }
@@ -133,15 +132,3 @@ fn token_of(text: &[u8], step: u32) -> Option<&[u8]> {
     }
     None
 }
-
-// What stands for the bytes of a token that aren't shown.
-fn rest_of(token: &[u8]) -> &'static str {
-    if token.len() > LONGEST_SHOWN {
-        ".."
-    } else {
-        ""
-    }
-}
-
-// How many bytes of a token are shown.
-const LONGEST_SHOWN: usize = 24;

@@ -1,5 +1,6 @@
 //! Where a board's fault lies and what would mend it: the line after the fault's own.
 
+use crate::shown::{front_of, rest_of};
 use fc_cards::Card;
 use fc_text::{BoardFault, Spot, first_spot_of, last_spot_of, spot_of};
 
@@ -42,17 +43,9 @@ fn note(rt: &HostRuntime, words: &str) {
 // Says where a token stands, and what is wrong with it.
 fn note_token(rt: &HostRuntime, spot: &Spot<'_>, reason: &str) {
     let (line, place, token) = (spot.line, spot.place, spot.token);
-    let shown = token[..token.len().min(LONGEST_SHOWN)].escape_ascii();
-    let more = if token.len() > LONGEST_SHOWN {
-        ".."
-    } else {
-        ""
-    };
+    let (shown, more) = (front_of(token).escape_ascii(), rest_of(token));
     let _told = eprintln!(rt; "fc_solve: line {line}, word {place}: '{shown}{more}' {reason}");
 }
-
-// How many bytes of a token are shown.
-const LONGEST_SHOWN: usize = 24;
 
 // Says where a card stands that has two places or more.
 fn note_places(rt: &HostRuntime, text: &[u8], card: Card) {
