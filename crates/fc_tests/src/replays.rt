@@ -217,6 +217,7 @@ fn writes_pages(rt: HostRuntime) {
 // The first step of a list of two kings that stops it, and why.
 fn stops<G: Game>(rt: &impl Abort, game: &G, list: &[u8], step: u32, refusal: Option<Refusal>) {
     let start = board_for(rt, game, TWO_KINGS);
+    assert!(rt; list.len() < 100, "a long list");
     let stop = first_stop(game, &start, list).expect(rt, "a stop");
     assert!(rt; stop.step == step && stop.refusal == refusal);
 }
