@@ -4,7 +4,7 @@ use crate::given::{board, free_cell, sure};
 use fc_cards::Place;
 use fc_io::testing::Failing;
 use fc_io::{FromSlice, ToArray};
-use fc_moves::move_text;
+use fc_moves::Move;
 use fc_replay::{Ended, Page, ReplayFault};
 use fc_runs::{Input, Output, ProgramFault, run_replay_sequences};
 use fc_sequences::{Pair, carry, expand, may_carry, read_pair};
@@ -61,10 +61,11 @@ fn cards_are_carried_as_they_lie(rt: HostRuntime) {
     sure(&rt, carry(&game, &mut position, 0, 2, 2, &mut moves));
     let after = board(&rt, &game, "Foundations: H-J C-K D-K S-J\n\nKH QS\nKS QH\n");
     assert!(rt; position.equals(&after));
-    let told: [[u8; 2]; 3] = [*b"1a", *b"13", *b"a3"];
+    let (first, third, cell) = (Place::Column(0), Place::Column(2), Place::Cell(0));
+    let wanted = [(first, cell), (first, third), (cell, third)];
     assert!(rt; moves.len() == 3);
-    for (m, text) in moves.iter().zip(told) {
-        assert!(rt; move_text(*m) == text);
+    for (m, (from, to)) in moves.iter().zip(wanted) {
+        assert!(rt; *m == Move { from, to });
     }
 }
 
@@ -105,6 +106,7 @@ fn numbers_of_cards_follow_from_the_list(rt: HostRuntime) {
         let pair = read_pair(token).expect(&rt, "an entry");
         sure(&rt, pairs.push(pair));
     }
+    assert!(rt; pairs.len() == 5);
     // (two cards go to the third column, as else it is empty when its king is wanted)
     let moves = sure(&rt, expand(rt.alloc(), &game, &start, pairs.as_slice()));
     assert!(rt; moves.len() == 7);
