@@ -394,17 +394,17 @@ def built(crates):
 
 
 def followed(crates, log):
-    """Each crate once the `rt ci` that writes the log says whether it is proved, or ends."""
+    """Each crate once the `rt ci` that writes the log says whether it is proved, now or in an earlier run that was kept, or ends."""
     waiting = [*crates]
     while waiting:
         with open(log, encoding="utf-8", errors="replace") as it:
             said = it.read()
         has_ended = re.search(r"(?m)^\d+ passed, \d+ failed$", said)
         for crate in [*waiting]:
-            told = re.search(rf"(?m)^rt: {crate.name} (NOT PROVED|proved$)", said)
+            told = re.search(rf"(?m)^rt: {crate.name} (NOT PROVED|proved$|is kept:)", said)
             if told or has_ended:
                 waiting.remove(crate)
-                yield crate, bool(told) and told[1] == "proved"
+                yield crate, bool(told) and told[1] != "NOT PROVED"
         time.sleep(1)
 
 
