@@ -1,5 +1,5 @@
 -- What is told of a position and a budget, and when that is right.
-use Rattle.std.specs.Prelude.{◌≡◌, ℕ, ◌*◌, ◌≤◌, List, length, All}
+use Rattle.std.specs.Prelude.{◌≡◌, ℕ, ◌*◌, ◌^◌, ◌<◌, ◌≤◌, List, length, All}
 use Rattle.fc_position.specs.Board.{Board}
 use Rattle.fc_moves.specs.declared.steps.Move.{Move}
 use Rattle.fc_moves.specs.GameRules.{GameRules}
@@ -43,9 +43,16 @@ IsRight g weight b budget (Won moves floor) = IsWithin g weight b moves floor
 IsRight g weight b budget cannot_win = CannotWin g b
 IsRight g weight b budget (GaveUp told) = (told ≡ budget) × ReachesMore g b budget
 
--- the moves of a list can be written: each has a text, and they are no more than a list may have
+-- the moves of a list can be written: each has a text, and how many there are is a number of four bytes
 abbrev pub CanBeWritten : Verdict → Type 0
-CanBeWritten (Shortest moves) = All HasText moves × (length moves ≤ MOST_MOVES)
-CanBeWritten (Won moves floor) = All HasText moves × (length moves ≤ MOST_MOVES)
+CanBeWritten (Shortest moves) = All HasText moves × (length moves < 2 ^ 32)
+CanBeWritten (Won moves floor) = All HasText moves × (length moves < 2 ^ 32)
 CanBeWritten cannot_win = Unit {0}
 CanBeWritten (GaveUp told) = Unit {0}
+
+-- the moves of a list are no more than a list that is answered may have
+abbrev pub HasFewMoves : Verdict → Type 0
+HasFewMoves (Shortest moves) = length moves ≤ MOST_MOVES
+HasFewMoves (Won moves floor) = length moves ≤ MOST_MOVES
+HasFewMoves cannot_win = Unit {0}
+HasFewMoves (GaveUp told) = Unit {0}

@@ -1,5 +1,5 @@
 -- Lemmas on what a search keeps: what a pair that is taken tells, and what stays when a key is put in.
-use Rattle.std.proofs.Common.{◌≡◌, ℕ, ◌+◌, ◌*◌, ◌<◌, ◌≤◌, ◌⊎◌, suc, zero, Some, List, [], ◌∷◌, length, refl, sym, ◌∙◌, ap, subst, inl, inr, ⊎_elim, arith}
+use Rattle.std.proofs.Common.{◌≡◌, ℕ, ◌+◌, ◌*◌, ◌<◌, ◌≤◌, ◌⊎◌, max, suc, zero, Some, List, [], ◌∷◌, length, refl, sym, ◌∙◌, ap, subst, inl, inr, ⊎_elim, arith}
 use Rattle.std.specs.Prelude.{slice_get, Contains}
 use Rattle.std.proofs.lemmas.Bool.{cases_eq}
 use Rattle.std.proofs.lemmas.Option.{slice_get_within, some_pair_parts}
@@ -32,8 +32,11 @@ added_cases old new p q h there =
     front_cases p q old (Contains-permutation new (p ∷ old) q (IsPermutation-sym (p ∷ old) new h) there)
 
 -- the f of a pair of least f that is taken is the floor
-pub taken_floor : (old new : List (ℕ × ℕ)) (f i floor : ℕ) → Adds new old (f, i) → IsLeast (f, i) old → TakesFloor old floor f
-taken_floor old new f i floor taken least = inr (i, added_there new old (f, i) taken, least)
+pub taken_floor : (old new : List (ℕ × ℕ)) (f i before after : ℕ) → Adds new old (f, i) → IsLeast (f, i) old → after ≡ max f before
+    → TakesFloor old before after
+taken_floor old new f i before after taken least greatest =
+    let turned : after ≡ max before f = omega (arith, greatest) in
+    inr (f, i, added_there new old (f, i) taken, least, turned)
 
 pub least_below : (f i d j : ℕ) (ps : List (ℕ × ℕ)) → IsLeast (f, i) ps → Contains ps (d, j) → f ≤ d
 least_below f i d j ps least (k, lt, e) =

@@ -165,7 +165,10 @@ module _ {K : Type 0} (g : Graph K) (weight budget : ℕ) where
     pub takes_floor : (s : Store K) (old new : ℕ) → IsKept g weight budget s → IsFloor g weight old
         → TakesFloor s.waiting old new → IsFloor g weight new
     takes_floor s old new kept floor (inl none) = subst (IsFloor g weight) (sym none.1) floor
-    takes_floor s old new kept floor (inr (i, there, least)) = least_floor s new i kept least
+    takes_floor s old new kept floor (inr (f, i, there, least, greatest)) = λ n wins.
+        let before : old ≤ weight * n = floor n wins in
+        let taken : f ≤ weight * n = least_floor s f i kept least n wins in
+        omega (arith, before, taken, greatest)
 
   module _ (busy : ℕ) (xb : K) (mb : Mark) (least : (n : ℕ) → g.wins n → mb.cost + weight * g.bound xb ≤ weight * n) where
     -- what holds while the key with the number busy is expanded

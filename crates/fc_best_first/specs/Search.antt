@@ -12,8 +12,8 @@ use Rattle.fc_best_first.specs.Graph.{Graph}
 use Rattle.fc_best_first.specs.Store.{Store}
 use Rattle.fc_best_first.specs.Turn.{Takes, TakesFloor}
 
--- a search: the space that it is of, its weight and budget, what it stores and has open, where it stands, and the f of
--- the pair that was taken last
+-- a search: the space that it is of, its weight and budget, what it stores and has open, where it stands, and the greatest f
+-- that was taken
 pub record Progress (S : Type 0) (K : Type 0) : Type 0 where
   pub space : S
   pub weight : ℕ

@@ -1,5 +1,5 @@
 -- One turn of a search.
-use Rattle.std.specs.Prelude.{◌≡◌, ℕ, ◌+◌, ◌-◌, ◌*◌, ◌<◌, ◌≤◌, ◌⊎◌, List, [], ◌∷◌, length, sum_by, IfSome, Contains, Option, Some, None}
+use Rattle.std.specs.Prelude.{◌≡◌, ℕ, ◌+◌, ◌-◌, ◌*◌, ◌<◌, ◌≤◌, ◌⊎◌, max, List, [], ◌∷◌, length, sum_by, IfSome, Contains, Option, Some, None}
 use Rattle.fc_frontier.specs.Queue.{IsLeast}
 use Rattle.fc_best_first.specs.declared.books.Mark.{Mark}
 use Rattle.fc_best_first.specs.declared.books.Offered.TheVariants.{Known, Lowered, Added, Full}
@@ -10,10 +10,11 @@ use Rattle.fc_best_first.specs.declared.turns.TheConstants.{MOST_COST}
 use Rattle.fc_best_first.specs.Graph.{Graph, Reached}
 use Rattle.fc_best_first.specs.Store.{Store, Offers, IsTaken}
 
--- the floor that a turn of a running search leaves: the same where no pair is open, else the least f of the open pairs
+-- the floor that a turn of a running search leaves, the greatest f that was taken: the same where no pair is open, else the
+-- greater of it and the least f of the open pairs
 abbrev pub TakesFloor : List (ℕ × ℕ) → ℕ → ℕ → Type 0
 TakesFloor waiting old new = ((waiting ≡ []) × (new ≡ old))
-    ⊎ ((number : ℕ) × Contains waiting (new, number) × IsLeast (new, number) waiting)
+    ⊎ ((f : ℕ) × (number : ℕ) × Contains waiting (f, number) × IsLeast (f, number) waiting × (new ≡ max old f))
 
 module _ {K : Type 0} where
   -- the child's bound is that of its key, where it is told

@@ -138,8 +138,8 @@ impl<K: ExactKey, F: Frontier + Drop, S: Space<K> + Drop> Search<K, F, S> {
         &self.status
     }
 
-    /// A number that no answer, times the weight, is below: the f of the pair that was taken last, and before the first
-    /// turn the f of the key that starts. It may fall. It is true of a search that is done or was stopped, too.
+    /// A number that no answer, times the weight, is below: the greatest f that was taken, and before the first turn the f of
+    /// the key that starts. It never falls, and is true of a search that is done or was stopped, too.
     pub fn floor(&self) -> u32
         ensures value { result ≡ self.now.floor }
         ensures floor { IsFloor (S.graph self.now.space) self.now.weight self.now.floor }
@@ -176,8 +176,8 @@ impl<K: ExactKey, F: Frontier + Drop, S: Space<K> + Drop> Search<K, F, S> {
         self.book.entry(number)
     }
 
-    /// One turn: a running search takes one open pair, whose f is its floor from then on. A search that is done answers
-    /// `Done` and stays as it is. At `Memory` a growth was refused and the search is stopped; one that is stopped answers
+    /// One turn: a running search takes one open pair, and its floor is the pair's f from then on, where that is greater. A
+    /// search that is done answers `Done` and stays as it is. At `Memory` a growth was refused and the search is stopped; one that is stopped answers
     /// `Stopped` from then on.
     pub fn turn(&mut self) -> Result<Step, SearchFault>
         ensures space { self.new.space ≡ self.old.space }
@@ -185,6 +185,7 @@ impl<K: ExactKey, F: Frontier + Drop, S: Space<K> + Drop> Search<K, F, S> {
         ensures budget { self.new.budget ≡ self.old.budget }
         ensures turns { Turns (S.graph self.old.space) self.old.weight self.old.budget self.old.status self.old.store self.new.store self.new.status result }
         ensures floor { FloorAfter self.old.status self.old.store.waiting self.old.floor self.new.floor }
+        ensures rises { self.old.floor ≤ self.new.floor }
         ensures falls { result ≡ Ok Step.Running → work_left self.old.budget self.new.store < work_left self.old.budget self.old.store }
     {
         match self.status {

@@ -121,8 +121,8 @@ fn expand<K: ExactKey, F: Frontier + Drop, S: Space<K>>(
     Ok(None)
 }
 
-// One turn of a running search, and the status that it leaves; the walk is its room to work in, and the f of the pair
-// that it takes is the new floor. At `Err` a growth was refused, and nothing is known of the book.
+// One turn of a running search, and the status that it leaves; the walk is its room to work in, and the floor is the
+// greatest f that was taken. At `Err` a growth was refused, and nothing is known of the book.
 pub(crate) fn advance<K: ExactKey, F: Frontier + Drop, S: Space<K>>(
     space: &S,
     book: &mut Book<K, F>,
@@ -140,7 +140,7 @@ pub(crate) fn advance<K: ExactKey, F: Frontier + Drop, S: Space<K>>(
     let Some((f, number)) = book.take() else {
         return Ok(Status::CannotWin);
     };
-    *floor = f;
+    *floor = f.max(*floor);
     let (key, mark) = book.at(number);
     if space.is_won(key) {
         return Ok(Status::Won(number));

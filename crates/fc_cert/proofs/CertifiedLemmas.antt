@@ -113,14 +113,14 @@ written_shows : (g : GameRules) (b : Board) (answered : Answer) (c : Content) (c
     → Claims answered claimed → IsShowing g b claimed c
 written_shows g b (answer.Shortest moves table) c claimed game position backed wins can same claims =
     let told : Content = content g table kind.Shortest 0 moves in
-    let few : length moves < 2 ^ 32 = omega (arith, can.1) in
+    let few : length moves < 2 ^ 32 = can.1 in
     let has : IsContent told = has_bytes g kind.Shortest 0 moves table game backed.listed refl (few, can.0)
     (λ e there. omega (arith, backed.below e there, few)) in
     subst (IsShowing g b claimed) (sym same)
     (subst (λ said. IsShowing g b said told) (sym claims) (has, refl, refl, (refl, refl, wins, backed.closed)))
 written_shows g b (answer.Won moves floor table) c claimed game position backed wins can same claims =
     let told : Content = content g table kind.Between floor moves in
-    let few : length moves < 2 ^ 32 = omega (arith, can.1) in
+    let few : length moves < 2 ^ 32 = can.1 in
     let least : floor ≤ length moves = none_shorter g b told floor moves position backed.closed wins in
     let has : IsContent told = has_bytes g kind.Between floor moves table game backed.listed least (few, can.0)
     (λ e there. omega (arith, backed.below e there, few, least)) in

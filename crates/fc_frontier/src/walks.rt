@@ -53,8 +53,9 @@ impl<'a> Near<'a> {
 }
 
 impl<'a> Pairs<'a> {
-    // The pairs of stacks for f from 0 on, and others.
-    pub(crate) fn new(stacks: &'a [Vec<u32>], far: &'a [(u32, u32)]) -> Pairs<'a>
+    /// The pairs of a queue that keeps a stack of nodes for each `f` from 0 on, at most 1,024 of them, and other pairs in a
+    /// list. A queue that keeps a list alone hands in no stacks.
+    pub fn new(stacks: &'a [Vec<u32>], far: &'a [(u32, u32)]) -> Pairs<'a>
         requires room { length stacks.now ≤ 1024 }
         ensures items { result ≡ walked 0 (nodes_of stacks.now) ++ far.now }
     {

@@ -2,7 +2,6 @@
 use Rattle.std.proofs.Common.{◌≡◌, ◌≢◌, ◌∙◌, ⊎_elim, ℕ, zero, suc, ◌+◌, ◌<◌, List, [], ◌∷◌, ◌++◌, length, Option, Some, Result, Ok, Err, refl, sym, ap, subst, arith, IsTrue}
 use Rattle.std.specs.Prelude.{IfOk, IfErr, max, slice_get}
 use Rattle.std.specs.List.{flat_map}
-use Rattle.std.specs.Result.{result_ok}
 use Rattle.std.proofs.Math.Nat.{max-zero, suc-max-suc, zero-max}
 use Rattle.std.proofs.lemmas.Bool.{cases_eq}
 use Rattle.std.proofs.lemmas.List.{flat_map_more, length-append}
@@ -14,18 +13,20 @@ use Rattle.fc_moves.specs.GameRules.{GameRules}
 use Rattle.fc_deal.specs.Deal.{dealt_board}
 use Rattle.fc_bound.specs.declared.kinds.BoundKind.{BoundKind}
 use Rattle.fc_answers.specs.declared.answers.Outcome.{Outcome}
+use Rattle.fc_answers.specs.declared.answers.Verdict.{Verdict}
+use Rattle.fc_answers.specs.Verdict.{outcome_of}
 use Rattle.fc_best_first.specs.declared.searches.SearchFault.{SearchFault}
 use Rattle.fc_best_first.specs.declared.searches.Step.{Step}
 use Rattle.fc_best_first.specs.declared.turns.Status.{Status}
-use Rattle.fc_best_first.specs.declared.turns.Status.TheVariants.{Running, Won, CannotWin, GaveUp, Stopped}
+use Rattle.fc_best_first.specs.declared.turns.Status.TheVariants.{Running}
 use Rattle.fc_best_first.specs.Graph.{Graph}
 use Rattle.fc_best_first.specs.Search.{Begins, Turns, TurnsOn}
 use Rattle.fc_best_first.specs.Store.{Store}
-use Rattle.fc_search.specs.Search.{HasRun, IsOfStatus, IsOutcome, IsUntold, IsVerdict, Question, State, classes_of}
+use Rattle.fc_search.specs.Search.{IsOfStatus, IsVerdict, Question, State, classes_of}
 use Rattle.fc_batch.specs.Batch.{Batch, HasTurn, HasTurns, OthersStay, TurnFor, TurnsFor, running, search_at, times}
 use Rattle.fc_batch.proofs.BatchLemmas.{stays_self}
 use Rattle.fc_batch.proofs.LawLemmas.{others_kept, turn_alone}
-use Rattle.fc_runs.specs.Batches.{AreCutShort, AreLines, AreTold, HaveEnded, HoldsDeals, IsRightOf, IsSearchOf, Line, greatest_status, line_text, told_status}
+use Rattle.fc_runs.specs.Batches.{AreCutShort, AreLines, AreTold, HaveEnded, HoldsDeals, IsRightOf, IsSearchOf, IsToldOf, Line, greatest_status, line_text, told_status}
 use Rattle.fc_runs.specs.Devices.{Device}
 
 -- no card of a deal stands in a cell, so it is of every game
@@ -81,19 +82,13 @@ search_begun g rule weight kind budget deal s game ruled weighed bounded starts 
       };
     }
 
--- of a search that doesn't run nothing is told only where it was stopped
-untold_stopped : (status : Status (List ℕ)) (fault : SearchFault) → (status ≡ Running → ⊥) → IsUntold status fault → status ≡ Stopped
-untold_stopped Running fault ended untold = absurd (ended refl)
-untold_stopped Stopped fault ended untold = refl
-untold_stopped (Won number) fault ended untold = absurd untold
-untold_stopped CannotWin fault ended untold = absurd untold
-untold_stopped (GaveUp y number) fault ended untold = absurd untold
-
 -- what is told of the search of a deal that has ended is right of the deal
-pub told_right : (g : GameRules) (rule weight : ℕ) (kind : BoundKind) (budget deal : ℕ) (s : State) (result : Result Outcome SearchFault)
-    → IsSearchOf g rule weight kind budget deal s → (s.status ≡ Running → ⊥) → IfOk result (IsOutcome s) → IfErr result (IsUntold s.status)
-    → IsRightOf g rule weight kind budget deal (result_ok result)
-told_right g rule weight kind budget deal s (Ok told) search ended (verdict, right, sort, same) untold = record {
+pub told_right : (g : GameRules) (rule weight : ℕ) (kind : BoundKind) (budget deal : ℕ) (s : State) (verdict : Verdict)
+    → IsSearchOf g rule weight kind budget deal s
+    → IsVerdict s.question.game s.question.rule s.question.weight s.question.bound s.question.start s.budget verdict
+    → IsOfStatus (classes_of s.question) s.question.weight s.store s.budget s.status verdict
+    → IsToldOf g rule weight kind budget deal (outcome_of verdict)
+told_right g rule weight kind budget deal s verdict search right sort = record {
   verdict = verdict;
   decided = record {
     right = subst (λ q. IsVerdict q.game q.rule q.weight q.bound q.start budget verdict) search.question
@@ -106,12 +101,8 @@ told_right g rule weight kind budget deal s (Ok told) search ended (verdict, rig
           (subst (λ b. IsOfStatus (classes_of s.question) s.question.weight s.store b s.status verdict) search.budgeted sort);
     };
   };
-  answer = same;
+  answer = refl;
 }
-told_right g rule weight kind budget deal s (Err fault) search ended outcome untold = (
-  s.store,
-  subst (HasRun g rule weight kind (dealt_board deal) budget s.store) (untold_stopped s.status fault ended untold) search.ran,
-)
 
 -- a search of a deal that has one more turn is the search of that deal still
 one_turn_on : (g : GameRules) (rule weight : ℕ) (kind : BoundKind) (budget deal : ℕ) (old new : State) (reply : Result Step SearchFault) → HasTurn old new reply

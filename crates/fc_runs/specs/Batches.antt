@@ -10,7 +10,8 @@ use Rattle.fc_answers.specs.declared.answers.Verdict.{Verdict}
 use Rattle.fc_answers.specs.Verdict.{outcome_of}
 use Rattle.fc_best_first.specs.Search.{IsBudget}
 use Rattle.fc_best_first.specs.Store.{Store}
-use Rattle.fc_best_first.specs.declared.turns.Status.TheVariants.{Running, Stopped}
+use Rattle.fc_best_first.specs.declared.turns.Status.{Status}
+use Rattle.fc_best_first.specs.declared.turns.Status.TheVariants.{Running}
 use Rattle.fc_search.specs.Search.{HasRun, State}
 use Rattle.fc_batch.specs.Batch.{Batch, search_at}
 use Rattle.fc_runs.specs.declared.batches.TheConstants.{MOST_DEALS}
@@ -52,14 +53,15 @@ pub record IsToldOf (g : GameRules) (rule : ℕ) (weight : ℕ) (kind : BoundKin
   pub decided : IsDecided g rule weight kind (dealt_board deal) budget verdict
   pub answer : told ≡ outcome_of verdict
 
--- memory stopped the search of a deal
-abbrev pub IsStopped : GameRules → ℕ → ℕ → BoundKind → ℕ → ℕ → Type 0
-IsStopped g rule weight kind budget deal = (last : Store (List ℕ)) × HasRun g rule weight kind (dealt_board deal) budget last Stopped
+-- memory was wanted for a deal: its search was stopped, or ended and has no list of its moves
+abbrev pub IsWanting : GameRules → ℕ → ℕ → BoundKind → ℕ → ℕ → Type 0
+IsWanting g rule weight kind budget deal = (last : Store (List ℕ)) × (status : Status (List ℕ))
+    × HasRun g rule weight kind (dealt_board deal) budget last status × (status ≡ Running → ⊥)
 
 -- what is told of a deal is right: its answer, or that memory was wanted
 abbrev pub IsRightOf : GameRules → ℕ → ℕ → BoundKind → ℕ → ℕ → Option Outcome → Type 0
 IsRightOf g rule weight kind budget deal (Some told) = IsToldOf g rule weight kind budget deal told
-IsRightOf g rule weight kind budget deal None = IsStopped g rule weight kind budget deal
+IsRightOf g rule weight kind budget deal None = IsWanting g rule weight kind budget deal
 
 -- lines that are right, one a deal, rising from this one
 pub record AreLines (g : GameRules) (rule : ℕ) (weight : ℕ) (kind : BoundKind) (budget : ℕ) (from : ℕ) (lines : List Line) : Type 0 where

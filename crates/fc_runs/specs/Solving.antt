@@ -10,7 +10,7 @@ use Rattle.fc_answers.specs.declared.answers.Verdict.TheVariants.{Shortest, Won,
 use Rattle.fc_best_first.specs.Search.{IsBudget}
 use Rattle.fc_search.specs.Search.{IsVerdict, IsRunToEnd}
 use Rattle.fc_watch.specs.declared.listeners.Progress.{Progress}
-use Rattle.fc_watch.specs.Watch.{IsFarOf}
+use Rattle.fc_watch.specs.Watch.{IsHeardAtMost, IsHeardToEnd, question_of}
 use Rattle.fc_cert.specs.declared.claims.Claim.{Claim}
 use Rattle.fc_cert.specs.declared.claims.Claim.TheVariants as claim
 use Rattle.fc_cert.specs.Claim.{IsCertificate, written_form}
@@ -117,9 +117,20 @@ abbrev pub IsGivenUnanswered : GameRules → ℕ → ℕ → BoundKind → ℕ �
 IsGivenUnanswered g rule weight kind budget source cert sink fault =
     IsBudget budget × ((start : Board) × GivesBoard g.cells source start × IsUnanswered g rule weight kind start budget cert sink fault)
 
--- what is heard of a search is true of the position that the source gave
-abbrev pub IsHeardOf : GameRules → ℕ → ℕ → BoundKind → ℕ → Device → Progress → Type 0
-IsHeardOf g rule weight kind budget source far = (start : Board) × GivesBoard g.cells source start × IsFarOf g rule weight kind start budget far
+-- a board was answered, and this is what was heard of the very search whose verdict was written
+abbrev pub IsHeardAnswered : GameRules → ℕ → ℕ → BoundKind → Board → ℕ → Device → List Progress → Type 0
+IsHeardAnswered g rule weight kind b budget sink heard = (verdict : Verdict)
+    × IsHeardToEnd (question_of g rule weight kind b) budget heard verdict × Takes sink.old sink.new (answer_text verdict)
+
+-- what was heard of solving that was answered is of the position that the source gave
+abbrev pub IsHeardOf : GameRules → ℕ → ℕ → BoundKind → ℕ → Device → Device → List Progress → Type 0
+IsHeardOf g rule weight kind budget source sink heard = (start : Board) × GivesBoard g.cells source start
+    × IsHeardAnswered g rule weight kind start budget sink heard
+
+-- and so is what was heard of solving that wasn't answered, if anything was
+abbrev pub IsHeardUnanswered : GameRules → ℕ → ℕ → BoundKind → ℕ → Device → List Progress → Type 0
+IsHeardUnanswered g rule weight kind budget source heard = (heard ≡ [])
+    ⊎ ((start : Board) × GivesBoard g.cells source start × IsHeardAtMost (question_of g rule weight kind start) budget heard)
 
 -- why solving was not answered: no position was given, and nothing was written; or one was, and wasn't answered
 abbrev pub IsSolveFault : GameRules → ℕ → ℕ → BoundKind → ℕ → Device → Option Device → Device → ProgramFault → Type 0

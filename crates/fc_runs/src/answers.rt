@@ -2,7 +2,7 @@
 
 ghost use Rattle.std.specs.Prelude.{◌≡◌, ◌≤◌, ◌++◌, length, IfOk, OnOk, All};
 ghost use Rattle.fc_moves.specs.MoveText.{HasText};
-ghost use Rattle.fc_answers.specs.Verdict.{CanBeWritten, verdict_of};
+ghost use Rattle.fc_answers.specs.Verdict.{CanBeWritten, outcome_of, verdict_of};
 ghost use Rattle.arrayvec.specs.ArrayString.{array_string_len};
 ghost use Rattle.fc_runs.specs.Batches.{line_text, told_status, told_text};
 ghost use Rattle.fc_runs.specs.AnswerText.{accepted_text, answer_text, list_text, moves_line, shortest_line, won_line, gave_up_text, status_of};
@@ -95,6 +95,19 @@ pub fn line_text(deal: u32, told: Option<Outcome>) -> ArrayString<128>
     text.push_str(" ");
     push_told(&mut text, told);
     text
+}
+
+/// A verdict without its moves: how many there are.
+pub fn outcome_of(verdict: &Verdict) -> Outcome
+    requires texts { CanBeWritten verdict.now }
+    ensures value { result ≡ outcome_of verdict.now }
+{
+    match verdict {
+        Verdict::Shortest(moves) => Outcome::Shortest(moves.len() as u32),
+        Verdict::Won(moves, floor) => Outcome::Won(moves.len() as u32, *floor),
+        Verdict::CannotWin => Outcome::CannotWin,
+        Verdict::GaveUp(budget) => Outcome::GaveUp(*budget),
+    }
 }
 
 /// The exit status that tells what is told of a deal in a batch.

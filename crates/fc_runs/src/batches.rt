@@ -9,7 +9,7 @@ ghost use Rattle.fc_search.specs.Search.{State};
 ghost use Rattle.fc_batch.specs.Batch.{OthersStay, search_at, work_left};
 ghost use Rattle.fc_runs.specs.Batches.{AreCutShort, AreTold, HaveEnded, HoldsDeals, IsAsked, IsBatched, IsBatchFault, IsRightOf, IsSearchOf, IsUnasked};
 
-use crate::answers::{line_text, told_status};
+use crate::answers::{line_text, outcome_of, told_status};
 use crate::faults::{Output, ProgramFault};
 use fc_answers::Outcome;
 use fc_batch::Batch;
@@ -26,14 +26,9 @@ use std::alloc::Global;
 /// The most deals of a batch.
 pub const MOST_DEALS: u32 = 32;
 
-// So many turns a search has in a row, as what it stores is then at hand: with one turn each, eight searches took up to half
-// as long again as one after the other.
-const STRETCH: u32 = 4096;
-
-/// Searches the deals `from` to `to` of the game in turns, each under a home rule of at most 2 by a weight of 1 to 10 and a
-/// kind of bound, with at most `budget` stored classes, and writes a line for each, rising: its number, and its answer without moves or `want of
-/// memory`. By a weight above 1 a list of so many moves wins, and solving may list fewer; each has at least as many as
-/// its line says. The status is the greatest of
+/// Searches the deals `from` to `to` of the game, which take turns, one turn each in rising order again and again, under a home
+/// rule of at most 2 by a weight of 1 to 10 and a kind of bound, each with at most `budget` stored classes. Writes a line for
+/// each, rising: its number, and its answer with the number of its moves, or `want of memory`. The status is the greatest of
 /// theirs: 0 for a solution, 1 where a deal can't be won, 2 on giving up, 4 for want of memory.
 ///
 /// # Errors
@@ -156,7 +151,7 @@ fn run_to_end<G: Game + Drop>(batch: &mut Batch<BucketFrontier, G>, count: usize
     while run_each(batch, count) {}
 }
 
-// A stretch of turns of each of them; whether one may still run.
+// One turn of each of them; whether one may still run.
 fn run_each<G: Game + Drop>(batch: &mut Batch<BucketFrontier, G>, count: usize) -> bool
     ensures held { (g : GameRules) (rule weight : ℕ) (kind : BoundKind) (budget from : ℕ) → HoldsDeals g rule weight kind budget from count batch.old
         → HoldsDeals g rule weight kind budget from count batch.new }
@@ -166,15 +161,15 @@ fn run_each<G: Game + Drop>(batch: &mut Batch<BucketFrontier, G>, count: usize) 
 {
     let mut is_running = false;
     for number in 0..count {
-        if run_on(batch, number) {
+        if take_turn(batch, number) {
             is_running = true;
         }
     }
     is_running
 }
 
-// A stretch of turns of one search; whether it may still run.
-fn run_on<G: Game + Drop>(batch: &mut Batch<BucketFrontier, G>, number: usize) -> bool
+// One turn of one search; whether it may still run.
+fn take_turn<G: Game + Drop>(batch: &mut Batch<BucketFrontier, G>, number: usize) -> bool
     ensures held { (g : GameRules) (rule weight : ℕ) (kind : BoundKind) (budget from count : ℕ) → HoldsDeals g rule weight kind budget from count batch.old
         → HoldsDeals g rule weight kind budget from count batch.new }
     ensures others { OthersStay number batch.old batch.new }
@@ -182,11 +177,9 @@ fn run_on<G: Game + Drop>(batch: &mut Batch<BucketFrontier, G>, number: usize) -
     ensures most { work_left batch.new ≤ work_left batch.old }
     ensures falls { result ≡ true → work_left batch.new < work_left batch.old }
 {
-    for _ in 0..STRETCH {
-        let Ok(Step::Running) = batch.turn(number) else {
-            return false;
-        };
-    }
+    let Ok(Step::Running) = batch.turn(number) else {
+        return false;
+    };
     true
 }
 
@@ -222,5 +215,8 @@ fn told_of<G: Game + Drop>(batch: &Batch<BucketFrontier, G>, number: usize) -> O
     ensures told { (g : GameRules) (rule weight : ℕ) (kind : BoundKind) (budget deal : ℕ) (search : State) → search_at batch.now number ≡ Some search
         → IsSearchOf g rule weight kind budget deal search → (search.status ≡ Status.Running → ⊥) → IsRightOf g rule weight kind budget deal result }
 {
-    batch.get(number)?.outcome().ok()
+    match batch.get(number)?.verdict() {
+        Ok(verdict) => Some(outcome_of(&verdict)),
+        Err(_) => None,
+    }
 }

@@ -1,6 +1,6 @@
 //! Solving, over any source and any sinks.
 
-ghost use Rattle.std.specs.Prelude.{◌≡◌, ◌+◌, ◌≤◌, ℕ, Some, None, IfOk, IfErr, OnOk, OnErr};
+ghost use Rattle.std.specs.Prelude.{◌≡◌, ◌+◌, ◌≤◌, ℕ, List, Some, None, IfOk, IfErr, OnOk, OnErr, MatchResult};
 ghost use Rattle.fc_io.specs.Moves.{GivesAtMost};
 ghost use Rattle.fc_position.specs.Board.{Board};
 ghost use Rattle.fc_position.specs.Position.{Fits};
@@ -10,8 +10,9 @@ ghost use Rattle.fc_answers.specs.Verdict.{CanBeWritten, verdict_of};
 ghost use Rattle.fc_best_first.specs.Search.{IsBudget, IsWeight};
 ghost use Rattle.fc_search.specs.Search.{Answers};
 ghost use Rattle.fc_runs.specs.Devices.{GivesBoard, IsHandedBack, lent};
-ghost use Rattle.fc_watch.specs.Watch.{Hears, IsFarOf};
-ghost use Rattle.fc_runs.specs.Solving.{IsAnswered, IsCertified, IsCutShort, IsHeardOf, IsSolved, IsSolveFault, IsStartFault, IsUnanswered};
+ghost use Rattle.fc_watch.specs.declared.listeners.Progress.{Progress};
+ghost use Rattle.fc_watch.specs.Watch.{HearsAll, IsHeardAtMost, question_of};
+ghost use Rattle.fc_runs.specs.Solving.{IsAnswered, IsCertified, IsCutShort, IsHeardAnswered, IsHeardOf, IsHeardUnanswered, IsSolved, IsSolveFault, IsStartFault, IsUnanswered};
 
 use crate::answers::{answer_status, answer_text, verdict_status, verdict_text};
 use crate::faults::{Output, ProgramFault};
@@ -72,8 +73,8 @@ pub fn run_solve<G: Game + Drop, S: Source, K: Sink, C: Sink>(
     }
 }
 
-/// Solves as `run_solve` does, and the listener hears how far the search is, while it runs and when it ends: what it hears is
-/// true of the board that was given.
+/// Solves as `run_solve` does, and the listener hears how far the search is, while it runs and when it ends: of the very search
+/// whose answer is written, its end last.
 ///
 /// # Errors
 /// Those of `run_solve`.
@@ -101,8 +102,12 @@ pub fn run_solve_heard<G: Game + Drop, S: Source, K: Sink, C: Sink, L: Listener>
         record { old = K.held out.old; new = K.held out.new; failed = K.has_failed out.new }) }
     ensures taken { GivesAtMost (S.told board.old) (S.told board.new) (LONGEST_BOARD + 1) }
     ensures back { IsHandedBack cert.entry cert.exit }
-    ensures heard { Hears (L.heard listener.old) (L.heard listener.new) (IsHeardOf (G.game game.now) rule weight bound budget
-        record { old = S.told board.old; new = S.told board.new; failed = S.has_failed board.new }) }
+    ensures heard { (heard : List Progress) × HearsAll L.hears listener.old heard listener.new
+        × MatchResult result (λ status. IsHeardOf (G.game game.now) rule weight bound budget
+        record { old = S.told board.old; new = S.told board.new; failed = S.has_failed board.new }
+        record { old = K.held out.old; new = K.held out.new; failed = K.has_failed out.new } heard)
+        (λ fault. IsHeardUnanswered (G.game game.now) rule weight bound budget
+        record { old = S.told board.old; new = S.told board.new; failed = S.has_failed board.new } heard) }
 {
     let start = read_start(game, board, budget)?;
     match cert {
@@ -154,7 +159,10 @@ fn tell<G: Game + Drop, K: Sink, L: Listener>(
         record { old = K.held out.old; new = K.held out.new; failed = K.has_failed out.new }) }
     ensures fault { IfErr result (IsUnanswered (G.game game.now) rule weight bound start.now budget None
         record { old = K.held out.old; new = K.held out.new; failed = K.has_failed out.new }) }
-    ensures heard { Hears (L.heard listener.old) (L.heard listener.new) (IsFarOf (G.game game.now) rule weight bound start.now budget) }
+    ensures heard { (heard : List Progress) × HearsAll L.hears listener.old heard listener.new
+        × MatchResult result (λ status. IsHeardAnswered (G.game game.now) rule weight bound start.now budget
+        record { old = K.held out.old; new = K.held out.new; failed = K.has_failed out.new } heard)
+        (λ fault. IsHeardAtMost (question_of (G.game game.now) rule weight bound start.now) budget heard) }
 {
     let Ok(verdict) = decide(alloc, game, rule, weight, bound, start, budget, listener) else {
         return Err(ProgramFault::Memory);
@@ -189,7 +197,10 @@ fn certify<G: Game + Drop, K: Sink, C: Sink, L: Listener>(
     ensures fault { IfErr result (IsUnanswered (G.game game.now) rule weight bound start.now budget
         (Some record { old = C.held cert.old; new = C.held cert.new; failed = C.has_failed cert.new })
         record { old = K.held out.old; new = K.held out.new; failed = K.has_failed out.new }) }
-    ensures heard { Hears (L.heard listener.old) (L.heard listener.new) (IsFarOf (G.game game.now) rule weight bound start.now budget) }
+    ensures heard { (heard : List Progress) × HearsAll L.hears listener.old heard listener.new
+        × MatchResult result (λ status. IsHeardAnswered (G.game game.now) rule weight bound start.now budget
+        record { old = K.held out.old; new = K.held out.new; failed = K.has_failed out.new } heard)
+        (λ fault. IsHeardAtMost (question_of (G.game game.now) rule weight bound start.now) budget heard) }
 {
     let Ok(answer) = solve(alloc, game, rule, weight, bound, start, budget, listener) else {
         return Err(ProgramFault::Memory);

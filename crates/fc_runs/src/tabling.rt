@@ -1,19 +1,19 @@
 //! A table of several numbered deals, which are searched one after the other, over any sink.
 
 ghost use Rattle.std.specs.Prelude.{◌≡◌, ◌+◌, ◌≤◌, ◌++◌, length, None, Some, IfOk, IfErr, IfSome, OnErr};
-ghost use Rattle.fc_deal.specs.Deal.{IsDealNumber};
+ghost use Rattle.fc_deal.specs.Deal.{IsDealNumber, dealt_board};
 ghost use Rattle.fc_best_first.specs.Search.{IsBudget, IsWeight};
-ghost use Rattle.fc_answers.specs.Verdict.{CanBeWritten, outcome_of};
 ghost use Rattle.arrayvec.specs.ArrayString.{array_string_len};
-ghost use Rattle.fc_watch.specs.Watch.{Hears};
+ghost use Rattle.fc_watch.specs.declared.listeners.Progress.{Progress};
+ghost use Rattle.fc_watch.specs.Watch.{HearsAll, TellFloors};
 ghost use Rattle.fc_runs.specs.Batches.{IsToldOf};
-ghost use Rattle.fc_runs.specs.Tabling.{AreTabled, IsTabled, IsTableCutShort, IsTableFault, answer_name, far_text, floor_of, moves_of, number_text, row_text};
+ghost use Rattle.fc_runs.specs.Tabling.{AreTabled, IsDealFloor, IsTabled, IsTableCutShort, IsTableFault, answer_name, far_text, floor_of, moves_of, number_text, row_text};
 
-use crate::answers::told_status;
+use crate::answers::{outcome_of, told_status};
 use crate::batches::deals_of;
 use crate::faults::{Output, ProgramFault};
 use arrayvec::ArrayString;
-use fc_answers::{Outcome, Verdict};
+use fc_answers::Outcome;
 use fc_bound::BoundKind;
 use fc_deal::deal;
 use fc_home::GREATEST_RULE;
@@ -32,21 +32,18 @@ struct Row {
     far: Option<Progress>,
 }
 
-/// Who keeps what a search told last.
+/// Who keeps what is told last of a search.
 #[derive(Clone, Copy)]
 struct Last {
     far: Option<Progress>,
 }
 
 impl Listener for Last {
-    ghost use Rattle.std.specs.Prelude.{None};
+    ghost use Rattle.std.specs.Prelude.{◌≡◌, Some};
 
-    ghost heard = { λ _. None };
+    ghost hears = { λ _ far new. new.far ≡ Some far };
 
-    fn hear(&mut self, far: Progress)
-        ensures heard { Hears None None (λ told. told ≡ far) }
-        ensures kept { self.new.far ≡ Some far }
-    {
+    fn hear(&mut self, far: Progress) {
         self.far = Some(far);
     }
 }
@@ -58,7 +55,8 @@ impl Listener for Last {
 /// fewer moves than, as the answer tells it, or else the search; and what the search told of itself last: its classes, its
 /// turns, and the most that was open. A cell is empty where there is nothing to tell. Where memory is wanted for one deal, the
 /// next one goes on. The status is the greatest of the rows': 0 for a solution, 1 where a deal can't be won, 2 on giving up, 4
-/// for want of memory. Of what a search told of itself nothing is proved: these numbers are only tested.
+/// for want of memory. No list of moves wins a row's deal in fewer than its floor, also where the search gave up or memory was
+/// wanted. Of the classes, the turns and the most that was open nothing is proved: these numbers are only tested.
 ///
 /// # Errors
 /// In this order: a number outside 1 to 1,000,000, `from` before `to`; no deal or more than 32; a budget outside 1 to
@@ -141,6 +139,7 @@ fn row_of<G: Game + Drop>(
     requires budgeted { IsBudget budget }
     ensures deal { result.deal ≡ number }
     ensures right { IfSome result.told (IsToldOf (G.game game.now) rule weight bound budget number) }
+    ensures floor { IfSome (floor_of result.told result.far) (IsDealFloor (G.game game.now) number) }
 {
     let mut last = Last { far: None };
     let told = told_of(alloc, game, rule, weight, bound, number, budget, &mut last);
@@ -168,25 +167,13 @@ fn told_of<G: Game + Drop, L: Listener>(
     requires budgeted { IsBudget budget }
     ensures told { IfOk result (IsToldOf (G.game game.now) rule weight bound budget number) }
     ensures fault { IfErr result (λ fault. fault ≡ SearchFault.Memory) }
+    ensures floors { (heard : List Progress) × HearsAll L.hears listener.old heard listener.new × TellFloors (G.game game.now) (dealt_board number) heard }
 {
     let position = deal(number).unwrap();
     let verdict = decide(
         alloc, game, rule, weight, bound, &position, budget, listener,
     )?;
     Ok(outcome_of(&verdict))
-}
-
-// A verdict without its moves.
-fn outcome_of(verdict: &Verdict) -> Outcome
-    requires written { CanBeWritten verdict.now }
-    ensures value { result ≡ outcome_of verdict.now }
-{
-    match verdict {
-        Verdict::Shortest(moves) => Outcome::Shortest(moves.len() as u32),
-        Verdict::Won(moves, floor) => Outcome::Won(moves.len() as u32, *floor),
-        Verdict::CannotWin => Outcome::CannotWin,
-        Verdict::GaveUp(budget) => Outcome::GaveUp(*budget),
-    }
 }
 
 // The text of a row: six numbers of at most 40 digits, what the answer is called, and seven ends of cells.

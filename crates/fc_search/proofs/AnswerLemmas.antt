@@ -237,6 +237,7 @@ module _ (g : GameRules) (rule weight : ℕ) (kind : BoundKind) (p : Board) (bud
         right = record { wins = won.4; least = won.5 };
         earned = tt;
         written = (run_texts g p b ms pp run, omega (arith, low, inside_store, room, few, cost));
+        few = omega (arith, low, inside_store, room, few, cost);
         backed = record { answer = answer.Shortest ms table; told = refl; backed = backed; searched = (listed.1, listed.2) };
       }
 
@@ -263,6 +264,7 @@ module _ (g : GameRules) (rule weight : ℕ) (kind : BoundKind) (p : Board) (bud
         };
         earned = tt;
         written = (run_texts g p wins.0 ms pp wins.1, omega (arith, low, inside_store, room, few, le));
+        few = omega (arith, low, inside_store, room, few, le);
         backed = record { answer = answer.Won ms floor table; told = refl; backed = backed; searched = (listed.1, listed.2) };
       }
 
@@ -280,6 +282,7 @@ module _ (g : GameRules) (rule weight : ℕ) (kind : BoundKind) (p : Board) (bud
         right = λ ms wins. none (length ms) (ms, refl, wins);
         earned = tt;
         written = tt;
+        few = tt;
         backed = record { answer = answer.CannotWin table; told = refl; backed = backed; searched = (listed.1, listed.2) };
       }
 
@@ -291,5 +294,6 @@ module _ (g : GameRules) (rule weight : ℕ) (kind : BoundKind) (p : Board) (bud
         right = (same, needs_reach g rule weight kind p budget more);
         earned = more;
         written = tt;
+        few = tt;
         backed = record { answer = answer.GaveUp told; told = refl; backed = tt; searched = tt };
       }

@@ -1,7 +1,7 @@
 mod AnswerLemmas
 mod ChildLemmas
+mod FloorLemmas
 mod NeedLemmas
-mod OutcomeLemmas
 mod RowLemmas
 mod ShiftLemmas
 mod StayLemmas

@@ -13,12 +13,10 @@ use Rattle.fc_best_first.specs.Shown.{IsLeastOpen}
 use Rattle.fc_best_first.specs.Store.{Store, Stands}
 use Rattle.fc_classes.specs.Classes.{classes}
 use Rattle.fc_answers.specs.declared.answers.Answer.{Answer}
-use Rattle.fc_answers.specs.declared.answers.Outcome.{Outcome}
-use Rattle.fc_answers.specs.declared.answers.Outcome.TheVariants as outcome
 use Rattle.fc_answers.specs.declared.answers.Verdict.{Verdict}
 use Rattle.fc_answers.specs.declared.answers.Verdict.TheVariants as verdict
 use Rattle.fc_answers.specs.Answer.{IsBacked, IsSearchedBy, CanBeBacked}
-use Rattle.fc_answers.specs.Verdict.{verdict_of, outcome_of, IsRight, CanBeWritten}
+use Rattle.fc_answers.specs.Verdict.{verdict_of, IsRight, CanBeWritten, HasFewMoves}
 use Rattle.fc_search.specs.Need.{IsEarned}
 use Rattle.fc_bound.specs.declared.kinds.BoundKind.{BoundKind}
 use Rattle.fc_bound.specs.Kinds.{guide_of}
@@ -36,8 +34,8 @@ pub record Question : Type 0 where
 abbrev pub classes_of : Question → Graph (List ℕ)
 classes_of q = classes (guide_of q.bound) q.game q.rule q.start
 
--- where a search stands: its question, its budget, what it stores and has open, its status, and the cost plus weighed
--- bound of what it took last
+-- where a search stands: its question, its budget, what it stores and has open, its status, and the greatest cost plus
+-- weighed bound that it took
 pub record State : Type 0 where
   pub question : Question
   pub budget : ℕ
@@ -63,12 +61,13 @@ IsOfStatus g weight s budget CannotWin verdict.CannotWin = Unit {0}
 IsOfStatus g weight s budget (GaveUp y number) (verdict.GaveUp told) = told ≡ budget
 IsOfStatus g weight s budget status verdict = ⊥
 
--- all that a verdict of a search for the board is: right, earned, such as can be written, and that of an answer that a
+-- all that a verdict of a search for the board is: right, earned, such as can be written, of few moves, and that of an answer that a
 -- table of the search's rule and bound backs, whether or not it was made
 pub record IsVerdict (g : GameRules) (rule : ℕ) (weight : ℕ) (kind : BoundKind) (b : Board) (budget : ℕ) (verdict : Verdict) : Type 0 where
   pub right : IsRight g weight b budget verdict
   pub earned : IsEarned g rule weight kind b budget verdict
   pub written : CanBeWritten verdict
+  pub few : HasFewMoves verdict
   pub backed : CanBeBacked g rule kind b verdict
 
 -- all that an answer of a search for the board is: a verdict that is right, backed by a table of the search's rule and bound
@@ -82,22 +81,6 @@ abbrev pub IsUnanswered : Status (List ℕ) → SearchFault → Type 0
 IsUnanswered Running told = told ≡ fault.NotDone
 IsUnanswered Stopped told = told ≡ fault.Stopped
 IsUnanswered done told = told ≡ fault.Memory
-
--- what is told of a search that is done: what its verdict tells but its moves
-abbrev pub IsOutcome : State → Outcome → Type 0
-IsOutcome s told = (verdict : Verdict) × IsVerdict s.question.game s.question.rule s.question.weight s.question.bound s.question.start s.budget verdict
-    × IsOfStatus (classes_of s.question) s.question.weight s.store s.budget s.status verdict × (told ≡ outcome_of verdict)
-
--- a number of moves that is told of a list within a weight is what the won class costs
-abbrev pub TellsCost : Store (List ℕ) → Status (List ℕ) → Outcome → Type 0
-TellsCost s (Won number) (outcome.Won told floor) = (x : List ℕ) × (mark : Mark) × Stands s number x mark × (told ≡ mark.cost)
-TellsCost s status told = Unit {0}
-
--- why nothing is told of a search: it is still running, or it was stopped
-abbrev pub IsUntold : Status (List ℕ) → SearchFault → Type 0
-IsUntold Running told = told ≡ fault.NotDone
-IsUntold Stopped told = told ≡ fault.Stopped
-IsUntold done told = ⊥
 
 -- a search that began ran on to this store and this status within the budget
 pub record HasRun (g : GameRules) (rule : ℕ) (weight : ℕ) (kind : BoundKind) (b : Board) (budget : ℕ) (last : Store (List ℕ)) (status : Status (List ℕ)) : Type 0 where

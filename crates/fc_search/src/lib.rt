@@ -5,13 +5,13 @@
 //! game, and the search over its queue.
 #![tactic(auto)]
 
-pub use fc_answers::{Answer, MoveList, Outcome, Table, Verdict};
+pub use fc_answers::{Answer, MoveList, Table, Verdict};
 pub use fc_best_first::{MOST_BUDGET, MOST_WEIGHT, SearchFault, Step};
 pub use positions::{Children, Positions};
 pub use searches::{Search, decide, solve};
 
-mod outcomes;
 mod positions;
+mod progress;
 mod searches;
 mod tables;
 mod walks;

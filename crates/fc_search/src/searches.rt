@@ -80,8 +80,8 @@ impl<F: Frontier + Drop, G: Game + Drop> Search<F, G> {
         Ok(Search { alloc, search })
     }
 
-    /// One turn: a running search takes one open class of least cost and weighed bound, which is its floor from then on. A
-    /// search that is done answers `Done` and stays as it is.
+    /// One turn: a running search takes one open class of least cost and weighed bound, which is its floor from then on, where
+    /// it is greater. A search that is done answers `Done` and stays as it is.
     ///
     /// # Errors
     /// `Memory` where a growth was refused, and the search is stopped; `Stopped` from then on, and it stays as it is.
@@ -90,6 +90,7 @@ impl<F: Frontier + Drop, G: Game + Drop> Search<F, G> {
         ensures budget { self.new.budget ≡ self.old.budget }
         ensures turns { Turns (classes_of self.old.question) self.old.question.weight self.old.budget self.old.status self.old.store self.new.store self.new.status result }
         ensures floor { FloorAfter self.old.status self.old.store.waiting self.old.floor self.new.floor }
+        ensures rises { self.old.floor ≤ self.new.floor }
         ensures falls { result ≡ Ok Step.Running → work_left self.old.budget self.new.store < work_left self.old.budget self.old.store }
     {
         self.search.turn()

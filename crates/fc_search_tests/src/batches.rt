@@ -1,11 +1,12 @@
 //! Batches of searches: turns by numbers, what they reply, and what is told of each search.
 
 use crate::given::{board, free_cell, sure};
+use fc_answers::Outcome;
 use fc_batch::Batch;
 use fc_bound::BoundKind;
 use fc_frontier::BucketFrontier;
 use fc_moves::FreeCell;
-use fc_search::{Answer, Outcome, Search, SearchFault, Step, Verdict};
+use fc_search::{Answer, Search, SearchFault, Step, Verdict};
 use fc_tests::boards::{LOCKED, QUEEN_UNDER_KING, THREE_KINGS, TWO_KINGS};
 use std::alloc::Global;
 use std::process::Abort;
@@ -66,7 +67,7 @@ fn tells(verdict: &Verdict, told: Outcome) -> bool {
     }
 }
 
-// The search with this number is done, and its answer, its verdict and its outcome tell this.
+// The search with this number is done, and its answer and its verdict tell this.
 fn check_told(
     rt: &impl Abort,
     batch: &Batch<BucketFrontier, FreeCell>,
@@ -74,8 +75,6 @@ fn check_told(
     told: Outcome,
 ) {
     let search = batch.get(number).expect(rt, "a search");
-    let outcome = sure(rt, search.outcome());
-    assert!(rt; outcome == told, "an outcome of {number}");
     let verdict = sure(rt, search.verdict());
     assert!(rt; tells(&verdict, told), "a verdict of {number}");
     let answer = sure(rt, search.answer());
@@ -87,8 +86,8 @@ fn check_untold(rt: &impl Abort, batch: &Batch<BucketFrontier, FreeCell>, number
     let search = batch.get(number).expect(rt, "a search");
     let fault = search.answer().err();
     assert!(rt; fault == Some(SearchFault::NotDone), "an answer");
-    let fault = search.outcome().err();
-    assert!(rt; fault == Some(SearchFault::NotDone), "an outcome");
+    let fault = search.verdict().err();
+    assert!(rt; fault == Some(SearchFault::NotDone), "a verdict");
 }
 
 // A turn for a number, and its reply.

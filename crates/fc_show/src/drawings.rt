@@ -1,6 +1,7 @@
 ghost use Rattle.std.specs.Prelude.{◌≡◌, ◌+◌, ◌≤◌, ◌++◌, length};
 ghost use Rattle.fc_cards.specs.Suit.{suit_index};
 ghost use Rattle.fc_position.specs.Board.{home};
+ghost use Rattle.fc_position.specs.Position.{Fits};
 ghost use Rattle.fc_show.specs.Drawing.{cells_row, drawing, ended, foundations_row, height, row, top, top_card, top_names, top_row};
 
 use crate::entries::{push, push_held, push_names, push_place};
@@ -14,11 +15,12 @@ pub const MOST_BYTES: usize = 8192;
 /// A board that is drawn.
 pub type Drawing = ArrayVec<u8, MOST_BYTES>;
 
-/// The drawing of a position in a game with so many cells, at most four: the game's cells by their names and the
+/// The drawing of a position that fits a game with so many cells, at most four: the game's cells by their names and the
 /// top cards of the foundations, an empty line, and the columns by their numbers, each going downward from its deepest card.
 /// Cards of red suits are in red where colours are shown, as terminals take it.
 pub fn draw(position: &Position, cells: u8, is_coloured: bool) -> Drawing
     requires game { cells ≤ 4 }
+    requires fits { Fits cells position.now }
     ensures value { result.items ≡ drawing is_coloured cells position.now }
 {
     let mut text = ArrayVec::new();

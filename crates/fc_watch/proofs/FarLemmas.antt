@@ -1,45 +1,100 @@
--- How far a search is that began and had turns.
-use Rattle.std.proofs.Common.{◌≡◌, ℕ, ◌+◌, ◌≤◌, List, length, Option, sym, subst}
+-- How far a search is that began and had turns, and what is heard of it then.
+use Rattle.std.proofs.Common.{◌≡◌, ◌≢◌, ℕ, ◌+◌, ◌*◌, ◌<◌, ◌≤◌, List, [], ◌∷◌, ◌++◌, length, Option, ◌∙◌, ap, refl, sym, subst, inr}
+use Rattle.std.specs.Prelude.{max}
+use Rattle.fc_frontier.specs.Queue.{Adds}
+use Rattle.fc_position.specs.Board.{Board}
 use Rattle.fc_moves.specs.declared.steps.Move.{Move}
+use Rattle.fc_moves.specs.GameRules.{GameRules}
 use Rattle.fc_moves.specs.Run.{Wins}
-use Rattle.fc_best_first.specs.declared.turns.Status.{Status}
-use Rattle.fc_best_first.specs.declared.turns.Status.TheVariants.{Running}
-use Rattle.fc_best_first.specs.Search.{Begins, TurnsOn}
-use Rattle.fc_best_first.specs.Store.{Store}
-use Rattle.fc_search.specs.Search.{Question, classes_of}
+use Rattle.fc_bound.specs.declared.kinds.BoundKind.{BoundKind}
+use Rattle.fc_best_first.specs.declared.turns.Status.TheVariants.{Running, Stopped}
+use Rattle.fc_best_first.specs.Search.{Begins}
+use Rattle.fc_search.specs.Search.{Question, State, classes_of}
 use Rattle.fc_watch.specs.declared.listeners.Progress.{Progress}
-use Rattle.fc_watch.specs.Watch.{Hears, IsFarOf}
-use Rattle.fc_watch.proofs.HearLemmas.{hears_both, hears_such}
-use Rattle.fc_watch.proofs.TurnLemmas.{turns_both}
+use Rattle.fc_watch.specs.Watch.{IsFirst, IsHeard, IsHeardInPart, IsHeardOn, TellsFloor, TurnsMany, question_of, stage_of}
+use Rattle.fc_watch.proofs.HearLemmas.{heard_on, most_of, some_heard}
 
-module _ (q : Question) (budget : ℕ) (first : Store (List ℕ)) where
+-- a question by its parts
+asked : GameRules → ℕ → ℕ → BoundKind → Board → Question
+asked = question_of
+
+pub asked_all : (q : Question) (g : GameRules) (rule weight : ℕ) (kind : BoundKind) (start : Board) → q.game ≡ g → q.rule ≡ rule
+    → q.weight ≡ weight → q.bound ≡ kind → q.start ≡ start → q ≡ question_of g rule weight kind start
+unfolding asked
+asked_all q g rule weight kind start game ruled weighed bounded starts =
+    ap (λ x. asked x q.rule q.weight q.bound q.start) game ∙ ap (λ r. asked g r q.weight q.bound q.start) ruled
+    ∙ ap (λ w. asked g rule w q.bound q.start) weighed ∙ ap (λ k. asked g rule weight k q.start) bounded
+    ∙ ap (λ b. asked g rule weight kind b) starts
+
+-- a search that has had no turn
+pub is_first : (q : Question) (s : State) → s.question ≡ q → s.status ≡ Running → Begins (classes_of s.question) s.question.weight s.store
+    → Adds [] s.store.waiting (s.floor, 0) → IsFirst q (stage_of s 0)
+is_first q s asked running begins floor = record {
+  begins = subst (λ p. Begins (classes_of p) p.weight s.store) asked begins;
+  running = running;
+  floor = floor;
+  none = refl;
+}
+
+module _ (q : Question) (budget : ℕ) where
   -- turns of a search that is still of the question and the budget with which it began
-  pub turned_on : (p : Question) (own turns made : ℕ) (mid last : Store (List ℕ)) (status : Status (List ℕ)) → p ≡ q → own ≡ budget
-      → TurnsOn turns (classes_of q) q.weight budget Running first mid Running → TurnsOn made (classes_of p) p.weight own Running mid last status
-      → TurnsOn (turns + made) (classes_of q) q.weight budget Running first last status
-  turned_on p own turns made mid last status asked budgeted some more =
-      turns_both (classes_of q) q.weight budget turns made Running Running status first mid last some
-      (subst (λ r. TurnsOn made (classes_of r) r.weight budget Running mid last status) asked
-      (subst (λ b. TurnsOn made (classes_of p) p.weight b Running mid last status) budgeted more))
+  pub turned_on : (now next : State) (turns made : ℕ) → now.question ≡ q → now.budget ≡ budget
+      → TurnsMany made now.question now.budget (stage_of now turns) (stage_of next (turns + made))
+      → TurnsMany made q budget (stage_of now turns) (stage_of next (turns + made))
+  turned_on now next turns made asked budgeted turned =
+      subst (λ p. TurnsMany made p budget (stage_of now turns) (stage_of next (turns + made))) asked
+      (subst (λ b. TurnsMany made now.question b (stage_of now turns) (stage_of next (turns + made))) budgeted turned)
 
-  -- with how far it is then, all that was heard is how far it was
-  pub heard_on : (far : Progress) (last : Store (List ℕ)) (status : Status (List ℕ)) (p : Question) (old mid new : Option (List Progress))
-      → Begins (classes_of q) q.weight first → TurnsOn far.turns (classes_of q) q.weight budget Running first last status
-      → far.classes ≡ length last.stored → far.open ≡ length last.waiting → far.budget ≡ budget → far.open ≤ far.most_open
-      → p ≡ q → ((moves : List Move) → Wins p.game p.start moves → far.at_least ≤ length moves)
-      → Hears old mid (IsFarOf q.game q.rule q.weight q.bound q.start budget) → Hears mid new (λ told. told ≡ far)
-      → Hears old new (IsFarOf q.game q.rule q.weight q.bound q.start budget)
-  heard_on far last status p old mid new begins turned stored opened budgeted most asked floor before then =
-      let is : IsFarOf q.game q.rule q.weight q.bound q.start budget far = record {
-        first = first;
-        last = last;
-        status = status;
-        begins = begins;
-        turned = turned;
-        stored = stored;
-        opened = opened;
-        budgeted = budgeted;
-        most = most;
-        floor = λ moves wins. floor moves (subst (λ r. Wins r.game r.start moves) (sym asked) wins);
-      } in
-      hears_both old mid new _ before (hears_such mid new far _ then is)
+  -- the floor that such a search tells
+  pub tells_floor : (next : State) (turns : ℕ) (far : Progress) → next.question ≡ q → far.budget ≡ budget → far.turns ≡ turns
+      → (next.floor ≤ next.question.weight * far.at_least) × (next.question.weight * far.at_least < next.floor + next.question.weight)
+      → ((moves : List Move) → Wins next.question.game next.question.start moves → far.at_least ≤ length moves)
+      → TellsFloor q budget (stage_of next turns) far
+  tells_floor next turns far asked budgeted counted near least = record {
+    budgeted = budgeted;
+    counted = counted;
+    near = subst (λ p. (next.floor ≤ p.weight * far.at_least) × (p.weight * far.at_least < next.floor + p.weight)) asked near;
+    least = λ moves wins. least moves (subst (λ p. Wins p.game p.start moves) (sym asked) wins);
+  }
+
+  module _ (first now next : State) (turns made most : ℕ) (heard : List Progress) (far : Progress)
+      (told : IsHeard q budget (stage_of first 0) 0 heard (stage_of now turns)) (some : 1 ≤ made)
+      (turned : TurnsMany made q budget (stage_of now turns) (stage_of next (turns + made)))
+      (floor : TellsFloor q budget (stage_of next (turns + made)) far) where
+    -- what was heard of a search that was not stopped, and how far it is now
+    pub heard_then : next.status ≢ Stopped → far.classes ≡ length next.store.stored → far.open ≡ length next.store.waiting
+        → most ≡ most_of 0 heard → far.most_open ≡ max most far.open
+        → IsHeard q budget (stage_of first 0) 0 (heard ++ far ∷ []) (stage_of next (turns + made))
+    heard_then going stored opened before greatest =
+        heard_on q budget (stage_of first 0) (stage_of now turns) (stage_of next (turns + made)) 0 made heard far told some turned
+        (record { going = going; stored = stored; opened = opened; floor = floor })
+        (greatest ∙ ap (λ m. max m far.open) before)
+
+    -- what was heard of one that a growth stopped
+    pub heard_stopped : IsFirst q (stage_of first 0) → next.status ≡ Stopped → IsHeardInPart q budget (heard ++ far ∷ [])
+    heard_stopped begins stopped = record {
+      first = stage_of first 0;
+      last = stage_of now turns;
+      begins = begins;
+      front = heard;
+      told = told;
+      rest = inr (far, refl, record {
+          stage = stage_of next (turns + made);
+          made = made;
+          some = some;
+          turned = turned;
+          stopped = stopped;
+          floor = floor;
+        });
+    }
+
+  -- what was heard of a search up to where it stands
+  pub heard_to : (first s : State) (turns : ℕ) (heard : List Progress) (far : Progress) → IsFirst q (stage_of first 0)
+      → IsHeard q budget (stage_of first 0) 0 (heard ++ far ∷ []) (stage_of s turns) → IsHeardOn q budget (heard ++ far ∷ []) s
+  heard_to first s turns heard far begins told = record {
+    first = stage_of first 0;
+    turns = turns;
+    begins = begins;
+    some = some_heard heard far;
+    told = told;
+  }

@@ -1,3 +1,4 @@
+pub mod EndLemmas
 pub mod FarLemmas
 pub mod HearLemmas
 pub mod TurnLemmas

@@ -13,9 +13,38 @@ use Rattle.fc_best_first.specs.declared.searches.SearchFault.{SearchFault}
 use Rattle.fc_best_first.specs.declared.searches.SearchFault.TheVariants.{Memory}
 use Rattle.fc_best_first.specs.Graph.{Graph, IsLawful}
 use Rattle.fc_best_first.specs.Store.{Store}
-use Rattle.fc_best_first.specs.Search.{Begins, Turns, TurnsOn, reply_of}
+use Rattle.fc_best_first.specs.Search.{Begins, FloorAfter, Turns, TurnsOn, reply_of}
 use Rattle.fc_best_first.specs.Turn.{work_left}
-use Rattle.fc_search.specs.Search.{Question, classes_of}
+use Rattle.fc_search.specs.Search.{Question, State, classes_of}
+use Rattle.fc_watch.specs.Watch.{Stage, TurnsMany, TurnsOnce, stage_of}
+
+module _ (q : Question) (budget : ℕ) where
+  -- some turns, and then one more
+  pub turns_more : (made : ℕ) (old mid new : Stage) → TurnsMany made q budget old mid → TurnsOnce q budget mid new
+      → TurnsMany (made + 1) q budget old new
+  turns_more zero old mid new same one = (new, subst (λ s. TurnsOnce q budget s new) same one, refl)
+  turns_more (suc made) old mid new (next, first, rest) one =
+      let count : suc (made + 1) ≡ suc made + 1 = omega arith in
+      subst (λ n. TurnsMany n q budget old new) count (next, first, turns_more made next mid new rest one)
+
+  -- turns with their floors are turns
+  pub turns_on : (made : ℕ) (old new : Stage) → TurnsMany made q budget old new
+      → TurnsOn made (classes_of q) q.weight budget old.status old.store new.store new.status
+  turns_on zero old new same = (ap (λ (s : Stage). s.store) same, ap (λ (s : Stage). s.status) same)
+  turns_on (suc made) old new (mid, one, rest) = (mid.store, mid.status, one.reply, one.turn, turns_on made mid new rest)
+
+  -- a turn of a search that is still of the question and the budget with which it began
+  pub one_turn : (old new : State) (before : ℕ) (reply : Result Step SearchFault) → old.question ≡ q → old.budget ≡ budget
+      → Turns (classes_of old.question) old.question.weight old.budget old.status old.store new.store new.status reply
+      → FloorAfter old.status old.store.waiting old.floor new.floor
+      → TurnsOnce q budget (stage_of old before) (stage_of new (before + 1))
+  one_turn old new before reply asked budgeted turn floor = record {
+    reply = reply;
+    turn = subst (λ p. Turns (classes_of p) p.weight budget old.status old.store new.store new.status reply) asked
+        (subst (λ b. Turns (classes_of old.question) old.question.weight b old.status old.store new.store new.status reply) budgeted turn);
+    floor = floor;
+    counted = refl;
+  }
 
 module _ {K : Type 0} (g : Graph K) (weight budget : ℕ) where
   -- some turns, and then some more
@@ -31,13 +60,6 @@ module _ {K : Type 0} (g : Graph K) (weight budget : ℕ) where
       let count : suc (first + then) ≡ suc first + then = omega arith in
       subst (λ n. TurnsOn n g weight budget before old new after) count
       (next, state, told, one, turns_both first then state between after next mid new rest more)
-
-  -- one turn more
-  pub turns_more : (turns : ℕ) (before between after : Status K) (old mid new : Store K) (reply : Result Step SearchFault)
-      → TurnsOn turns g weight budget before old mid between → Turns g weight budget between mid new after reply
-      → TurnsOn (turns + 1) g weight budget before old new after
-  turns_more turns before between after old mid new reply some one =
-      turns_both turns 1 before between after old mid new some (new, after, reply, one, (refl, refl))
 
   -- what a turn of a running search replies, by the status that it leaves
   pub turn_replies : (after : Status K) (old new : Store K) (reply : Result Step SearchFault)
@@ -60,13 +82,9 @@ module _ {K : Type 0} (g : Graph K) (weight budget : ℕ) where
   replies_running (GaveUp y number) h = absurd (cc)
   replies_running Stopped h = absurd (cc)
 
--- a turn of a search that is still of the question and the budget with which it began
-pub turn_along : (q first : Question) (budget most : ℕ) (before after : Status (List ℕ)) (old new : Store (List ℕ)) (reply : Result Step SearchFault)
-    → q ≡ first → budget ≡ most → Turns (classes_of q) q.weight budget before old new after reply
-    → Turns (classes_of first) first.weight most before old new after reply
-turn_along q first budget most before after old new reply asked budgeted turn =
-    subst (λ p. Turns (classes_of p) p.weight most before old new after reply) asked
-    (subst (λ b. Turns (classes_of q) q.weight b before old new after reply) budgeted turn)
+  -- a status that replies at all is not that of a search that was stopped
+  pub replies_going : (status : Status K) (step : Step) → reply_of status ≡ Ok step → status ≡ Stopped → ⊥
+  replies_going status step replied stopped = absurd (let e = sym (ap (λ (s : Status K). reply_of s) stopped) ∙ replied in cc)
 
 -- how much a search may do that has had no turn
 module _ {K : Type 0} (g : Graph K) (weight : ℕ) where

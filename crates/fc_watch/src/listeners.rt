@@ -1,7 +1,7 @@
-ghost use Rattle.std.specs.Prelude.{◌≡◌, List, Option, None};
-ghost use Rattle.fc_watch.specs.Watch.{Hears};
+ghost use Rattle.std.specs.Prelude.{◌≡◌};
 
-/// How far a search is.
+/// How far a search is. Where memory stops a search, what is told last is of the search only by its budget, its turns and
+/// `at_least`.
 #[derive(Clone, Copy, Debug, PartialEq, Eq)]
 pub struct Progress {
     /// How many classes of positions are stored.
@@ -14,7 +14,7 @@ pub struct Progress {
     pub open: u128,
     /// The most that were, whenever it was told.
     pub most_open: u128,
-    /// No list of fewer moves wins.
+    /// No list of fewer moves wins. It never falls.
     pub at_least: u32,
 }
 
@@ -22,12 +22,12 @@ pub struct Progress {
 pub trait Listener {
     ghost use Rattle.fc_watch.specs.declared.listeners.Progress.{Progress};
 
-    /// What was heard, where that is kept.
-    ghost heard: { Self → Option (List Progress) };
+    /// What hearing it does to the listener.
+    ghost hears: { Self → Progress → Self → Type 0 };
 
     /// Hears it once more.
     fn hear(&mut self, far: Progress)
-        ensures heard { Hears (heard self.old) (heard self.new) (λ told. told ≡ far) };
+        ensures heard { hears self.old far self.new };
 }
 
 /// Nobody hears it.
@@ -35,7 +35,7 @@ pub trait Listener {
 pub struct Unheard;
 
 impl Listener for Unheard {
-    ghost heard = { λ _. None };
+    ghost hears = { λ old _ new. new ≡ old };
 
     fn hear(&mut self, _far: Progress) {}
 }

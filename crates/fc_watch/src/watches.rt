@@ -1,13 +1,15 @@
 //! Searches that run to their end and are heard.
 
-ghost use Rattle.std.specs.Prelude.{◌≡◌, ◌+◌, ◌<◌, ◌≤◌, IfOk, IfErr, OnOk, MatchResult};
+ghost use Rattle.std.specs.Prelude.{◌≡◌, ℕ, ◌+◌, ◌<◌, ◌≤◌, List, [], IfOk, IfErr, OnOk, MatchResult};
+ghost use Rattle.fc_frontier.specs.Queue.{Adds};
 ghost use Rattle.fc_position.specs.Position.{Fits};
 ghost use Rattle.fc_moves.specs.GameRules.{IsPositionOf};
-ghost use Rattle.fc_best_first.specs.Search.{Begins, IsBudget, IsRefused, IsWeight, Runs, TurnsOn, reply_of};
+ghost use Rattle.fc_best_first.specs.Search.{Begins, IsBudget, IsRefused, IsWeight, Runs, reply_of};
 ghost use Rattle.fc_best_first.specs.Turn.{work_left};
 ghost use Rattle.fc_answers.specs.Verdict.{verdict_of};
 ghost use Rattle.fc_search.specs.Search.{classes_of, Answers, IsVerdict, IsRunToEnd, HasRun};
-ghost use Rattle.fc_watch.specs.Watch.{Hears, IsFarOf};
+ghost use Rattle.fc_watch.specs.declared.listeners.Progress.{Progress};
+ghost use Rattle.fc_watch.specs.Watch.{HearsAll, IsHeardBefore, IsHeardInPart, IsHeardOn, IsHeardToEnd, TurnsMany, question_of, stage_of};
 
 use crate::listeners::{Listener, Progress};
 use fc_best_first::Status;
@@ -45,7 +47,9 @@ pub fn solve<G: Game + Drop, L: Listener>(
     ensures ran { IfOk result (λ answer. IsRunToEnd (G.game game.now) rule weight bound position.now budget (verdict_of answer)) }
     ensures range { OnOk result (IsBudget budget) }
     ensures fault { IfErr result (IsRefused budget) }
-    ensures heard { Hears (L.heard listener.old) (L.heard listener.new) (IsFarOf (G.game game.now) rule weight bound position.now budget) }
+    ensures heard { (heard : List Progress) × HearsAll L.hears listener.old heard listener.new
+        × MatchResult result (λ answer. IsHeardToEnd (question_of (G.game game.now) rule weight bound position.now) budget heard (verdict_of answer))
+        (IsHeardBefore (question_of (G.game game.now) rule weight bound position.now) budget heard) }
 {
     at_end(alloc, game, rule, weight, bound, position, budget, listener)?.answer()
 }
@@ -71,7 +75,9 @@ pub fn decide<G: Game + Drop, L: Listener>(
     ensures ran { IfOk result (IsRunToEnd (G.game game.now) rule weight bound position.now budget) }
     ensures range { OnOk result (IsBudget budget) }
     ensures fault { IfErr result (IsRefused budget) }
-    ensures heard { Hears (L.heard listener.old) (L.heard listener.new) (IsFarOf (G.game game.now) rule weight bound position.now budget) }
+    ensures heard { (heard : List Progress) × HearsAll L.hears listener.old heard listener.new
+        × MatchResult result (IsHeardToEnd (question_of (G.game game.now) rule weight bound position.now) budget heard)
+        (IsHeardBefore (question_of (G.game game.now) rule weight bound position.now) budget heard) }
 {
     at_end(alloc, game, rule, weight, bound, position, budget, listener)?.verdict()
 }
@@ -90,13 +96,15 @@ fn at_end<G: Game + Drop, L: Listener>(
     requires rule { rule ≤ GREATEST_RULE }
     requires weight { IsWeight weight }
     requires fits { Fits (G.game game.now).cells position.now }
-    ensures question { IfOk result (λ search. search.question ≡ record { game = G.game game.now; rule = rule; weight = weight; bound = bound; start = position.now }) }
+    ensures question { IfOk result (λ search. search.question ≡ question_of (G.game game.now) rule weight bound position.now) }
     ensures budget { IfOk result (λ search. search.budget ≡ budget) }
     ensures ran { IfOk result (λ search. HasRun (G.game game.now) rule weight bound position.now budget search.store search.status) }
     ensures done { IfOk result (λ search. reply_of search.status ≡ Ok Step.Done) }
     ensures range { OnOk result (IsBudget budget) }
     ensures fault { IfErr result (IsRefused budget) }
-    ensures heard { Hears (L.heard listener.old) (L.heard listener.new) (IsFarOf (G.game game.now) rule weight bound position.now budget) }
+    ensures heard { (heard : List Progress) × HearsAll L.hears listener.old heard listener.new
+        × MatchResult result (λ search. IsHeardOn (question_of (G.game game.now) rule weight bound position.now) budget heard search)
+        (IsHeardBefore (question_of (G.game game.now) rule weight bound position.now) budget heard) }
 {
     let mut search: Search<BucketFrontier, G> = Search::new(
         alloc, game, rule, weight, bound, position, budget,
@@ -113,6 +121,7 @@ fn watch<F: Frontier + Drop, G: Game + Drop, L: Listener>(
 ) -> Result<(), SearchFault>
     requires running { search.old.status ≡ Status.Running }
     requires begins { Begins (classes_of search.old.question) search.old.question.weight search.old.store }
+    requires floor { Adds [] search.old.store.waiting (search.old.floor, 0) }
     requires start { IsPositionOf search.old.question.game search.old.question.start }
     requires budget { search.old.budget ≡ budget }
     requires range { IsBudget budget }
@@ -121,8 +130,8 @@ fn watch<F: Frontier + Drop, G: Game + Drop, L: Listener>(
     ensures runs { Runs (classes_of search.old.question) search.old.question.weight budget Status.Running search.old.store search.new.store search.new.status }
     ensures done { OnOk result (reply_of search.new.status ≡ Ok Step.Done) }
     ensures fault { IfErr result (λ f. f ≡ SearchFault.Memory) }
-    ensures heard { Hears (L.heard listener.old) (L.heard listener.new)
-        (IsFarOf search.old.question.game search.old.question.rule search.old.question.weight search.old.question.bound search.old.question.start budget) }
+    ensures heard { (heard : List Progress) × HearsAll L.hears listener.old heard listener.new
+        × MatchResult result (λ done. IsHeardOn search.old.question budget heard search.new) (λ fault. IsHeardInPart search.old.question budget heard) }
 {
     let mut turns = 0;
     let mut most_open = 0;
@@ -155,9 +164,10 @@ fn run_on<F: Frontier + Drop, G: Game + Drop>(
     requires some { 0 < most }
     ensures question { search.new.question ≡ search.old.question }
     ensures budget { search.new.budget ≡ search.old.budget }
-    ensures turned { TurnsOn result.0 (classes_of search.old.question) search.old.question.weight search.old.budget Status.Running search.old.store search.new.store search.new.status }
+    ensures turned { (before : ℕ) → TurnsMany result.0 search.old.question search.old.budget (stage_of search.old before) (stage_of search.new (before + result.0)) }
+    ensures some { 1 ≤ result.0 }
     ensures reply { MatchResult result.1 (λ step. reply_of search.new.status ≡ Ok step) (λ f. (f ≡ SearchFault.Memory) × (search.new.status ≡ Status.Stopped)) }
-    ensures falls { result.1 ≡ Ok Step.Running → (0 < result.0) × (result.0 + work_left search.old.budget search.new.store ≤ work_left search.old.budget search.old.store) }
+    ensures falls { result.1 ≡ Ok Step.Running → result.0 + work_left search.old.budget search.new.store ≤ work_left search.old.budget search.old.store }
     ensures few { result.0 ≤ most }
 {
     for made in 0..most {

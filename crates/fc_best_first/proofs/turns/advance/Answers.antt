@@ -34,23 +34,23 @@ visit-bound-requires g c = record {
 
 pub returns-then-is_won-clause-floor : goal.returns-then-is_won-clause-floor
 returns-then-is_won-clause-floor g c = taken_floor c.args.book.now.waiting c.take.new.self.waiting c.in-Some.f c.in-Some.number c.args.floor.now
-    c.in-Some.ensures.taken c.in-Some.ensures.least
+    c.max.result c.in-Some.ensures.taken c.in-Some.ensures.least c.max.ensures
 
 pub returns-then-weighed-f-clause-floor : goal.returns-then-weighed-f-clause-floor
 returns-then-weighed-f-clause-floor g c = taken_floor c.args.book.now.waiting c.take.new.self.waiting c.in-Some.f c.in-Some.number c.args.floor.now
-    c.in-Some.ensures.taken c.in-Some.ensures.least
+    c.max.result c.in-Some.ensures.taken c.in-Some.ensures.least c.max.ensures
 
 pub returns-in_err-key-clause-floor : goal.returns-in_err-key-clause-floor
 returns-in_err-key-clause-floor g c = taken_floor c.args.book.now.waiting c.take.new.self.waiting c.in-Some.f c.in-Some.number c.args.floor.now
-    c.in-Some.ensures.taken c.in-Some.ensures.least
+    c.max.result c.in-Some.ensures.taken c.in-Some.ensures.least c.max.ensures
 
 pub returns-in-Some-2-clause-floor : goal.returns-in-Some-2-clause-floor
 returns-in-Some-2-clause-floor g c = taken_floor c.args.book.now.waiting c.take.new.self.waiting c.in-Some.f c.in-Some.number c.args.floor.now
-    c.in-Some.ensures.taken c.in-Some.ensures.least
+    c.max.result c.in-Some.ensures.taken c.in-Some.ensures.least c.max.ensures
 
 pub returns-in-None-clause-floor : goal.returns-in-None-clause-floor
 returns-in-None-clause-floor g c = taken_floor c.args.book.now.waiting c.take.new.self.waiting c.in-Some.f c.in-Some.number c.args.floor.now
-    c.in-Some.ensures.taken c.in-Some.ensures.least
+    c.max.result c.in-Some.ensures.taken c.in-Some.ensures.least c.max.ensures
 
 pub expand-requires-clause-reached : goal.expand-requires-clause-reached
 expand-requires-clause-reached g c = λ children rest.

@@ -5,7 +5,7 @@ use Rattle.fc_batch.specs.Batch.{work_left}
 use Rattle.fc_runs.specs.Batches.{HaveEnded, HoldsDeals}
 use Rattle.fc_runs.proofs.batches.run_each.Given as goal
 
--- the searches so far had their stretch
+-- the searches so far had their turn
 abbrev pub invariant-loop-number : goal.invariant-loop-number
 invariant-loop-number g l = record {
   held : (r : GameRules) (rule weight : ℕ) (kind : BoundKind) (budget from : ℕ) → HoldsDeals r rule weight kind budget from l.fn.count l.initial.batch

@@ -1,40 +1,60 @@
-use Rattle.std.proofs.Common.{◌≡◌, ◌<◌, Ok, ◌∙◌, ap, subst, arith}
+use Rattle.std.proofs.Common.{◌≡◌, ℕ, ◌+◌, ◌<◌, Ok, Result, ◌∙◌, ap, refl, subst, sym, add_assoc, add-zero, arith}
+use Rattle.fc_best_first.specs.declared.searches.Step.{Step}
 use Rattle.fc_best_first.specs.declared.searches.Step.TheVariants.{Running as running}
 use Rattle.fc_best_first.specs.declared.turns.Status.TheVariants.{Running}
-use Rattle.fc_best_first.specs.Search.{Turns}
+use Rattle.fc_best_first.specs.declared.searches.SearchFault.{SearchFault}
+use Rattle.fc_best_first.specs.Search.{FloorAfter, Turns}
 use Rattle.fc_best_first.specs.Turn.{work_left}
-use Rattle.fc_search.specs.Search.{classes_of}
-use Rattle.fc_watch.proofs.TurnLemmas.{replies_running, turn_along, turn_replies, turns_more}
+use Rattle.fc_search.specs.Search.{Question, State, classes_of}
+use Rattle.fc_watch.specs.Watch.{TurnsMany, stage_of}
+use Rattle.fc_watch.proofs.TurnLemmas.{one_turn, replies_running, turn_replies, turns_more}
 use Rattle.fc_watch.proofs.watches.run_on.Goals as goal
 
+-- no turns
+begun : (q : Question) (budget : ℕ) (s : State) (before : ℕ) → TurnsMany 0 q budget (stage_of s before) (stage_of s (before + 0))
+begun q budget s before = ap (λ (n : ℕ). stage_of s n) (add-zero before)
+
+-- the turns so far, and one more
+more : (q : Question) (budget made : ℕ) (first now next : State) (before : ℕ) (reply : Result Step SearchFault) → now.question ≡ q
+    → now.budget ≡ budget → Turns (classes_of now.question) now.question.weight now.budget now.status now.store next.store next.status reply
+    → FloorAfter now.status now.store.waiting now.floor next.floor → TurnsMany made q budget (stage_of first before) (stage_of now (before + made))
+    → TurnsMany (made + 1) q budget (stage_of first before) (stage_of next (before + (made + 1)))
+more q budget made first now next before reply asked budgeted turn floor some =
+    subst (λ n. TurnsMany (made + 1) q budget (stage_of first before) (stage_of next n)) (add_assoc before made 1)
+    (turns_more q budget made (stage_of first before) (stage_of now (before + made)) (stage_of next (before + made + 1)) some
+    (one_turn q budget now next (before + made) reply asked budgeted turn floor))
+
+pub loop-made-init : goal.loop-made-init
+loop-made-init g c = record {
+  question = refl;
+  budget = refl;
+  status = c.requires.running;
+  turned = λ before. begun c.args.search.now.question c.args.search.now.budget c.args.search.now before;
+  falls = omega arith;
+}
+
 pub returns-in_default-clause-turned : goal.returns-in_default-clause-turned
-returns-in_default-clause-turned g c =
-    let first = c.args.search.now in
-    let now = c.loop-made.search in
-    let next = c.turn.new.self in
-    turns_more (classes_of first.question) first.question.weight first.budget c.loop-made.made Running now.status next.status first.store now.store next.store
-    c.turn.result c.loop-made.invariant.turned
-    (turn_along now.question first.question now.budget first.budget now.status next.status now.store next.store c.turn.result
-    c.loop-made.invariant.question c.loop-made.invariant.budget c.turn.ensures.turns)
+returns-in_default-clause-turned g c = λ before.
+    more c.args.search.now.question c.args.search.now.budget c.loop-made.made c.args.search.now c.loop-made.search c.turn.new.self before
+    c.turn.result c.loop-made.invariant.question c.loop-made.invariant.budget c.turn.ensures.turns c.turn.ensures.floor
+    (c.loop-made.invariant.turned before)
 
 pub loop-made-preserved : goal.loop-made-preserved
 loop-made-preserved g c =
     let first = c.args.search.now in
     let now = c.loop-made.search in
     let next = c.turn.new.self in
-    let more : c.turn.result ≡ Ok running = c.in-Ok-Running.is ∙ ap Ok c.in-Ok-Running.field-0-is in
-    let turned = turn_along now.question first.question now.budget first.budget now.status next.status now.store next.store c.turn.result
-    c.loop-made.invariant.question c.loop-made.invariant.budget c.turn.ensures.turns in
-    let replied = turn_replies (classes_of first.question) first.question.weight first.budget next.status now.store next.store (Ok running)
-    (subst (λ r. Turns (classes_of first.question) first.question.weight first.budget Running now.store next.store next.status r) more
-    (subst (λ s. Turns (classes_of first.question) first.question.weight first.budget s now.store next.store next.status c.turn.result)
-    c.loop-made.invariant.status turned)) in
-    let falls = subst (λ b. work_left b next.store < work_left b now.store) c.loop-made.invariant.budget (c.turn.ensures.falls more) in
+    let more_to_do : c.turn.result ≡ Ok running = c.in-Ok-Running.is ∙ ap Ok c.in-Ok-Running.field-0-is in
+    let replied = turn_replies (classes_of now.question) now.question.weight now.budget next.status now.store next.store (Ok running)
+    (subst (λ r. Turns (classes_of now.question) now.question.weight now.budget Running now.store next.store next.status r) more_to_do
+    (subst (λ s. Turns (classes_of now.question) now.question.weight now.budget s now.store next.store next.status c.turn.result)
+    c.loop-made.invariant.status c.turn.ensures.turns)) in
+    let falls = subst (λ b. work_left b next.store < work_left b now.store) c.loop-made.invariant.budget (c.turn.ensures.falls more_to_do) in
     record {
       question = c.turn.ensures.question ∙ c.loop-made.invariant.question;
       budget = c.turn.ensures.budget ∙ c.loop-made.invariant.budget;
-      status = replies_running (classes_of first.question) first.question.weight first.budget next.status replied;
-      turned = turns_more (classes_of first.question) first.question.weight first.budget c.loop-made.made Running now.status next.status first.store now.store next.store
-          c.turn.result c.loop-made.invariant.turned turned;
+      status = replies_running (classes_of now.question) now.question.weight now.budget next.status replied;
+      turned = λ before. more first.question first.budget c.loop-made.made first now next before c.turn.result c.loop-made.invariant.question
+          c.loop-made.invariant.budget c.turn.ensures.turns c.turn.ensures.floor (c.loop-made.invariant.turned before);
       falls = omega (arith, falls, c.loop-made.invariant.falls);
     }

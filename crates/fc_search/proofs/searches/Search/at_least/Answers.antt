@@ -1,6 +1,6 @@
 use Rattle.std.proofs.Common.{◌≡◌, ◌*◌, ◌≤◌, length, refl, sym, ◌∙◌, subst}
 use Rattle.fc_moves.specs.Run.{Wins}
-use Rattle.fc_search.proofs.OutcomeLemmas.{ceiling, floor_below}
+use Rattle.fc_search.proofs.FloorLemmas.{ceiling, floor_below}
 use Rattle.fc_search.proofs.searches.Search.at_least.Goals as goal
 
 pub returns-clause-floor : goal.returns-clause-floor

@@ -1,0 +1,35 @@
+//! How far a search is.
+
+ghost use Rattle.std.specs.Prelude.{◌≡◌, ◌+◌, ◌*◌, ◌<◌, ◌≤◌, List, length};
+ghost use Rattle.fc_moves.specs.declared.steps.Move.{Move};
+ghost use Rattle.fc_moves.specs.Run.{Wins};
+
+use crate::searches::Search;
+use fc_frontier::Frontier;
+use fc_moves::Game;
+
+impl<F: Frontier + Drop, G: Game + Drop> Search<F, G> {
+    /// No list of fewer moves wins: the core's floor divided by the weight, rounded up. Takes no memory; for a search in any
+    /// state.
+    pub fn at_least(&self) -> u32
+        ensures floor { (moves : List Move) → Wins self.now.question.game self.now.question.start moves → result ≤ length moves }
+        ensures value { (self.now.floor ≤ self.now.question.weight * result) × (self.now.question.weight * result < self.now.floor + self.now.question.weight) }
+    {
+        let weight = u32::from(self.search.weight());
+        self.search.floor().div_ceil(weight)
+    }
+
+    /// How many classes are stored.
+    pub fn len(&self) -> usize
+        ensures size { result ≡ length self.now.store.stored }
+    {
+        self.search.len()
+    }
+
+    /// How many entries are open. They are counted anew.
+    pub fn open(&self) -> u128
+        ensures size { result ≡ length self.now.store.waiting }
+    {
+        self.search.open()
+    }
+}
