@@ -29,7 +29,7 @@ held-without columns i u c last other =
     ∙ ap (is_above_lower c) (sym (front_last (get_or columns i []) u last))))
 
 -- a list that passes a test in its front passes it
-any-front : (u : ℕ) (front rest : List ℕ) → list_any (is_lower u) front ≡ true → list_any (is_lower u) (front ++ rest) ≡ true
+pub any-front : (u : ℕ) (front rest : List ℕ) → list_any (is_lower u) front ≡ true → list_any (is_lower u) (front ++ rest) ≡ true
 any-front u front rest any =
     list_any-append (is_lower u) front rest ∙ ap (λ t. t || list_any (is_lower u) rest) any
 
@@ -79,14 +79,14 @@ held-step columns i =
     (cases_last columns i)
 
 -- columns have a card, or hold none back
-some_card : (columns : List (List ℕ)) → (held_in columns ≡ 0) ⊎ ((i : ℕ) × (u : ℕ) × (last_of (get_or columns i []) ≡ Some u))
+pub some_card : (columns : List (List ℕ)) → (held_in columns ≡ 0) ⊎ ((i : ℕ) × (u : ℕ) × (last_of (get_or columns i []) ≡ Some u))
 some_card [] = inl held-none
 some_card ([] ∷ xs) = ⊎_elim (λ none. inl none) (λ (i, u, last). inr (suc i, u, last)) (some_card xs)
 some_card ((d ∷ cards) ∷ xs) =
     inr (0, get_or (d ∷ cards) (length (d ∷ cards) - 1) 0, slice_get-get_or (d ∷ cards) (length (d ∷ cards) - 1) 0 (omega arith))
 
 -- no more cards are held back than stand in the columns
-held-few : (n : ℕ) (columns : List (List ℕ)) → cards_in columns ≤ n → held_in columns ≤ n
+pub held-few : (n : ℕ) (columns : List (List ℕ)) → cards_in columns ≤ n → held_in columns ≤ n
 held-few zero columns few =
     ⊎_elim (λ none. omega arith) (λ (i, u, last). absurd (omega (arith, cards_without columns i u last))) (some_card columns)
 held-few (suc n) columns few =

@@ -95,7 +95,7 @@ loose-free columns x loose above =
     ⊎_elim (λ free. not-true (waits columns (last_of x)) free) (λ waiting. absurd (true≢false (sym waiting ∙ above)))
     (or_cases (not (waits columns (last_of x))) (waits_above x) parts.1)
 
-tight-above : (columns : List (List ℕ)) (x : List ℕ) → is_loose columns x ≡ false → waits_above x ≡ false
+pub tight-above : (columns : List (List ℕ)) (x : List ℕ) → is_loose columns x ≡ false → waits_above x ≡ false
 tight-above columns x tight =
     ⊎_elim (λ none. has_none (x ∷ []) (last_of x) none)
     (λ both. (or_parts (not (waits columns (last_of x))) (waits_above x) both).1)

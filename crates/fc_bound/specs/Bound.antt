@@ -43,6 +43,6 @@ pub record StandsAboveLower (b : Board) (c : ℕ) : Type 0 where
   pub suits : suit lower ≡ suit c
   pub ranks : rank lower < rank c
 
--- the lower bound: how many cards are not home, and how many stand above a lower card of their own suit
+-- the plain bound: how many cards are not home, and how many stand above a lower card of their own suit
 unfoldable pub bound : Board → ℕ
 bound b = count_by (is_away b) all_cards + count_by (is_held_back b) all_cards

@@ -72,6 +72,10 @@ ClearingIsNoLess = (b : Board) → bound b ≤ clearing_bound b
 abbrev pub KnotBoundIsNoGreater : Type 0
 KnotBoundIsNoGreater = (b : Board) → IsPosition b → knot_bound b ≤ clearing_bound b
 
+-- the knot bound is nowhere less than the plain bound
+abbrev pub KnotBoundIsNoLess : Type 0
+KnotBoundIsNoLess = (b : Board) → bound b ≤ knot_bound b
+
 -- boards of one class have one knot bound
 abbrev pub ClassMatesHaveOneKnotBound : Type 0
 ClassMatesHaveOneKnotBound = (b c : Board) → SameClass b c → knot_bound b ≡ knot_bound c

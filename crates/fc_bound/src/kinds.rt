@@ -19,7 +19,7 @@ pub enum BoundKind {
 
 impl BoundKind {
     /// The bound by which a search of this kind goes, at most 104: the plain bound, or the knot bound, which is counted
-    /// quickly and is nowhere greater than the clearing bound.
+    /// quickly, and is nowhere less than the plain bound and nowhere greater than the clearing bound.
     #[inline]
     pub fn guide(self, position: &Position) -> u8
         ensures value { result ≡ guide_of self position.now }

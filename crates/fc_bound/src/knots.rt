@@ -41,7 +41,7 @@ pub(crate) fn knot_count(left: &mut Left<'_>) -> u8
 }
 
 /// The number of cards that are not home, plus the number of knots that are met while the cards are taken out of the
-/// columns: at most 104, and nowhere greater than the clearing bound.
+/// columns: at most 104, nowhere less than the plain bound, and nowhere greater than the clearing bound.
 pub fn knot_bound(position: &Position) -> u8
     ensures value { result ≡ knot_bound position.now }
     ensures most { result ≤ GREATEST_BOUND }

@@ -1,6 +1,6 @@
-//! Laws of the bound, each the contract of a function that does nothing.
+//! Laws of the bounds, each the contract of a function that does nothing.
 
-ghost use Rattle.fc_bound.specs.Laws.{TestsTellTheCards, StepsLowerTheBoundByOne, StepsMoveTheBoundByTheirCard, WinsNeedTheBound, ClassMatesHaveOneBound, BoundsAreSmall, ClearingCostIsLeast, ClassMatesHaveOneClearingBound, FreeCardsGoFirst, StepsLowerTheClearingBoundByOne, WinsNeedTheClearingBound, ClearingIsNoLess, KnotBoundIsNoGreater, ClassMatesHaveOneKnotBound, OneOfTheTiedGoesFirst, KnotsCostOneEach};
+ghost use Rattle.fc_bound.specs.Laws.{TestsTellTheCards, StepsLowerTheBoundByOne, StepsMoveTheBoundByTheirCard, WinsNeedTheBound, ClassMatesHaveOneBound, BoundsAreSmall, ClearingCostIsLeast, ClassMatesHaveOneClearingBound, FreeCardsGoFirst, StepsLowerTheClearingBoundByOne, WinsNeedTheClearingBound, ClearingIsNoLess, KnotBoundIsNoGreater, KnotBoundIsNoLess, ClassMatesHaveOneKnotBound, OneOfTheTiedGoesFirst, KnotsCostOneEach};
 
 /// The bound counts exactly the cards that are not home, and the cards that stand above a lower card of their own suit
 /// in their column.
@@ -66,6 +66,11 @@ pub fn clearing_is_no_less()
 /// The knot bound of a position is nowhere greater than its clearing bound.
 pub fn knot_bound_is_no_greater()
     ensures { KnotBoundIsNoGreater }
+{}
+
+/// The knot bound of a board is nowhere less than its plain bound.
+pub fn knot_bound_is_no_less()
+    ensures { KnotBoundIsNoLess }
 {}
 
 /// Boards of one class have one knot bound.

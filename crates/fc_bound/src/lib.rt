@@ -1,7 +1,10 @@
 //! The lower bounds of a position.
 //!
 //! Each card that isn't home must go home, and a card that stands above a lower card of its own suit must be moved out
-//! of the way before, since the lower card goes home first. No call allocates.
+//! of the way before, since the lower card goes home first: the plain bound counts both. The clearing bound counts for
+//! the latter what it costs at least to take all cards out of their columns, last cards first, where a card costs one
+//! while a lower card of its own suit still stands in some column. The knot bound lies between the two, and is counted
+//! quickly. No call allocates.
 #![tactic(auto)]
 
 pub use bounds::{GREATEST_BOUND, bound, is_held_back};
