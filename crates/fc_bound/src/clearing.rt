@@ -3,7 +3,7 @@ ghost use Rattle.fc_position.specs.Board.{last_of};
 ghost use Rattle.fc_position.specs.Position.{IsPosition};
 ghost use Rattle.fc_position.specs.Tally.{AllCards};
 ghost use Rattle.fc_bound.specs.Clearing.{cards_in, clearing_cost, clearing_bound};
-ghost use Rattle.fc_bound.specs.Knots.{has_last};
+ghost use Rattle.fc_bound.specs.Knots.{has_last, knot_count};
 
 use crate::bounds::{GREATEST_BOUND, away};
 use crate::columns::{Left, Table};
@@ -59,6 +59,7 @@ fn may_go(left: &Left<'_>, knot: [bool; 8], i: u8) -> bool
 fn count_knots(left: &Left<'_>) -> u8
     requires few { cards_in left.now ≤ 52 }
     requires cards { All AllCards left.now }
+    ensures value { result ≡ knot_count left.now }
     ensures least { result ≤ clearing_cost left.now }
     ensures eight { length left.now ≡ 8 }
 {

@@ -8,5 +8,9 @@ use Rattle.fc_bound.proofs.clearing.count_knots.Goals as goal
 pub returns : goal.returns
 returns c =
     let s = c.args.left.now in
-    let count = c.knot_count.ensures.value ∙ ap knot_count c.copy-copy.ensures.value ∙ count_is s in
-    record { least = omega (arith, count, knot_cost_no_greater (cards_in s) s c.requires.cards); eight = c.copy-copy.ensures.eight }
+    let count = c.knot_count.ensures.value ∙ ap knot_count c.copy-copy.ensures.value in
+    record {
+      value = count;
+      least = omega (arith, count, count_is s, knot_cost_no_greater (cards_in s) s c.requires.cards);
+      eight = c.copy-copy.ensures.eight;
+    }
