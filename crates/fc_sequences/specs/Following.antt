@@ -8,7 +8,7 @@ use Rattle.fc_sequences.specs.declared.lists.ListFault.{ListFault}
 use Rattle.fc_sequences.specs.declared.lists.ListFault.TheVariants.{Refused, TooMany, Memory}
 use Rattle.fc_sequences.specs.declared.lists.TheConstants.{MOST_BOARDS}
 use Rattle.fc_sequences.specs.declared.pairs.Pair.{Pair}
-use Rattle.fc_sequences.specs.Pair.{PlaysPair}
+use Rattle.fc_sequences.specs.Pair.{PlaysBy, PlaysPair, moves_for}
 
 -- the entries are played one by one, each with some number of cards, from the one board to the other
 abbrev pub Follows : GameRules → Board → List Pair → Board → Type 0
@@ -16,11 +16,12 @@ Follows g b [] c = c ≡ b
 Follows g b (p ∷ ps) c = (mid : Board) × PlaysPair g b p mid × Follows g mid ps c
 
 -- the moves expand the entries: for each entry in turn they are one-card moves that the rules allow, to the board on which
--- just its cards were moved
+-- just its cards were moved, and as many as those take
 abbrev pub Expands : GameRules → Board → List Pair → List Move → Board → Type 0
 Expands g b [] ms c = (ms ≡ []) × (c ≡ b)
-Expands g b (p ∷ ps) ms c = (mid : Board) × (front : List Move) × (rest : List Move)
-    × PlaysPair g b p mid × Run g b front mid × (ms ≡ front ++ rest) × Expands g mid ps rest c
+Expands g b (p ∷ ps) ms c = (k : ℕ) × (mid : Board) × (front : List Move) × (rest : List Move)
+    × PlaysBy g b p k mid × Run g b front mid × (length front ≡ moves_for g b p.from p.to k) × (ms ≡ front ++ rest)
+    × Expands g mid ps rest c
 
 -- the entries lead to more boards than are kept, no two of them the same
 abbrev pub LeadsToMany : GameRules → Board → List Pair → Type 0
