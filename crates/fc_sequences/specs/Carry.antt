@@ -58,9 +58,9 @@ pub record MayCarryOver (g : GameRules) (b : Board) (i j k : ℕ) (cells columns
 abbrev pub most_cards : ℕ → ℕ → ℕ
 most_cards cells columns = (cells + 1) * 2 ^ columns
 
--- how many one-card moves carry k cards over so many free cells and so many spare columns: over cells alone each card but the
--- first goes to a cell and from there; with one column more, where there are more cards than the others can do, those that are
--- too many go to that column, and after the rest from there
+-- how many one-card moves carry k cards over so many free cells and so many spare columns: over cells alone each card but one
+-- goes to a cell and from there; with one column more, where there are more cards than the others can do, those that are too many
+-- go to that column and from there, and the others by themselves
 unfoldable pub carry_moves : ℕ → ℕ → ℕ → ℕ
 carry_moves cells zero k = 2 * k - 1
 carry_moves cells (suc columns) k = cond (nat_le k (most_cards cells columns)) (carry_moves cells columns k)

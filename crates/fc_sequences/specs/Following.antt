@@ -27,13 +27,12 @@ Expands g b (p ∷ ps) ms c = (k : ℕ) × (mid : Board) × (front : List Move) 
 abbrev pub LeadsToMany : GameRules → Board → List Pair → Type 0
 LeadsToMany g b ps = (boards : List Board) × (MOST_BOARDS < length boards) × AllPairs (λ x y. x ≢ y) boards × All (Follows g b ps) boards
 
--- no first so many entries, fewer than this number, lead to too many boards
+-- at no step before this one, which counts from 1, do the entries up to it lead to too many boards
 abbrev pub LeadToFewBefore : GameRules → Board → List Pair → ℕ → Type 0
 LeadToFewBefore g b ps step = (earlier : ℕ) → earlier < step → LeadsToMany g b (take earlier ps) → ⊥
 
--- why a list isn't expanded, at a step of it, which counts from 1, before which there was no such cause: with no numbers of cards
--- the entries up to this one are played, though those before it are with some; or those up to it lead to too many boards; or
--- memory was wanted
+-- why a list isn't expanded, at the first step where there is a cause: with no numbers of cards the entries up to it are played,
+-- though those before it are with some; or the entries up to it lead to too many boards; or memory was wanted
 abbrev pub IsListFault : GameRules → Board → List Pair → ListFault → Type 0
 IsListFault g b ps (Refused step) = (1 ≤ step) × (step ≤ length ps) × ((c : Board) → Follows g b (take step ps) c → ⊥)
     × ((c : Board) × Follows g b (take (step - 1) ps) c) × LeadToFewBefore g b ps step

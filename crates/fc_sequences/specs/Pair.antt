@@ -44,8 +44,8 @@ abbrev pub PlaysCards : GameRules → Board → Place → Place → ℕ → Boar
 PlaysCards g b (Column i) (Column j) k c = MayCarry g b i j k × (c ≡ carried b i j k)
 PlaysCards g b from to k c = (k ≡ 1) × Step g b (record { from = from; to = to }) c
 
--- how many one-card moves that takes: from column to column as many as carry the cards over the free cells and the other empty
--- columns, else one
+-- how many one-card moves that takes: from column to column as many as carry the cards over the free cells and the spare columns,
+-- else one
 abbrev pub moves_for : GameRules → Board → Place → Place → ℕ → ℕ
 moves_for g b (Column i) (Column j) k = carry_moves (length (free_cells g b)) (length (spare_columns b j)) k
 moves_for g b from to k = 1

@@ -32,7 +32,8 @@ pub fn may_carry<G: Game>(game: &G, position: &Position, from: u8, to: u8, count
 }
 
 /// Moves the last `count` cards of column `from` to column `to`, as they lie, one card at a time, and adds these moves to
-/// `moves`, no more than the free cells and the empty columns make it take: every other card is where it was.
+/// `moves`: every other card is where it was. They are 2 `count` - 1 moves where the free cells are enough; else those that
+/// are too many go to an empty column and from there.
 ///
 /// # Errors
 /// A growth of `moves` was refused, and nothing is known of the position.

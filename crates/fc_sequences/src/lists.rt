@@ -44,7 +44,7 @@ impl From<AllocError> for ListFault {
     }
 }
 
-/// The one-card moves of a list of entries that is played on a position that fits the game, for each entry no more than its
+/// The one-card moves of a list of entries that is played on a position that fits the game, for each entry as many as its
 /// cards take. Where it isn't told how many cards an entry moves to an empty column, it is so many that the whole list can be
 /// played, to a won board if it can.
 ///
