@@ -1,5 +1,5 @@
 -- A sequence carried over free cells: its last card to a cell, the others to their place, and the last after them.
-use Rattle.std.proofs.Common.{◌≡◌, ◌≢◌, ℕ, suc, ◌+◌, ◌-◌, ◌≤◌, ◌<◌, ⊎_elim, Some, None, List, [], ◌∷◌, ◌++◌, length, set, get_or, take, drop, refl, sym, ◌∙◌, ap, subst, arith}
+use Rattle.std.proofs.Common.{◌≡◌, ◌≢◌, ℕ, suc, ◌+◌, ◌-◌, ◌*◌, ◌≤◌, ◌<◌, ⊎_elim, Some, None, List, [], ◌∷◌, ◌++◌, length, set, get_or, take, drop, refl, sym, ◌∙◌, ap, subst, arith}
 use Rattle.std.specs.Prelude.{slice_index}
 use Rattle.std.proofs.lemmas.Bool.{cases_eq}
 use Rattle.std.proofs.lemmas.List.{append_assoc, drop_more, drop_all, take_rest, get_or-set_same, get_or-set_other, length-set, set-set, set-get_or}
@@ -259,9 +259,12 @@ after_back g b c d e i j k a cells others p after step =
     (carried_so b i j k eight lies.from lies.to lies.other)
 
 pub carried_by : (g : GameRules) (b c d e : Board) (i j k a : ℕ) (cells others : List ℕ) (w x y z : List Move)
-    → PutsAside g b i j k a cells others c → AddsRun g b w c x → Carries g c i j (k - 1) x d y → Step g d (back a j) e → AddsRun g d y e z
-    → Carries g b i j k w e z
-carried_by g b c d e i j k a cells others w x y z p one two step three = record {
+    → PutsAside g b i j k a cells others c → AddsRun g b w c x → length x ≡ length w + 1 → Carries g c i j (k - 1) (2 * (k - 1) - 1) x d y
+    → Step g d (back a j) e → AddsRun g d y e z → length z ≡ length y + 1 → Carries g b i j k (2 * k - 1) w e z
+carried_by g b c d e i j k a cells others w x y z p one first two step three last = record {
   after = after_back g b c d e i j k a cells others p two.after step;
   run = adds_on g b d e w y z (adds_on g b c d w x y one two.run) three;
+  count_is =
+      let more : 1 ≤ k - 1 = ⊎_elim (λ e. absurd (p.more e)) (λ ne. omega (arith, p.may.lies.some_cards)) (cases_eq k 1) in
+      omega (arith, more, first, two.count_is, last);
 }

@@ -1,6 +1,7 @@
 -- How the growth of a tree ends.
-use Rattle.std.proofs.Common.{◌≡◌, ℕ, ◌+◌, ◌-◌, ◌<◌, ◌≤◌, List, [], length, take, drop, Some, sym, ◌∙◌, ap, subst, arith}
-use Rattle.std.specs.Prelude.{slice_get, get_or, Contains, All}
+use Rattle.std.proofs.Common.{◌≡◌, ℕ, ◌+◌, ◌-◌, ◌<◌, ◌≤◌, List, [], length, take, drop, Some, sym, ◌∙◌, ap, subst, ⊎_elim, arith}
+use Rattle.std.specs.Prelude.{slice_get, get_or, Contains}
+use Rattle.std.proofs.lemmas.Bool.{cases_lt}
 use Rattle.std.proofs.lemmas.List.{drop_all, take_all, length-drop, length-map}
 use Rattle.std.proofs.lemmas.List.Elements.{All-from_get_or, All-get_or, All-map}
 use Rattle.std.proofs.lemmas.Option.{slice_get-get_or}
@@ -12,9 +13,9 @@ use Rattle.fc_sequences.specs.declared.lists.TheConstants.{MOST_BOARDS}
 use Rattle.fc_sequences.specs.declared.lists.ListFault.TheVariants.{Refused, TooMany}
 use Rattle.fc_sequences.specs.declared.pairs.Pair.{Pair}
 use Rattle.fc_sequences.specs.declared.trees.Node.{Node}
-use Rattle.fc_sequences.specs.Following.{Expands, Follows, IsListFault}
+use Rattle.fc_sequences.specs.Following.{Expands, Follows, LeadsToMany, LeadToFewBefore, IsListFault}
 use Rattle.fc_sequences.specs.Tree.{IsGrown, IsGrownTo, boards_of}
-use Rattle.fc_sequences.proofs.GetLemmas.{get_drop}
+use Rattle.fc_sequences.proofs.GetLemmas.{get_drop, no_more}
 use Rattle.fc_sequences.proofs.GrowLemmas.{board_held, level_of}
 
 -- the entries lead to each board past a number
@@ -37,27 +38,54 @@ none_past nodes start c past held =
 -- the entries before lead somewhere, and with the next one they don't
 pub ends_refused : (g : GameRules) (b : Board) (ps : List Pair) (old new : List Node) (depth start step : ℕ) (d : Node)
     → IsGrown g b ps old depth start → start < length old → IsGrown g b ps new (depth + 1) (length old) → length new ≡ length old
-    → depth < length ps → step ≡ depth + 1 → IsListFault g b ps (Refused step)
-ends_refused g b ps old new depth start step d before some after same within place =
+    → depth < length ps → step ≡ depth + 1 → LeadToFewBefore g b ps (depth + 1) → IsListFault g b ps (Refused step)
+ends_refused g b ps old new depth start step d before some after same within place few =
     let node : Node = get_or (drop start old) 0 d in
     let there : 0 < length (drop start old) = omega (arith, length-drop start old) in (
       omega (arith, place),
       omega (arith, place),
       λ c follows. none_past new (length old) c (omega (arith, same)) (after.complete c (subst (λ n. Follows g b (take n ps) c) place follows)),
       (node.position, subst (λ n. Follows g b (take n ps) node.position) (omega (arith, place)) (past_follows g b ps old depth start 0 d before there)),
+      subst (LeadToFewBefore g b ps) (sym place) few,
     )
 
 -- they lead to too many boards
-pub ends_wide : (g : GameRules) (b : Board) (ps : List Pair) (nodes : List Node) (depth start step : ℕ) (d : Node)
-    → IsGrown g b ps nodes depth start → MOST_BOARDS < length nodes - start → step ≡ depth → IsListFault g b ps (TooMany step)
-ends_wide g b ps nodes depth start step d grown many place = (
+wide : (g : GameRules) (b : Board) (ps : List Pair) (nodes : List Node) (depth start : ℕ) (d : Node)
+    → IsGrown g b ps nodes depth start → MOST_BOARDS < length nodes - start → LeadsToMany g b (take depth ps)
+wide g b ps nodes depth start d grown many = (
   boards_of (drop start nodes),
   omega (arith, many, length-map (drop start nodes) (λ n. n.position), length-drop start nodes),
   grown.once,
-  subst (λ n. All (Follows g b (take n ps)) (boards_of (drop start nodes))) (sym place)
-      (All-map (Follows g b (take depth ps)) (λ n. n.position) (drop start nodes)
-      (All-from_get_or (λ n. Follows g b (take depth ps) n.position) (drop start nodes) d (λ k within. past_follows g b ps nodes depth start k d grown within))),
+  All-map (Follows g b (take depth ps)) (λ n. n.position) (drop start nodes)
+      (All-from_get_or (λ n. Follows g b (take depth ps) n.position) (drop start nodes) d (λ k within. past_follows g b ps nodes depth start k d grown within)),
 )
+
+pub ends_wide : (g : GameRules) (b : Board) (ps : List Pair) (nodes : List Node) (depth start step : ℕ) (d : Node)
+    → IsGrown g b ps nodes (depth + 1) start → MOST_BOARDS < length nodes - start → depth < length ps → step ≡ depth + 1
+    → LeadToFewBefore g b ps (depth + 1) → IsListFault g b ps (TooMany step)
+ends_wide g b ps nodes depth start step d grown many within place few = (
+  omega (arith, place),
+  omega (arith, place),
+  subst (λ n. LeadsToMany g b (take n ps)) (sym place) (wide g b ps nodes (depth + 1) start d grown many),
+  subst (LeadToFewBefore g b ps) (sym place) few,
+)
+
+-- they lead to no more boards than were grown
+narrow : (g : GameRules) (b : Board) (ps : List Pair) (nodes : List Node) (depth start : ℕ) → IsGrown g b ps nodes depth start
+    → length nodes - start ≤ MOST_BOARDS → LeadsToMany g b (take depth ps) → ⊥
+narrow g b ps nodes depth start grown few (boards, many, once, led) =
+    let most = no_more boards (boards_of (drop start nodes)) once (λ k d within. grown.complete (get_or boards k d) (led k d within)) in
+    omega (arith, most, many, few, length-map (drop start nodes) (λ n. n.position), length-drop start nodes)
+
+-- so that no entries so far lead to too many
+pub few_so_far : (g : GameRules) (b : Board) (ps : List Pair) (nodes : List Node) (depth start : ℕ) → IsGrown g b ps nodes depth start
+    → length nodes - start ≤ MOST_BOARDS → LeadToFewBefore g b ps depth → LeadToFewBefore g b ps (depth + 1)
+few_so_far g b ps nodes depth start grown few before earlier below =
+    ⊎_elim (λ less. before earlier less)
+    (λ most.
+    let same : depth ≡ earlier = omega arith in
+    subst (λ n. LeadsToMany g b (take n ps) → ⊥) same (narrow g b ps nodes depth start grown few))
+    (cases_lt earlier depth)
 
 -- all entries lead to this board
 pub ends_grown : (g : GameRules) (b : Board) (ps : List Pair) (nodes : List Node) (start leaf : ℕ) (d : Node)

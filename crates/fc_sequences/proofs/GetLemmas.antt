@@ -1,6 +1,7 @@
--- Elements of a list that has one more, and how many cards a sequence has at most.
-use Rattle.std.proofs.Common.{◌≡◌, ◌⊎◌, ℕ, ◌+◌, zero, suc, List, [], ◌∷◌, ◌++◌, length, take, drop, Some, refl, sym, ◌∙◌, ap, inl, inr, ⊎_elim, zero-add, arith}
-use Rattle.std.specs.Prelude.{slice_get, OnOk, Result, Ok, Err}
+-- Elements of a list that has one more, and lists that hold the elements of another.
+use Rattle.std.proofs.Common.{◌≡◌, ◌≢◌, ◌⊎◌, ℕ, ◌+◌, ◌≤◌, zero, suc, List, [], ◌∷◌, ◌++◌, length, get_or, take, drop, Some, refl, sym, ◌∙◌, ap, subst, inl, inr, ⊎_elim, zero-add, arith}
+use Rattle.std.specs.Prelude.{slice_get, All, AllPairs, Contains, OnOk, Result, Ok, Err}
+use Rattle.fc_moves.specs.GameLaws.{Contains-cases, Contains-first, Contains-later}
 
 -- an element stays where it is
 pub get_old : {X : Type 0} (xs ys : List X) (i : ℕ) (x : X) → slice_get xs i ≡ Some x → slice_get (xs ++ ys) i ≡ Some x
@@ -37,6 +38,35 @@ pub take_next : {X : Type 0} (xs : List X) (n : ℕ) (x : X) → slice_get xs n 
 take_next [] n x e = absurd (cc e)
 take_next (z ∷ zs) zero x e = ap (λ y. y ∷ []) (cc e)
 take_next (z ∷ zs) (suc n) x e = ap (λ l. z ∷ l) (take_next zs n x e)
+
+-- of a list that has an element, the others are in one that is shorter by one
+others_of : {X : Type 0} (y : X) (ys : List X) → Contains ys y
+    → (zs : List X) × (length ys ≡ suc (length zs)) × ((x : X) → y ≢ x → Contains ys x → Contains zs x)
+others_of y [] (k, below, e) = absurd (omega arith)
+others_of y (z ∷ ys) held =
+    ⊎_elim (λ same. (
+      ys,
+      refl,
+      λ x other has. ⊎_elim (λ e. absurd (other (sym same ∙ e))) (λ later. later) (Contains-cases z ys x has),
+    ))
+    (λ later.
+    let less = others_of y ys later in (
+      z ∷ less.0,
+      ap suc less.1,
+      λ x other has.
+          ⊎_elim (λ e. subst (Contains (z ∷ less.0)) e (Contains-first less.0 z)) (λ rest. Contains-later z less.0 x (less.2 x other rest))
+          (Contains-cases z ys x has),
+    ))
+    (Contains-cases z ys y held)
+
+-- no two of these elements are the same, and all are in a list, so it has as many at least
+pub no_more : {X : Type 0} (xs ys : List X) → AllPairs (λ u v. u ≢ v) xs → All (Contains ys) xs → length xs ≤ length ys
+no_more [] ys once held = omega arith
+no_more (x ∷ xs) ys once held =
+    let less = others_of x ys (held 0 x (omega arith)) in
+    let rest = no_more xs less.0 (λ k l d before within. once (suc k) (suc l) d (omega arith) (omega arith))
+    (λ k d within. less.2 (get_or xs k d) (once 0 (suc k) d (omega arith) (omega arith)) (held (suc k) d (omega arith))) in
+    omega (arith, rest, less.1)
 
 -- what holds holds where a result is right
 pub on_ok : {A E : Type 0} (r : Result A E) (P : Type 0) → P → OnOk r P

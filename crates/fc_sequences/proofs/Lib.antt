@@ -6,6 +6,7 @@ mod EndLemmas
 mod GetLemmas
 mod GrowLemmas
 pub mod LieLemmas
+mod MovesLemmas
 pub mod OverLemmas
 mod PathLemmas
 pub mod RunLemmas

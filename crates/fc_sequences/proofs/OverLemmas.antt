@@ -1,5 +1,5 @@
 -- A sequence carried by halves: the last cards to a spare column, the others to their place, and the last after them.
-use Rattle.std.proofs.Common.{◌≡◌, ◌≢◌, ℕ, suc, ◌+◌, ◌*◌, ◌^◌, ◌≤◌, ⊎_elim, List, ◌∷◌, ◌++◌, length, refl, sym, ◌∙◌, ap, subst, arith}
+use Rattle.std.proofs.Common.{◌≡◌, ◌≢◌, ℕ, suc, ◌+◌, ◌-◌, ◌*◌, ◌^◌, ◌≤◌, ⊎_elim, List, ◌∷◌, ◌++◌, length, refl, sym, ◌∙◌, ap, subst, arith}
 use Rattle.std.proofs.Math.Nat.{pow-suc, mul_assoc, mul-pos}
 use Rattle.std.proofs.lemmas.Nat.{pow_pos}
 use Rattle.std.proofs.lemmas.Bool.{cases_eq}
@@ -8,10 +8,11 @@ use Rattle.fc_position.specs.Board.{Board, column}
 use Rattle.fc_moves.specs.declared.steps.Move.{Move}
 use Rattle.fc_moves.specs.GameRules.{GameRules, IsPositionOf}
 use Rattle.fc_sequences.specs.Sequence.{last_cards, cards_before, carried}
-use Rattle.fc_sequences.specs.Carry.{AreSpareColumns, EndOpens, Carries, MayCarryOver}
+use Rattle.fc_sequences.specs.Carry.{AreSpareColumns, EndOpens, Carries, MayCarryOver, carry_moves}
 use Rattle.fc_sequences.proofs.BoardLemmas.{Changed, carried_so, changed_once}
 use Rattle.fc_sequences.proofs.CardLemmas.{length-last, before-before, last-last, last_all, before_all, opens_before, opens_last}
 use Rattle.fc_sequences.proofs.LieLemmas.{lies_aside, lies_rest, lies_back, free_same, spare_still}
+use Rattle.fc_sequences.proofs.MovesLemmas.{moves_alone, moves_others, moves_halves}
 use Rattle.fc_sequences.proofs.RunLemmas.{adds_on}
 
 -- where the other columns are enough, the first is not needed
@@ -171,10 +172,31 @@ after_back g b c d e i j s h r cells others p one two three =
     changed_once b e (carried b i j (h + r)) i j (cards_before (h + r) cards) (column b j ++ last_cards (h + r) cards) all
     (carried_so b i j (h + r) eight may.lies.from may.lies.to may.lies.other)
 
-pub carried_over : (g : GameRules) (b c d e : Board) (i j k s h r : ℕ) (cells others : List ℕ) (w x y z : List Move) → k ≡ h + r
-    → Halves g b i j s h r cells others → Carries g b i s h w c x → Carries g c i j r x d y → Carries g d s j h y e z
-    → Carries g b i j k w e z
-carried_over g b c d e i j k s h r cells others w x y z sum p one two three = record {
+pub carried_over : (g : GameRules) (b c d e : Board) (i j k s h r : ℕ) (cells columns others : List ℕ) (w x y z : List Move) → k ≡ h + r
+    → columns ≡ s ∷ others → Halves g b i j s h r cells others → Carries g b i s h (carry_moves (length cells) (length others) h) w c x
+    → Carries g c i j r (carry_moves (length cells) (length others) r) x d y
+    → Carries g d s j h (carry_moves (length cells) (length others) h) y e z
+    → Carries g b i j k (carry_moves (length cells) (length columns) k) w e z
+carried_over g b c d e i j k s h r cells columns others w x y z sum parts p one two three = record {
   after = after_back g b c d e i j s h r cells others p one.after two.after three.after ∙ ap (carried b i j) (sym sum);
   run = adds_on g b d e w y z (adds_on g b c d w x y one.run two.run) three.run;
+  count_is =
+      let all = ap (λ (l : List ℕ). carry_moves (length cells) (length l) k) parts
+      ∙ moves_halves (length cells) (length others) k h r sum p.last p.rest in
+      omega (arith, all, one.count_is, two.count_is, three.count_is);
 }
+
+-- where the other columns did it
+pub carried_by_others : (g : GameRules) (b c : Board) (i j k s : ℕ) (cells columns others : List ℕ) (w x : List Move) → columns ≡ s ∷ others
+    → k ≤ (length cells + 1) * 2 ^ length others → Carries g b i j k (carry_moves (length cells) (length others) k) w c x
+    → Carries g b i j k (carry_moves (length cells) (length columns) k) w c x
+carried_by_others g b c i j k s cells columns others w x parts few one =
+    subst (λ n. Carries g b i j k n w c x)
+    (sym (ap (λ (l : List ℕ). carry_moves (length cells) (length l) k) parts ∙ moves_others (length cells) (length others) k few)) one
+
+-- where there are none
+pub carried_alone : (g : GameRules) (b c : Board) (i j k : ℕ) (cells columns : List ℕ) (w x : List Move) → length columns ≡ 0
+    → Carries g b i j k (2 * k - 1) w c x → Carries g b i j k (carry_moves (length cells) (length columns) k) w c x
+carried_alone g b c i j k cells columns w x none one =
+    subst (λ n. Carries g b i j k n w c x)
+    (sym (ap (λ n. carry_moves (length cells) n k) none ∙ moves_alone (length cells) k)) one

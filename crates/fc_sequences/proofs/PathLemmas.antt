@@ -1,5 +1,5 @@
 -- From the start along a path of boards to the last of them.
-use Rattle.std.proofs.Common.{◌≡◌, ℕ, ◌+◌, ◌-◌, ◌<◌, ◌≤◌, zero, suc, List, [], ◌∷◌, ◌++◌, length, take, drop, reverse, Some, None, refl, sym, ◌∙◌, ap, subst, ⊎_elim, arith}
+use Rattle.std.proofs.Common.{◌≡◌, ℕ, ◌+◌, ◌-◌, ◌<◌, ◌≤◌, zero, suc, List, [], ◌∷◌, ◌++◌, length, take, drop, reverse, Some, None, refl, sym, ◌∙◌, ap, subst, ⊎_elim, length-append, arith}
 use Rattle.std.specs.Prelude.{slice_get, get_or}
 use Rattle.std.proofs.lemmas.List.{drop_all, reverse-append}
 use Rattle.std.proofs.lemmas.Option.{slice_get_within, slice_get_read, slice_get-get_or, get_or_from_slice_get}
@@ -10,7 +10,7 @@ use Rattle.fc_moves.specs.GameRules.{GameRules, IsPositionOf}
 use Rattle.fc_sequences.specs.declared.pairs.Pair.{Pair}
 use Rattle.fc_sequences.specs.declared.trees.Node.{Node}
 use Rattle.fc_sequences.specs.Carry.{AddsRun}
-use Rattle.fc_sequences.specs.Pair.{PlaysBy}
+use Rattle.fc_sequences.specs.Pair.{PlaysBy, moves_for}
 use Rattle.fc_sequences.specs.Following.{Expands}
 use Rattle.fc_sequences.specs.Tree.{ComesFrom, IsTree, Leads}
 use Rattle.fc_sequences.proofs.GetLemmas.{take_next}
@@ -68,8 +68,9 @@ along_came g b ps nodes x rest leaf here ms next tree along found =
 pub along_next : (g : GameRules) (b : Board) (ps : List Pair) (nodes : List Node) (x : ℕ) (rest : List ℕ) (leaf : ℕ) (here there : Board) (ms new : List Move) (next : Node) (pair : Pair)
     → IsTree g b ps nodes → (along : IsAlong g b ps nodes (x ∷ rest) leaf here ms) → slice_get nodes x ≡ Some next
     → slice_get ps along.node.depth ≡ Some pair → next.depth ≡ along.node.depth + 1 → PlaysBy g here pair next.count there
-    → there ≡ next.position → AddsRun g here ms there new → IsAlong g b ps nodes rest leaf there new
-along_next g b ps nodes x rest leaf here there ms new next pair tree along found entry level played same (front, parts, run) =
+    → there ≡ next.position → AddsRun g here ms there new → length new ≡ length ms + moves_for g here pair.from pair.to next.count
+    → IsAlong g b ps nodes rest leaf there new
+along_next g b ps nodes x rest leaf here there ms new next pair tree along found entry level played same (front, parts, run) count =
     let deeper : next.depth ≡ suc along.node.depth = omega (arith, level) in
     let entries : take next.depth ps ≡ take along.node.depth ps ++ pair ∷ [] =
     ap (λ n. take n ps) deeper ∙ take_next ps along.node.depth pair entry in
@@ -80,7 +81,8 @@ along_next g b ps nodes x rest leaf here there ms new next pair tree along found
       place = same;
       expanded = subst (λ l. Expands g b l new there) (sym entries)
           (subst (λ l. Expands g b (take along.node.depth ps ++ pair ∷ []) l there) (sym parts)
-          (expands_push g b here there (take along.node.depth ps) pair ms front along.expanded (next.count, played) run));
+          (expands_push g b here there (take along.node.depth ps) pair next.count ms front along.expanded played run
+          (omega (arith, count, ap length parts, length-append ms front))));
       leads = along.leads.1;
     }
 
@@ -159,8 +161,10 @@ ahead g b ps nodes path i leaf here ms next d tree along below is =
 pub ahead_next : (g : GameRules) (b : Board) (ps : List Pair) (nodes : List Node) (path : List ℕ) (i leaf : ℕ) (here there : Board) (ms new : List Move) (next : Node) (d : Pair)
     → IsTree g b ps nodes → IsAlong g b ps nodes (drop i path) leaf here ms → i < length path
     → next ≡ get_or nodes (get_or path i 0) next → PlaysBy g here (get_or ps (next.depth - 1) d) next.count there
-    → AddsRun g here ms there new → IsAlong g b ps nodes (drop (i + 1) path) leaf there new
-ahead_next g b ps nodes path i leaf here there ms new next d tree along below is played adds =
+    → AddsRun g here ms there new
+    → length new ≡ length ms + moves_for g here (get_or ps (next.depth - 1) d).from (get_or ps (next.depth - 1) d).to next.count
+    → IsAlong g b ps nodes (drop (i + 1) path) leaf there new
+ahead_next g b ps nodes path i leaf here there ms new next d tree along below is played adds count =
     let within = number_there g b ps nodes path i leaf here ms along below in
     let found : slice_get nodes (get_or path i 0) ≡ Some next = slice_get_read nodes (length nodes) (get_or path i 0) next refl within is in
     let at = along_at g b ps nodes path i leaf here ms along below in
@@ -171,6 +175,7 @@ ahead_next g b ps nodes path i leaf here there ms new next d tree along below is
     let plays : PlaysBy g here came.0 next.count there = subst (λ p. PlaysBy g here p next.count there) entry played in
     along_next g b ps nodes (get_or path i 0) (drop (i + 1) path) leaf here there ms new next came.0 tree at found came.1 came.2 plays
     (plays_once g here came.0 next.count there next.position plays came.3) adds
+    (subst (λ p. length new ≡ length ms + moves_for g here p.from p.to next.count) entry count)
 
 -- the first board fits the game
 pub first_position : (g : GameRules) (b : Board) (ps : List Pair) (nodes : List Node) (d : Node) → IsTree g b ps nodes → 0 < length nodes

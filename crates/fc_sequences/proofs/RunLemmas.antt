@@ -23,7 +23,7 @@ adds_on g b c d xs ys zs (ms, one, run) (ns, two, more) =
 -- moves that expand entries run
 pub expands_run : (g : GameRules) (b c : Board) (pairs : List Pair) (ms : List Move) → Expands g b pairs ms c → Run g b ms c
 expands_run g b c [] ms (none, same) = subst (λ l. Run g b l c) (sym none) same
-expands_run g b c (pair ∷ pairs) ms (mid, front, rest, plays, run, parts, more) =
+expands_run g b c (pair ∷ pairs) ms (k, mid, front, rest, plays, run, size, parts, more) =
     subst (λ l. Run g b l c) (sym parts) (run_on g b mid c front rest run (expands_run g mid c pairs rest more))
 
 -- what moves run to from a position of the game is one
@@ -34,3 +34,7 @@ adds_keeps g b c xs ys fits (ms, long, run) = run_keeps g b c ms fits run
 pub where_ok : {T E P Q : Type 0} (r : Result T E) → OnOk r P → (P → Q) → OnOk r Q
 where_ok (Ok x) p f = f p
 where_ok (Err e) p f = p
+
+pub where_both_ok : {T E P Q R : Type 0} (r : Result T E) → OnOk r P → OnOk r Q → (P → Q → R) → OnOk r R
+where_both_ok (Ok x) p q f = f p q
+where_both_ok (Err e) p q f = p

@@ -1,5 +1,5 @@
 -- Entries of lists in standard notation, one of which may move several cards: their texts, and what they do.
-use Rattle.std.specs.Prelude.{◌≡◌, ℕ, ◌+◌, ◌<◌, ◌≤◌, nat_le, cond, List, [], ◌∷◌, map, Option, Some, None, IfSome}
+use Rattle.std.specs.Prelude.{◌≡◌, ℕ, ◌+◌, ◌<◌, ◌≤◌, nat_le, cond, length, List, [], ◌∷◌, map, Option, Some, None, IfSome}
 use Rattle.std.specs.Char.{to_ascii_lowercase}
 use Rattle.fc_cards.specs.declared.places.Place.{Place}
 use Rattle.fc_cards.specs.declared.places.Place.TheVariants.{Column}
@@ -8,7 +8,8 @@ use Rattle.fc_moves.specs.GameRules.{GameRules}
 use Rattle.fc_moves.specs.MoveText.{IsSource, IsThere, place_letter}
 use Rattle.fc_moves.specs.Step.{Step}
 use Rattle.fc_sequences.specs.declared.pairs.Pair.{Pair}
-use Rattle.fc_sequences.specs.Sequence.{MayCarry, carried}
+use Rattle.fc_sequences.specs.Carry.{carry_moves}
+use Rattle.fc_sequences.specs.Sequence.{MayCarry, carried, free_cells, spare_columns}
 
 -- a number below 16 in hexadecimal, in small letters
 abbrev pub hexadecimal : ℕ → ℕ
@@ -42,6 +43,12 @@ IsNoPair token = (p : Pair) → SpellsPair token p → ⊥
 abbrev pub PlaysCards : GameRules → Board → Place → Place → ℕ → Board → Type 0
 PlaysCards g b (Column i) (Column j) k c = MayCarry g b i j k × (c ≡ carried b i j k)
 PlaysCards g b from to k c = (k ≡ 1) × Step g b (record { from = from; to = to }) c
+
+-- how many one-card moves that takes: from column to column as many as carry the cards over the free cells and the spare columns,
+-- else one
+abbrev pub moves_for : GameRules → Board → Place → Place → ℕ → ℕ
+moves_for g b (Column i) (Column j) k = carry_moves (length (free_cells g b)) (length (spare_columns b j)) k
+moves_for g b from to k = 1
 
 -- the entry is played with so many cards, which are as many as it tells, where it tells any
 abbrev pub PlaysBy : GameRules → Board → Pair → ℕ → Board → Type 0

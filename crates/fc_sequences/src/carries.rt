@@ -1,10 +1,10 @@
 //! Sequences carried from column to column.
 
-ghost use Rattle.std.specs.Prelude.{◌≡◌, ◌↔◌, ◌<◌, ◌≤◌, ◌+◌, ◌*◌, ◌^◌, length, All, IsTrue, OnOk};
+ghost use Rattle.std.specs.Prelude.{◌≡◌, ◌↔◌, ◌<◌, ◌≤◌, ◌+◌, ◌-◌, ◌*◌, ◌^◌, length, All, IsTrue, OnOk};
 ghost use Rattle.fc_moves.specs.GameRules.{IsPositionOf, Opens};
 ghost use Rattle.fc_moves.specs.Step.{Allows, Step, MayLand};
-ghost use Rattle.fc_sequences.specs.Sequence.{AreEnough, IsSequence, MayCarry, carried};
-ghost use Rattle.fc_sequences.specs.Carry.{AddsRun, Carries, MayCarryBy, MayCarryOver};
+ghost use Rattle.fc_sequences.specs.Sequence.{AreEnough, IsSequence, MayCarry, carried, free_cells, spare_columns};
+ghost use Rattle.fc_sequences.specs.Carry.{AddsRun, Carries, MayCarryBy, MayCarryOver, carry_moves};
 
 use crate::spaces::{free_cells, spare_columns};
 use fc_cards::{Card, Place};
@@ -32,7 +32,8 @@ pub fn may_carry<G: Game>(game: &G, position: &Position, from: u8, to: u8, count
 }
 
 /// Moves the last `count` cards of column `from` to column `to`, as they lie, one card at a time, and adds these moves to
-/// `moves`: every other card is where it was.
+/// `moves`: every other card is where it was. They are 2 `count` - 1 moves where the free cells are enough; else those that
+/// are too many go to an empty column and from there.
 ///
 /// # Errors
 /// A growth of `moves` was refused, and nothing is known of the position.
@@ -48,6 +49,8 @@ pub fn carry<G: Game>(
     requires fits { IsPositionOf (G.game game.now) position.old }
     ensures carried { OnOk result (position.new ≡ carried position.old from to count) }
     ensures run { OnOk result (AddsRun (G.game game.now) position.old moves.old.items position.new moves.new.items) }
+    ensures count { OnOk result (length moves.new.items ≡ length moves.old.items
+        + carry_moves (length (free_cells (G.game game.now) position.old)) (length (spare_columns position.old to)) count) }
     ensures whole { OnOk result (IsPositionOf (G.game game.now) position.new) }
 {
     let cells = free_cells(game, position);
@@ -80,7 +83,8 @@ fn carry_over<G: Game>(
     moves: &mut Vec<Move>,
 ) -> Result<(), AllocError>
     requires { MayCarryOver (G.game game.now) position.old from to count cells.now columns.now }
-    ensures { OnOk result (Carries (G.game game.now) position.old from to count moves.old.items position.new moves.new.items) }
+    ensures { OnOk result (Carries (G.game game.now) position.old from to count (carry_moves (length cells.now) (length columns.now) count)
+        moves.old.items position.new moves.new.items) }
 {
     let Some((column, others)) = columns.split_first() else {
         return carry_by_cells(game, position, from, to, count, cells, moves);
@@ -107,7 +111,7 @@ fn carry_by_cells<G: Game>(
     moves: &mut Vec<Move>,
 ) -> Result<(), AllocError>
     requires { MayCarryBy (G.game game.now) position.old from to count cells.now }
-    ensures { OnOk result (Carries (G.game game.now) position.old from to count moves.old.items position.new moves.new.items) }
+    ensures { OnOk result (Carries (G.game game.now) position.old from to count (2 * count - 1) moves.old.items position.new moves.new.items) }
 {
     let (source, target) = (Place::Column(from), Place::Column(to));
     if count == 1 {
@@ -130,6 +134,7 @@ pub(crate) fn step<G: Game>(
     requires allowed { Allows (G.game game.now) position.old (record { from = from; to = to }) }
     ensures step { Step (G.game game.now) position.old (record { from = from; to = to }) position.new }
     ensures run { OnOk result (AddsRun (G.game game.now) position.old moves.old.items position.new moves.new.items) }
+    ensures count { OnOk result (length moves.new.items ≡ length moves.old.items + 1) }
 {
     let m = Move { from, to };
     apply(game, position, m);

@@ -4,7 +4,7 @@ ghost use Rattle.std.specs.Prelude.{◌≡◌, ◌^◌, ◌≤◌, ◌<◌, ℕ,
 ghost use Rattle.fc_position.specs.Board.{Board};
 ghost use Rattle.fc_position.specs.Position.{IsWon};
 ghost use Rattle.fc_moves.specs.GameRules.{GameRules, IsPositionOf};
-ghost use Rattle.fc_sequences.specs.Following.{Expands, Follows, IsListFault};
+ghost use Rattle.fc_sequences.specs.Following.{Expands, Follows, LeadsToMany, IsListFault};
 ghost use Rattle.fc_sequences.specs.Tree.{IsGrownTo, IsTree, Leads, boards_of};
 ghost use Rattle.fc_sequences.specs.declared.trees.Node.{Node};
 ghost use Rattle.fc_sequences.specs.declared.pairs.Pair.{Pair};
@@ -44,13 +44,13 @@ impl From<AllocError> for ListFault {
     }
 }
 
-/// The one-card moves of a list of entries that is played on a position that fits the game. Where it isn't told how many
-/// cards an entry moves to an empty column, it is so many that the whole list can be played, to a won board if it can, and
-/// then as few as possible for the first such entry, and so on.
+/// The one-card moves of a list of entries that is played on a position that fits the game, for each entry as many as its
+/// cards take. Where it isn't told how many cards an entry moves to an empty column, it is so many that the whole list can be
+/// played, to a won board if it can.
 ///
 /// # Errors
-/// `Refused` with the first step up to which no numbers of cards let the entries be played; `TooMany` with a step up to
-/// which they lead to more than 1,000 boards; `Memory` where a growth was refused.
+/// `Refused` with the first step up to which no numbers of cards let the entries be played; `TooMany` with the first step up
+/// to which they lead to more than 1,000 boards, whichever comes first; `Memory` where a growth was refused.
 pub fn expand<G: Game>(
     alloc: Global,
     game: &G,
@@ -61,6 +61,8 @@ pub fn expand<G: Game>(
     requires few { length pairs.now < 2 ^ 32 }
     ensures expanded { IfOk result (λ moves. (c : Board) × Expands (G.game game.now) position.now pairs.now moves.items c
         × ((d : Board) → Follows (G.game game.now) position.now pairs.now d → IsWon d → IsWon c)) }
+    ensures few { IfOk result (λ _. (step : ℕ) → step ≤ length pairs.now
+        → LeadsToMany (G.game game.now) position.now (take step pairs.now) → ⊥) }
     ensures fault { IfErr result (IsListFault (G.game game.now) position.now pairs.now) }
 {
     let (nodes, leaf) = grow(alloc, game, position, pairs)?;
@@ -78,6 +80,8 @@ fn grow<G: Game>(
     requires fits { IsPositionOf (G.game game.now) position.now }
     requires few { length pairs.now < 2 ^ 32 }
     ensures grown { IfOk result (λ r. IsGrownTo (G.game game.now) position.now pairs.now r.0.items r.1) }
+    ensures few { IfOk result (λ _. (step : ℕ) → step ≤ length pairs.now
+        → LeadsToMany (G.game game.now) position.now (take step pairs.now) → ⊥) }
     ensures fault { IfErr result (IsListFault (G.game game.now) position.now pairs.now) }
 {
     let mut nodes = planted(alloc, position)?;

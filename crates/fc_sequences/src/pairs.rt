@@ -1,11 +1,11 @@
 //! Entries of lists in standard notation.
 
-ghost use Rattle.std.specs.Prelude.{◌≡◌, ℕ, ◌↔◌, ◌<◌, ◌≤◌, IfSome, IfNone, IsTrue, OnOk};
+ghost use Rattle.std.specs.Prelude.{◌≡◌, ℕ, ◌↔◌, ◌+◌, ◌<◌, ◌≤◌, length, IfSome, IfNone, IsTrue, OnOk};
 ghost use Rattle.fc_position.specs.Board.{Board};
 ghost use Rattle.fc_moves.specs.GameRules.{IsPositionOf};
 ghost use Rattle.fc_moves.specs.MoveText.{place_letter};
 ghost use Rattle.fc_sequences.specs.Carry.{AddsRun};
-ghost use Rattle.fc_sequences.specs.Pair.{HasPairText, SpellsPair, IsNoPair, hexadecimal, PlaysBy, PlaysCards};
+ghost use Rattle.fc_sequences.specs.Pair.{HasPairText, SpellsPair, IsNoPair, hexadecimal, PlaysBy, PlaysCards, moves_for};
 
 use crate::carries::{carry, may_carry, step};
 use fc_cards::Place;
@@ -100,6 +100,7 @@ pub(crate) fn play_pair<G: Game>(
     requires fits { IsPositionOf (G.game game.now) position.old }
     ensures played { OnOk result (PlaysBy (G.game game.now) position.old pair count position.new) }
     ensures run { OnOk result (AddsRun (G.game game.now) position.old moves.old.items position.new moves.new.items) }
+    ensures count { OnOk result (length moves.new.items ≡ length moves.old.items + moves_for (G.game game.now) position.old pair.from pair.to count) }
     ensures whole { OnOk result (IsPositionOf (G.game game.now) position.new) }
 {
     match (pair.from, pair.to) {

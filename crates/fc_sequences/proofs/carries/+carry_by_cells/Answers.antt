@@ -1,6 +1,6 @@
 use Rattle.std.proofs.Common.{get_or, arith}
 use Rattle.fc_sequences.proofs.CellLemmas.{allows_across, after_across, allows_aside, allows_back, parts, puts_aside, by_rest, carried_by, later}
-use Rattle.fc_sequences.proofs.RunLemmas.{where_ok}
+use Rattle.fc_sequences.proofs.RunLemmas.{where_both_ok}
 use Rattle.fc_sequences.proofs.carries.+carry_by_cells.Goals as goal
 
 pub step-requires : goal.step-requires
@@ -11,10 +11,11 @@ step-requires g t c = record {
 
 pub returns-then-count-eq1 : goal.returns-then-count-eq1
 returns-then-count-eq1 g t c =
-    where_ok c.step.result c.step.ensures.run (λ run. record {
+    where_both_ok c.step.result c.step.ensures.run c.step.ensures.count (λ run count. record {
       after =
           after_across (g.G.Game.game c.args.game.now) c.args.position.now c.step.new.position c.args.from c.args.to c.args.count c.requires.fits.position.columns c.if-count-eq1.true c.requires.lies c.step.ensures.step;
       run = run;
+      count_is = omega (arith, count, c.if-count-eq1.true);
     })
 
 pub step-requires-2 : goal.step-requires-2
@@ -47,5 +48,5 @@ returns g t c =
     let game = g.G.Game.game c.args.game.now in
     let cells = c.args.cells.now in
     let p = puts_aside game c.args.position.now c.args.from c.args.to c.args.count cells c.step-2.new.position c.requires c.if-count-eq1.false c.step-2.ensures.step in
-    where_ok c.step-3.result c.step-3.ensures.run
-    (carried_by game c.args.position.now c.step-2.new.position c.carry_by_cells.new.position c.step-3.new.position c.args.from c.args.to c.args.count (get_or cells 0 0) cells (later cells) c.args.moves.now.items c.step-2.new.moves.items c.carry_by_cells.new.moves.items c.step-3.new.moves.items p c.in_ok-step.ensures.run c.in_ok-carry_by_cells.ensures c.step-3.ensures.step)
+    where_both_ok c.step-3.result c.step-3.ensures.run c.step-3.ensures.count
+    (carried_by game c.args.position.now c.step-2.new.position c.carry_by_cells.new.position c.step-3.new.position c.args.from c.args.to c.args.count (get_or cells 0 0) cells (later cells) c.args.moves.now.items c.step-2.new.moves.items c.carry_by_cells.new.moves.items c.step-3.new.moves.items p c.in_ok-step.ensures.run c.in_ok-step.ensures.count c.in_ok-carry_by_cells.ensures c.step-3.ensures.step)

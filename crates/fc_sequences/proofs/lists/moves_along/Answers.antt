@@ -46,7 +46,7 @@ pub loop-number-preserved : goal.loop-number-preserved
 loop-number-preserved g c = (
   c.in_ok-play_pair.ensures.whole,
   λ b leaf tree leads. ahead_next _ b _ _ c.args.path.now c.loop-number.number-index leaf _ _ _ _ _ _ tree (c.loop-number.invariant.1 b leaf tree leads) (omega arith)
-      c.index-nodes-number.is c.in_ok-play_pair.ensures.played c.in_ok-play_pair.ensures.run,
+      c.index-nodes-number.is c.in_ok-play_pair.ensures.played c.in_ok-play_pair.ensures.run c.in_ok-play_pair.ensures.count,
 )
 
 pub returns : goal.returns
