@@ -1,5 +1,6 @@
 pub mod BatchLemmas
 pub mod CertificateLemmas
+mod HeardLemmas
 pub mod ListTextLemmas
 pub mod RefusalLemmas
 pub mod ReplayLemmas

@@ -1,5 +1,5 @@
 -- From a position that was given to the end of a run.
-use Rattle.std.proofs.Common.{◌≡◌, ◌⊎◌, inl, inr, ℕ, List, Option, Some, None, Result, Ok, Err, refl}
+use Rattle.std.proofs.Common.{◌≡◌, ◌⊎◌, inl, inr, ℕ, Option, Some, None, Result, Ok, Err, refl}
 use Rattle.std.specs.Prelude.{IfOk, IfErr}
 use Rattle.fc_position.specs.Board.{Board}
 use Rattle.fc_moves.specs.GameRules.{GameRules}
@@ -7,9 +7,7 @@ use Rattle.fc_bound.specs.declared.kinds.BoundKind.{BoundKind}
 use Rattle.fc_best_first.specs.Search.{IsBudget}
 use Rattle.fc_runs.specs.declared.faults.ProgramFault.{ProgramFault}
 use Rattle.fc_runs.specs.Devices.{Device, GivesBoard}
-use Rattle.fc_watch.specs.declared.listeners.Progress.{Progress}
-use Rattle.fc_watch.specs.Watch.{Hears, IsFarOf}
-use Rattle.fc_runs.specs.Solving.{IsAnswered, IsHeardOf, IsSolved, IsSolveFault, IsUnanswered}
+use Rattle.fc_runs.specs.Solving.{IsAnswered, IsSolved, IsSolveFault, IsUnanswered}
 
 -- something is lent, or nothing
 pub is_lent : {A : Type 0} (o : Option A) → (o ≡ None) ⊎ ((x : A) × (o ≡ Some x))
@@ -32,11 +30,3 @@ pub unsolved : (g : GameRules) (rule weight : ℕ) (kind : BoundKind) (budget : 
     → IfErr result (IsSolveFault g rule weight kind budget source cert sink)
 unsolved g rule weight kind budget source cert sink start (Ok status) budgeted given unanswered = tt
 unsolved g rule weight kind budget source cert sink start (Err fault) budgeted given unanswered = inr (budgeted, (start, given, unanswered))
-
--- what is heard of a search of the position that was given is heard of the source
-pub heard_of : (g : GameRules) (rule weight : ℕ) (kind : BoundKind) (budget : ℕ) (source : Device) (start : Board) (old new : Option (List Progress))
-    → GivesBoard g.cells source start → Hears old new (IsFarOf g rule weight kind start budget)
-    → Hears old new (IsHeardOf g rule weight kind budget source)
-heard_of g rule weight kind budget source start None new given heard = heard
-heard_of g rule weight kind budget source start (Some old) new given (told, same, all) =
-    (told, same, λ k d within. (start, given, all k d within))

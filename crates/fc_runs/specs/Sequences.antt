@@ -1,5 +1,5 @@
 -- What replaying a list in standard notation promises, whose entries may move sequences, over any source and any sink.
-use Rattle.std.specs.Prelude.{◌≡◌, ◌⊎◌, ℕ, ◌+◌, ◌<◌, List, [], ◌∷◌, ◌++◌, length, Result, Ok, Err, IsTrue}
+use Rattle.std.specs.Prelude.{◌≡◌, ◌⊎◌, ℕ, ◌+◌, ◌<◌, ◌≤◌, List, [], ◌∷◌, ◌++◌, length, take, Result, Ok, Err, IsTrue}
 use Rattle.fc_io.specs.declared.devices.Failed.{Failed}
 use Rattle.fc_io.specs.Moves.{Stays, TellsAtLeast}
 use Rattle.fc_position.specs.Board.{Board}
@@ -9,7 +9,7 @@ use Rattle.fc_moves.specs.GameRules.{GameRules}
 use Rattle.fc_sequences.specs.declared.lists.ListFault.{ListFault}
 use Rattle.fc_sequences.specs.declared.lists.ListFault.TheVariants.{Refused, TooMany}
 use Rattle.fc_sequences.specs.declared.pairs.Pair.{Pair}
-use Rattle.fc_sequences.specs.Following.{Expands, Follows, IsListFault}
+use Rattle.fc_sequences.specs.Following.{Expands, Follows, IsListFault, LeadsToMany}
 use Rattle.fc_sequences.specs.Pair.{SpellsPair, IsNoPair}
 use Rattle.fc_replay.specs.declared.faults.ReplayFault.TheVariants.{BadMove, NotAllowed}
 use Rattle.fc_replay.specs.declared.pages.Page.{Page}
@@ -48,13 +48,14 @@ IsUnread tokens Memory = Unit {0}
 IsUnread tokens other = ⊥
 
 -- the tokens spell entries, and these one-card moves, which the rules allow, play them one by one: to a won board, where with
--- some numbers of cards they lead to one
+-- some numbers of cards they lead to one; and up to no step they lead to too many boards
 pub record IsExpanded (g : GameRules) (b : Board) (tokens : List (List ℕ)) (moves : List Move) : Type 0 where
   pub pairs : List Pair
   pub spelled : SpellPairs tokens pairs
   pub last : Board
   pub expanded : Expands g b pairs moves last
   pub won : (c : Board) → Follows g b pairs c → IsWon c → IsWon last
+  pub few : (step : ℕ) → step ≤ length pairs → LeadsToMany g b (take step pairs) → ⊥
 
 -- the tokens spell entries, and for this they aren't expanded
 pub record HasListFault (g : GameRules) (b : Board) (tokens : List (List ℕ)) (fault : ListFault) : Type 0 where

@@ -16,9 +16,7 @@ struct Ear {
 }
 
 impl Listener for Ear {
-    ghost use Rattle.std.specs.Prelude.{None};
-
-    ghost heard = { λ _. None };
+    ghost hears = { λ _ _ _. Unit {0} };
 
     fn hear(&mut self, far: Progress) {
         self.times = self.times.saturating_add(1);

@@ -9,6 +9,7 @@ use fc_frontier::{BucketFrontier, Frontier, ListFrontier};
 use fc_moves::{Game, Kings};
 use fc_position::Position;
 use fc_search::{Answer, Search};
+use fc_tests::queues::OldestFirst;
 use std::alloc::Global;
 use std::process::Abort;
 
@@ -126,12 +127,15 @@ fn check_answer(rt: &impl Abort, answer: &Answer, found: Found) {
     assert!(rt; agree(answer, found), "another answer");
 }
 
-// Compares the answers for a board of a game, by each rule, with either queue and by either bound.
+// Compares the answers for a board of a game, by each rule, with each queue, one of the tests' own among them, and by either
+// bound.
 fn compare_board<G: Game + Drop>(rt: &impl Abort, alloc: Global, game: &G, board: &Position) {
     let found = plain::search(rt, alloc, game, board, 300);
     for rule in 0..3 {
         let list = answer_of::<ListFrontier, G>(rt, alloc, game, rule, BoundKind::Plain, board);
         check_answer(rt, &list, found);
+        let oldest = answer_of::<OldestFirst, G>(rt, alloc, game, rule, BoundKind::Plain, board);
+        check_answer(rt, &oldest, found);
         for bound in [BoundKind::Plain, BoundKind::Clearing] {
             let buckets = answer_of::<BucketFrontier, G>(rt, alloc, game, rule, bound, board);
             check_answer(rt, &buckets, found);

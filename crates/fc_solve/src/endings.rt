@@ -86,6 +86,9 @@ pub fn of_run(ran: Result<u8, ProgramFault>) -> Result<u8, Ending> {
     }
 }
 
+// What is said of a text with nothing in it.
+const NO_BOARD: &str = "the board is empty: its text has nothing but blanks";
+
 /// Ends as a run did on a board's text, for a game with so many cells: a fault of the board is told, with where it lies.
 pub fn end_of(
     rt: &HostRuntime,
@@ -98,7 +101,11 @@ pub fn end_of(
         Err(fault) => {
             let status = tell(rt, &fault);
             if let ProgramFault::Board(fault) = fault {
-                add_note(rt, fault, text, cells);
+                if text.iter().all(|byte| byte.is_ascii_whitespace()) {
+                    let _told = eprintln!(rt; "fc_solve: {NO_BOARD}");
+                } else {
+                    add_note(rt, fault, text, cells);
+                }
             }
             Err(Ending::Told(status))
         }

@@ -19,7 +19,7 @@ use endings::{Ending, end_of, of_run, tell};
 use fc_bound::BoundKind;
 use fc_io::{FromSlice, Sink, ToArray, ToWriter, write_all};
 use fc_moves::{BakersGame, FreeCell, Game, Kings};
-use fc_plain::{PlainText, read_count};
+use fc_plain::read_count;
 use fc_replay::{Page, replay_as};
 use fc_runs::{
     Input, LONGEST_MOVES, Look, Output, ProgramFault, run_batch, run_check, run_deal,
@@ -30,12 +30,13 @@ use moves::{
     MovesSource, find_moves, read_moves, tell_end, tell_entry, tell_stop, without_answer,
     without_rulers,
 };
-use std::fs::File;
+use std::alloc::Global;
+use std::fs::{self, File};
 use std::io::IsTerminal;
 use std::process::ExitCode;
 use std::{env, io};
 use streams::StandIns;
-use watching::Teller;
+use watching::{AfterLine, Line, Teller};
 use words::{DEFAULT_BUDGET, DEFAULT_RULE, DEFAULT_WEIGHT, GREATEST_BUDGET, GREATEST_WEIGHT};
 
 /// The exit status of a command line that is refused.
@@ -60,12 +61,8 @@ fn follow_words(rt: &HostRuntime) -> Result<u8, Ending> {
         Err(_) => return Ok(refuse(rt, "the command line is not UTF-8")),
     };
     let mut words: Vec<String> = args.collect(alloc)?;
-    if words.get(1).is_some_and(|word| is_number(word.as_str())) {
-        // (`fc_solve 617` is `fc_solve solve 617`)
-        let inserted = words.insert(1, String::from_str(alloc, "solve")?);
-        if inserted.is_err() {
-            return Err(Ending::Fault(ProgramFault::Memory));
-        }
+    if words.get(1).is_some_and(|word| names_board(rt, word.as_str())) {
+        mean_solving(alloc, &mut words)?;
     }
     match words::command(alloc)?.try_get_matches_from(words.as_slice()) {
         Ok(matches) => follow_matches(rt, &matches),
@@ -76,6 +73,35 @@ fn follow_words(rt: &HostRuntime) -> Result<u8, Ending> {
             let _told = error.print(rt);
             Ok(if error.exit_code() == 0 { 0 } else { REFUSED })
         }
+    }
+}
+
+// Whether the first word is a board's: a number, `-`, or a file that is there and is no subcommand's name.
+fn names_board(rt: &HostRuntime, word: &str) -> bool {
+    if is_number(word) || word == "-" {
+        return true;
+    }
+    !word.starts_with("-") && !words::is_subcommand(word) && fs::metadata(rt, word).is_ok()
+}
+
+// Puts the words before a board that it means alone: it is solved, within twice the fewest moves and by the clearing bound
+// where the words don't say how.
+fn mean_solving(alloc: Global, words: &mut Vec<String>) -> Result<(), Ending> {
+    for (name, word) in [("--within", "--within=2"), ("--bound", "--bound=clearing")] {
+        if !words.iter().any(|told| told.as_str().starts_with(name)) {
+            put_first(alloc, words, word)?;
+        }
+    }
+    put_first(alloc, words, "solve")
+}
+
+// Puts a word before the others, behind the program's name.
+fn put_first(alloc: Global, words: &mut Vec<String>, word: &str) -> Result<(), Ending> {
+    let word = String::from_str(alloc, word)?;
+    let place = words.len().min(1);
+    match words.insert(place, word) {
+        Ok(()) => Ok(()),
+        Err(_) => Err(Ending::Fault(ProgramFault::Memory)),
     }
 }
 
@@ -228,17 +254,16 @@ fn solve<G: Game + Drop>(rt: &HostRuntime, game: &G, words: &ArgMatches<'_>) -> 
         return Err(Ending::Fault(ProgramFault::Budget));
     }
     let text = read_text(rt, source)?;
-    if is_blank(&text) {
-        return Ok(refuse(rt, NO_BOARD));
-    }
     let is_shown = rt.stderr().is_terminal() && !words.get_flag("quiet");
-    let mut teller = Teller::new(rt, deal, is_shown);
+    let line = Line::new(rt, deal);
+    let mut teller = Teller::new(&line, is_shown);
     let result = if words.get_flag("boards") {
         solve_in_pages(rt, game, limits, text.bytes(), cert, &mut teller)
     } else {
-        let mut out = ToWriter::new(rt.stdout());
+        let mut out = AfterLine::new(&line, ToWriter::new(rt.stdout()));
         solve_text(rt, game, limits, text.bytes(), cert, &mut out, &mut teller)
     };
+    line.clear();
     if words.get_flag("stats") {
         teller.tell_stats();
     }
@@ -247,14 +272,6 @@ fn solve<G: Game + Drop>(rt: &HostRuntime, game: &G, words: &ArgMatches<'_>) -> 
         add_notes(rt, limits, deal, status);
     }
     Ok(status)
-}
-
-// What is said of a text with nothing in it.
-const NO_BOARD: &str = "the board is empty: its text has nothing but blanks";
-
-// Whether a text has nothing but blanks.
-fn is_blank(text: &PlainText) -> bool {
-    text.bytes().iter().all(|byte| byte.is_ascii_whitespace())
 }
 
 // Solves the board of a text, and tells how far the search is.
@@ -279,7 +296,7 @@ fn solve_text<G: Game + Drop, K: Sink>(
         weight,
         bound,
     } = limits;
-    let result = run_solve_heard(
+    run_solve_heard(
         rt.alloc(),
         game,
         rule,
@@ -290,9 +307,7 @@ fn solve_text<G: Game + Drop, K: Sink>(
         out,
         cert.as_mut(),
         teller,
-    );
-    teller.clear();
-    result
+    )
 }
 
 // Solves the board of a text, and shows the board after each move of the answer, if it has moves.
@@ -310,6 +325,7 @@ fn solve_in_pages<G: Game + Drop>(
 {
     let mut answer = ToArray::<LONGEST_ANSWER>::new();
     let status = solve_text(rt, game, limits, text, cert, &mut answer, teller)?;
+    teller.clear();
     let (told, moves) = split_answer(answer.held());
     let mut out = ToWriter::new(rt.stdout());
     let Ok(()) = write_all(&mut out, told) else {
@@ -411,9 +427,6 @@ fn batch<G: Game + Drop>(rt: &HostRuntime, game: &G, words: &ArgMatches<'_>) -> 
 // Shows the board that the words name.
 fn show<G: Game>(rt: &HostRuntime, game: &G, words: &ArgMatches<'_>) -> Result<u8, Ending> {
     let text = read_text(rt, source_of(rt, words)?)?;
-    if is_blank(&text) {
-        return Ok(refuse(rt, NO_BOARD));
-    }
     let look = if words.get_flag("plain") {
         Look::Text
     } else if rt.stdout().is_terminal() {
@@ -434,9 +447,6 @@ fn check<G: Game>(rt: &HostRuntime, game: &G, words: &ArgMatches<'_>) -> Result<
     let source = find_board(rt, Some(board))?;
     let mut cert = open(rt, cert, Input::Cert)?;
     let text = read_text(rt, source)?;
-    if is_blank(&text) {
-        return Ok(refuse(rt, NO_BOARD));
-    }
     let mut board = FromSlice::new(text.bytes());
     let mut out = ToWriter::new(rt.stdout());
     let result = run_check(rt.alloc(), game, &mut board, &mut cert, &mut out);
@@ -454,9 +464,6 @@ fn replay<G: Game>(rt: &HostRuntime, game: &G, words: &ArgMatches<'_>) -> Result
     let source = find_board(rt, Some(board))?;
     let moves = find_moves(rt, moves)?;
     let text = read_text(rt, source)?;
-    if is_blank(&text) {
-        return Ok(refuse(rt, NO_BOARD));
-    }
     let page = if words.get_flag("numbered") {
         Page::Numbered
     } else {

@@ -1,58 +1,36 @@
 //! How far a search is, told on standard error: on a terminal by one line that is written over, and at the end, where it is
 //! asked for, by a line of numbers. Where a line can't be written, the search goes on.
 
+use fc_io::{Failed, Sink};
 use fc_watch::{Listener, Progress};
+use std::cell::Cell;
 
 /// After so many turns the line is written over.
 const TURNS_A_LINE: u64 = 1 << 16;
 
-/// Tells how far a search is.
+/// The line on a terminal, for a numbered deal or another board.
 #[derive(Drop)]
-pub struct Teller<'a> {
+pub struct Line<'a> {
     rt: &'a HostRuntime,
     deal: Option<u32>,
-    is_shown: bool,
-    lines: u64,
-    last: Option<Progress>,
+    is_there: Cell<bool>,
 }
 
-impl<'a> Teller<'a> {
-    /// One that shows the line or doesn't, for a numbered deal or another board.
-    pub fn new(rt: &'a HostRuntime, deal: Option<u32>, is_shown: bool) -> Self {
-        Teller {
+impl<'a> Line<'a> {
+    /// A line that isn't there yet.
+    pub fn new(rt: &'a HostRuntime, deal: Option<u32>) -> Self {
+        Line {
             rt,
             deal,
-            is_shown,
-            lines: 0,
-            last: None,
+            is_there: Cell::new(false),
         }
     }
 
-    /// Takes the line away, if there is one.
+    /// Takes the line away, if it is there.
     pub fn clear(&self) {
-        if self.lines > 0 {
+        if self.is_there.replace(false) {
             let _told = eprint!(self.rt; "\r\x1b[K");
         }
-    }
-
-    /// The line of numbers of what was heard last.
-    pub fn tell_stats(&self) {
-        let Some(far) = self.last else {
-            return;
-        };
-        if let Some(number) = self.deal {
-            let _told = eprint!(self.rt; "deal={number} ");
-        }
-        let Progress {
-            classes,
-            turns,
-            most_open,
-            at_least,
-            ..
-        } = far;
-        let _told = eprintln!(self.rt;
-            "classes={classes} turns={turns} most_open={most_open} floor={at_least}"
-        );
     }
 
     // Writes the line over.
@@ -63,6 +41,7 @@ impl<'a> Teller<'a> {
             at_least,
             ..
         } = far;
+        self.is_there.set(true);
         let _told = eprint!(self.rt; "\rfc_solve: ");
         if let Some(number) = self.deal {
             let _told = eprint!(self.rt; "deal {number}: ");
@@ -73,17 +52,91 @@ impl<'a> Teller<'a> {
     }
 }
 
-impl Listener for Teller<'_> {
-    ghost use Rattle.std.specs.Prelude.{None};
+/// Tells how far a search is.
+#[derive(Drop)]
+pub struct Teller<'a> {
+    line: &'a Line<'a>,
+    is_shown: bool,
+    lines: u64,
+    last: Option<Progress>,
+}
 
-    ghost heard = { λ _. None };
+impl<'a> Teller<'a> {
+    /// One that shows the line or doesn't.
+    pub fn new(line: &'a Line<'a>, is_shown: bool) -> Self {
+        Teller {
+            line,
+            is_shown,
+            lines: 0,
+            last: None,
+        }
+    }
+
+    /// Takes the line away, if it is there.
+    pub fn clear(&self) {
+        self.line.clear();
+    }
+
+    /// The line of numbers of what was heard last.
+    pub fn tell_stats(&self) {
+        let Some(far) = self.last else {
+            return;
+        };
+        let rt = self.line.rt;
+        if let Some(number) = self.line.deal {
+            let _told = eprint!(rt; "deal={number} ");
+        }
+        let Progress {
+            classes,
+            turns,
+            most_open,
+            at_least,
+            ..
+        } = far;
+        let _told = eprintln!(rt;
+            "classes={classes} turns={turns} most_open={most_open} floor={at_least}"
+        );
+    }
+}
+
+impl Listener for Teller<'_> {
+    ghost hears = { λ _ _ _. Unit {0} };
 
     fn hear(&mut self, far: Progress) {
         let lines = far.turns / TURNS_A_LINE;
         if self.is_shown && lines > self.lines {
             self.lines = lines;
-            self.show(far);
+            self.line.show(far);
         }
         self.last = Some(far);
+    }
+}
+
+/// Where an answer is written once the line is taken away.
+#[derive(Drop)]
+pub struct AfterLine<'a, K: Sink + Drop> {
+    line: &'a Line<'a>,
+    out: K,
+}
+
+impl<'a, K: Sink + Drop> AfterLine<'a, K> {
+    /// What is written goes to this sink.
+    pub fn new(line: &'a Line<'a>, out: K) -> Self {
+        AfterLine { line, out }
+    }
+}
+
+impl<K: Sink + Drop> Sink for AfterLine<'_, K> {
+    ghost held = { λ s. K.held s.out };
+
+    ghost has_failed = { λ s. K.has_failed s.out };
+
+    fn write(&mut self, piece: &[u8]) -> Result<usize, Failed> {
+        self.line.clear();
+        self.out.write(piece)
+    }
+
+    fn failed(&self) -> bool {
+        self.out.failed()
     }
 }

@@ -295,6 +295,11 @@ Example: fc_solve batch 11982 11982",
 
 static SUBCOMMANDS: [Subcommand; 6] = [DEAL, SHOW, SOLVE, CHECK, REPLAY, BATCH];
 
+/// Whether a subcommand has this name; `help` is clap's own.
+pub fn is_subcommand(word: &str) -> bool {
+    word == "help" || SUBCOMMANDS.iter().any(|subcommand| subcommand.name == word)
+}
+
 /// The program's command line: `deal`, `show`, `solve`, `check`, `replay` and `batch`.
 pub fn command<'a>(alloc: Global) -> Result<Command<'a>, AllocError> {
     let mut command = Command::new(alloc, "fc_solve")
@@ -302,10 +307,12 @@ pub fn command<'a>(alloc: Global) -> Result<Command<'a>, AllocError> {
         .version("0.1.0")
         .about("Solves FreeCell in the fewest moves, or proves that a board can't be won.")
         .after_help(
-            "Examples:
-  fc_solve 941                                  a shortest solution of deal 941
-  fc_solve show 941                             the board of deal 941
-  fc_solve solve --within 2 --bound clearing 1  a solution of deal 1, quickly",
+            "A number or a file alone is solved within twice the fewest moves, by the clearing bound.
+
+Examples:
+  fc_solve 617        a solution of deal 617, quickly
+  fc_solve show 617   the board of deal 617
+  fc_solve solve 941  a shortest solution of deal 941",
         )
         .subcommand_required(true)
         .arg_required_else_help(true);

@@ -1,6 +1,7 @@
 //! Queues of entries.
 
 use crate::given::sure;
+use crate::queues::OldestFirst;
 use fc_frontier::{BucketFrontier, Frontier, ListFrontier};
 use std::alloc::Global;
 use std::process::Abort;
@@ -38,6 +39,7 @@ fn least_comes_first<F: Frontier + Drop>(rt: &impl Abort, alloc: Global) {
 fn a_pair_of_least_f_comes_first(rt: HostRuntime) {
     least_comes_first::<ListFrontier>(&rt, rt.alloc());
     least_comes_first::<BucketFrontier>(&rt, rt.alloc());
+    least_comes_first::<OldestFirst>(&rt, rt.alloc());
 }
 
 // The pairs come in this order, and then nothing, twice.

@@ -27,6 +27,7 @@ mod moves;
 mod plain;
 #[cfg(test)]
 mod positions;
+pub mod queues;
 #[cfg(test)]
 mod replays;
 #[cfg(test)]
