@@ -1,3 +1,4 @@
 pub mod CountLemmas
+pub mod LineLemmas
 pub mod PlainLemmas
 pub mod StayLemmas

@@ -50,14 +50,14 @@ labels_next before line lines =
     [ true ↦ refl | false ↦ refl ]
 
 -- there are as many lines as before
-length-labels : (before : ℕ) (lines : List (List ℕ)) → length (without_labels before lines) ≡ length lines
+pub length-labels : (before : ℕ) (lines : List (List ℕ)) → length (without_labels before lines) ≡ length lines
 length-labels before [] = refl
 length-labels before (line ∷ lines) =
     let more = length-labels (columns_after before line) lines in
     ap length (labels_next before line lines) ∙ ap (λ n. suc n) more
 
 -- a line before others is joined to them by an LF
-join-cons : (line : List ℕ) (lines : List (List ℕ)) → 0 < length lines
+pub join-cons : (line : List ℕ) (lines : List (List ℕ)) → 0 < length lines
     → join_with_byte 10 (line ∷ lines) ≡ line ++ 10 ∷ join_with_byte 10 lines
 join-cons line [] some = absurd (omega arith)
 join-cons line (x ∷ xs) some = refl
