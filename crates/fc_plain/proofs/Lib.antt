@@ -1,4 +1,6 @@
 pub mod CountLemmas
 pub mod LineLemmas
+pub mod NumberLemmas
 pub mod PlainLemmas
+pub mod SpelledLemmas
 pub mod StayLemmas

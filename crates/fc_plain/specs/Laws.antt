@@ -1,11 +1,11 @@
 -- What the laws of this crate state.
-use Rattle.std.specs.Prelude.{◌≡◌, ℕ, ◌+◌, ◌-◌, ◌<◌, ◌≤◌, ◌⊎◌, List, [], ◌∷◌, ◌++◌, length, count_by, All, IsTrue}
+use Rattle.std.specs.Prelude.{◌≡◌, ℕ, ◌+◌, ◌-◌, ◌<◌, ◌≤◌, ◌⊎◌, List, [], ◌∷◌, ◌++◌, length, map, count_by, All, IsTrue}
 use Rattle.std.specs.List.{AllZip}
 use Rattle.fc_position.specs.Board.{Board, column}
 use Rattle.fc_text.specs.Board.{Spells}
-use Rattle.fc_text.specs.Line.{after_blanks, is_blank, lines_of, tokens_of}
-use Rattle.fc_text.specs.Spelling.{SpellsCard}
-use Rattle.fc_plain.specs.Plain.{after_mark, is_column_line, plain, without_signs}
+use Rattle.fc_text.specs.Line.{after_blanks, is_blank, line_of, lines_of, tokens_of}
+use Rattle.fc_text.specs.Spelling.{SpellsCard, is_column}
+use Rattle.fc_plain.specs.Plain.{after_mark, plain, without_signs}
 
 -- a text with a digit and a colon, first in a line but for blanks
 pub record HasLabel (text : List ℕ) : Type 0 where
@@ -33,7 +33,7 @@ pub record HasNumber (text : List ℕ) (n : ℕ) (rest : List ℕ) : Type 0 wher
   pub line : List ℕ
   pub below : List (List ℕ)
   pub parts : lines_of text ≡ above ++ line ∷ below
-  pub column : IsTrue (is_column_line line)
+  pub column : IsTrue (is_column (line_of line).kind)
   pub begins : after_blanks line ≡ (48 + n) ∷ 58 ∷ rest
 
 -- where a plain text spells a position, a line that is numbered n in the text, once its signs are replaced, is the n-th
@@ -41,7 +41,7 @@ pub record HasNumber (text : List ℕ) (n : ℕ) (rest : List ℕ) : Type 0 wher
 abbrev pub NumbersAreColumns : Type 0
 NumbersAreColumns = (cells : ℕ) (text : List ℕ) (b : Board) (n : ℕ) (rest : List ℕ) → Spells cells (plain text) b
     → (line : HasNumber (without_signs 0 (after_mark text)) n rest)
-    → (n ≤ 8) × (count_by is_column_line line.above + 1 ≡ n)
+    → (n ≤ 8) × (count_by (λ l. is_column l.kind) (map line_of line.above) + 1 ≡ n)
     × AllZip SpellsCard (tokens_of rest) (column b (n - 1))
 
 -- a text that spells a position is plain already
