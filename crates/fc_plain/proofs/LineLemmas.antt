@@ -6,6 +6,7 @@ use Rattle.std.proofs.lemmas.List.{append_assoc, take-append-drop}
 use Rattle.std.proofs.lemmas.List.Elements.{All-nil, All-cons, All-head, All-tail, All-append, All-take, All-drop}
 use Rattle.std.proofs.lemmas.List.Splits.{slice_split_none, slice_split_at, length-slice_split}
 use Rattle.std.proofs.lemmas.Bool.{cases_Bool, and_parts, eqb-true, ltb-true, cond_both, cond-true, cond-false}
+use Rattle.std.proofs.lemmas.Bool.Decides.{nat_tests}
 use Rattle.fc_text.specs.Line.{after_blanks, begin_part, is_blank, is_line_end, is_token, parts_of, without_return}
 use Rattle.fc_plain.specs.Plain.{blanks_of, is_next_digit, plain_lines, without_digit, without_label, without_labels}
 use Rattle.fc_plain.proofs.PlainLemmas.{columns_after, join-cons, labels_next, length-labels, told_line}
@@ -113,6 +114,26 @@ return-front [] rest = return-colon rest
 return-front (x ∷ []) rest = return-cons x 58 rest ∙ ap (λ t. x ∷ t) (return-colon rest)
 return-front (x ∷ y ∷ front) rest =
     return-cons x y (front ++ 58 ∷ rest) ∙ ap (λ t. x ∷ t) (return-front (y ∷ front) rest)
+
+-- a labelled line without the CR that may end it
+return-label : (before : ℕ) (line : List ℕ) (found : IsLabelled before line)
+    → without_return line ≡ found.blanks ++ (49 + before) ∷ 58 ∷ without_return found.rest
+return-label before line found =
+    let digit = 49 + before in
+    let blanks = found.blanks in
+    ap without_return (found.parts ∙ sym (append_assoc blanks (digit ∷ []) (58 ∷ found.rest)))
+    ∙ return-front (blanks ++ digit ∷ []) found.rest ∙ append_assoc blanks (digit ∷ []) (58 ∷ without_return found.rest)
+
+-- a label's digit is no blank
+pub digit_no_blank : (before : ℕ) → is_blank (49 + before) ≡ false
+digit_no_blank before = grind (arith, nat_tests)
+
+-- what stands behind the blanks of a labelled line
+pub after_blanks-label : (before : ℕ) (line : List ℕ) (found : IsLabelled before line)
+    → after_blanks (without_return line) ≡ (49 + before) ∷ 58 ∷ without_return found.rest
+after_blanks-label before line found =
+    ap after_blanks (return-label before line found)
+    ∙ after_blanks-front found.blanks (49 + before) (58 ∷ without_return found.rest) found.only_blanks (digit_no_blank before)
 
 -- the parts of a text are the pieces between its ends, but for an empty last one
 pub trimmed : List (List ℕ) → List (List ℕ)

@@ -12,7 +12,7 @@ use Rattle.fc_text.specs.Line.{Line, after_blanks, board_lines, is_blank, is_lin
 use Rattle.fc_text.specs.Spelling.{SpellsCard, is_column}
 use Rattle.fc_plain.specs.Plain.{after_mark, is_column_line, plain_lines, without_label, without_labels, without_signs}
 use Rattle.fc_plain.specs.Laws.{NumbersAreColumns}
-use Rattle.fc_plain.proofs.LineLemmas.{IsLabelled, after_blanks-front, label_or_not, plain_parts, return-front}
+use Rattle.fc_plain.proofs.LineLemmas.{IsLabelled, after_blanks-label, label_or_not, plain_parts, return-front}
 use Rattle.fc_plain.proofs.PlainLemmas.{columns_after, labels_next, told_line}
 use Rattle.fc_plain.proofs.SpelledLemmas.{clean_line, colon_column, colon_tokens, label_bad, told_lines}
 
@@ -136,15 +136,7 @@ no_blank n = grind (arith, nat_tests)
 digit_is : (before n : ℕ) (line rest : List ℕ) (found : IsLabelled before line) → after_blanks (without_return line) ≡ (48 + n) ∷ 58 ∷ rest
     → (49 + before ≡ 48 + n) × (without_return found.rest ≡ rest)
 digit_is before n line rest found begins =
-    let digit = 49 + before in
-    let blanks = found.blanks in
-    let more : digit ≡ 48 + (before + 1) = omega arith in
-    let other : is_blank digit ≡ false = ap is_blank more ∙ no_blank (before + 1) in
-    let cut : without_return line ≡ blanks ++ digit ∷ 58 ∷ without_return found.rest =
-    ap without_return (found.parts ∙ sym (append_assoc blanks (digit ∷ []) (58 ∷ found.rest)))
-    ∙ return-front (blanks ++ digit ∷ []) found.rest ∙ append_assoc blanks (digit ∷ []) (58 ∷ without_return found.rest) in
-    let same : digit ∷ 58 ∷ without_return found.rest ≡ (48 + n) ∷ 58 ∷ rest =
-    sym (after_blanks-front blanks digit (58 ∷ without_return found.rest) found.only_blanks other) ∙ ap after_blanks (sym cut) ∙ begins in
+    let same : (49 + before) ∷ 58 ∷ without_return found.rest ≡ (48 + n) ∷ 58 ∷ rest = sym (after_blanks-label before line found) ∙ begins in
     (cc same, cc same)
 
 abbrev IsColumn : Board → ℕ → ℕ → List ℕ → Type 0

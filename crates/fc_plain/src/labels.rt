@@ -7,7 +7,7 @@ use crate::texts::MOST_BYTES;
 use arrayvec::ArrayVec;
 use fc_text::is_column_line;
 
-/// The text without the numbers that its columns may have.
+/// The text without the numbers of its columns, each where it heads the column line of its number.
 pub(crate) fn without_labels(text: &[u8]) -> ArrayVec<u8, MOST_BYTES>
     requires room { length text.now ≤ MOST_BYTES }
     ensures value { result.items ≡ plain_lines text.now }
