@@ -1,5 +1,5 @@
 -- Lines and their labels.
-use Rattle.std.proofs.Common.{◌≡◌, ℕ, zero, suc, ◌+◌, ◌-◌, ◌<◌, ◌≤◌, ◌==◌, Bool, true, false, not, cond, ◌&&◌, ◌⊎◌, List, [], ◌∷◌, ◌++◌, length, take, drop, refl, sym, ◌∙◌, ap, subst, inl, inr, ⊎_elim, arith}
+use Rattle.std.proofs.Common.{◌≡◌, ℕ, suc, ◌+◌, ◌-◌, ◌<◌, ◌==◌, Bool, true, false, not, cond, ◌&&◌, ◌⊎◌, List, [], ◌∷◌, ◌++◌, length, take, drop, refl, sym, ◌∙◌, ap, subst, inl, inr, ⊎_elim, arith}
 use Rattle.std.specs.Prelude.{All, IsTrue, slice_index}
 use Rattle.std.specs.List.{join_with_byte, onto_first, position_or_len, slice_split}
 use Rattle.std.proofs.lemmas.List.{append_assoc, take-append-drop}
@@ -9,7 +9,7 @@ use Rattle.std.proofs.lemmas.Bool.{cases_Bool, and_parts, eqb-true, ltb-true, co
 use Rattle.std.proofs.lemmas.Bool.Decides.{nat_tests}
 use Rattle.fc_text.specs.Line.{after_blanks, begin_part, is_blank, is_line_end, is_token, parts_of, without_return}
 use Rattle.fc_plain.specs.Plain.{blanks_of, is_next_digit, plain_lines, without_digit, without_label, without_labels}
-use Rattle.fc_plain.proofs.PlainLemmas.{columns_after, join-cons, labels_next, length-labels, told_line}
+use Rattle.fc_plain.proofs.PlainLemmas.{columns_after, labels_next, length-labels, told_line}
 
 -- a line that loses its label
 pub record IsLabelled (before : ℕ) (line : List ℕ) : Type 0 where

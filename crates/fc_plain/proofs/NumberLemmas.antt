@@ -1,10 +1,10 @@
 -- A line that is numbered is the column of its number.
-use Rattle.std.proofs.Common.{◌≡◌, ℕ, suc, ◌+◌, ◌-◌, ◌<◌, ◌≤◌, true, false, cond, List, [], ◌∷◌, ◌++◌, map, refl, sym, ◌∙◌, ap, subst, ⊎_elim, arith}
-use Rattle.std.specs.Prelude.{IsTrue, count_by, filter, slice_index_or}
+use Rattle.std.proofs.Common.{◌≡◌, ℕ, suc, ◌+◌, ◌-◌, ◌≤◌, true, false, cond, List, [], ◌∷◌, ◌++◌, map, refl, sym, ◌∙◌, ap, subst, ⊎_elim, arith}
+use Rattle.std.specs.Prelude.{count_by, filter, slice_index_or}
 use Rattle.std.specs.List.{AllZip}
-use Rattle.std.proofs.lemmas.List.{append_assoc, map-append}
+use Rattle.std.proofs.lemmas.List.{map-append}
 use Rattle.std.proofs.lemmas.List.Sums.{sum_by-cons}
-use Rattle.std.proofs.lemmas.Bool.{cases_Bool, cond-true, cond-false, ne_eqb}
+use Rattle.std.proofs.lemmas.Bool.{cases_Bool, cond-true, cond-false}
 use Rattle.std.proofs.lemmas.Bool.Decides.{nat_tests}
 use Rattle.fc_position.specs.Board.{Board, column}
 use Rattle.fc_text.specs.Board.{Spells}
@@ -125,7 +125,7 @@ parted f (x ∷ xs) (a ∷ above) below line e =
       part = more.part;
       behind = more.behind;
       whole = ap (λ t. x ∷ t) more.whole;
-      mapped = ap (λ t. t ∷ map f more.before) head ∙ ap (λ t. a ∷ t) more.mapped;
+      mapped = cc (head, more.mapped);
       here = more.here;
     }
 
@@ -174,7 +174,7 @@ numbered cells text b n rest above below part spells whole is begins =
       omega (arith, digit.0),
       omega (arith, digit.0, count),
       subst (λ k. AllZip SpellsCard (tokens_of rest) (column b k)) least
-      (subst (λ ts. AllZip SpellsCard ts (column b before)) here spelled),
+          (subst (λ ts. AllZip SpellsCard ts (column b before)) here spelled),
     ))
     (λ same.
     let stays : line ≡ line_of (without_return part) =

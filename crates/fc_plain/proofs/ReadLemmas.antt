@@ -1,6 +1,6 @@
 -- A text that spells a position is ASCII alone, and has no labels.
-use Rattle.std.proofs.Common.{◌≡◌, ℕ, suc, ◌+◌, ◌-◌, ◌<◌, ◌≤◌, ◌==◌, ◌&&◌, ◌⊎◌, Bool, true, false, not, cond, Option, Some, None, List, [], ◌∷◌, ◌++◌, length, map, take, drop, get_or, inl, refl, sym, ◌∙◌, ap, subst, ⊎_elim, arith}
-use Rattle.std.specs.Prelude.{All, Contains, IsTrue, codes, filter, nat_lt, slice_index}
+use Rattle.std.proofs.Common.{◌≡◌, ℕ, suc, ◌+◌, ◌<◌, ◌==◌, ◌&&◌, Bool, true, false, not, cond, Option, Some, None, List, [], ◌∷◌, ◌++◌, length, map, take, drop, get_or, inl, refl, sym, ◌∙◌, ap, subst, ⊎_elim, arith}
+use Rattle.std.specs.Prelude.{All, codes, filter, nat_lt}
 use Rattle.std.specs.Char.{to_ascii_lowercase, to_ascii_uppercase}
 use Rattle.std.specs.List.{join_with_byte, position_or_len, slice_split}
 use Rattle.std.proofs.lemmas.List.{take-append-drop}
@@ -12,14 +12,11 @@ use Rattle.std.proofs.lemmas.Slice.Eq.{bytes_eq-Decides}
 use Rattle.fc_cards.specs.Card.{rank, suit}
 use Rattle.fc_cards.specs.Texts.{IsRank, IsRankText, rank_letter, suit_letter}
 use Rattle.fc_cards.proofs.EachRank.{by_rank, by_suit}
-use Rattle.fc_position.specs.Board.{Board}
-use Rattle.fc_text.specs.Board.{Spells}
-use Rattle.fc_text.specs.Line.{Line, after_blanks, after_colon, after_name, begin_part, begins_with, board_lines, cell_names, foundation_names, is_blank, is_line_end, is_token, line_of, parts_of, sorted_line, tokens_of, without_return}
+use Rattle.fc_text.specs.Line.{Line, after_blanks, after_colon, after_name, begin_part, begins_with, cell_names, foundation_names, is_blank, is_line_end, is_token, line_of, parts_of, sorted_line, tokens_of, without_return}
 use Rattle.fc_text.specs.Spelling.{IsMark, SpellsCard, SpellsHome}
-use Rattle.fc_plain.specs.Plain.{is_column_line, plain_lines, without_label, without_labels}
+use Rattle.fc_plain.specs.Plain.{is_column_line, plain_lines, without_label}
 use Rattle.fc_plain.specs.Laws.{SpelledTextsStay}
 use Rattle.fc_plain.proofs.LineLemmas.{Stays, after_blanks-label, digit_no_blank, label_or_not, labels_stay, parts-split, return-cons, trimmed-all}
-use Rattle.fc_plain.proofs.PlainLemmas.{told_line}
 use Rattle.fc_plain.proofs.SpelledLemmas.{IsClean, clean_line, label_bad, told_lines}
 use Rattle.fc_plain.proofs.StayLemmas.{ascii_stays}
 

@@ -1,9 +1,8 @@
 -- Lines of texts that spell a position.
-use Rattle.std.proofs.Common.{◌≡◌, ℕ, suc, ◌+◌, ◌-◌, ◌<◌, ◌==◌, Bool, true, false, cond, Option, Some, None, List, [], ◌∷◌, ◌++◌, length, map, refl, sym, ◌∙◌, ap, subst, ⊎_elim, arith}
-use Rattle.std.specs.Prelude.{All, Contains, IsTrue, codes, filter, slice_index_or}
+use Rattle.std.proofs.Common.{◌≡◌, ℕ, ◌+◌, ◌<◌, ◌==◌, true, false, cond, Option, Some, None, List, [], ◌∷◌, ◌++◌, length, map, refl, sym, ◌∙◌, ap, subst, ⊎_elim, arith}
+use Rattle.std.specs.Prelude.{All, Contains, IsTrue, filter}
 use Rattle.std.specs.Char.{to_ascii_uppercase}
 use Rattle.std.proofs.lemmas.List.{append_assoc}
-use Rattle.std.proofs.lemmas.List.Elements.{All-nil, All-cons}
 use Rattle.std.proofs.lemmas.Bool.{cond_both}
 use Rattle.fc_cards.specs.Card.{rank, suit}
 use Rattle.fc_cards.specs.Texts.{IsRank, rank_letter, suit_letter}
@@ -12,8 +11,8 @@ use Rattle.fc_position.specs.Board.{Board}
 use Rattle.fc_text.specs.declared.faults.BoardFault.TheVariants.{BadCard, BadFoundation}
 use Rattle.fc_text.specs.Board.{Spells}
 use Rattle.fc_text.specs.Fault.{AreSound, HasBadCard, HasBadFoundation, IsNoCard}
-use Rattle.fc_text.specs.Line.{Line, after_blanks, after_colon, after_name, begin_part, board_lines, cell_names, foundation_names, is_blank, is_line_end, is_token, line_of, parts_of, sorted_line, tokens_of, without_return}
-use Rattle.fc_text.specs.Spelling.{SpellsCard, is_column}
+use Rattle.fc_text.specs.Line.{Line, after_blanks, after_colon, after_name, begin_part, board_lines, cell_names, foundation_names, is_blank, is_token, line_of, parts_of, sorted_line, tokens_of, without_return}
+use Rattle.fc_text.specs.Spelling.{is_column}
 use Rattle.fc_text.proofs.OnceLemmas.{spell_no_fault}
 use Rattle.fc_plain.proofs.LineLemmas.{after_blanks-front}
 
