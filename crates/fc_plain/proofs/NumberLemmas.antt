@@ -124,7 +124,7 @@ parted f (x ∷ xs) (a ∷ above) below line e =
       before = x ∷ more.before;
       part = more.part;
       behind = more.behind;
-      whole = ap (λ t. x ∷ t) more.whole;
+      whole = cc more.whole;
       mapped = cc (head, more.mapped);
       here = more.here;
     }

@@ -32,7 +32,7 @@ fn line_len(text: &[u8]) -> Option<usize>
     text.iter().position(|byte| *byte == b'\n')
 }
 
-// Pushes what a line that so many column lines stand before is made; how many stand before the next one.
+// Pushes a line that so many column lines stand before, without its label; how many stand before the next one.
 fn push_line(plain: &mut ArrayVec<u8, MOST_BYTES>, line: &[u8], columns: usize) -> usize
     requires room { length plain.old.items + length line.now ≤ MOST_BYTES }
     requires few { columns ≤ MOST_BYTES }
@@ -88,5 +88,5 @@ fn push_all(plain: &mut ArrayVec<u8, MOST_BYTES>, piece: &[u8])
     requires room { length plain.old.items + length piece.now ≤ MOST_BYTES }
     ensures { plain.new.items ≡ plain.old.items ++ piece.now }
 {
-    let _full = plain.try_extend_from_slice(piece);
+    let _has_room = plain.try_extend_from_slice(piece);
 }
