@@ -1,10 +1,13 @@
--- What the loops over the signs and the labels of a text keep.
-use Rattle.std.proofs.Common.{◌≡◌, ℕ, zero, suc, ◌+◌, ◌-◌, ◌<◌, ◌≤◌, Bool, true, false, cond, ◌&&◌, ◌||◌, Some, List, [], ◌∷◌, ◌++◌, length, get_or, drop, refl, sym, ◌∙◌, ap, arith}
-use Rattle.std.specs.Prelude.{◌==◌}
+-- What the loops over the signs and the lines of a text keep.
+use Rattle.std.proofs.Common.{◌≡◌, ℕ, zero, suc, ◌+◌, ◌-◌, ◌<◌, ◌≤◌, true, false, cond, Some, None, List, [], ◌∷◌, ◌++◌, length, take, drop, refl, sym, ◌∙◌, ap, ⊎_elim, arith}
+use Rattle.std.specs.Prelude.{nat_lt, position}
+use Rattle.std.specs.List.{join_with_byte, position_or_len, slice_split}
 use Rattle.std.proofs.lemmas.List.{append_assoc}
-use Rattle.std.proofs.lemmas.Bool.{and_right, cond-true, cond-false}
-use Rattle.fc_text.specs.Line.{is_blank, is_line_end}
-use Rattle.fc_plain.specs.Plain.{sign_of, sign_or, without_signs, is_next_digit, without_labels}
+use Rattle.std.proofs.lemmas.List.Splits.{slice_split_first, slice_split_none, length-slice_split}
+use Rattle.std.proofs.lemmas.List.Sums.{fails_before_first}
+use Rattle.std.proofs.lemmas.Bool.{cases_Bool, cond-true, cond-false, ltb-true, ltb-false}
+use Rattle.fc_text.specs.Line.{is_line_end}
+use Rattle.fc_plain.specs.Plain.{sign_of, sign_or, without_signs, is_column_line, without_label, without_labels}
 
 -- bytes that are passed over are left out
 passed : (n : ℕ) (bytes : List ℕ) → without_signs n bytes ≡ without_signs 0 (drop n bytes)
@@ -31,27 +34,90 @@ sign_pushed whole done rest after new letter len so sign some within pushed left
     ∙ ap (λ r. done ++ letter ∷ without_signs 0 r) left
     ∙ ap (λ t. done ++ t) (sym (sign_next rest letter len sign some within)) ∙ so
 
--- whether a byte with these behind it is a label
-abbrev pub is_label_at : Bool → ℕ → ℕ → List ℕ → Bool
-is_label_at is_first count b bytes = is_first && (is_next_digit count b && (get_or bytes 0 0 == 58))
+-- what a line that so many column lines stand before is made, and how many stand before the next one
+abbrev pub told_line : ℕ → List ℕ → List ℕ
+told_line before line = cond (is_column_line line) (without_label before line) line
 
--- a text without its labels, one byte on
-pub labels_next : (is_first : Bool) (count b : ℕ) (bytes : List ℕ) → without_labels is_first count (b ∷ bytes)
-    ≡ cond (is_label_at is_first count b bytes) (without_labels false (1 + count) bytes)
-    (b ∷ without_labels (is_line_end b || (is_first && is_blank b)) count bytes)
-labels_next is_first count b [] = sym (cond-false (is_label_at is_first count b []) [] (b ∷ [])
-    (and_right is_first _ (and_right (is_next_digit count b) false refl)))
-labels_next true count b (c ∷ bytes) = refl
-labels_next false count b (c ∷ bytes) = refl
+abbrev pub columns_after : ℕ → List ℕ → ℕ
+columns_after before line = cond (is_column_line line) (1 + before) before
 
--- a label is left out
-pub label_next : (count : ℕ) (rest others : List ℕ) → 1 ≤ length rest → others ≡ drop 1 rest
-    → (is_next_digit count (get_or rest 0 0) && (get_or others 0 0 == 58)) ≡ true
-    → without_labels true count rest ≡ without_labels false (count + 1) others
-label_next count [] others some e found = absurd (omega arith)
-label_next count (b ∷ bytes) others some e found =
-    let more : 1 + count ≡ count + 1 = omega arith in
-    let here : is_label_at true count b bytes ≡ true =
-    ap (λ r. is_next_digit count b && (get_or r 0 0 == 58)) (sym e) ∙ found in
-    labels_next true count b bytes ∙ cond-true _ _ _ here
-    ∙ ap (λ n. without_labels false n bytes) more ∙ ap (λ r. without_labels false (count + 1) r) (sym e)
+-- the lines without their labels, one line on
+pub labels_next : (before : ℕ) (line : List ℕ) (lines : List (List ℕ))
+    → without_labels before (line ∷ lines) ≡ told_line before line ∷ without_labels (columns_after before line) lines
+labels_next before line lines =
+    elim (is_column_line line) as (λ t. cond t (without_label before line ∷ without_labels (1 + before) lines) (line ∷ without_labels before lines)
+    ≡ cond t (without_label before line) line ∷ without_labels (cond t (1 + before) before) lines)
+    [ true ↦ refl | false ↦ refl ]
+
+-- there are as many lines as before
+pub length-labels : (before : ℕ) (lines : List (List ℕ)) → length (without_labels before lines) ≡ length lines
+length-labels before [] = refl
+length-labels before (line ∷ lines) =
+    let more = length-labels (columns_after before line) lines in
+    ap length (labels_next before line lines) ∙ ap (λ n. suc n) more
+
+-- a line before others is joined to them by an LF
+pub join-cons : (line : List ℕ) (lines : List (List ℕ)) → 0 < length lines
+    → join_with_byte 10 (line ∷ lines) ≡ line ++ 10 ∷ join_with_byte 10 lines
+join-cons line [] some = absurd (omega arith)
+join-cons line (x ∷ xs) some = refl
+
+-- where the first LF of a text stands
+lf_at : (rest : List ℕ) (len : ℕ) → position is_line_end rest ≡ Some len
+    → (position_or_len is_line_end rest < length rest) × (position_or_len is_line_end rest ≡ len)
+lf_at rest len found = ⊎_elim
+    (λ yes. let e : Some (position_or_len is_line_end rest) ≡ Some len = sym (cond-true _ _ _ yes) ∙ found in
+    (ltb-true (position_or_len is_line_end rest) (length rest) yes, cc e))
+    (λ none. absurd (cc (sym (cond-false _ (Some (position_or_len is_line_end rest)) None none) ∙ found)))
+    (cases_Bool (nat_lt (position_or_len is_line_end rest) (length rest)))
+
+-- a text with an LF is a first line, and the lines of what follows it
+first_line : (rest after : List ℕ) (len : ℕ) → position is_line_end rest ≡ Some len → after ≡ drop (len + 1) rest
+    → slice_split is_line_end rest ≡ take len rest ∷ slice_split is_line_end after
+first_line rest after len found left =
+    let at = lf_at rest len found in
+    slice_split_first is_line_end rest 0 at.0
+    ∙ ap (λ n. take n rest ∷ slice_split is_line_end (drop (n + 1) rest)) at.1
+    ∙ ap (λ t. take len rest ∷ slice_split is_line_end t) (sym left)
+
+-- the text so far, once a line and the LF behind it were pushed
+pub line_pushed : (whole done rest after mid new : List ℕ) (before next len : ℕ)
+    → done ++ join_with_byte 10 (without_labels before (slice_split is_line_end rest)) ≡ whole
+    → position is_line_end rest ≡ Some len → after ≡ drop (len + 1) rest
+    → mid ≡ done ++ told_line before (take len rest) → new ≡ mid ++ 10 ∷ []
+    → next ≡ columns_after before (take len rest)
+    → new ++ join_with_byte 10 (without_labels next (slice_split is_line_end after)) ≡ whole
+line_pushed whole done rest after mid new before next len so found left pushed ended count =
+    let line = take len rest in
+    let others = slice_split is_line_end after in
+    let tail = join_with_byte 10 (without_labels next others) in
+    let some : 0 < length (without_labels next others) =
+    omega (arith, length-labels next others, length-slice_split is_line_end after) in
+    let cut : slice_split is_line_end rest ≡ line ∷ others =
+    first_line rest after len found left in
+    let told : without_labels before (slice_split is_line_end rest) ≡ told_line before line ∷ without_labels next others =
+    ap (without_labels before) cut ∙ labels_next before line others
+    ∙ ap (λ n. told_line before line ∷ without_labels n others) (sym count) in
+    ap (λ t. t ++ tail) (ended ∙ ap (λ t. t ++ 10 ∷ []) pushed)
+    ∙ append_assoc (done ++ told_line before line) (10 ∷ []) tail
+    ∙ append_assoc done (told_line before line) (10 ∷ tail)
+    ∙ ap (λ t. done ++ t) (sym (join-cons (told_line before line) (without_labels next others) some) ∙ sym (ap (join_with_byte 10) told))
+    ∙ so
+
+-- a text without an LF is one line
+one_line : (rest : List ℕ) → position is_line_end rest ≡ None → slice_split is_line_end rest ≡ rest ∷ []
+one_line rest none =
+    let far : length rest ≤ position_or_len is_line_end rest = ⊎_elim
+    (λ yes. absurd (cc (sym (cond-true _ (Some (position_or_len is_line_end rest)) None yes) ∙ none)))
+    (λ no. ltb-false (position_or_len is_line_end rest) (length rest) no)
+    (cases_Bool (nat_lt (position_or_len is_line_end rest) (length rest))) in
+    slice_split_none is_line_end rest (λ k d within. fails_before_first is_line_end rest k d (omega arith))
+
+-- the whole text, once its last line was pushed
+pub last_pushed : (whole done rest new : List ℕ) (before : ℕ)
+    → done ++ join_with_byte 10 (without_labels before (slice_split is_line_end rest)) ≡ whole
+    → position is_line_end rest ≡ None → new ≡ done ++ told_line before rest → new ≡ whole
+last_pushed whole done rest new before so none pushed =
+    let told : without_labels before (slice_split is_line_end rest) ≡ told_line before rest ∷ [] =
+    ap (without_labels before) (one_line rest none) ∙ labels_next before rest [] in
+    pushed ∙ ap (λ t. done ++ t) (sym (ap (join_with_byte 10) told)) ∙ so

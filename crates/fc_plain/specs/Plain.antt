@@ -1,6 +1,8 @@
 -- Board texts as they are copied from elsewhere, and the plain text that each stands for.
-use Rattle.std.specs.Prelude.{ℕ, zero, suc, ◌+◌, ◌-◌, ◌==◌, ◌||◌, ◌&&◌, Bool, true, false, cond, List, [], ◌∷◌, Option, Some, None, option_map, nat_lt}
-use Rattle.fc_text.specs.Line.{is_blank, is_line_end}
+use Rattle.std.specs.Prelude.{ℕ, zero, suc, ◌+◌, ◌-◌, ◌==◌, ◌||◌, ◌&&◌, Bool, not, cond, List, [], ◌∷◌, ◌++◌, take, Option, Some, None, option_map, nat_lt}
+use Rattle.std.specs.List.{join_with_byte, position_or_len, slice_split}
+use Rattle.fc_text.specs.Line.{after_blanks, is_blank, is_line_end, line_of, without_return}
+use Rattle.fc_text.specs.Spelling.{is_column}
 
 -- the mark of byte order (U+FEFF) that a text may begin with says nothing
 abbrev pub after_mark : List ℕ → List ℕ
@@ -44,19 +46,39 @@ without_signs (suc passed) (b ∷ bytes) = without_signs passed bytes
 without_signs zero (b ∷ bytes) = (sign_or b (sign_of (b ∷ bytes))).0
     ∷ without_signs ((sign_or b (sign_of (b ∷ bytes))).1 - 1) bytes
 
--- a byte is the digit of the column that has so many labels before it
-abbrev pub is_next_digit : ℕ → ℕ → Bool
-is_next_digit count b = nat_lt count 8 && (b == 49 + count)
+-- a line of the board is a column's; the CR that may end it says nothing
+abbrev pub is_column_line : List ℕ → Bool
+is_column_line line = is_column (line_of (without_return line)).kind
 
--- columns may be numbered, `1:` to `8:` first in their lines: the n-th such label of a text, if it is n, says nothing but
--- that a column follows, which its colon says alone
-abbrev pub without_labels : Bool → ℕ → List ℕ → List ℕ
-without_labels is_first count [] = []
-without_labels is_first count (b ∷ []) = b ∷ []
-without_labels is_first count (b ∷ c ∷ bytes) = cond (is_first && is_next_digit count b && (c == 58))
-    (without_labels false (1 + count) (c ∷ bytes))
-    (b ∷ without_labels (is_line_end b || (is_first && is_blank b)) count (c ∷ bytes))
+-- a byte is the digit of the column that so many columns stand before, `1` to `8`
+abbrev pub is_next_digit : ℕ → ℕ → Bool
+is_next_digit before b = nat_lt before 8 && (b == 49 + before)
+
+-- a piece that begins with the digit of the column that so many columns stand before, and a colon, loses the digit
+abbrev pub without_digit : ℕ → List ℕ → List ℕ
+without_digit before (b ∷ c ∷ bytes) = cond (is_next_digit before b && (c == 58)) (c ∷ bytes) (b ∷ c ∷ bytes)
+without_digit before piece = piece
+
+-- the blanks that a line begins with
+abbrev pub blanks_of : List ℕ → List ℕ
+blanks_of line = take (position_or_len (λ b. not (is_blank b)) line) line
+
+-- a column may be numbered, `1:` to `8:` first in its line but for blanks: the digit of the line that so many column lines
+-- stand before says nothing but that a column follows, which its colon says alone
+abbrev pub without_label : ℕ → List ℕ → List ℕ
+without_label before line = blanks_of line ++ without_digit before (after_blanks line)
+
+-- each column line loses its label, where it has its own; so many column lines stand before these lines
+abbrev pub without_labels : ℕ → List (List ℕ) → List (List ℕ)
+without_labels before [] = []
+without_labels before (line ∷ lines) = cond (is_column_line line)
+    (without_label before line ∷ without_labels (1 + before) lines)
+    (line ∷ without_labels before lines)
+
+-- a text is cut at its LFs, its column lines lose their labels, and all else stays, the LFs too
+abbrev pub plain_lines : List ℕ → List ℕ
+plain_lines text = join_with_byte 10 (without_labels 0 (slice_split is_line_end text))
 
 -- the plain text that a text stands for
 abbrev pub plain : List ℕ → List ℕ
-plain text = without_labels true 0 (without_signs 0 (after_mark text))
+plain text = plain_lines (without_signs 0 (after_mark text))

@@ -1,43 +1,92 @@
-ghost use Rattle.std.specs.Prelude.{◌≡◌, ◌≤◌, ◌==◌, ◌&&◌, ◌||◌, true, length, slice_index};
+ghost use Rattle.std.specs.Prelude.{◌≡◌, ◌+◌, ◌≤◌, ◌==◌, ◌&&◌, ◌++◌, cond, length, not, position, slice_index};
+ghost use Rattle.std.specs.List.{position_or_len};
 ghost use Rattle.fc_text.specs.Line.{is_blank, is_line_end};
-ghost use Rattle.fc_plain.specs.Plain.{is_next_digit, without_labels};
+ghost use Rattle.fc_plain.specs.Plain.{is_column_line, is_next_digit, plain_lines, without_digit, without_label};
 
 use crate::texts::MOST_BYTES;
 use arrayvec::ArrayVec;
+use fc_text::is_column_line;
 
-/// The text without the numbers that its columns may have.
+/// The text without the numbers of its columns, each where it heads the column line of its number.
 pub(crate) fn without_labels(text: &[u8]) -> ArrayVec<u8, MOST_BYTES>
     requires room { length text.now ≤ MOST_BYTES }
-    ensures value { result.items ≡ without_labels true 0 text.now }
+    ensures value { result.items ≡ plain_lines text.now }
     ensures within { length result.items ≤ length text.now }
 {
     let mut plain = ArrayVec::new();
-    let mut count = 0;
-    let mut is_first = true;
+    let mut columns = 0;
     let mut rest = text;
-    while let [byte, others @ ..] = rest {
-        if is_first && is_label(count, *byte, others) {
-            count += 1;
-            is_first = false;
-        } else {
-            plain.push(*byte);
-            is_first = keeps_first(is_first, *byte);
-        }
-        rest = others;
+    while let Some(len) = line_len(rest) {
+        columns = push_line(&mut plain, &rest[..len], columns);
+        plain.push(b'\n');
+        rest = &rest[len + 1..];
     }
+    push_line(&mut plain, rest, columns);
     plain
 }
 
-// Whether a byte with these behind it is the label of the column that has so many labels before it.
-fn is_label(count: u8, byte: u8, rest: &[u8]) -> bool
-    ensures { result ≡ (is_next_digit count byte && (slice_index rest.now 0 == 58)) }
+// How many bytes stand before the first LF, if there is one.
+fn line_len(text: &[u8]) -> Option<usize>
+    ensures { result ≡ position is_line_end text.now }
 {
-    count < 8 && byte == b'1' + count && rest.starts_with(b":")
+    text.iter().position(|byte| *byte == b'\n')
 }
 
-// Whether the byte behind this one is first in its line but for blanks, where it is known whether this one is.
-fn keeps_first(is_first: bool, byte: u8) -> bool
-    ensures { result ≡ (is_line_end byte || (is_first && is_blank byte)) }
+// Pushes a line that so many column lines stand before, without its label; how many stand before the next one.
+fn push_line(plain: &mut ArrayVec<u8, MOST_BYTES>, line: &[u8], columns: usize) -> usize
+    requires room { length plain.old.items + length line.now ≤ MOST_BYTES }
+    requires few { columns ≤ MOST_BYTES }
+    ensures pushed { plain.new.items ≡ plain.old.items
+        ++ cond (is_column_line line.now) (without_label columns line.now) line.now }
+    ensures within { length plain.new.items ≤ length plain.old.items + length line.now }
+    ensures count { result ≡ cond (is_column_line line.now) (1 + columns) columns }
+    ensures few { result ≤ columns + 1 }
 {
-    byte == b'\n' || (is_first && (byte == b' ' || byte == b'\t'))
+    if !is_column_line(line) {
+        push_all(plain, line);
+        return columns;
+    }
+    let (blanks, piece) = line.split_at(blanks_len(line));
+    push_all(plain, blanks);
+    push_all(plain, without_digit(piece, columns));
+    columns + 1
+}
+
+// How many blanks a line begins with.
+fn blanks_len(line: &[u8]) -> usize
+    ensures value { result ≡ position_or_len (λ b. not (is_blank b)) line.now }
+    ensures within { result ≤ length line.now }
+{
+    for (i, byte) in line.iter().enumerate() {
+        if *byte != b' ' && *byte != b'\t' {
+            return i;
+        }
+    }
+    line.len()
+}
+
+// The piece of a column line behind its blanks, without the number that is its own where so many columns stand before.
+fn without_digit(piece: &[u8], columns: usize) -> &[u8]
+    ensures value { result.now ≡ without_digit columns piece.now }
+    ensures within { length result.now ≤ length piece.now }
+{
+    match piece {
+        [byte, rest @ ..] if is_label(columns, *byte, rest) => rest,
+        _ => piece,
+    }
+}
+
+// Whether a byte with these behind it is the label of the column that so many columns stand before.
+fn is_label(columns: usize, byte: u8, rest: &[u8]) -> bool
+    ensures { result ≡ (is_next_digit columns byte && (slice_index rest.now 0 == 58)) }
+{
+    columns < 8 && byte == b'1' + columns as u8 && rest.starts_with(b":")
+}
+
+// Pushes all bytes of a piece.
+fn push_all(plain: &mut ArrayVec<u8, MOST_BYTES>, piece: &[u8])
+    requires room { length plain.old.items + length piece.now ≤ MOST_BYTES }
+    ensures { plain.new.items ≡ plain.old.items ++ piece.now }
+{
+    let _has_room = plain.try_extend_from_slice(piece);
 }

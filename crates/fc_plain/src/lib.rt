@@ -1,5 +1,7 @@
 //! What people type and copy, made plain: board texts with symbols of suits, numbered columns or a mark of byte order, and
-//! counts such as `4M`. A board text without any of these is handed on as it is. No call allocates.
+//! counts such as `4M`. A number is taken off where it is its column's own: `3:` first in the third line that the reader
+//! takes for a column's, blank lines counted. A board text without any of these is handed on as it is, and so is every
+//! text that the reader accepts. No call allocates.
 #![tactic(auto)]
 
 pub use counts::read_count;

@@ -27,8 +27,11 @@ impl Model for PlainText {
 
 impl PlainText {
     /// The plain text that a text stands for: a mark of byte order before it is left out, symbols of suits and no-break
-    /// spaces are replaced, and so are the numbers of columns that are numbered in order (`1:` to `8:`). Nothing else
-    /// changes. `None` for a text of more than 16,384 bytes.
+    /// spaces are replaced, and a column that is numbered loses its number. A number is `1:` to `8:`, first in its line
+    /// but for blanks, and is taken off where it heads the column line of its number; the colon stays. Column lines are
+    /// all that the reader sorts as such: those that don't begin with a name of the foundations or the cells, blank
+    /// lines too. Nothing else changes, so the reader refuses a column with another's number. `None` for a text of more
+    /// than 16,384 bytes.
     pub fn of(text: &[u8]) -> Option<PlainText>
         ensures value { IfSome result (λ plain_text. plain_text ≡ plain text.now) }
         ensures some { IsSome result ↔ length text.now ≤ MOST_BYTES }

@@ -16,7 +16,7 @@ fn check_plain(rt: &impl Abort, text: &[u8], plain: &[u8]) {
 
 #[test]
 fn what_is_copied_is_made_plain(rt: HostRuntime) {
-    let rows: [(&[u8], &[u8]); 18] = [
+    let rows: [(&[u8], &[u8]); 22] = [
         (b"", b""),
         (b": 4C 2C\n:\n", b": 4C 2C\n:\n"),
         // The mark of byte order counts at the beginning alone.
@@ -41,16 +41,24 @@ fn what_is_copied_is_made_plain(rt: HostRuntime) {
         (b"K\xE2\x99", b"K\xE2\x99"),
         // No-break spaces.
         (b"KC\xC2\xA0QD\xC2\xA1", b"KC QD\xC2\xA1"),
-        // Numbers of columns, in order.
+        // Numbers of columns, each where it heads the column line of its number.
         (b"1: KC\n2:QD\n 3: JC", b": KC\n:QD\n : JC"),
-        (b"2: KC\n1: QD\n3: JC", b"2: KC\n: QD\n3: JC"),
+        (b"2: KC\n1: QD\n3: JC", b"2: KC\n1: QD\n: JC"),
+        (b"KC\n1: QD\n3: JC", b"KC\n1: QD\n: JC"),
         (b"FC: 1: KC\n1: 2: QD", b"FC: 1: KC\n: 2: QD"),
+        (
+            b"1: KC\nFounds: H-A\n2: QD\n fc: JC\n\t3: JD\n",
+            b": KC\nFounds: H-A\n: QD\n fc: JC\n\t: JD\n",
+        ),
         (b"1 : KC\n10: QD", b"1 : KC\n10: QD"),
         (
             b"1:\n2:\n3:\n4:\n5:\n6:\n7:\n8:\n9:\n",
             b":\n:\n:\n:\n:\n:\n:\n:\n9:\n",
         ),
-        (b"\r\n1: KC\r\n", b"\r\n: KC\r\n"),
+        // A blank line is a column's.
+        (b"\n1: KS\n2: QS\n", b"\n1: KS\n2: QS\n"),
+        (b"\r\n1: KC\r\n3: QC\r\n", b"\r\n1: KC\r\n: QC\r\n"),
+        (b"1: KC\r\n2:\r\n", b": KC\r\n:\r\n"),
     ];
     for (text, plain) in rows.as_slice() {
         check_plain(&rt, *text, *plain);

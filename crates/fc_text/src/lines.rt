@@ -1,6 +1,7 @@
 ghost use Rattle.std.specs.Prelude.{◌≡◌, map};
 ghost use Rattle.std.specs.Option.{option_copied};
 ghost use Rattle.fc_text.specs.Line.{after_blanks, after_colon, after_name, begins_with, line_of, without_return, tokens_of};
+ghost use Rattle.fc_text.specs.Spelling.{is_column};
 
 use crate::pieces::{Blanks, gap_len};
 
@@ -63,6 +64,15 @@ fn after_name<'a>(names: &[&[u8]], piece: &'a [u8]) -> Option<&'a [u8]>
         }
     }
     None
+}
+
+/// Whether a line of a board text, with or without the CR that may end it, is a column's: it begins, after blanks, with
+/// no name of a foundation or cell line. So a line of blanks alone is.
+pub fn is_column_line(line: &[u8]) -> bool
+    ensures { result ≡ is_column (line_of (without_return line.now)).kind }
+{
+    let (kind, _) = sorted_line(without_return(line));
+    matches!(kind, LineKind::Column)
 }
 
 // What kind of line it is, and the piece of it that its tokens stand in.

@@ -1,18 +1,21 @@
-use Rattle.std.proofs.Common.{◌++◌, sym, ap, ◌∙◌, rules}
+use Rattle.std.proofs.Common.{◌+◌, sym, ◌∙◌, rules}
 use Rattle.std.proofs.lemmas.List.{take_rest}
-use Rattle.fc_plain.specs.Plain.{without_labels}
-use Rattle.fc_plain.proofs.PlainLemmas.{label_next}
+use Rattle.fc_plain.proofs.PlainLemmas.{line_pushed, last_pushed}
 use Rattle.fc_plain.proofs.labels.without_labels.Goals as goal
 
-pub loop-rest-preserved-then-is_label : goal.loop-rest-preserved-then-is_label
-loop-rest-preserved-then-is_label c =
-    let rest = c.loop-rest.rest.now in
-    let done = c.loop-rest.plain.items in
-    let count = c.loop-rest.count in
+pub loop-len-preserved : goal.loop-len-preserved
+loop-len-preserved c =
+    let rest = c.loop-len.rest.now in
     record {
       plain =
-          ap (λ t. done ++ t) (sym (label_next count rest _ c.in-len1-up.len_at_least (take_rest rest 1) (sym c.is_label.ensures ∙ c.if-is_label.true)))
-          ∙ ap (λ f. done ++ without_labels f count rest) (sym c.if-is_first.true) ∙ c.loop-rest.invariant.plain;
+          line_pushed _ c.loop-len.plain.items rest _ c.push_line-columns.new.plain.items _ c.loop-len.columns _ c.in-Some.len c.loop-len.invariant.plain
+          (sym c.line_len.ensures ∙ c.in-Some.is) (take_rest rest (c.in-Some.len + 1)) c.push_line-columns.ensures.pushed
+          c.push.ensures.items c.push_line-columns.ensures.count;
       within = search rules;
       few = search rules;
     }
+
+pub returns-clause-value : goal.returns-clause-value
+returns-clause-value c =
+    last_pushed _ c.loop-len.plain.items c.loop-len.rest.now _ c.loop-len.columns c.loop-len.invariant.plain
+    (sym c.line_len.ensures ∙ c.in_default.is) c.push_line.ensures.pushed

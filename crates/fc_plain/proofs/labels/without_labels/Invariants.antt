@@ -1,14 +1,16 @@
-use Rattle.std.proofs.Common.{◌≡◌, ◌+◌, ◌≤◌, ◌++◌, true, length}
-use Rattle.fc_plain.specs.Plain.{without_labels}
+use Rattle.std.proofs.Common.{◌≡◌, ◌+◌, ◌≤◌, ◌++◌, length}
+use Rattle.std.specs.List.{join_with_byte, slice_split}
+use Rattle.fc_text.specs.Line.{is_line_end}
+use Rattle.fc_plain.specs.Plain.{plain_lines, without_labels}
 use Rattle.fc_plain.proofs.labels.without_labels.Given as goal
 
--- the text so far is plain, and the rest is left
-abbrev pub invariant-loop-rest : goal.invariant-loop-rest
-invariant-loop-rest l = record {
-  plain : l.plain.items ++ without_labels l.is_first l.count l.rest ≡ without_labels true 0 l.text;
+-- the lines so far are plain, and the rest is left, with as many column lines before it
+abbrev pub invariant-loop-len : goal.invariant-loop-len
+invariant-loop-len l = record {
+  plain : l.plain.items ++ join_with_byte 10 (without_labels l.columns (slice_split is_line_end l.rest)) ≡ plain_lines l.text;
   within : length l.plain.items + length l.rest ≤ length l.text;
-  few : l.count ≤ 8;
+  few : l.columns + length l.rest ≤ length l.text;
 }
 
-abbrev pub decreases-loop-rest : goal.decreases-loop-rest
-decreases-loop-rest l = length l.rest
+abbrev pub decreases-loop-len : goal.decreases-loop-len
+decreases-loop-len l = length l.rest
