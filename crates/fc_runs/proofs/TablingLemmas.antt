@@ -1,14 +1,23 @@
 -- Tables of deals: what is told of a deal, and the rows that tell it.
-use Rattle.std.proofs.Common.{◌≡◌, ◌∙◌, ℕ, zero, suc, ◌+◌, ◌<◌, List, [], ◌∷◌, ◌++◌, length, map, Option, Some, sym, ap, subst, arith, IsTrue}
+use Rattle.std.proofs.Common.{◌≡◌, ◌∙◌, ℕ, zero, suc, ◌+◌, ◌<◌, List, [], ◌∷◌, ◌++◌, length, map, Option, Some, None, sym, ap, subst, arith, IsTrue}
 use Rattle.std.specs.Prelude.{IfSome, max, slice_get}
 use Rattle.std.proofs.lemmas.List.{flat_map_more, length-append, map_push}
 use Rattle.fc_io.specs.Moves.{Takes, TakesFront}
 use Rattle.fc_io.proofs.MoveLemmas.{Takes-both, takes_then_front}
+use Rattle.fc_deal.specs.Deal.{dealt_board}
 use Rattle.fc_moves.specs.GameRules.{GameRules}
 use Rattle.fc_bound.specs.declared.kinds.BoundKind.{BoundKind}
+use Rattle.fc_answers.specs.declared.answers.Outcome.{Outcome}
+use Rattle.fc_answers.specs.declared.answers.Outcome.TheVariants as outcome
+use Rattle.fc_answers.specs.declared.answers.Verdict.{Verdict}
+use Rattle.fc_answers.specs.declared.answers.Verdict.TheVariants as verdict
+use Rattle.fc_answers.specs.Verdict.{IsRight, outcome_of}
+use Rattle.fc_watch.specs.declared.listeners.Progress.{Progress}
+use Rattle.fc_watch.specs.Watch.{HearsAll, TellFloors}
+use Rattle.fc_runs.specs.declared.tabling.Last.{Last}
 use Rattle.fc_runs.specs.declared.tabling.Row.{Row}
 use Rattle.fc_runs.specs.Batches.{IsToldOf, greatest_status, told_status}
-use Rattle.fc_runs.specs.Tabling.{AreRows, IsTableCutShort, line_of, names_text, row_text, table_text}
+use Rattle.fc_runs.specs.Tabling.{AreRows, IsDealFloor, IsTableCutShort, floor_of, line_of, names_text, row_text, table_text, told_floor}
 use Rattle.fc_runs.specs.Devices.{Device}
 use Rattle.fc_runs.proofs.BatchLemmas.{greatest_more}
 
@@ -24,11 +33,13 @@ last_row (y ∷ rows) row P all last (suc i) x at =
 -- one more row that is right
 one_more_row : (g : GameRules) (rule weight : ℕ) (kind : BoundKind) (budget from count : ℕ) (rows : List Row) (row : Row) → AreRows g rule weight kind budget from rows
     → length rows ≡ count → row.deal ≡ from + count → IfSome row.told (IsToldOf g rule weight kind budget (from + count))
-    → AreRows g rule weight kind budget from (rows ++ row ∷ [])
-one_more_row g rule weight kind budget from count rows row right whole deal told = record {
+    → IfSome (floor_of row.told row.far) (IsDealFloor g (from + count)) → AreRows g rule weight kind budget from (rows ++ row ∷ [])
+one_more_row g rule weight kind budget from count rows row right whole deal told floor = record {
   rising = last_row rows row (λ i x. x.deal ≡ from + i) right.rising (deal ∙ ap (λ n. from + n) (sym whole));
   right = last_row rows row (λ i x. IfSome x.told (IsToldOf g rule weight kind budget x.deal)) right.right
       (subst (λ n. IfSome row.told (IsToldOf g rule weight kind budget n)) (sym deal) told);
+  floors = last_row rows row (λ i x. IfSome (floor_of x.told x.far) (IsDealFloor g x.deal)) right.floors
+      (subst (λ n. IfSome (floor_of row.told row.far) (IsDealFloor g n)) (sym deal) floor);
 }
 
 -- the names and so many rows were written, and this is the greatest of their statuses
@@ -45,13 +56,14 @@ text_more rows row = flat_map_more row_text names_text rows row
 
 pub one_more_written : (g : GameRules) (rule weight : ℕ) (kind : BoundKind) (budget from count : ℕ) (old mid new : Option (List ℕ)) (status next : ℕ) (row : Row)
     → RowsAreWritten g rule weight kind budget from count old mid status → row.deal ≡ from + count
-    → IfSome row.told (IsToldOf g rule weight kind budget (from + count)) → Takes mid new (row_text row) → next ≡ max status (told_status row.told)
+    → IfSome row.told (IsToldOf g rule weight kind budget (from + count)) → IfSome (floor_of row.told row.far) (IsDealFloor g (from + count))
+    → Takes mid new (row_text row) → next ≡ max status (told_status row.told)
     → RowsAreWritten g rule weight kind budget from (count + 1) old new next
-one_more_written g rule weight kind budget from count old mid new status next row so_far deal told taken greater =
+one_more_written g rule weight kind budget from count old mid new status next row so_far deal told floor taken greater =
     let whole = so_far.whole in
     record {
       rows = so_far.rows ++ row ∷ [];
-      right = one_more_row g rule weight kind budget from count so_far.rows row so_far.right whole deal told;
+      right = one_more_row g rule weight kind budget from count so_far.rows row so_far.right whole deal told floor;
       whole = omega (arith, whole, length-append so_far.rows (row ∷ []));
       written = subst (Takes old new) (text_more so_far.rows row)
           (Takes-both old mid new (table_text so_far.rows) (row_text row) so_far.written taken);
@@ -62,15 +74,52 @@ one_more_written g rule weight kind budget from count old mid new status next ro
 -- and one that was cut short
 pub row_cut_short : (g : GameRules) (rule weight : ℕ) (kind : BoundKind) (budget from count most : ℕ) (mid : Option (List ℕ)) (sink : Device) (status : ℕ) (row : Row)
     → RowsAreWritten g rule weight kind budget from count sink.old mid status → row.deal ≡ from + count
-    → IfSome row.told (IsToldOf g rule weight kind budget (from + count)) → TakesFront mid sink.new (row_text row) → count < most → IsTrue sink.failed
+    → IfSome row.told (IsToldOf g rule weight kind budget (from + count)) → IfSome (floor_of row.told row.far) (IsDealFloor g (from + count))
+    → TakesFront mid sink.new (row_text row) → count < most → IsTrue sink.failed
     → IsTableCutShort g rule weight kind budget from most sink
-row_cut_short g rule weight kind budget from count most mid sink status row so_far deal told front within failed =
+row_cut_short g rule weight kind budget from count most mid sink status row so_far deal told floor front within failed =
     let whole = so_far.whole in
     record {
       rows = so_far.rows ++ row ∷ [];
-      right = one_more_row g rule weight kind budget from count so_far.rows row so_far.right whole deal told;
+      right = one_more_row g rule weight kind budget from count so_far.rows row so_far.right whole deal told floor;
       some = omega (arith, whole, within, length-append so_far.rows (row ∷ []));
       front = subst (TakesFront sink.old sink.new) (text_more so_far.rows row)
           (takes_then_front sink.old mid sink.new (table_text so_far.rows) (row_text row) so_far.written front);
       failed = failed;
     }
+
+-- who keeps what is told last of a deal has a floor of it, if it has any
+pub last_floor : (g : GameRules) (deal : ℕ) (old new : Last) (heard : List Progress) → HearsAll (λ _ far next. next.far ≡ Some far) old heard new
+    → TellFloors g (dealt_board deal) heard → IfSome (told_floor old.far) (IsDealFloor g deal) → IfSome (told_floor new.far) (IsDealFloor g deal)
+last_floor g deal old new [] same floors floor = subst (λ (l : Last). IfSome (told_floor l.far) (IsDealFloor g deal)) (sym same) floor
+last_floor g deal old new (far ∷ heard) (mid, keeps, rest) (least, floors) floor =
+    last_floor g deal mid new heard rest floors (subst (λ o. IfSome (told_floor o) (IsDealFloor g deal)) (sym keeps) least)
+
+-- the floor that an answer tells of a deal, if it tells any
+answered_floor : Outcome → Option ℕ
+answered_floor (outcome.Shortest count) = Some count
+answered_floor (outcome.Won count least) = Some least
+answered_floor outcome.CannotWin = None
+answered_floor (outcome.GaveUp told) = None
+
+answer_floor : (g : GameRules) (weight budget deal : ℕ) (verdict : Verdict) → IsRight g weight (dealt_board deal) budget verdict
+    → IfSome (answered_floor (outcome_of verdict)) (IsDealFloor g deal)
+unfolding answered_floor
+answer_floor g weight budget deal (verdict.Shortest moves) right = right.least
+answer_floor g weight budget deal (verdict.Won moves least) right = right.floor
+answer_floor g weight budget deal verdict.CannotWin right = tt
+answer_floor g weight budget deal (verdict.GaveUp told) right = tt
+
+-- the floor of a row: what its answer tells, and else what was told last
+pub row_floor : (g : GameRules) (rule weight : ℕ) (kind : BoundKind) (budget deal : ℕ) (told : Option Outcome) (far : Option Progress)
+    → IfSome told (IsToldOf g rule weight kind budget deal) → IfSome (told_floor far) (IsDealFloor g deal) → IfSome (floor_of told far) (IsDealFloor g deal)
+unfolding answered_floor
+row_floor g rule weight kind budget deal None far right floor = floor
+row_floor g rule weight kind budget deal (Some (outcome.GaveUp told)) far right floor = floor
+row_floor g rule weight kind budget deal (Some outcome.CannotWin) far right floor = tt
+row_floor g rule weight kind budget deal (Some (outcome.Shortest count)) far right floor =
+    subst (λ o. IfSome (answered_floor o) (IsDealFloor g deal)) (sym right.answer)
+    (answer_floor g weight budget deal right.verdict right.decided.right.right)
+row_floor g rule weight kind budget deal (Some (outcome.Won count least)) far right floor =
+    subst (λ o. IfSome (answered_floor o) (IsDealFloor g deal)) (sym right.answer)
+    (answer_floor g weight budget deal right.verdict right.decided.right.right)

@@ -2,7 +2,10 @@
 use Rattle.std.specs.Prelude.{◌≡◌, ℕ, ◌+◌, ◌≤◌, List, [], ◌++◌, length, map, slice_get, Option, Some, None, IfSome, IsTrue, codes, decimal}
 use Rattle.std.specs.List.{flat_map}
 use Rattle.fc_io.specs.Moves.{Takes, TakesFront}
+use Rattle.fc_deal.specs.Deal.{dealt_board}
+use Rattle.fc_moves.specs.declared.steps.Move.{Move}
 use Rattle.fc_moves.specs.GameRules.{GameRules}
+use Rattle.fc_moves.specs.Run.{Wins}
 use Rattle.fc_bound.specs.declared.kinds.BoundKind.{BoundKind}
 use Rattle.fc_answers.specs.declared.answers.Outcome.{Outcome}
 use Rattle.fc_answers.specs.declared.answers.Outcome.TheVariants.{Shortest, Won, CannotWin, GaveUp}
@@ -71,11 +74,17 @@ table_text rows = names_text ++ flat_map row_text rows
 abbrev pub line_of : Row → Line
 line_of row = record { deal = row.deal; told = row.told }
 
--- rows that are right, one a deal, rising from this one: an answer that is told is right for its deal. Nothing is promised of
--- a deal for which memory was wanted, nor of the numbers that a search told
+-- no list of fewer moves wins from the deal
+abbrev pub IsDealFloor : GameRules → ℕ → ℕ → Type 0
+IsDealFloor g deal floor = (moves : List Move) → Wins g (dealt_board deal) moves → floor ≤ length moves
+
+-- rows that are right, one a deal, rising from this one: an answer that is told is right for its deal, and no list of fewer moves
+-- than a row's floor wins from it. Nothing else is promised of a deal for which memory was wanted, nor of the other numbers that
+-- a search told
 pub record AreRows (g : GameRules) (rule : ℕ) (weight : ℕ) (kind : BoundKind) (budget : ℕ) (from : ℕ) (rows : List Row) : Type 0 where
   pub rising : (i : ℕ) (row : Row) → slice_get rows i ≡ Some row → row.deal ≡ from + i
   pub right : (i : ℕ) (row : Row) → slice_get rows i ≡ Some row → IfSome row.told (IsToldOf g rule weight kind budget row.deal)
+  pub floors : (i : ℕ) (row : Row) → slice_get rows i ≡ Some row → IfSome (floor_of row.told row.far) (IsDealFloor g row.deal)
 
 -- so many deals were told: the sink took the names and a row for each, and the status is the greatest of theirs
 pub record AreTabled (g : GameRules) (rule : ℕ) (weight : ℕ) (kind : BoundKind) (budget : ℕ) (from count : ℕ) (sink : Device) (status : ℕ) : Type 0 where
