@@ -26,6 +26,7 @@ use Rattle.fc_search.specs.Search.{IsOfStatus, IsVerdict, Question, State, class
 use Rattle.fc_batch.specs.Batch.{Batch, HasTurn, HasTurns, OthersStay, TurnFor, TurnsFor, running, search_at, times}
 use Rattle.fc_batch.proofs.BatchLemmas.{stays_self}
 use Rattle.fc_batch.proofs.LawLemmas.{others_kept, turn_alone}
+use Rattle.fc_watch.proofs.FarLemmas.{asked_all}
 use Rattle.fc_runs.specs.Batches.{AreCutShort, AreLines, AreTold, HaveEnded, HoldsDeals, IsRightOf, IsSearchOf, IsToldOf, Line, greatest_status, line_text, told_status}
 use Rattle.fc_runs.specs.Devices.{Device}
 
@@ -52,19 +53,6 @@ module _ {K : Type 0} (g : Graph K) (weight budget : ℕ) where
   )
   turns_more (suc turns) before between after old mid new reply (next, then, told, one, rest) turn =
       (next, then, told, one, turns_more turns then between after next mid new reply rest turn)
-
-asked : GameRules → ℕ → ℕ → BoundKind → Board → Question
-asked g rule weight kind start = record { game = g; rule = rule; weight = weight; bound = kind; start = start }
-
--- a question is what it asks of
-asked_all : (q : Question) (g : GameRules) (rule weight : ℕ) (kind : BoundKind) (start : Board) → q.game ≡ g → q.rule ≡ rule → q.weight ≡ weight
-    → q.bound ≡ kind → q.start ≡ start
-    → q ≡ record { game = g; rule = rule; weight = weight; bound = kind; start = start }
-unfolding asked
-asked_all q g rule weight kind start game ruled weighed bounded starts =
-    ap (λ x. asked x q.rule q.weight q.bound q.start) game ∙ ap (λ r. asked g r q.weight q.bound q.start) ruled
-    ∙ ap (λ w. asked g rule w q.bound q.start) weighed ∙ ap (λ k. asked g rule weight k q.start) bounded
-    ∙ ap (λ b. asked g rule weight kind b) starts
 
 -- a search that began for a deal, and had no turn
 pub search_begun : (g : GameRules) (rule weight : ℕ) (kind : BoundKind) (budget deal : ℕ) (s : State) → s.question.game ≡ g → s.question.rule ≡ rule → s.question.weight ≡ weight

@@ -1,13 +1,17 @@
 -- Lists of entries: their tokens, the moves that they are expanded to, and why they aren't.
 use Rattle.std.proofs.Common.{◌≡◌, ⊎_elim, inr, ℕ, suc, ◌+◌, ◌<◌, ◌≤◌, List, [], ◌∷◌, ◌++◌, length, refl, sym, ◌∙◌, ap, subst, append_assoc, length-append, arith}
-use Rattle.std.specs.Prelude.{◌⊎◌, Result, Ok, IsErr}
+use Rattle.std.specs.Prelude.{◌⊎◌, Result, Ok, IsErr, take}
 use Rattle.fc_io.specs.declared.devices.Failed.{Failed}
 use Rattle.fc_io.specs.Moves.{Stays}
 use Rattle.fc_position.specs.Board.{Board}
+use Rattle.fc_position.specs.Position.{IsWon}
 use Rattle.fc_moves.specs.declared.steps.Move.{Move}
 use Rattle.fc_moves.specs.GameRules.{GameRules}
 use Rattle.fc_text.proofs.PartLemmas.{length-tokens_between}
+use Rattle.fc_sequences.specs.declared.lists.ListFault.{ListFault}
+use Rattle.fc_sequences.specs.declared.lists.ListFault.TheVariants.{Refused, TooMany, Memory as wanting}
 use Rattle.fc_sequences.specs.declared.pairs.Pair.{Pair}
+use Rattle.fc_sequences.specs.Following.{Expands, Follows, IsListFault, LeadsToMany}
 use Rattle.fc_sequences.specs.Pair.{SpellsPair, IsNoPair}
 use Rattle.fc_replay.specs.declared.pages.Page.{Page}
 use Rattle.fc_replay.specs.declared.replays.Ended.{Ended}
@@ -17,7 +21,8 @@ use Rattle.fc_runs.specs.declared.faults.ProgramFault.{ProgramFault}
 use Rattle.fc_runs.specs.declared.faults.ProgramFault.TheVariants.{Number, Range, Budget, Board as bad_board, TooLong, Moves, TooManyWays, Cert, Read, Write, Memory}
 use Rattle.fc_replay.specs.declared.faults.ReplayFault.TheVariants.{BadMove, NotAllowed, Write as unwritten_page}
 use Rattle.fc_runs.specs.Devices.{Device}
-use Rattle.fc_runs.specs.Sequences.{AreGiven, IsFirstNoPair, IsLeft, IsListFaultAs, IsUnplayed, SpellPairs}
+use Rattle.fc_runs.specs.Fault.{list_fault}
+use Rattle.fc_runs.specs.Sequences.{AreGiven, IsExpanded, IsFirstNoPair, IsLeft, IsListFaultAs, IsUnplayed, SpellPairs}
 
 -- one more token that spells an entry
 spell_pair : (tokens : List (List ℕ)) (pairs : List Pair) (token : List ℕ) (pair : Pair) → SpellPairs tokens pairs → SpellsPair token pair
@@ -98,3 +103,22 @@ none_made [] result ended Before is failed stays = refl
 none_made (m ∷ ms) result ended Before is failed stays =
     let never : IsErr result → ⊥ = λ wrong. absurd (cc (wrong, is)) in
     ⊎_elim (λ wrong. absurd (never wrong)) (λ before. absurd (never (stays before (omega arith)))) failed
+
+module _ (g : GameRules) (b : Board) (tokens : List (List ℕ)) (pairs own : List Pair) (same : own ≡ pairs) (spelled : SpellPairs tokens pairs) where
+  -- the tokens of entries that are expanded are
+  pub expanded_of : (moves : List Move) (last : Board) → Expands g b own moves last → ((c : Board) → Follows g b own c → IsWon c → IsWon last)
+      → ((step : ℕ) → step ≤ length own → LeadsToMany g b (take step own) → ⊥) → IsExpanded g b tokens moves
+  expanded_of moves last expanded won few = record {
+    pairs = pairs;
+    spelled = spelled;
+    last = last;
+    expanded = subst (λ ps. Expands g b ps moves last) same expanded;
+    won = subst (λ ps. (c : Board) → Follows g b ps c → IsWon c → IsWon last) same won;
+    few = subst (λ ps. (step : ℕ) → step ≤ length ps → LeadsToMany g b (take step ps) → ⊥) same few;
+  }
+
+  -- and why the tokens of entries that aren't are not played
+  pub unplayed_of : (fault : ListFault) → IsListFault g b own fault → IsUnplayed g b tokens (list_fault fault)
+  unplayed_of (Refused step) here = record { pairs = pairs; spelled = spelled; here = subst (λ ps. IsListFault g b ps (Refused step)) same here }
+  unplayed_of (TooMany step) here = record { pairs = pairs; spelled = spelled; here = subst (λ ps. IsListFault g b ps (TooMany step)) same here }
+  unplayed_of wanting here = tt

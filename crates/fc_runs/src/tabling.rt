@@ -1,6 +1,6 @@
 //! A table of several numbered deals, which are searched one after the other, over any sink.
 
-ghost use Rattle.std.specs.Prelude.{◌≡◌, ◌+◌, ◌≤◌, ◌++◌, length, None, Some, IfOk, IfErr, IfSome, OnErr};
+ghost use Rattle.std.specs.Prelude.{◌≡◌, ◌+◌, ◌≤◌, ◌++◌, List, length, IfOk, IfErr, IfSome, OnErr};
 ghost use Rattle.fc_deal.specs.Deal.{IsDealNumber, dealt_board};
 ghost use Rattle.fc_best_first.specs.Search.{IsBudget, IsWeight};
 ghost use Rattle.arrayvec.specs.ArrayString.{array_string_len};

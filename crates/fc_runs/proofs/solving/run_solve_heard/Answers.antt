@@ -1,4 +1,5 @@
-use Rattle.std.proofs.Common.{rules, inl, inr, Some}
+use Rattle.std.proofs.Common.{[], refl, rules, inl, inr, Some}
+use Rattle.std.proofs.lemmas.Result.{err_from_is_err_and}
 use Rattle.fc_runs.specs.Devices.{Device}
 use Rattle.fc_runs.proofs.HeardLemmas.{heard_of}
 use Rattle.fc_runs.proofs.SolveLemmas.{is_lent, solved, unsolved}
@@ -43,4 +44,6 @@ returns-in-None-clause-heard g c =
     c.tell.result c.in_ok-start.ensures.read told)
 
 pub returns-in_err-start-clause-heard : goal.returns-in_err-start-clause-heard
-returns-in_err-start-clause-heard g c = ?
+returns-in_err-start-clause-heard g c =
+    let p = err_from_is_err_and c.from_residual.result c.from_residual.ensures.1 in
+    ([], refl, rw p.1 (inl refl))
