@@ -1,13 +1,12 @@
 -- Batches of deals: their searches, and the lines that tell of them.
-use Rattle.std.proofs.Common.{◌≡◌, ◌≢◌, ◌∙◌, ⊎_elim, ℕ, zero, suc, ◌+◌, ◌<◌, List, [], ◌∷◌, ◌++◌, length, Option, Some, Result, Ok, Err, refl, sym, ap, subst, arith, IsTrue}
-use Rattle.std.specs.Prelude.{IfOk, IfErr, max, slice_get}
+use Rattle.std.proofs.Common.{◌≡◌, ◌≢◌, ◌∙◌, ⊎_elim, ℕ, zero, suc, ◌+◌, ◌<◌, List, [], ◌∷◌, ◌++◌, length, Option, Some, Result, refl, sym, ap, subst, arith, IsTrue}
+use Rattle.std.specs.Prelude.{max, slice_get}
 use Rattle.std.specs.List.{flat_map}
 use Rattle.std.proofs.Math.Nat.{max-zero, suc-max-suc, zero-max}
 use Rattle.std.proofs.lemmas.Bool.{cases_eq}
 use Rattle.std.proofs.lemmas.List.{flat_map_more, length-append}
 use Rattle.fc_io.specs.Moves.{Takes, TakesFront}
 use Rattle.fc_io.proofs.MoveLemmas.{Takes-both, takes_then_front}
-use Rattle.fc_position.specs.Board.{Board}
 use Rattle.fc_position.specs.Position.{Fits}
 use Rattle.fc_moves.specs.GameRules.{GameRules}
 use Rattle.fc_deal.specs.Deal.{dealt_board}
@@ -22,7 +21,7 @@ use Rattle.fc_best_first.specs.declared.turns.Status.TheVariants.{Running}
 use Rattle.fc_best_first.specs.Graph.{Graph}
 use Rattle.fc_best_first.specs.Search.{Begins, Turns, TurnsOn}
 use Rattle.fc_best_first.specs.Store.{Store}
-use Rattle.fc_search.specs.Search.{IsOfStatus, IsVerdict, Question, State, classes_of}
+use Rattle.fc_search.specs.Search.{IsOfStatus, IsVerdict, State, classes_of}
 use Rattle.fc_batch.specs.Batch.{Batch, HasTurn, HasTurns, OthersStay, TurnFor, TurnsFor, running, search_at, times}
 use Rattle.fc_batch.proofs.BatchLemmas.{stays_self}
 use Rattle.fc_batch.proofs.LawLemmas.{others_kept, turn_alone}

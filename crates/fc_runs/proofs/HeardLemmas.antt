@@ -1,5 +1,5 @@
 -- What a listener hears of a run that solves.
-use Rattle.std.proofs.Common.{◌≡◌, ◌⊎◌, ℕ, List, [], Result, Ok, Err, inl, inr, ⊎_elim}
+use Rattle.std.proofs.Common.{ℕ, List, Result, Ok, Err, inr}
 use Rattle.std.specs.Prelude.{MatchResult}
 use Rattle.fc_position.specs.Board.{Board}
 use Rattle.fc_moves.specs.GameRules.{GameRules}
@@ -14,8 +14,8 @@ use Rattle.fc_runs.specs.Solving.{IsHeardAnswered, IsHeardOf, IsHeardUnanswered}
 pub heard_of : (g : GameRules) (rule weight : ℕ) (kind : BoundKind) (budget : ℕ) (source sink : Device) (start : Board) (heard : List Progress)
     (result : Result ℕ ProgramFault) → GivesBoard g.cells source start
     → MatchResult result (λ status. IsHeardAnswered g rule weight kind start budget sink heard)
-        (λ fault. IsHeardAtMost (question_of g rule weight kind start) budget heard)
+    (λ fault. IsHeardAtMost (question_of g rule weight kind start) budget heard)
     → MatchResult result (λ status. IsHeardOf g rule weight kind budget source sink heard)
-        (λ fault. IsHeardUnanswered g rule weight kind budget source heard)
+    (λ fault. IsHeardUnanswered g rule weight kind budget source heard)
 heard_of g rule weight kind budget source sink start heard (Ok status) given told = (start, given, told)
 heard_of g rule weight kind budget source sink start heard (Err fault) given told = inr (start, given, told)

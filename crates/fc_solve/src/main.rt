@@ -30,7 +30,7 @@ use moves::{
     MovesSource, find_moves, read_moves, tell_end, tell_entry, tell_stop, without_answer,
     without_rulers,
 };
-use std::alloc::Global;
+use std::alloc::{AllocError, Global};
 use std::fs::{self, File};
 use std::io::IsTerminal;
 use std::process::ExitCode;
@@ -61,7 +61,10 @@ fn follow_words(rt: &HostRuntime) -> Result<u8, Ending> {
         Err(_) => return Ok(refuse(rt, "the command line is not UTF-8")),
     };
     let mut words: Vec<String> = args.collect(alloc)?;
-    if words.get(1).is_some_and(|word| names_board(rt, word.as_str())) {
+    if words
+        .get(1)
+        .is_some_and(|word| names_board(rt, word.as_str()))
+    {
         mean_solving(alloc, &mut words)?;
     }
     match words::command(alloc)?.try_get_matches_from(words.as_slice()) {
@@ -86,7 +89,7 @@ fn names_board(rt: &HostRuntime, word: &str) -> bool {
 
 // Puts the words before a board that it means alone: it is solved, within twice the fewest moves and by the clearing bound
 // where the words don't say how.
-fn mean_solving(alloc: Global, words: &mut Vec<String>) -> Result<(), Ending> {
+fn mean_solving(alloc: Global, words: &mut Vec<String>) -> Result<(), AllocError> {
     for (name, word) in [("--within", "--within=2"), ("--bound", "--bound=clearing")] {
         if !words.iter().any(|told| told.as_str().starts_with(name)) {
             put_first(alloc, words, word)?;
@@ -96,13 +99,11 @@ fn mean_solving(alloc: Global, words: &mut Vec<String>) -> Result<(), Ending> {
 }
 
 // Puts a word before the others, behind the program's name.
-fn put_first(alloc: Global, words: &mut Vec<String>, word: &str) -> Result<(), Ending> {
+fn put_first(alloc: Global, words: &mut Vec<String>, word: &str) -> Result<(), AllocError> {
     let word = String::from_str(alloc, word)?;
     let place = words.len().min(1);
-    match words.insert(place, word) {
-        Ok(()) => Ok(()),
-        Err(_) => Err(Ending::Fault(ProgramFault::Memory)),
-    }
+    words.insert(place, word)?;
+    Ok(())
 }
 
 // Says why the command line is refused.

@@ -76,13 +76,13 @@ module _ (q : Question) (budget : ℕ) where
 
   pub end_at_most : (heard : List Progress) (verdict : Verdict) → IsHeardToEnd q budget heard verdict → IsHeardAtMost q budget heard
   end_at_most heard verdict is = inr (record {
-      first = is.first;
-      last = is.last;
-      begins = is.begins;
-      front = heard;
-      told = is.told;
-      rest = inl refl;
-    })
+    first = is.first;
+    last = is.last;
+    begins = is.begins;
+    front = heard;
+    told = is.told;
+    rest = inl refl;
+  })
 
   -- each number of moves that is told of a search is one that no list that wins is shorter than
   heard_floors : (old new : Stage) (most : ℕ) (heard : List Progress) → IsHeard q budget old most heard new → TellFloors q.game q.start heard

@@ -1,5 +1,5 @@
 -- How far a search is that began and had turns, and what is heard of it then.
-use Rattle.std.proofs.Common.{◌≡◌, ◌≢◌, ℕ, ◌+◌, ◌*◌, ◌<◌, ◌≤◌, List, [], ◌∷◌, ◌++◌, length, Option, ◌∙◌, ap, refl, sym, subst, inr}
+use Rattle.std.proofs.Common.{◌≡◌, ◌≢◌, ℕ, ◌+◌, ◌*◌, ◌<◌, ◌≤◌, List, [], ◌∷◌, ◌++◌, length, ◌∙◌, ap, refl, sym, subst, inr}
 use Rattle.std.specs.Prelude.{max}
 use Rattle.fc_frontier.specs.Queue.{Adds}
 use Rattle.fc_position.specs.Board.{Board}
@@ -78,14 +78,18 @@ module _ (q : Question) (budget : ℕ) where
       begins = begins;
       front = heard;
       told = told;
-      rest = inr (far, refl, record {
+      rest = inr (
+        far,
+        refl,
+        record {
           stage = stage_of next (turns + made);
           made = made;
           some = some;
           turned = turned;
           stopped = stopped;
           floor = floor;
-        });
+        },
+      );
     }
 
   -- what was heard of a search up to where it stands

@@ -4,7 +4,7 @@ use Rattle.std.specs.Prelude.{max}
 use Rattle.fc_best_first.specs.Search.{Runs}
 use Rattle.fc_search.specs.Search.{Question, classes_of}
 use Rattle.fc_watch.specs.declared.listeners.Progress.{Progress}
-use Rattle.fc_watch.specs.Watch.{HearsAll, IsFar, IsHeard, IsStopped, Stage, TurnsMany}
+use Rattle.fc_watch.specs.Watch.{HearsAll, IsFar, IsHeard, Stage, TurnsMany}
 use Rattle.fc_watch.proofs.TurnLemmas.{turns_both, turns_on}
 
 -- after some that were heard one more is
@@ -47,14 +47,18 @@ module _ (q : Question) (budget : ℕ) where
       → Runs (classes_of q) q.weight budget old.status old.store new.store new.status
   heard_runs old new most [] same = (0, turns_on q budget 0 old new same)
   heard_runs old new most (far ∷ later) (mid, made, some, turned, is, greatest, rest) =
-      let (more, ran) = heard_runs mid new far.most_open later rest in
-      (_, turns_both (classes_of q) q.weight budget made more old.status mid.status new.status old.store mid.store new.store
-      (turns_on q budget made old mid turned) ran)
+      let (more, ran) = heard_runs mid new far.most_open later rest in (
+        _,
+        turns_both (classes_of q) q.weight budget made more old.status mid.status new.status old.store mid.store new.store
+            (turns_on q budget made old mid turned) ran,
+      )
 
   -- and so did one that was stopped then
   pub stopped_runs : (old mid new : Stage) (most made : ℕ) (heard : List Progress) → IsHeard q budget old most heard mid
       → TurnsMany made q budget mid new → Runs (classes_of q) q.weight budget old.status old.store new.store new.status
   stopped_runs old mid new most made heard told turned =
-      let (before, ran) = heard_runs old mid most heard told in
-      (_, turns_both (classes_of q) q.weight budget before made old.status mid.status new.status old.store mid.store new.store
-      ran (turns_on q budget made mid new turned))
+      let (before, ran) = heard_runs old mid most heard told in (
+        _,
+        turns_both (classes_of q) q.weight budget before made old.status mid.status new.status old.store mid.store new.store
+            ran (turns_on q budget made mid new turned),
+      )

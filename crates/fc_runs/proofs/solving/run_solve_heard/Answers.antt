@@ -31,17 +31,23 @@ pub returns-in-Some-clause-heard : goal.returns-in-Some-clause-heard
 returns-in-Some-clause-heard g c =
     let source : Device = record { old = g.S.Source.told c.args.board.now; new = g.S.Source.told c.read_start.new.board; failed = g.S.Source.has_failed c.read_start.new.board } in
     let sink : Device = record { old = g.K.Sink.held c.args.out.now; new = g.K.Sink.held c.certify.new.out; failed = g.K.Sink.has_failed c.certify.new.out } in
-    let (heard, hears, told) = c.certify.ensures.heard in
-    (heard, hears, heard_of (g.G.Game.game c.args.game.now) c.args.rule c.args.weight c.args.bound c.args.budget source sink c.in_ok-start.start heard
-    c.certify.result c.in_ok-start.ensures.read told)
+    let (heard, hears, told) = c.certify.ensures.heard in (
+      heard,
+      hears,
+      heard_of (g.G.Game.game c.args.game.now) c.args.rule c.args.weight c.args.bound c.args.budget source sink c.in_ok-start.start heard
+          c.certify.result c.in_ok-start.ensures.read told,
+    )
 
 pub returns-in-None-clause-heard : goal.returns-in-None-clause-heard
 returns-in-None-clause-heard g c =
     let source : Device = record { old = g.S.Source.told c.args.board.now; new = g.S.Source.told c.read_start.new.board; failed = g.S.Source.has_failed c.read_start.new.board } in
     let sink : Device = record { old = g.K.Sink.held c.args.out.now; new = g.K.Sink.held c.tell.new.out; failed = g.K.Sink.has_failed c.tell.new.out } in
-    let (heard, hears, told) = c.tell.ensures.heard in
-    (heard, hears, heard_of (g.G.Game.game c.args.game.now) c.args.rule c.args.weight c.args.bound c.args.budget source sink c.in_ok-start.start heard
-    c.tell.result c.in_ok-start.ensures.read told)
+    let (heard, hears, told) = c.tell.ensures.heard in (
+      heard,
+      hears,
+      heard_of (g.G.Game.game c.args.game.now) c.args.rule c.args.weight c.args.bound c.args.budget source sink c.in_ok-start.start heard
+          c.tell.result c.in_ok-start.ensures.read told,
+    )
 
 pub returns-in_err-start-clause-heard : goal.returns-in_err-start-clause-heard
 returns-in_err-start-clause-heard g c =

@@ -14,9 +14,12 @@ returns-in_err-verdict-clause-floors g c =
     let start = c.unwrap-position.result in
     let dealt : start ≡ dealt_board c.args.number = search rules in
     let q = question_of r c.args.rule c.args.weight c.args.bound start in
-    let (heard, hears, before) = c.in_err-verdict.ensures.heard in
-    (heard, hears, subst (λ b. TellFloors r b heard) dealt
-    (at_most_floors q c.args.budget heard (before_at_most q c.args.budget heard c.in_err-verdict.field-0.0 before)))
+    let (heard, hears, before) = c.in_err-verdict.ensures.heard in (
+      heard,
+      hears,
+      subst (λ b. TellFloors r b heard) dealt
+          (at_most_floors q c.args.budget heard (before_at_most q c.args.budget heard c.in_err-verdict.field-0.0 before)),
+    )
 
 pub returns-clause-floors : goal.returns-clause-floors
 returns-clause-floors g c =
@@ -24,6 +27,9 @@ returns-clause-floors g c =
     let start = c.unwrap-position.result in
     let dealt : start ≡ dealt_board c.args.number = search rules in
     let q = question_of r c.args.rule c.args.weight c.args.bound start in
-    let (heard, hears, told) = c.in_ok-verdict.ensures.heard in
-    (heard, hears, subst (λ b. TellFloors r b heard) dealt
-    (at_most_floors q c.args.budget heard (end_at_most q c.args.budget heard c.in_ok-verdict.verdict told)))
+    let (heard, hears, told) = c.in_ok-verdict.ensures.heard in (
+      heard,
+      hears,
+      subst (λ b. TellFloors r b heard) dealt
+          (at_most_floors q c.args.budget heard (end_at_most q c.args.budget heard c.in_ok-verdict.verdict told)),
+    )

@@ -3,7 +3,7 @@ use Rattle.std.proofs.lemmas.Result.{err_from_is_err_and}
 use Rattle.fc_best_first.specs.declared.searches.SearchFault.TheVariants.{Budget}
 use Rattle.fc_best_first.specs.declared.turns.Status.TheVariants.{Running}
 use Rattle.fc_best_first.specs.Search.{Begins, Runs}
-use Rattle.fc_search.specs.Search.{HasRun, Question, classes_of}
+use Rattle.fc_search.specs.Search.{classes_of}
 use Rattle.fc_watch.specs.Watch.{IsHeardInPart, IsHeardOn, question_of}
 use Rattle.fc_watch.proofs.EndLemmas.{none_before, part_before}
 use Rattle.fc_watch.proofs.FarLemmas.{asked_all}

@@ -1,4 +1,4 @@
-use Rattle.std.proofs.Common.{◌≡◌, ℕ, ◌+◌, ◌<◌, Ok, Result, ◌∙◌, ap, refl, subst, sym, add_assoc, add-zero, arith}
+use Rattle.std.proofs.Common.{◌≡◌, ℕ, ◌+◌, ◌<◌, Ok, Result, ◌∙◌, ap, refl, subst, add_assoc, add-zero, arith}
 use Rattle.fc_best_first.specs.declared.searches.Step.{Step}
 use Rattle.fc_best_first.specs.declared.searches.Step.TheVariants.{Running as running}
 use Rattle.fc_best_first.specs.declared.turns.Status.TheVariants.{Running}

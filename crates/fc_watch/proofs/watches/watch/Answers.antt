@@ -1,20 +1,19 @@
-use Rattle.std.proofs.Common.{◌≡◌, ◌≢◌, ℕ, ◌+◌, ◌*◌, ◌<◌, ◌≤◌, List, [], ◌∷◌, ◌++◌, Ok, Err, refl, sym, ◌∙◌, ap, subst, arith}
+use Rattle.std.proofs.Common.{◌≡◌, ℕ, ◌+◌, ◌≤◌, [], ◌∷◌, ◌++◌, Ok, refl, sym, ◌∙◌, ap, subst, arith}
 use Rattle.std.specs.Prelude.{MatchResult, max}
 use Rattle.std.proofs.lemmas.Result.{err_from_is_err_and}
 use Rattle.fc_bound.specs.Kinds.{guide_of}
 use Rattle.fc_tables.proofs.BoundLemmas.{bounds_lower}
 use Rattle.fc_best_first.specs.declared.searches.SearchFault.TheVariants.{Memory}
-use Rattle.fc_best_first.specs.declared.searches.Step.{Step}
 use Rattle.fc_best_first.specs.declared.searches.Step.TheVariants.{Running as running, Done}
-use Rattle.fc_best_first.specs.declared.turns.Status.TheVariants.{Running, Stopped}
+use Rattle.fc_best_first.specs.declared.turns.Status.TheVariants.{Stopped}
 use Rattle.fc_best_first.specs.Search.{Runs, reply_of}
 use Rattle.fc_best_first.specs.Turn.{work_left}
 use Rattle.fc_classes.proofs.TableLemmas.{lawful}
 use Rattle.fc_search.specs.Search.{classes_of}
 use Rattle.fc_watch.specs.declared.listeners.Progress.{Progress}
-use Rattle.fc_watch.specs.Watch.{IsFirst, TellsFloor, TurnsMany, stage_of}
+use Rattle.fc_watch.specs.Watch.{stage_of}
 use Rattle.fc_watch.proofs.FarLemmas.{heard_stopped, heard_then, heard_to, is_first, tells_floor, turned_on}
-use Rattle.fc_watch.proofs.HearLemmas.{heard_runs, hears_on, most_of, most_of-append, most_of-none, stopped_runs}
+use Rattle.fc_watch.proofs.HearLemmas.{hears_on, most_of-append, most_of-none, stopped_runs}
 use Rattle.fc_watch.proofs.TurnLemmas.{begun_work, replies_going, replies_running}
 use Rattle.fc_watch.proofs.watches.watch.Goals as goal
 
