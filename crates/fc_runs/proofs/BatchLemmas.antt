@@ -12,8 +12,6 @@ use Rattle.fc_moves.specs.GameRules.{GameRules}
 use Rattle.fc_deal.specs.Deal.{dealt_board}
 use Rattle.fc_bound.specs.declared.kinds.BoundKind.{BoundKind}
 use Rattle.fc_answers.specs.declared.answers.Outcome.{Outcome}
-use Rattle.fc_answers.specs.declared.answers.Verdict.{Verdict}
-use Rattle.fc_answers.specs.Verdict.{outcome_of}
 use Rattle.fc_best_first.specs.declared.searches.SearchFault.{SearchFault}
 use Rattle.fc_best_first.specs.declared.searches.Step.{Step}
 use Rattle.fc_best_first.specs.declared.turns.Status.{Status}
@@ -21,12 +19,12 @@ use Rattle.fc_best_first.specs.declared.turns.Status.TheVariants.{Running}
 use Rattle.fc_best_first.specs.Graph.{Graph}
 use Rattle.fc_best_first.specs.Search.{Begins, Turns, TurnsOn}
 use Rattle.fc_best_first.specs.Store.{Store}
-use Rattle.fc_search.specs.Search.{IsOfStatus, IsVerdict, State, classes_of}
+use Rattle.fc_search.specs.Search.{State, classes_of}
 use Rattle.fc_batch.specs.Batch.{Batch, HasTurn, HasTurns, OthersStay, TurnFor, TurnsFor, running, search_at, times}
 use Rattle.fc_batch.proofs.BatchLemmas.{stays_self}
-use Rattle.fc_batch.proofs.LawLemmas.{others_kept, turn_alone}
+use Rattle.fc_batch.proofs.LawLemmas.{turn_alone}
 use Rattle.fc_watch.proofs.FarLemmas.{asked_all}
-use Rattle.fc_runs.specs.Batches.{AreCutShort, AreLines, AreTold, HaveEnded, HoldsDeals, IsRightOf, IsSearchOf, IsToldOf, Line, greatest_status, line_text, told_status}
+use Rattle.fc_runs.specs.Batches.{AreCutShort, AreLines, AreTold, HaveEnded, HoldsDeals, IsRightOf, IsSearchOf, Line, greatest_status, line_text, told_status}
 use Rattle.fc_runs.specs.Devices.{Device}
 
 -- no card of a deal stands in a cell, so it is of every game
@@ -69,28 +67,6 @@ search_begun g rule weight kind budget deal s game ruled weighed bounded starts 
       };
     }
 
--- what is told of the search of a deal that has ended is right of the deal
-pub told_right : (g : GameRules) (rule weight : ℕ) (kind : BoundKind) (budget deal : ℕ) (s : State) (verdict : Verdict)
-    → IsSearchOf g rule weight kind budget deal s
-    → IsVerdict s.question.game s.question.rule s.question.weight s.question.bound s.question.start s.budget verdict
-    → IsOfStatus (classes_of s.question) s.question.weight s.store s.budget s.status verdict
-    → IsToldOf g rule weight kind budget deal (outcome_of verdict)
-told_right g rule weight kind budget deal s verdict search right sort = record {
-  verdict = verdict;
-  decided = record {
-    right = subst (λ q. IsVerdict q.game q.rule q.weight q.bound q.start budget verdict) search.question
-        (subst (λ b. IsVerdict s.question.game s.question.rule s.question.weight s.question.bound s.question.start b verdict) search.budgeted right);
-    ran = record {
-      last = s.store;
-      status = s.status;
-      ran = search.ran;
-      answered = subst (λ q. IsOfStatus (classes_of q) q.weight s.store budget s.status verdict) search.question
-          (subst (λ b. IsOfStatus (classes_of s.question) s.question.weight s.store b s.status verdict) search.budgeted sort);
-    };
-  };
-  answer = refl;
-}
-
 -- a search of a deal that has one more turn is the search of that deal still
 one_turn_on : (g : GameRules) (rule weight : ℕ) (kind : BoundKind) (budget deal : ℕ) (old new : State) (reply : Result Step SearchFault) → HasTurn old new reply
     → IsSearchOf g rule weight kind budget deal old → IsSearchOf g rule weight kind budget deal new
@@ -132,11 +108,6 @@ pub one_held : (g : GameRules) (rule weight : ℕ) (kind : BoundKind) (budget fr
     → TurnFor number old new reply → HoldsDeals g rule weight kind budget from count old → HoldsDeals g rule weight kind budget from count new
 one_held g rule weight kind budget from count number old new reply turn =
     held_on g rule weight kind budget from count (number ∷ []) old new (running reply + 0) (one_turn number old new reply turn)
-
--- the other searches are as they were
-pub one_others : (number : ℕ) (old mid new : Batch) (reply : Result Step SearchFault) → TurnFor number mid new reply
-    → OthersStay number old mid → OthersStay number old new
-one_others number old mid new reply turn others j other = (others_kept number (search_at mid number) mid new reply turn).1 j other ∙ others j other
 
 -- with the search of the next number, all below it have ended
 pub ended_more : (count : ℕ) (old new : Batch) → HaveEnded count old → OthersStay count old new
