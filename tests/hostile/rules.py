@@ -44,12 +44,14 @@ def plain(text):
         for selector in ("\ufe0e", "\ufe0f", ""):
             text = text.replace((symbol + selector).encode(), letter.encode())
     text = text.replace("\u00a0".encode(), b" ")
-    lines, lost = text.split(b"\n"), 0
+    lines, columns = text.split(b"\n"), 0
     for number, line in enumerate(lines):
+        if sort_line(line)[0] != "column":
+            continue
+        columns += 1
         rest = line.lstrip(BLANKS)
-        if lost < 8 and rest.startswith(b"%d:" % (lost + 1)):
+        if columns <= 8 and rest.startswith(b"%d:" % columns):
             lines[number] = line[: len(line) - len(rest)] + rest[1:]
-            lost += 1
     return b"\n".join(lines)
 
 

@@ -12,7 +12,6 @@ import sys
 import rules
 import runs
 
-EMPTY = "fc_solve: the board is empty: its text has nothing but blanks"
 ADVERSE = [b"", b"\x00", b"\xff", b"\xc2", b"\xa0", b"\xc2\xa0", b"\xe2\x99", b"\xef\xbb\xbf", b"\xe2\x99\xa0\xef\xb8\x8f", b"\r", b"\n",
            b"\r\r\n", b"\x0b", b"\x0c", b"10", b"1O", b"0C", b"-", b"*", b"--", b":", b"::", b"9:", b"1:", b"H-0", b"h-k", b"S-14", b"FC:",
            b"Deck:", b"foundations :", b"TC", b"10c", b"#", b"\xf0\x9f\x82\xa1", b"KS KS", b" " * 60]
@@ -24,10 +23,7 @@ ADVERSE = [b"", b"\x00", b"\xff", b"\xc2", b"\xa0", b"\xc2\xa0", b"\xe2\x99", b"
 def wanted(text, cells):
     """The status, the output and the first line on standard error."""
     try:
-        text = rules.plain(text)
-        if not text.strip(b" \t\r\n\x0c"):
-            return 3, b"", EMPTY
-        return 0, rules.printed(rules.read_plain(text, cells)).encode(), ""
+        return 0, rules.printed(rules.read_plain(rules.plain(text), cells)).encode(), ""
     except rules.Fault as fault:
         return 3, b"", f"fc_solve: board: {fault}"
 
