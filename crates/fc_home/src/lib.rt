@@ -4,9 +4,11 @@
 //! Everything here is generic over the game. No call allocates.
 #![tactic(auto)]
 
+pub use home_rules::HomeRule;
 pub use rules::free;
 pub use settling::{GREATEST_RULE, forced, goes_home_from, settle};
 
+mod home_rules;
 mod known;
 pub mod laws;
 mod rules;
