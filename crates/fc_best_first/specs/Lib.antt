@@ -1,4 +1,5 @@
 pub mod Graph
+pub mod Limits
 pub mod Store
 pub mod Turn
 pub mod Kept

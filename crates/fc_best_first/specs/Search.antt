@@ -1,7 +1,6 @@
 -- A search as a whole: what it is of, where it stands, and what a turn does to it.
-use Rattle.std.specs.Prelude.{◌≡◌, ℕ, ◌+◌, ◌*◌, ◌≤◌, ◌⊎◌, List, suc, zero, [], ◌∷◌, Result, Ok, Err}
+use Rattle.std.specs.Prelude.{◌≡◌, ℕ, ◌+◌, ◌*◌, ◌⊎◌, List, suc, zero, [], ◌∷◌, Result, Ok, Err}
 use Rattle.fc_frontier.specs.Queue.{Adds}
-use Rattle.fc_best_first.specs.declared.turns.TheConstants.{MOST_BUDGET, MOST_WEIGHT}
 use Rattle.fc_best_first.specs.declared.turns.Status.{Status}
 use Rattle.fc_best_first.specs.declared.turns.Status.TheVariants.{Running, Stopped}
 use Rattle.fc_best_first.specs.declared.searches.Step.{Step}
@@ -21,24 +20,6 @@ pub record Progress (S : Type 0) (K : Type 0) : Type 0 where
   pub store : Store K
   pub status : Status K
   pub floor : ℕ
-
--- the bounds may count so many times
-pub record IsWeight (weight : ℕ) : Type 0 where
-  pub least : 1 ≤ weight
-  pub greatest : weight ≤ MOST_WEIGHT
-
--- so many keys may be stored
-pub record IsBudget (budget : ℕ) : Type 0 where
-  pub least : 1 ≤ budget
-  pub greatest : budget ≤ MOST_BUDGET
-
--- why a search isn't begun: the budget is none; or it is one, and a growth was refused
-abbrev pub IsRefused : ℕ → SearchFault → Type 0
-IsRefused budget fault.Budget = IsBudget budget → ⊥
-IsRefused budget fault.Memory = IsBudget budget
-IsRefused budget fault.Stopped = ⊥
-IsRefused budget fault.NotDone = ⊥
-IsRefused budget fault.NoSuch = ⊥
 
 module _ {K : Type 0} where
   -- the key that starts is stored under 0, as its own parent, and open at its cost plus weighed bound

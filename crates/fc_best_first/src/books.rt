@@ -5,6 +5,7 @@ ghost use Rattle.fc_frontier.specs.Queue.{Adds, IsLeast};
 ghost use Rattle.fc_best_first.specs.Store.{Store, Stands, IsNew, Offers};
 
 use crate::keys::ExactKey;
+use crate::limits::Budget;
 use fc_frontier::{Frontier, Full, Pairs};
 use indexmap::IndexMap;
 use std::alloc::Global;
@@ -124,15 +125,16 @@ impl<K: ExactKey, F: Frontier + Drop> Book<K, F> {
 
     /// Offers a key that isn't stored with a mark, to be open at `f`. At `Err` a growth was refused, and nothing is known of
     /// the book.
-    pub fn add(&mut self, budget: u32, key: K, mark: Mark, f: u32) -> Result<Offered<K>, Full>
+    pub fn add(&mut self, budget: Budget, key: K, mark: Mark, f: u32) -> Result<Offered<K>, Full>
         requires new { IsNew self.old key }
         ensures offers { IfOk result (λ offered. Offers budget self.old self.new key mark f offered) }
     {
         let number = self.table.len();
-        if number >= budget as usize {
+        let most = budget.get() as usize;
+        if number >= most {
             return Ok(Offered::Full(key));
         }
-        self.make_room(budget as usize - number);
+        self.make_room(most - number);
         self.table.insert(key, mark)?;
         self.queue.push(f, number as u32)?;
         Ok(Offered::Added)

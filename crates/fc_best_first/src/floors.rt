@@ -4,8 +4,9 @@ ghost use Rattle.fc_best_first.specs.Shown.{IsLeastOpen};
 
 use crate::books::Book;
 use crate::keys::ExactKey;
+use crate::limits::{MOST_BUDGET, Weight};
 use crate::spaces::Space;
-use crate::turns::{MOST_BUDGET, MOST_WEIGHT, weighed};
+use crate::turns::weighed;
 use fc_frontier::Frontier;
 
 // The least cost plus bound, the bound counted once, of the keys that are open, and at most a number. A key whose cost
@@ -13,11 +14,10 @@ use fc_frontier::Frontier;
 pub(crate) fn least_open<K: ExactKey, F: Frontier + Drop, S: Space<K>>(
     space: &S,
     book: &Book<K, F>,
-    weight: u8,
+    weight: Weight,
     most: u32,
 ) -> u32
     requires sound { (budget : ℕ) × (budget ≤ MOST_BUDGET) × IsSound (S.graph space.now) weight budget book.now }
-    requires weight { weight ≤ MOST_WEIGHT }
     ensures value { IsLeastOpen (S.graph space.now) weight book.now most result }
 {
     let mut floor = most;

@@ -4,14 +4,16 @@
 
 pub use books::{Book, Mark, Offered};
 pub use keys::ExactKey;
+pub use limits::{Budget, MOST_BUDGET, MOST_WEIGHT, Weight};
 pub use searches::{Search, SearchFault, Step};
 pub use spaces::{Child, Space};
-pub use turns::{MOST_BUDGET, MOST_COST, MOST_WEIGHT, Status};
+pub use turns::{MOST_COST, Status};
 
 mod books;
 mod floors;
 mod keys;
 pub mod laws;
+mod limits;
 mod searches;
 mod spaces;
 mod turns;

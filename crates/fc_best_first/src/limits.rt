@@ -74,6 +74,9 @@ impl Model for Budget {
 }
 
 impl Budget {
+    /// The greatest.
+    pub const MOST: Budget = Budget { keys: MOST_BUDGET };
+
     /// So many keys; `None` outside 1 to 4,000,000.
     pub fn new(keys: u32) -> Option<Budget>
         ensures range { IsSome result ↔ IsBudget keys }

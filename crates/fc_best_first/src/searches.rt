@@ -1,6 +1,7 @@
 ghost use Rattle.std.specs.Prelude.{◌≡◌, ◌<◌, ◌≤◌, ◌↔◌, ◌⊎◌, length, IfOk, IfErr, OnOk, OnErr, MatchOption, []};
 ghost use Rattle.fc_frontier.specs.Queue.{Adds};
-ghost use Rattle.fc_best_first.specs.Search.{Begins, FloorAfter, IsBudget, IsRefused, IsWeight, Turns, Runs, reply_of};
+ghost use Rattle.fc_best_first.specs.Limits.{IsBudget, IsWeight};
+ghost use Rattle.fc_best_first.specs.Search.{Begins, FloorAfter, Turns, Runs, reply_of};
 ghost use Rattle.fc_best_first.specs.Kept.{IsSound};
 ghost use Rattle.fc_best_first.specs.Shown.{Holds, IsFloor, IsLeastOpen, Shows};
 ghost use Rattle.fc_best_first.specs.Store.{Stands};
@@ -9,9 +10,10 @@ ghost use Rattle.fc_best_first.specs.Turn.{work_left};
 use crate::books::{Book, Mark};
 use crate::floors::least_open;
 use crate::keys::ExactKey;
+use crate::limits::{Budget, Weight};
 use crate::spaces::Space;
-use crate::turns::{MOST_BUDGET, Status, advance, f_of};
-use fc_frontier::Frontier;
+use crate::turns::{Status, advance, f_of};
+use fc_frontier::{Frontier, Full};
 use std::alloc::Global;
 use std::marker::Model;
 use thiserror::Error;
@@ -26,7 +28,7 @@ pub enum Step {
 /// Why a search can't begin or go on.
 #[derive(Clone, Copy, Debug, PartialEq, Eq, Error)]
 pub enum SearchFault {
-    /// The budget is outside 1 to 4,000,000.
+    /// The budget is outside 1 to 4,000,000; only what takes a number for one says so.
     #[error("the budget is outside 1 to 4000000")]
     Budget,
     /// A growth was refused.
@@ -47,8 +49,8 @@ pub enum SearchFault {
 #[derive(Drop)]
 pub struct Search<K: ExactKey, F: Frontier + Drop, S: Space<K> + Drop> {
     space: S,
-    weight: u8,
-    budget: u32,
+    weight: Weight,
+    budget: Budget,
     book: Book<K, F>,
     walk: S::Walk,
     status: Status<K>,
@@ -56,44 +58,40 @@ pub struct Search<K: ExactKey, F: Frontier + Drop, S: Space<K> + Drop> {
 }
 
 impl<K: ExactKey, F: Frontier + Drop, S: Space<K> + Drop> Model for Search<K, F, S> {
-    ghost use Rattle.std.specs.Prelude.{◌≤◌};
-    ghost use Rattle.fc_best_first.specs.Search.{IsWeight, Progress};
+    ghost use Rattle.fc_best_first.specs.Limits.{IsBudget, IsWeight};
+    ghost use Rattle.fc_best_first.specs.Search.{Progress};
     ghost use Rattle.fc_best_first.specs.Shown.{Holds, IsFloor};
-    ghost use Rattle.fc_best_first.specs.declared.turns.TheConstants.{MOST_BUDGET};
 
     ghost Value = { Progress S K };
 
     ghost view = { λ s. record { space = s.space; weight = s.weight; budget = s.budget; store = s.book; status = s.status; floor = s.floor } };
 
-    ghost invariant = { λ s. IsWeight s.weight × (s.budget ≤ MOST_BUDGET)
+    ghost invariant = { λ s. IsWeight s.weight × IsBudget s.budget
         × Holds (S.graph s.space) s.weight s.budget s.book s.status × IsFloor (S.graph s.space) s.weight s.floor };
 }
 
 impl<K: ExactKey, F: Frontier + Drop, S: Space<K> + Drop> Search<K, F, S> {
-    /// A search that has had no turn, of a weight of 1 to 10, for a budget of 1 to 4,000,000 stored keys. What it wins costs
-    /// at most the weight times every answer, so by weight 1 it is a least one.
-    pub fn new(alloc: Global, space: S, weight: u8, budget: u32) -> Result<Self, SearchFault>
-        requires weight { IsWeight weight }
+    /// A search that has had no turn. What it wins costs at most the weight times every answer, so by weight 1 it is a least
+    /// one.
+    ///
+    /// # Errors
+    /// A growth was refused.
+    pub fn new(alloc: Global, space: S, weight: Weight, budget: Budget) -> Result<Self, Full>
         ensures space { IfOk result (λ search. search.space ≡ space) }
         ensures weight { IfOk result (λ search. search.weight ≡ weight) }
         ensures budget { IfOk result (λ search. search.budget ≡ budget) }
         ensures status { IfOk result (λ search. search.status ≡ Status.Running) }
         ensures begins { IfOk result (λ search. Begins (S.graph space) weight search.store) }
         ensures floor { IfOk result (λ search. Adds [] search.store.waiting (search.floor, 0)) }
-        ensures range { OnOk result (IsBudget budget) }
-        ensures fault { IfErr result (IsRefused budget) }
     {
-        if budget < 1 || budget > MOST_BUDGET {
-            return Err(SearchFault::Budget);
-        }
+        // Their ranges, which the search keeps.
+        let (_, _) = (weight.get(), budget.get());
         let (start, walk) = space.start();
         let cost = u32::from(start.cost);
         let f = f_of(&space, weight, &start.key, cost, start.bound);
         let mut book = Book::new(alloc);
         let mark = Mark { cost, parent: 0 };
-        let Ok(_offered) = book.add(budget, start.key, mark, f) else {
-            return Err(SearchFault::Memory);
-        };
+        let _offered = book.add(budget, start.key, mark, f)?;
         Ok(Search {
             space,
             weight,
@@ -113,7 +111,7 @@ impl<K: ExactKey, F: Frontier + Drop, S: Space<K> + Drop> Search<K, F, S> {
     }
 
     /// How many times a bound counts, 1 to 10.
-    pub fn weight(&self) -> u8
+    pub fn weight(&self) -> Weight
         ensures value { result ≡ self.now.weight }
         ensures range { IsWeight self.now.weight }
     {
@@ -121,9 +119,9 @@ impl<K: ExactKey, F: Frontier + Drop, S: Space<K> + Drop> Search<K, F, S> {
     }
 
     /// How many keys may be stored, 1 to 4,000,000.
-    pub fn budget(&self) -> u32
+    pub fn budget(&self) -> Budget
         ensures value { result ≡ self.now.budget }
-        ensures most { result ≤ MOST_BUDGET }
+        ensures range { IsBudget self.now.budget }
     {
         self.budget
     }
@@ -133,7 +131,7 @@ impl<K: ExactKey, F: Frontier + Drop, S: Space<K> + Drop> Search<K, F, S> {
         ensures value { result.now ≡ self.now.status }
         ensures holds { Holds (S.graph self.now.space) self.now.weight self.now.budget self.now.store self.now.status }
         ensures shows { Shows (S.graph self.now.space) self.now.weight self.now.budget self.now.store self.now.status }
-        ensures most { self.now.budget ≤ MOST_BUDGET }
+        ensures range { IsBudget self.now.budget }
     {
         &self.status
     }

@@ -30,8 +30,8 @@ low : (g : _) (c : After-bound-bound g) → c.at.result.1.cost ≤ 212000000
 low g c = entry_low (g.S.Space.graph c.args.space.now) c.args.weight c.requires.sound.0 c.args.book.now c.args.book.now c.in-Some.number
     c.at.result.0.now c.at.result.1 c.requires.sound.2 c.requires.sound.1 refl c.at.ensures.stands
 
-pub weighed-requires-clause-low : goal.weighed-requires-clause-low
-weighed-requires-clause-low g c = let most = low g c in omega (arith, most)
+pub weighed-requires : goal.weighed-requires
+weighed-requires g c = record { low = let most = low g c in omega (arith, most) }
 
 pub overflow_add-mark : goal.overflow_add-mark
 overflow_add-mark g c = let most = low g (goal.at.overflow_add-mark g c).After-bound-bound in omega (arith, most)

@@ -15,16 +15,16 @@ is_won-requires g c = record {
       c.requires.kept.sound c.in-Some.ensures.kept c.at.ensures.stands;
 }
 
-pub weighed-requires-clause-low : goal.weighed-requires-clause-low
-weighed-requires-clause-low g c =
+pub weighed-requires : goal.weighed-requires
+weighed-requires g c =
     let low = entry_low (g.S.Space.graph c.args.space.now) c.args.weight c.args.budget c.args.book.now c.take.new.self c.in-Some.number _ _
-    c.requires.kept.sound c.requires.budget c.in-Some.ensures.kept c.at.ensures.stands in
-    omega (arith, low)
+    c.requires.kept.sound c.get.ensures.range.greatest c.in-Some.ensures.kept c.at.ensures.stands in
+    record { low = omega (arith, low) }
 
 pub expand-requires-clause-low : goal.expand-requires-clause-low
 expand-requires-clause-low g c =
     entry_low (g.S.Space.graph c.args.space.now) c.args.weight c.args.budget c.args.book.now c.take.new.self c.in-Some.number _ _
-    c.requires.kept.sound c.requires.budget c.in-Some.ensures.kept c.at.ensures.stands
+    c.requires.kept.sound c.get.ensures.range.greatest c.in-Some.ensures.kept c.at.ensures.stands
 
 pub visit-bound-requires : goal.visit-bound-requires
 visit-bound-requires g c = record {

@@ -9,9 +9,9 @@ invariant-loop-child g l = record {
   room : length l.book.stored ≤ l.budget;
   reached : (children : List (Child g.row.K.Denot)) → g.S.Space.rest l.walk children → AreReached (g.S.Space.graph l.space) children;
   onward : (new : Store g.row.K.Denot) (left_out : Option g.row.K.Denot) (children : List (Child g.row.K.Denot))
-      → g.S.Space.rest l.walk children → Expands (g.S.Space.graph l.space) l.weight l.budget l.number l.cost children l.book new left_out
+      → g.S.Space.rest l.walk children → Expands (g.S.Space.graph l.space) l.weight l.budget l.origin.parent l.origin.cost children l.book new left_out
       → (all : List (Child g.row.K.Denot)) × g.S.Space.rest l.fn.walk all
-      × Expands (g.S.Space.graph l.space) l.weight l.budget l.number l.cost all l.initial.book new left_out;
+      × Expands (g.S.Space.graph l.space) l.weight l.budget l.origin.parent l.origin.cost all l.initial.book new left_out;
 }
 
 abbrev pub decreases-loop-child : goal.decreases-loop-child
