@@ -1,0 +1,14 @@
+-- How a position is searched.
+use Rattle.std.specs.Prelude.{ℕ}
+use Rattle.fc_moves.specs.GameRules.{GameRules}
+use Rattle.fc_bound.specs.declared.kinds.BoundKind.TheVariants.{Plain}
+use Rattle.fc_methods.specs.declared.methods.Method.{Method}
+
+-- a search for a shortest list by the plain bound
+abbrev pub as_written : ℕ → ℕ → Method
+as_written rule budget = record { rule = rule; weight = 1; bound = Plain; budget = budget }
+
+-- a question: by how few moves of the game a list wins, searched by the method
+pub record Asked : Type 0 where
+  pub game : GameRules
+  pub method : Method

@@ -1,0 +1,77 @@
+ghost use Rattle.std.specs.Prelude.{◌≡◌};
+ghost use Rattle.fc_methods.specs.Method.{as_written};
+
+use fc_best_first::{Budget, Weight};
+use fc_bound::BoundKind;
+use fc_home::HomeRule;
+use fc_moves::Game;
+use std::marker::Model;
+
+/// How a position is searched.
+#[derive(Clone, Copy, Debug, PartialEq, Eq)]
+pub struct Method {
+    /// Which cards are sent home at once.
+    pub rule: HomeRule,
+    /// How many times a bound counts: what is won has at most so many times the fewest moves, by one a shortest list.
+    pub weight: Weight,
+    /// The kind of bound that the search goes by.
+    pub bound: BoundKind,
+    /// How many classes of positions may be stored.
+    pub budget: Budget,
+}
+
+impl Method {
+    /// A search for a shortest list by the plain bound, under a home rule and within a budget.
+    pub fn shortest(rule: HomeRule, budget: Budget) -> Method
+        ensures value { result ≡ as_written rule budget }
+    {
+        Method {
+            rule,
+            weight: Weight::ONE,
+            bound: BoundKind::Plain,
+            budget,
+        }
+    }
+}
+
+/// How few moves of a game win, and how that is searched: a position makes it a search.
+#[derive(Drop)]
+pub struct Question<G: Game + Drop> {
+    game: G,
+    method: Method,
+}
+
+impl<G: Game + Drop> Model for Question<G> {
+    ghost use Rattle.fc_methods.specs.Method.{Asked};
+
+    ghost Value = { Asked };
+
+    ghost view = { λ s. record { game = G.game s.game; method = s.method } };
+}
+
+impl<G: Game + Drop> Question<G> {
+    /// The question of a game, to be searched by this method.
+    pub fn new(game: &G, method: Method) -> Self
+        ensures game { result.game ≡ G.game game.now }
+        ensures method { result.method ≡ method }
+    {
+        Question {
+            game: game.copy(),
+            method,
+        }
+    }
+
+    /// The game.
+    pub fn game(&self) -> &G
+        ensures value { G.game result.now ≡ self.now.game }
+    {
+        &self.game
+    }
+
+    /// How it is searched.
+    pub fn method(&self) -> Method
+        ensures value { result ≡ self.now.method }
+    {
+        self.method
+    }
+}
