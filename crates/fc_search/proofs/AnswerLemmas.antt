@@ -12,7 +12,6 @@ use Rattle.fc_moves.specs.GameRules.{GameRules, IsPositionOf}
 use Rattle.fc_moves.specs.MoveText.{HasText}
 use Rattle.fc_moves.specs.Run.{Run, Wins}
 use Rattle.fc_moves.proofs.StepLemmas.{step_keeps, allowed_has_text}
-use Rattle.fc_bound.specs.declared.kinds.BoundKind.{BoundKind}
 use Rattle.fc_bound.specs.Kinds.{guide_of, low_of}
 use Rattle.fc_tables.specs.Table as boards
 use Rattle.fc_tables.proofs.RowLemmas.{rows_inside, inside_all, costs_free}
@@ -24,14 +23,18 @@ use Rattle.fc_best_first.specs.Store.{Store, Stands}
 use Rattle.fc_best_first.proofs.KeptLemmas.{same_entry, stands_within}
 use Rattle.fc_best_first.proofs.FloorLemmas.{open_floors}
 use Rattle.fc_best_first.proofs.SearchLemmas.{closed_inside}
-use Rattle.fc_classes.specs.Classes.{classes}
 use Rattle.fc_tables.specs.Table.{as_boards}
 use Rattle.fc_canonical.specs.Spelled.{spelled}
 use Rattle.fc_classes.proofs.PathLemmas.{reached_of_positions}
 use Rattle.fc_classes.proofs.TableLemmas.{board_listed, key_listed, closed_board, lawful}
 use Rattle.fc_answers.specs.declared.answers.Answer.TheVariants as answer
 use Rattle.fc_answers.specs.declared.answers.Verdict.TheVariants.{Shortest, Won, CannotWin, GaveUp}
-use Rattle.fc_search.specs.Search.{IsVerdict}
+use Rattle.fc_methods.specs.declared.methods.Method.{Method}
+use Rattle.fc_methods.specs.Method.{Asked, as_written}
+use Rattle.fc_search.specs.Problem.{Problem, classes_of, problem_of, shortest_from}
+use Rattle.fc_answers.specs.declared.answers.Verdict.{Verdict}
+use Rattle.fc_answers.specs.Verdict.{IsRight}
+use Rattle.fc_search.specs.Search.{IsOneOfThree, IsVerdict}
 use Rattle.fc_answers.specs.Answer.{IsBackedBelow, IsBackedWhole}
 use Rattle.fc_answers.specs.Table.{Listing, HaveKeysOnce, IsRising, inside, at_no_cost}
 use Rattle.fc_answers.proofs.OrderLemmas.{in_order}
@@ -55,18 +58,18 @@ one_times weight n one =
     let same : weight * n ≡ 1 * n = ap (λ w. w * n) one in
     omega (arith, same)
 
-module _ (g : GameRules) (rule weight : ℕ) (kind : BoundKind) (p : Board) (budget : ℕ) (s : Store (List ℕ)) (pp : IsPositionOf g p) where
+module _ (pr : Problem) (s : Store (List ℕ)) (pp : IsPositionOf pr.game pr.start) where
   -- the table of a search that found no way to win shows that there is none
-  pub backed_whole : (table : Listing) → IsExhausted (classes (guide_of kind) g rule p) weight budget s → table.rule ≡ rule → table.rule ≤ 2
+  pub backed_whole : (table : Listing) → IsExhausted (classes_of pr) pr.method.weight pr.method.budget s → table.rule ≡ pr.method.rule → table.rule ≤ 2
       → length table.rows ≤ 4000000 → IsRising table.rows → IsPermutation (at_no_cost (costs_of s)) table.rows
-      → IsBackedWhole g p table
+      → IsBackedWhole pr.game pr.start table
   backed_whole table (sound, done) ruled known few rising moved =
-      let closed = λ (n : ℕ). closed_inside (classes (guide_of kind) g rule p) weight budget s n sound (λ i x m at lt. done i x m at) in
+      let closed = λ (n : ℕ). closed_inside (classes_of pr) pr.method.weight pr.method.budget s n sound (λ i x m at lt. done i x m at) in
       let back = IsPermutation-sym (at_no_cost (costs_of s)) table.rows moved in
-      let all = inside_all (guide_of kind) g rule p (as_boards (costs_of s)) (λ n. closed_board (guide_of kind) g rule p n (costs_of s) (bounds_lower kind).0 pp (closed n)) in
+      let all = inside_all (guide_of pr.method.bound) pr.game pr.method.rule pr.start (as_boards (costs_of s)) (λ n. closed_board (guide_of pr.method.bound) pr.game pr.method.rule pr.start n (costs_of s) (bounds_lower pr.method.bound).0 pp (closed n)) in
       let free = λ (e : List ℕ × ℕ) (there : Contains table.rows e).
       free_listed (costs_of s) e (Contains-permutation table.rows (at_no_cost (costs_of s)) e back there) in
-      let own = costs_free g rule p (as_boards table.rows) (as_boards (costs_of s)) all
+      let own = costs_free pr.game pr.method.rule pr.start (as_boards table.rows) (as_boards (costs_of s)) all
       (λ x. (
         λ (d, there). let key = key_listed table.rows (x, d) there in
             let at = (free (key.0, key.1) key.2).0 in (
@@ -86,17 +89,17 @@ module _ (g : GameRules) (rule weight : ℕ) (kind : BoundKind) (p : Board) (bud
           few = few;
           rising = rising;
           classes = λ e there. let at = (free e there).0 in
-              (reached_of_positions (guide_of kind) g rule p e.0 at.0 pp ((closed 0).reached e.0 at.0 at.1)).0;
+              (reached_of_positions (guide_of pr.method.bound) pr.game pr.method.rule pr.start e.0 at.0 pp ((closed 0).reached e.0 at.0 at.1)).0;
         };
-        closed = subst (λ r. boards.IsClosed g r p (as_boards table.rows)) (sym ruled) own;
+        closed = subst (λ r. boards.IsClosed pr.game r pr.start (as_boards table.rows)) (sym ruled) own;
         free = λ e there. (free e there).1;
       }
 
   -- a list to the won class wins, has no more moves than it costs, and is within the weight
-  pub won_within : (number : ℕ) (ms : List Move) (b : Board) → Shows (classes (guide_of kind) g rule p) weight budget s (status.Won number)
-      → IsAtClass g s p number ms b
-      → (x : List ℕ) × (mark : Mark) × Stands s number x mark × (length ms ≤ mark.cost) × Wins g p ms
-      × ((others : List Move) → Wins g p others → mark.cost ≤ weight * length others)
+  pub won_within : (number : ℕ) (ms : List Move) (b : Board) → Shows (classes_of pr) pr.method.weight pr.method.budget s (status.Won number)
+      → IsAtClass pr.game s pr.start number ms b
+      → (x : List ℕ) × (mark : Mark) × Stands s number x mark × (length ms ≤ mark.cost) × Wins pr.game pr.start ms
+      × ((others : List Move) → Wins pr.game pr.start others → mark.cost ≤ pr.method.weight * length others)
   won_within number ms b (x, mark, at, won, reached, answer, least) (y, mine, there, run, same, le) =
       let one = same_entry s number x y mark mine at there in
       let won_there : IsWon b = same.homes ∙ ap (λ k. (spelled k).homes) (sym one.0) ∙ won in
@@ -110,38 +113,38 @@ module _ (g : GameRules) (rule weight : ℕ) (kind : BoundKind) (p : Board) (bud
       )
 
   -- by weight 1 it has as many moves as the class costs, and is a shortest one
-  pub won_length : weight ≡ 1 → (number : ℕ) (ms : List Move) (b : Board)
-      → Shows (classes (guide_of kind) g rule p) weight budget s (status.Won number) → IsAtClass g s p number ms b
-      → (x : List ℕ) × (mark : Mark) × Stands s number x mark × (length ms ≡ mark.cost) × Wins g p ms
-      × ((others : List Move) → Wins g p others → length ms ≤ length others)
+  pub won_length : pr.method.weight ≡ 1 → (number : ℕ) (ms : List Move) (b : Board)
+      → Shows (classes_of pr) pr.method.weight pr.method.budget s (status.Won number) → IsAtClass pr.game s pr.start number ms b
+      → (x : List ℕ) × (mark : Mark) × Stands s number x mark × (length ms ≡ mark.cost) × Wins pr.game pr.start ms
+      × ((others : List Move) → Wins pr.game pr.start others → length ms ≤ length others)
   won_length light number ms b shows walked =
       let won = won_within number ms b shows walked in
       let le = won.3 in
       let most = won.5 ms won.4 in
-      let long : length ms ≡ won.1.cost = omega (arith, le, most, one_times weight (length ms) light) in (
+      let long : length ms ≡ won.1.cost = omega (arith, le, most, one_times pr.method.weight (length ms) light) in (
         won.0,
         won.1,
         won.2,
         long,
         won.4,
-        λ others w. let far = won.5 others w in omega (arith, far, long, one_times weight (length others) light),
+        λ others w. let far = won.5 others w in omega (arith, far, long, one_times pr.method.weight (length others) light),
       )
 
   -- the table of a search whose stored classes below n are expanded shows that no list of fewer moves wins
-  pub backed_below : (n : ℕ) (table : Listing) → IsSound (classes (guide_of kind) g rule p) weight budget s
-      → ((i : ℕ) (y : List ℕ) (m : Mark) → Stands s i y m → m.cost + guide_of kind (spelled y) < n
-      → IsExpanded (classes (guide_of kind) g rule p) s y m.cost)
-      → table.rule ≡ rule → table.bound ≡ kind → table.rule ≤ 2
-      → length table.rows ≤ 4000000 → IsRising table.rows → IsPermutation (inside (guide_of kind) n (costs_of s)) table.rows
-      → IsBackedBelow g p n table
+  pub backed_below : (n : ℕ) (table : Listing) → IsSound (classes_of pr) pr.method.weight pr.method.budget s
+      → ((i : ℕ) (y : List ℕ) (m : Mark) → Stands s i y m → m.cost + guide_of pr.method.bound (spelled y) < n
+      → IsExpanded (classes_of pr) s y m.cost)
+      → table.rule ≡ pr.method.rule → table.bound ≡ pr.method.bound → table.rule ≤ 2
+      → length table.rows ≤ 4000000 → IsRising table.rows → IsPermutation (inside (guide_of pr.method.bound) n (costs_of s)) table.rows
+      → IsBackedBelow pr.game pr.start n table
   backed_below n table sound done ruled bounded known few rising moved =
-      let low = guide_of kind in
-      let lower = (bounds_lower kind).0 in
-      let closed = closed_inside (classes (guide_of kind) g rule p) weight budget s n sound done in
+      let low = guide_of pr.method.bound in
+      let lower = (bounds_lower pr.method.bound).0 in
+      let closed = closed_inside (classes_of pr) pr.method.weight pr.method.budget s n sound done in
       let back = IsPermutation-sym (inside low n (costs_of s)) table.rows moved in
       let within = λ (e : List ℕ × ℕ) (there : Contains table.rows e).
       inside_listed low n (costs_of s) e (Contains-permutation table.rows (inside low n (costs_of s)) e back there) in
-      let own = rows_inside low g rule p n (as_boards table.rows) (as_boards (costs_of s)) lower (closed_board low g rule p n (costs_of s) lower pp closed)
+      let own = rows_inside low pr.game pr.method.rule pr.start n (as_boards table.rows) (as_boards (costs_of s)) lower (closed_board low pr.game pr.method.rule pr.start n (costs_of s) lower pp closed)
       (λ e. (
         λ there. let key = key_listed table.rows e there in
             let at = within (key.0, key.1) key.2 in
@@ -155,25 +158,25 @@ module _ (g : GameRules) (rule weight : ℕ) (kind : BoundKind) (p : Board) (bud
             (board_listed table.rows key.0 key.1 (Contains-permutation (inside low n (costs_of s)) table.rows (key.0, key.1) moved
             (listed_inside low n (costs_of s) (key.0, key.1) key.2 (subst (λ f. f.1 + low f.0 < n) same below)))),
       )) in
-      let greater = greater_close low (low_of kind) g rule p n (as_boards table.rows) pp (guides_under kind) own in
-      let ruled_so = subst (λ r. boards.IsClosedBelow (low_of kind) g r p n (as_boards table.rows)) (sym ruled) greater in record {
+      let greater = greater_close low (low_of pr.method.bound) pr.game pr.method.rule pr.start n (as_boards table.rows) pp (guides_under pr.method.bound) own in
+      let ruled_so = subst (λ r. boards.IsClosedBelow (low_of pr.method.bound) pr.game r pr.start n (as_boards table.rows)) (sym ruled) greater in record {
         listed = record {
           known = known;
           few = few;
           rising = rising;
           classes = λ e there. let at = within e there in
-              (reached_of_positions low g rule p e.0 e.1 pp (closed.reached e.0 e.1 at.0)).0;
+              (reached_of_positions low pr.game pr.method.rule pr.start e.0 e.1 pp (closed.reached e.0 e.1 at.0)).0;
         };
-        closed = subst (λ k. boards.IsClosedBelow (low_of k) g table.rule p n (as_boards table.rows)) (sym bounded) ruled_so;
+        closed = subst (λ k. boards.IsClosedBelow (low_of k) pr.game table.rule pr.start n (as_boards table.rows)) (sym bounded) ruled_so;
         below = λ e there. subst (λ k. e.1 + guide_of k (spelled e.0) < n) (sym bounded) (within e there).1;
       }
 
   -- the table of a search that found a shortest list shows that none is shorter
-  pub backed_shortest : weight ≡ 1 → (number : ℕ) (ms : List Move) (table : Listing)
-      → IsFound (classes (guide_of kind) g rule p) weight budget s number
-      → (x : List ℕ) (mark : Mark) → Stands s number x mark → length ms ≡ mark.cost → table.rule ≡ rule → table.bound ≡ kind → table.rule ≤ 2
-      → length table.rows ≤ 4000000 → IsRising table.rows → IsPermutation (inside (guide_of kind) (length ms) (costs_of s)) table.rows
-      → IsBackedBelow g p (length ms) table
+  pub backed_shortest : pr.method.weight ≡ 1 → (number : ℕ) (ms : List Move) (table : Listing)
+      → IsFound (classes_of pr) pr.method.weight pr.method.budget s number
+      → (x : List ℕ) (mark : Mark) → Stands s number x mark → length ms ≡ mark.cost → table.rule ≡ pr.method.rule → table.bound ≡ pr.method.bound → table.rule ≤ 2
+      → length table.rows ≤ 4000000 → IsRising table.rows → IsPermutation (inside (guide_of pr.method.bound) (length ms) (costs_of s)) table.rows
+      → IsBackedBelow pr.game pr.start (length ms) table
   backed_shortest light number ms table found x mark at long ruled bounded known few rising moved =
       let n = length ms in
       let w = found.1.0 in
@@ -181,48 +184,48 @@ module _ (g : GameRules) (rule weight : ℕ) (kind : BoundKind) (p : Board) (bud
       let one = same_entry s number x w mark wmark at found.1.2 in
       let cost : n ≡ wmark.cost = long ∙ ap (λ m. m.cost) one.1 in
       backed_below n table found.0
-      (λ i y m there lt. found_done i y m there (omega (arith, lt, cost, one_times weight (guide_of kind (spelled y)) light)))
+      (λ i y m there lt. found_done i y m there (omega (arith, lt, cost, one_times pr.method.weight (guide_of pr.method.bound (spelled y)) light)))
       ruled bounded known few rising moved
     where
-      found_done : (i : ℕ) (y : List ℕ) (m : Mark) → Stands s i y m → m.cost + weight * guide_of kind (spelled y) < found.1.1.cost
-          → IsExpanded (classes (guide_of kind) g rule p) s y m.cost
+      found_done : (i : ℕ) (y : List ℕ) (m : Mark) → Stands s i y m → m.cost + pr.method.weight * guide_of pr.method.bound (spelled y) < found.1.1.cost
+          → IsExpanded (classes_of pr) s y m.cost
       found_done i y m there lt = found.1.4 i y m there lt
 
   -- what a number is that is told as a floor: no list has fewer moves, and the stored classes below it are expanded
-  pub floor_holds : (number : ℕ) (x : List ℕ) (mark : Mark) (floor : ℕ) → IsFound (classes (guide_of kind) g rule p) weight budget s number
-      → Stands s number x mark → IsLeastOpen (classes (guide_of kind) g rule p) weight s mark.cost floor
-      → ((i : ℕ) (y : List ℕ) (m : Mark) → Stands s i y m → m.cost + guide_of kind (spelled y) < floor
-      → IsExpanded (classes (guide_of kind) g rule p) s y m.cost)
-      × ((others : List Move) → Wins g p others → floor ≤ length others)
+  pub floor_holds : (number : ℕ) (x : List ℕ) (mark : Mark) (floor : ℕ) → IsFound (classes_of pr) pr.method.weight pr.method.budget s number
+      → Stands s number x mark → IsLeastOpen (classes_of pr) pr.method.weight s mark.cost floor
+      → ((i : ℕ) (y : List ℕ) (m : Mark) → Stands s i y m → m.cost + guide_of pr.method.bound (spelled y) < floor
+      → IsExpanded (classes_of pr) s y m.cost)
+      × ((others : List Move) → Wins pr.game pr.start others → floor ≤ length others)
   floor_holds number x mark floor found at least =
-      let both = open_floors (classes (guide_of kind) g rule p) (lawful (guide_of kind) g rule p (bounds_lower kind).0 pp) weight budget s number x
+      let both = open_floors (classes_of pr) (lawful (guide_of pr.method.bound) pr.game pr.method.rule pr.start (bounds_lower pr.method.bound).0 pp) pr.method.weight pr.method.budget s number x
       mark floor found at least in
       (both.0, λ others wins. both.1 (length others) (others, refl, wins))
 
   -- rows of which no two have one key, as a table of the search's rule and bound
   as_table : (rows : List (List ℕ × ℕ)) → HaveKeysOnce rows → length rows ≤ 4000000
-      → (table : Listing) × (table.rule ≡ rule) × (table.bound ≡ kind) × (length table.rows ≤ 4000000) × IsRising table.rows × IsPermutation rows table.rows
+      → (table : Listing) × (table.rule ≡ pr.method.rule) × (table.bound ≡ pr.method.bound) × (length table.rows ≤ 4000000) × IsRising table.rows × IsPermutation rows table.rows
   as_table rows once few =
       let all = in_order rows once in
       let long : length all.0 ≡ length rows = length_permutation rows all.0 all.1 in
-      (record { rule = rule; bound = kind; rows = all.0 }, refl, refl, omega (arith, few, long), all.2, all.1)
+      (record { rule = pr.method.rule; bound = pr.method.bound; rows = all.0 }, refl, refl, omega (arith, few, long), all.2, all.1)
 
   -- the rows of the stored classes below n as such a table
-  inside_table : (n : ℕ) → budget ≤ 4000000 → IsSound (classes (guide_of kind) g rule p) weight budget s
-      → (table : Listing) × (table.rule ≡ rule) × (table.bound ≡ kind) × (length table.rows ≤ 4000000) × IsRising table.rows
-      × IsPermutation (inside (guide_of kind) n (costs_of s)) table.rows
+  inside_table : (n : ℕ) → pr.method.budget ≤ 4000000 → IsSound (classes_of pr) pr.method.weight pr.method.budget s
+      → (table : Listing) × (table.rule ≡ pr.method.rule) × (table.bound ≡ pr.method.bound) × (length table.rows ≤ 4000000) × IsRising table.rows
+      × IsPermutation (inside (guide_of pr.method.bound) n (costs_of s)) table.rows
   inside_table n few sound =
       let room = sound.room in
-      let test : (List ℕ × ℕ) → Bool = λ e. nat_lt (e.1 + guide_of kind (spelled e.0)) n in
-      as_table (inside (guide_of kind) n (costs_of s))
-      (inside_once (guide_of kind) n (costs_of s) (stored_once (classes (guide_of kind) g rule p) weight budget s sound))
+      let test : (List ℕ × ℕ) → Bool = λ e. nat_lt (e.1 + guide_of pr.method.bound (spelled e.0)) n in
+      as_table (inside (guide_of pr.method.bound) n (costs_of s))
+      (inside_once (guide_of pr.method.bound) n (costs_of s) (stored_once (classes_of pr) pr.method.weight pr.method.budget s sound))
       (omega (arith, length-filter test (costs_of s), count_by-le-length test (costs_of s), stored_long s, room, few))
 
   -- the verdict of a search that found a shortest list
-  pub shortest_verdict : weight ≡ 1 → (number : ℕ) (ms : List Move) (b : Board) → rule ≤ 2 → budget ≤ 4000000
-      → IsFound (classes (guide_of kind) g rule p) weight budget s number
-      → Shows (classes (guide_of kind) g rule p) weight budget s (status.Won number)
-      → IsAtClass g s p number ms b → IsVerdict g rule weight kind p budget (Shortest ms)
+  pub shortest_verdict : pr.method.weight ≡ 1 → (number : ℕ) (ms : List Move) (b : Board) → pr.method.rule ≤ 2 → pr.method.budget ≤ 4000000
+      → IsFound (classes_of pr) pr.method.weight pr.method.budget s number
+      → Shows (classes_of pr) pr.method.weight pr.method.budget s (status.Won number)
+      → IsAtClass pr.game s pr.start number ms b → IsVerdict pr (Shortest ms)
   shortest_verdict light number ms b known few (sound, found) shows walked =
       let won = won_length light number ms b shows walked in
       let low = sound.low number won.0 won.1 won.2 in
@@ -236,17 +239,17 @@ module _ (g : GameRules) (rule weight : ℕ) (kind : BoundKind) (p : Board) (bud
       (subst (λ r. r ≤ 2) (sym listed.1) known) listed.3 listed.4 listed.5 in record {
         right = record { wins = won.4; least = won.5 };
         earned = tt;
-        written = (run_texts g p b ms pp run, omega (arith, low, inside_store, room, few, cost));
+        written = (run_texts pr.game pr.start b ms pp run, omega (arith, low, inside_store, room, few, cost));
         few = omega (arith, low, inside_store, room, few, cost);
         backed = record { answer = answer.Shortest ms table; told = refl; backed = backed; searched = (listed.1, listed.2) };
       }
 
   -- the verdict of a search by a greater weight that found a list, no longer than the won class costs
-  pub won_verdict : 2 ≤ weight → (number : ℕ) (ms : List Move) (x : List ℕ) (mark : Mark) (floor : ℕ) → rule ≤ 2 → budget ≤ 4000000
-      → IsFound (classes (guide_of kind) g rule p) weight budget s number → Stands s number x mark
-      → IsLeastOpen (classes (guide_of kind) g rule p) weight s mark.cost floor → length ms ≤ mark.cost → Wins g p ms
-      → ((others : List Move) → Wins g p others → mark.cost ≤ weight * length others)
-      → IsVerdict g rule weight kind p budget (Won ms floor)
+  pub won_verdict : 2 ≤ pr.method.weight → (number : ℕ) (ms : List Move) (x : List ℕ) (mark : Mark) (floor : ℕ) → pr.method.rule ≤ 2 → pr.method.budget ≤ 4000000
+      → IsFound (classes_of pr) pr.method.weight pr.method.budget s number → Stands s number x mark
+      → IsLeastOpen (classes_of pr) pr.method.weight s mark.cost floor → length ms ≤ mark.cost → Wins pr.game pr.start ms
+      → ((others : List Move) → Wins pr.game pr.start others → mark.cost ≤ pr.method.weight * length others)
+      → IsVerdict pr (Won ms floor)
   won_verdict heavy number ms x mark floor known few found at opened le wins least =
       let low = found.0.low number x mark at in
       let inside_store = stands_within s number x mark at in
@@ -263,18 +266,18 @@ module _ (g : GameRules) (rule weight : ℕ) (kind : BoundKind) (p : Board) (bud
           floor = holds.1;
         };
         earned = tt;
-        written = (run_texts g p wins.0 ms pp wins.1, omega (arith, low, inside_store, room, few, le));
+        written = (run_texts pr.game pr.start wins.0 ms pp wins.1, omega (arith, low, inside_store, room, few, le));
         few = omega (arith, low, inside_store, room, few, le);
         backed = record { answer = answer.Won ms floor table; told = refl; backed = backed; searched = (listed.1, listed.2) };
       }
 
   -- the verdict of a search that found no way to win
-  pub cannot_win_verdict : rule ≤ 2 → budget ≤ 4000000 → IsExhausted (classes (guide_of kind) g rule p) weight budget s
-      → Shows (classes (guide_of kind) g rule p) weight budget s status.CannotWin → IsVerdict g rule weight kind p budget CannotWin
+  pub cannot_win_verdict : pr.method.rule ≤ 2 → pr.method.budget ≤ 4000000 → IsExhausted (classes_of pr) pr.method.weight pr.method.budget s
+      → Shows (classes_of pr) pr.method.weight pr.method.budget s status.CannotWin → IsVerdict pr CannotWin
   cannot_win_verdict known few (sound, done) none =
       let free : (List ℕ × ℕ) → List ℕ × ℕ = λ e. (e.0, 0) in
       let room = sound.room in
-      let listed = as_table (at_no_cost (costs_of s)) (no_cost_once (costs_of s) (stored_once (classes (guide_of kind) g rule p) weight budget s sound))
+      let listed = as_table (at_no_cost (costs_of s)) (no_cost_once (costs_of s) (stored_once (classes_of pr) pr.method.weight pr.method.budget s sound))
       (omega (arith, length-map (costs_of s) free, stored_long s, room, few)) in
       let table = listed.0 in
       let backed = backed_whole table (sound, done) listed.1 (subst (λ r. r ≤ 2) (sym listed.1) known) listed.3 listed.4 listed.5 in
@@ -287,13 +290,27 @@ module _ (g : GameRules) (rule weight : ℕ) (kind : BoundKind) (p : Board) (bud
       }
 
   -- the verdict of a search that gave up
-  pub gave_up_verdict : (y : List ℕ) (number told : ℕ) → Shows (classes (guide_of kind) g rule p) weight budget s (status.GaveUp y number)
-      → told ≡ budget → IsVerdict g rule weight kind p budget (GaveUp told)
+  pub gave_up_verdict : (y : List ℕ) (number told : ℕ) → Shows (classes_of pr) pr.method.weight pr.method.budget s (status.GaveUp y number)
+      → told ≡ pr.method.budget → IsVerdict pr (GaveUp told)
   gave_up_verdict y number told (keys, are) same =
-      let more = needs_more g rule weight kind p budget keys pp are in record {
-        right = (same, needs_reach g rule weight kind p budget more);
+      let more = needs_more pr keys pp are in record {
+        right = (same, needs_reach pr more);
         earned = more;
         written = tt;
         few = tt;
         backed = record { answer = answer.GaveUp told; told = refl; backed = tt; searched = tt };
       }
+
+-- a right verdict of a search for a shortest list is one of three
+pub one_of_three : (g : GameRules) (b : Board) (budget : ℕ) (verdict : Verdict) → IsRight g 1 b budget verdict → IsOneOfThree g b budget verdict
+one_of_three g b budget (Shortest moves) right = right
+one_of_three g b budget (Won moves floor) right = let above = right.above in absurd (omega (arith, above))
+one_of_three g b budget CannotWin right = right
+one_of_three g b budget (GaveUp told) right = right
+
+-- a question of a shortest list, with a start, is the problem of one
+pub asked_shortest : (q : Asked) (g : GameRules) (rule : ℕ) (b : Board) (budget : ℕ) → q.game ≡ g → q.method ≡ as_written rule budget
+    → problem_of q b ≡ shortest_from g rule b budget
+asked_shortest q g rule b budget game method =
+    ap (λ (x : GameRules). problem_of (record { game = x; method = q.method }) b) game
+    ∙ ap (λ (m : Method). problem_of (record { game = g; method = m }) b) method

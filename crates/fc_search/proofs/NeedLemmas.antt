@@ -5,7 +5,7 @@ use Rattle.std.proofs.lemmas.List.Elements.{All-cons}
 use Rattle.std.proofs.lemmas.List.Kept.{AllPairs-cons}
 use Rattle.std.proofs.lemmas.Option.{slice_get-get_or}
 use Rattle.fc_position.specs.Board.{Board}
-use Rattle.fc_moves.specs.GameRules.{GameRules, IsPositionOf}
+use Rattle.fc_moves.specs.GameRules.{IsPositionOf}
 use Rattle.fc_moves.specs.Run.{CanReach, ReachesMore}
 use Rattle.fc_moves.proofs.StepLemmas.{step_keeps, run_keeps}
 use Rattle.fc_canonical.specs.Class.{SameClass}
@@ -18,41 +18,40 @@ use Rattle.fc_home.proofs.SettleLemmas.{settles_keep, settles_run}
 use Rattle.fc_tables.proofs.BoundLemmas.{bounds_lower}
 use Rattle.fc_best_first.specs.Kept as kept
 use Rattle.fc_best_first.specs.Shown.{AreNeeded}
-use Rattle.fc_classes.specs.Classes.{classes}
 use Rattle.fc_canonical.specs.Spelled.{spelled}
 use Rattle.fc_classes.proofs.PathLemmas.{reached_of_positions, reached_run_to, settles_none, run_on}
+use Rattle.fc_search.specs.Problem.{Problem, classes_of}
 use Rattle.fc_search.specs.Need.{IsNeeded, NeedsMore}
 use Rattle.fc_search.proofs.WalkLemmas.{key_of_mate}
-use Rattle.fc_bound.specs.declared.kinds.BoundKind.{BoundKind}
 use Rattle.fc_bound.specs.Kinds.{guide_of}
 
 -- a position of the game whose key had to be stored
-record Needed (g : GameRules) (rule weight : ℕ) (kind : BoundKind) (p : Board) (x : List ℕ) : Type 0 where
+record Needed (pr : Problem) (x : List ℕ) : Type 0 where
   board : Board
-  needed : IsNeeded g rule weight kind p board
+  needed : IsNeeded pr board
   key : IsKeyOf board x
-  position : IsPositionOf g board
+  position : IsPositionOf pr.game board
 
 -- each key that came by needed work is that of a board that was needed
-board_of : (g : GameRules) (rule weight : ℕ) (kind : BoundKind) (p : Board) (y : List ℕ) → IsPositionOf g p
-    → kept.IsNeeded (classes (guide_of kind) g rule p) weight y → Needed g rule weight kind p y
-board_of g rule weight kind p y pp (inl (d, (q, settles, key))) = record {
+board_of : (pr : Problem) (y : List ℕ) → IsPositionOf pr.game pr.start
+    → kept.IsNeeded (classes_of pr) pr.method.weight y → Needed pr y
+board_of pr y pp (inl (d, (q, settles, key))) = record {
   board = q;
   needed = inl (record { count = d; settles = settles });
   key = key;
-  position = settles_keep g rule p q d pp settles;
+  position = settles_keep pr.game pr.method.rule pr.start q d pp settles;
 }
-board_of g rule weight kind p y pp (inr (x, d, c, reached, (kw, (m, z, count, step, (q, settles, key), paid)), least)) =
-    let before = reached_run_to (guide_of kind) g rule p x d pp reached in
+board_of pr y pp (inr (x, d, c, reached, (kw, (m, z, count, step, (q, settles, key), paid)), least)) =
+    let before = reached_run_to (guide_of pr.method.bound) pr.game pr.method.rule pr.start x d pp reached in
     let b = before.1 in
     let same = before.4 in
     let back = class-sym b (spelled x) same in
-    let pb = run_keeps g p b before.0 pp before.3 in
-    let there = class_step g (spelled x) b z m kw.position pb back step in
-    let settled = class_settle g rule z there.1 q count there.3 settles in
-    let still = class_settle g rule (spelled x) b (spelled x) 0 back (reached_of_positions (guide_of kind) g rule p x d pp reached).1 in
-    let stays = subst (Settles g rule b 0) (settles_none g rule b still.0 still.1) still.1 in
-    let alike : weight * guide_of kind b ≡ weight * guide_of kind (spelled x) = ap (λ n. weight * n) ((bounds_lower kind).0.alike b (spelled x) same) in record {
+    let pb = run_keeps pr.game pr.start b before.0 pp before.3 in
+    let there = class_step pr.game (spelled x) b z m kw.position pb back step in
+    let settled = class_settle pr.game pr.method.rule z there.1 q count there.3 settles in
+    let still = class_settle pr.game pr.method.rule (spelled x) b (spelled x) 0 back (reached_of_positions (guide_of pr.method.bound) pr.game pr.method.rule pr.start x d pp reached).1 in
+    let stays = subst (Settles pr.game pr.method.rule b 0) (settles_none pr.game pr.method.rule b still.0 still.1) still.1 in
+    let alike : pr.method.weight * guide_of pr.method.bound b ≡ pr.method.weight * guide_of pr.method.bound (spelled x) = ap (λ n. pr.method.weight * n) ((bounds_lower pr.method.bound).0.alike b (spelled x) same) in record {
       board = settled.0;
       needed = inr (record {
         moves = before.0;
@@ -67,32 +66,32 @@ board_of g rule weight kind p y pp (inr (x, d, c, reached, (kw, (m, z, count, st
         least = λ wins w. let most = least (length wins) (wins, refl, w) in let long = before.2 in omega (arith, most, long, alike);
       });
       key = key_of_mate settled.0 q y (class-sym q settled.0 settled.2) key;
-      position = settles_keep g rule there.1 settled.0 count (step_keeps g b there.1 there.0 pb there.2) settled.1;
+      position = settles_keep pr.game pr.method.rule there.1 settled.0 count (step_keeps pr.game b there.1 there.0 pb there.2) settled.1;
     }
 
 -- the boards of different keys, one for each
-record Boards (g : GameRules) (rule weight : ℕ) (kind : BoundKind) (p : Board) (keys : List (List ℕ)) : Type 0 where
+record Boards (pr : Problem) (keys : List (List ℕ)) : Type 0 where
   boards : List Board
   count : length boards ≡ length keys
   different : AllPairs (λ x y. SameClass x y → ⊥) boards
-  needed : All (IsNeeded g rule weight kind p) boards
+  needed : All (IsNeeded pr) boards
   of : (i : ℕ) (b : Board) → slice_get boards i ≡ Some b
-      → (x : List ℕ) × (slice_get keys i ≡ Some x) × IsKeyOf b x × IsPositionOf g b
+      → (x : List ℕ) × (slice_get keys i ≡ Some x) × IsKeyOf b x × IsPositionOf pr.game b
 
-boards_of : (g : GameRules) (rule weight : ℕ) (kind : BoundKind) (p : Board) (keys : List (List ℕ)) → IsPositionOf g p
+boards_of : (pr : Problem) (keys : List (List ℕ)) → IsPositionOf pr.game pr.start
     → ((i j : ℕ) (x : List ℕ) → slice_get keys i ≡ Some x → slice_get keys j ≡ Some x → i ≡ j)
-    → ((i : ℕ) (x : List ℕ) → slice_get keys i ≡ Some x → kept.IsNeeded (classes (guide_of kind) g rule p) weight x)
-    → Boards g rule weight kind p keys
-boards_of g rule weight kind p [] pp once needed = record {
+    → ((i : ℕ) (x : List ℕ) → slice_get keys i ≡ Some x → kept.IsNeeded (classes_of pr) pr.method.weight x)
+    → Boards pr keys
+boards_of pr [] pp once needed = record {
   boards = [];
   count = refl;
   different = λ i j d lt within. absurd (omega (arith, within));
   needed = λ k d lt. absurd (omega (arith, lt));
   of = λ i b at. absurd (cc);
 }
-boards_of g rule weight kind p (x ∷ keys) pp once needed =
-    let rest = boards_of g rule weight kind p keys pp (λ i j y a b. let e = once (suc i) (suc j) y a b in omega (arith, e)) (λ i y a. needed (suc i) y a) in
-    let first = board_of g rule weight kind p x pp (needed 0 x refl) in
+boards_of pr (x ∷ keys) pp once needed =
+    let rest = boards_of pr keys pp (λ i j y a b. let e = once (suc i) (suc j) y a b in omega (arith, e)) (λ i y a. needed (suc i) y a) in
+    let first = board_of pr x pp (needed 0 x refl) in
     let others : All (λ c. SameClass first.board c → ⊥) rest.boards = λ k d lt same.
     let c = get_or rest.boards k d in
     let at = rest.of k c (slice_get-get_or rest.boards k d lt) in
@@ -103,23 +102,23 @@ boards_of g rule weight kind p (x ∷ keys) pp once needed =
       boards = first.board ∷ rest.boards;
       count = ap suc rest.count;
       different = AllPairs-cons (λ y z. SameClass y z → ⊥) first.board rest.boards others rest.different;
-      needed = All-cons (IsNeeded g rule weight kind p) first.board rest.boards first.needed rest.needed;
+      needed = All-cons (IsNeeded pr) first.board rest.boards first.needed rest.needed;
       of = front rest first;
     }
   where
-    front : (rest : Boards g rule weight kind p keys) (first : Needed g rule weight kind p x) (i : ℕ) (b : Board)
+    front : (rest : Boards pr keys) (first : Needed pr x) (i : ℕ) (b : Board)
         → slice_get (first.board ∷ rest.boards) i ≡ Some b
-        → (y : List ℕ) × (slice_get (x ∷ keys) i ≡ Some y) × IsKeyOf b y × IsPositionOf g b
+        → (y : List ℕ) × (slice_get (x ∷ keys) i ≡ Some y) × IsKeyOf b y × IsPositionOf pr.game b
     front rest first zero b at =
         let same : first.board ≡ b = cc in
-        (x, refl, subst (λ c. IsKeyOf c x) same first.key, subst (IsPositionOf g) same first.position)
+        (x, refl, subst (λ c. IsKeyOf c x) same first.key, subst (IsPositionOf pr.game) same first.position)
     front rest first (suc i) b at = rest.of i b at
 
 -- so where different keys came by needed work, so many classes had to be stored
-pub needs_more : (g : GameRules) (rule weight : ℕ) (kind : BoundKind) (p : Board) (budget : ℕ) (keys : List (List ℕ)) → IsPositionOf g p
-    → AreNeeded (classes (guide_of kind) g rule p) weight (budget + 1) keys → NeedsMore g rule weight kind p budget
-needs_more g rule weight kind p budget keys pp are =
-    let bs = boards_of g rule weight kind p keys pp are.once are.needed in record {
+pub needs_more : (pr : Problem) (keys : List (List ℕ)) → IsPositionOf pr.game pr.start
+    → AreNeeded (classes_of pr) pr.method.weight (pr.method.budget + 1) keys → NeedsMore pr
+needs_more pr keys pp are =
+    let bs = boards_of pr keys pp are.once are.needed in record {
       boards = bs.boards;
       count = bs.count ∙ are.many;
       different = bs.different;
@@ -127,22 +126,22 @@ needs_more g rule weight kind p budget keys pp are =
     }
 
 -- a board that is needed can be reached
-needed_reached : (g : GameRules) (rule weight : ℕ) (kind : BoundKind) (p z : Board) → IsNeeded g rule weight kind p z → CanReach g p z
-needed_reached g rule weight kind p z (inl first) =
+needed_reached : (pr : Problem) (z : Board) → IsNeeded pr z → CanReach pr.game pr.start z
+needed_reached pr z (inl first) =
     let by = first.settles in
-    (by.0, settles_run g rule p z by.0 by.2)
-needed_reached g rule weight kind p z (inr next) =
+    (by.0, settles_run pr.game pr.method.rule pr.start z by.0 by.2)
+needed_reached pr z (inr next) =
     let by = next.settles in (
       next.moves ++ next.step ∷ by.0,
-      run_on g p next.parent z next.moves (next.step ∷ by.0) next.led (next.child, next.stepped, settles_run g rule next.child z by.0 by.2),
+      run_on pr.game pr.start next.parent z next.moves (next.step ∷ by.0) next.led (next.child, next.stepped, settles_run pr.game pr.method.rule next.child z by.0 by.2),
     )
 
 -- so more positions than the budget can be reached
-pub needs_reach : (g : GameRules) (rule weight : ℕ) (kind : BoundKind) (p : Board) (budget : ℕ) → NeedsMore g rule weight kind p budget → ReachesMore g p budget
-needs_reach g rule weight kind p budget more = record {
+pub needs_reach : (pr : Problem) → NeedsMore pr → ReachesMore pr.game pr.start pr.method.budget
+needs_reach pr more = record {
   boards = more.boards;
   count = more.count;
   different = λ i j d lt within same. more.different i j d lt within
       (subst (SameClass (get_or more.boards i d)) same (class-refl (get_or more.boards i d)));
-  reached = λ k d lt. needed_reached g rule weight kind p (get_or more.boards k d) (more.needed k d lt);
+  reached = λ k d lt. needed_reached pr (get_or more.boards k d) (more.needed k d lt);
 }

@@ -27,6 +27,7 @@ use Rattle.fc_classes.specs.Classes.{classes}
 use Rattle.fc_canonical.specs.Spelled.{spelled}
 use Rattle.fc_canonical.proofs.SpelledLemmas.{key_spells}
 use Rattle.fc_classes.proofs.PathLemmas.{run_on}
+use Rattle.fc_search.specs.Problem.{Problem, classes_of}
 use Rattle.fc_search.specs.Walk.{IsStart, IsWay, IsAtClass, LeadsWithin}
 use Rattle.fc_bound.specs.declared.kinds.BoundKind.{BoundKind}
 use Rattle.fc_bound.specs.Kinds.{guide_of}
@@ -56,11 +57,11 @@ key_of_mate b c k same key = record {
 }
 
 -- from the board that a walk came to, a step leads on to the next class within what is left of its cost
-pub leads_on : (g : GameRules) (rule weight : ℕ) (kind : BoundKind) (p : Board) (budget : ℕ) (s : Store (List ℕ)) → IsPositionOf g p
-    → IsSound (classes (guide_of kind) g rule p) weight budget s → (number next : ℕ) (made : List Move) (b : Board) (x : List ℕ) (mark : Mark)
-    → IsAtClass g s p number made b → Stands s next x mark → mark.parent ≡ number → (number ≡ next → ⊥)
-    → (length made ≤ mark.cost) × ((m : Move) × LeadsWithin g rule b x (mark.cost - length made) m)
-leads_on g rule weight kind p budget s pp sound number next made b x mark (y, mine, there, run, same, le) at parent other =
+pub leads_on : (pr : Problem) (s : Store (List ℕ)) → IsPositionOf pr.game pr.start
+    → IsSound (classes_of pr) pr.method.weight pr.method.budget s → (number next : ℕ) (made : List Move) (b : Board) (x : List ℕ) (mark : Mark)
+    → IsAtClass pr.game s pr.start number made b → Stands s next x mark → mark.parent ≡ number → (number ≡ next → ⊥)
+    → (length made ≤ mark.cost) × ((m : Move) × LeadsWithin pr.game pr.method.rule b x (mark.cost - length made) m)
+leads_on pr s pp sound number next made b x mark (y, mine, there, run, same, le) at parent other =
     ⊎_elim
     (λ (own, start). absurd (other (sym parent ∙ own)))
     (λ (w, was, c, stands, (kw, (m, z, count, step, (q, settles, key), paid)), less).
@@ -68,9 +69,9 @@ leads_on g rule weight kind p budget s pp sound number next made b x mark (y, mi
     let one = same_entry s number w y was mine here there in
     let mates : SameClass b (spelled w) = subst (λ k. SameClass b (spelled k)) (sym one.0) same in
     let cost : was.cost ≡ mine.cost = ap (λ n. n.cost) one.1 in
-    let pb = run_keeps g p b made pp run in
-    let next_step = class_step g (spelled w) b z m kw.position pb (class-sym b (spelled w) mates) step in
-    let settled = class_settle g rule z next_step.1 q count next_step.3 settles in
+    let pb = run_keeps pr.game pr.start b made pp run in
+    let next_step = class_step pr.game (spelled w) b z m kw.position pb (class-sym b (spelled w) mates) step in
+    let settled = class_settle pr.game pr.method.rule z next_step.1 q count next_step.3 settles in
     let left : 1 + count ≤ mark.cost - length made = omega (arith, less, paid, le, cost) in
     let own_key = key_of_mate settled.0 q x (class-sym q settled.0 settled.2) key in (
       omega (arith, less, le, cost),
@@ -93,17 +94,17 @@ walked_on g rule p budget s pp number next made more b c x mark (y, mine, there,
 )
 
 -- a walk begins at a class that starts, where the start settles
-pub walk_begins : (g : GameRules) (rule weight : ℕ) (kind : BoundKind) (p : Board) (budget : ℕ) (s : Store (List ℕ)) → IsPositionOf g p
-    → IsSound (classes (guide_of kind) g rule p) weight budget s → (number : ℕ) (settling : List Move) (q : Board) → IsStart s number
-    → SettlesBy g rule p settling q → IsPosition q → IsAtClass g s p number settling q
-walk_begins g rule weight kind p budget s pp sound number settling q (x, mark, at, own) by pq =
+pub walk_begins : (pr : Problem) (s : Store (List ℕ)) → IsPositionOf pr.game pr.start
+    → IsSound (classes_of pr) pr.method.weight pr.method.budget s → (number : ℕ) (settling : List Move) (q : Board) → IsStart s number
+    → SettlesBy pr.game pr.method.rule pr.start settling q → IsPosition q → IsAtClass pr.game s pr.start number settling q
+walk_begins pr s pp sound number settling q (x, mark, at, own) by pq =
     ⊎_elim
     (λ (parent, (r, settles, key)).
-    let one = settles_once g rule p r q mark.cost (length settling) pp.position settles (settling, refl, by) in
+    let one = settles_once pr.game pr.method.rule pr.start r q mark.cost (length settling) pp.position settles (settling, refl, by) in
     let here : IsKeyOf q x = subst (λ v. IsKeyOf v x) one.1 key in
-    let pr = settles_keep g rule p q (length settling) pp (settling, refl, by) in
+    let kept = settles_keep pr.game pr.method.rule pr.start q (length settling) pp (settling, refl, by) in
     let few : length settling ≤ mark.cost = let e = one.0 in omega (arith, e) in
-    (x, mark, at, settles_run g rule p q settling by, (key_spells g q x pr here).1, few))
+    (x, mark, at, settles_run pr.game pr.method.rule pr.start q settling by, (key_spells pr.game q x kept here).1, few))
     (λ (w, was, c, stands, (kw, (m, z, count, step, to, paid)), less).
     let here = subst (λ n. Stands s n w was) own stands in
     let same = same_entry s number w x was mark here at in

@@ -7,38 +7,23 @@ use Rattle.fc_best_first.specs.declared.turns.Status.{Status}
 use Rattle.fc_best_first.specs.declared.turns.Status.TheVariants.{Running, Won, CannotWin, GaveUp, Stopped}
 use Rattle.fc_best_first.specs.declared.searches.SearchFault.{SearchFault}
 use Rattle.fc_best_first.specs.declared.searches.SearchFault.TheVariants as fault
-use Rattle.fc_best_first.specs.Graph.{Graph}
 use Rattle.fc_best_first.specs.Search.{Begins, Runs}
 use Rattle.fc_best_first.specs.Shown.{IsLeastOpen}
 use Rattle.fc_best_first.specs.Store.{Store, Stands}
-use Rattle.fc_classes.specs.Classes.{classes}
 use Rattle.fc_answers.specs.declared.answers.Answer.{Answer}
 use Rattle.fc_answers.specs.declared.answers.Verdict.{Verdict}
 use Rattle.fc_answers.specs.declared.answers.Verdict.TheVariants as verdict
 use Rattle.fc_answers.specs.Answer.{IsBacked, IsSearchedBy, CanBeBacked}
 use Rattle.fc_answers.specs.Verdict.{verdict_of, IsRight, CanBeWritten, HasFewMoves}
 use Rattle.fc_search.specs.Need.{IsEarned}
-use Rattle.fc_bound.specs.declared.kinds.BoundKind.{BoundKind}
-use Rattle.fc_bound.specs.Kinds.{guide_of}
+use Rattle.fc_search.specs.Problem.{Problem, classes_of}
+use Rattle.fc_best_first.specs.Limits.{IsBudget}
+use Rattle.fc_moves.specs.Run.{IsShortest, CannotWin as NoneWins, ReachesMore}
 
--- a question: by how few moves of the game a list wins from the start, searched under a home rule by a weight, which says
--- how many times a bound counts, and by a kind of bound
-pub record Question : Type 0 where
-  pub game : GameRules
-  pub rule : ℕ
-  pub weight : ℕ
-  pub bound : BoundKind
-  pub start : Board
-
--- the graph of classes that a question is searched in, whatever the weight
-abbrev pub classes_of : Question → Graph (List ℕ)
-classes_of q = classes (guide_of q.bound) q.game q.rule q.start
-
--- where a search stands: its question, its budget, what it stores and has open, its status, and the greatest cost plus
--- weighed bound that it took
+-- where a search stands: its problem, what it stores and has open, its status, and the greatest cost plus weighed bound
+-- that it took
 pub record State : Type 0 where
-  pub question : Question
-  pub budget : ℕ
+  pub problem : Problem
   pub store : Store (List ℕ)
   pub status : Status (List ℕ)
   pub floor : ℕ
@@ -46,35 +31,50 @@ pub record State : Type 0 where
 -- the number is the least cost and bound of what a search has open, and no more than the class with this number costs
 abbrev pub IsFloorOf : State → ℕ → ℕ → Type 0
 IsFloorOf s number floor = (x : List ℕ) × (mark : Mark) × Stands s.store number x mark
-    × IsLeastOpen (classes_of s.question) s.question.weight s.store mark.cost floor
+    × IsLeastOpen (classes_of s.problem) s.problem.method.weight s.store mark.cost floor
 
 -- the verdict is of the kind of the status that a search ends with: by weight 1 as many moves as the won class costs, and
 -- by more no more than that, since a class on the way may have been met at less cost after it, with the least cost and bound
 -- of what is open; that no list wins; or the budget
-abbrev pub IsOfStatus : Graph (List ℕ) → ℕ → Store (List ℕ) → ℕ → Status (List ℕ) → Verdict → Type 0
-IsOfStatus g weight s budget (Won number) (verdict.Shortest moves) =
-    (x : List ℕ) × (mark : Mark) × Stands s number x mark × (length moves ≡ mark.cost) × (weight ≡ 1)
-IsOfStatus g weight s budget (Won number) (verdict.Won moves floor) =
-    (x : List ℕ) × (mark : Mark) × Stands s number x mark × (length moves ≤ mark.cost) × (2 ≤ weight)
-    × IsLeastOpen g weight s mark.cost floor
-IsOfStatus g weight s budget CannotWin verdict.CannotWin = Unit {0}
-IsOfStatus g weight s budget (GaveUp y number) (verdict.GaveUp told) = told ≡ budget
-IsOfStatus g weight s budget status verdict = ⊥
+abbrev pub IsOfStatus : Problem → Store (List ℕ) → Status (List ℕ) → Verdict → Type 0
+IsOfStatus p s (Won number) (verdict.Shortest moves) =
+    (x : List ℕ) × (mark : Mark) × Stands s number x mark × (length moves ≡ mark.cost) × (p.method.weight ≡ 1)
+IsOfStatus p s (Won number) (verdict.Won moves floor) =
+    (x : List ℕ) × (mark : Mark) × Stands s number x mark × (length moves ≤ mark.cost) × (2 ≤ p.method.weight)
+    × IsLeastOpen (classes_of p) p.method.weight s mark.cost floor
+IsOfStatus p s CannotWin verdict.CannotWin = Unit {0}
+IsOfStatus p s (GaveUp y number) (verdict.GaveUp told) = told ≡ p.method.budget
+IsOfStatus p s status verdict = ⊥
 
--- all that a verdict of a search for the board is: right, earned, such as can be written, of few moves, and that of an answer that a
--- table of the search's rule and bound backs, whether or not it was made
-pub record IsVerdict (g : GameRules) (rule : ℕ) (weight : ℕ) (kind : BoundKind) (b : Board) (budget : ℕ) (verdict : Verdict) : Type 0 where
-  pub right : IsRight g weight b budget verdict
-  pub earned : IsEarned g rule weight kind b budget verdict
+-- all that a verdict of a problem is: right, earned, such as can be written, of few moves, and that of an answer that a table
+-- of the problem's rule and bound backs, whether or not it was made
+pub record IsVerdict (p : Problem) (verdict : Verdict) : Type 0 where
+  pub right : IsRight p.game p.method.weight p.start p.method.budget verdict
+  pub earned : IsEarned p verdict
   pub written : CanBeWritten verdict
   pub few : HasFewMoves verdict
-  pub backed : CanBeBacked g rule kind b verdict
+  pub backed : CanBeBacked p.game p.method.rule p.method.bound p.start verdict
 
--- all that an answer of a search for the board is: a verdict that is right, backed by a table of the search's rule and bound
-pub record Answers (g : GameRules) (rule : ℕ) (weight : ℕ) (kind : BoundKind) (b : Board) (budget : ℕ) (answer : Answer) : Type 0 where
-  pub told : IsVerdict g rule weight kind b budget (verdict_of answer)
-  pub backed : IsBacked g b answer
-  pub searched : IsSearchedBy rule kind answer
+-- all that an answer of a problem is: a verdict that is right, backed by a table of the problem's rule and bound
+pub record Answers (p : Problem) (answer : Answer) : Type 0 where
+  pub told : IsVerdict p (verdict_of answer)
+  pub backed : IsBacked p.game p.start answer
+  pub searched : IsSearchedBy p.method.rule p.method.bound answer
+
+-- one of three verdicts, and right: the moves win and none win in fewer, or no moves win, or the budget is told and more
+-- positions than that can be reached
+abbrev pub IsOneOfThree : GameRules → Board → ℕ → Verdict → Type 0
+IsOneOfThree g b budget (verdict.Shortest moves) = IsShortest g b moves
+IsOneOfThree g b budget verdict.CannotWin = NoneWins g b
+IsOneOfThree g b budget (verdict.GaveUp told) = (told ≡ budget) × ReachesMore g b budget
+IsOneOfThree g b budget (verdict.Won moves floor) = ⊥
+
+-- why a search that is asked for with this budget isn't begun, or not ended: the budget is none; or it is one, and a growth
+-- was refused
+abbrev pub IsRefused : ℕ → SearchFault → Type 0
+IsRefused budget fault.Budget = IsBudget budget → ⊥
+IsRefused budget fault.Memory = IsBudget budget
+IsRefused budget other = ⊥
 
 -- why a search isn't answered: it is still running, it was stopped, or it is done and a growth was refused
 abbrev pub IsUnanswered : Status (List ℕ) → SearchFault → Type 0
@@ -82,15 +82,15 @@ IsUnanswered Running told = told ≡ fault.NotDone
 IsUnanswered Stopped told = told ≡ fault.Stopped
 IsUnanswered done told = told ≡ fault.Memory
 
--- a search that began ran on to this store and this status within the budget
-pub record HasRun (g : GameRules) (rule : ℕ) (weight : ℕ) (kind : BoundKind) (b : Board) (budget : ℕ) (last : Store (List ℕ)) (status : Status (List ℕ)) : Type 0 where
+-- a search of the problem that began ran on to this store and this status
+pub record HasRun (p : Problem) (last : Store (List ℕ)) (status : Status (List ℕ)) : Type 0 where
   pub first : Store (List ℕ)
-  pub begins : Begins (classes (guide_of kind) g rule b) weight first
-  pub runs : Runs (classes (guide_of kind) g rule b) weight budget Running first last status
+  pub begins : Begins (classes_of p) p.method.weight first
+  pub runs : Runs (classes_of p) p.method.weight p.method.budget Running first last status
 
--- the verdict is that of a search that began, and ran to its end within the budget
-pub record IsRunToEnd (g : GameRules) (rule : ℕ) (weight : ℕ) (kind : BoundKind) (b : Board) (budget : ℕ) (verdict : Verdict) : Type 0 where
+-- the verdict is that of a search of the problem that began, and ran to its end
+pub record IsRunToEnd (p : Problem) (verdict : Verdict) : Type 0 where
   pub last : Store (List ℕ)
   pub status : Status (List ℕ)
-  pub ran : HasRun g rule weight kind b budget last status
-  pub answered : IsOfStatus (classes (guide_of kind) g rule b) weight last budget status verdict
+  pub ran : HasRun p last status
+  pub answered : IsOfStatus p last status verdict

@@ -6,7 +6,6 @@ ghost use Rattle.fc_cards.specs.declared.places.Place.TheVariants.{Home};
 ghost use Rattle.fc_moves.specs.Step.{Allows, Step};
 ghost use Rattle.fc_canonical.specs.Key.{IsKeyOf};
 ghost use Rattle.fc_canonical.specs.Moved.{MayMove};
-ghost use Rattle.fc_home.specs.declared.settling.TheConstants.{GREATEST_RULE};
 ghost use Rattle.fc_home.specs.Settles.{NoneGoesHome};
 ghost use Rattle.fc_bound.specs.Kinds.{guide_of};
 ghost use Rattle.fc_best_first.specs.Graph.{Reached};
@@ -22,30 +21,33 @@ use fc_bound::{BoundKind, is_held_back};
 use fc_canonical::{distinct_moves, position_of};
 use fc_cards::Place;
 use fc_classes::ClassKey;
-use fc_home::{GREATEST_RULE, goes_home_from, settle};
+use fc_home::{HomeRule, goes_home_from, settle};
+use fc_methods::Method;
 use fc_moves::{Game, Move, apply};
 use fc_position::Position;
 use std::marker::Model;
 
-/// The question how few moves of a game win from a position that fits it, searched by classes of positions that are
-/// settled by a home rule, at most 2, and by a kind of bound.
+/// How positions of a game make classes: they are settled by a home rule, and have a bound of a kind.
+#[derive(Drop)]
+pub struct ClassRules<G: Game + Drop> {
+    pub game: G,
+    pub rule: HomeRule,
+    pub kind: BoundKind,
+}
+
+/// The classes that can be reached from a position that fits a game, as a space to be searched.
 #[derive(Drop)]
 pub struct Positions<G: Game + Drop> {
-    pub game: G,
-    pub rule: u8,
-    pub bound: BoundKind,
+    pub rules: ClassRules<G>,
     pub start: Position,
-    pub ghost known: { rule ≤ GREATEST_RULE },
-    pub ghost fits: { IsPositionOf (G.game game) start },
+    pub ghost fits: { IsPositionOf (G.game rules.game) start },
 }
 
 /// The children of a class that are left: its position, with its key and its bound, and the moves that lead to them, the
 /// next one last.
 #[derive(Drop)]
 pub struct Children<G: Game + Drop> {
-    game: G,
-    rule: u8,
-    kind: BoundKind,
+    rules: ClassRules<G>,
     position: Position,
     key: ClassKey,
     bound: u8,
@@ -53,43 +55,42 @@ pub struct Children<G: Game + Drop> {
 }
 
 impl<G: Game + Drop> Model for Children<G> {
-    ghost use Rattle.std.specs.Prelude.{◌≡◌, ◌≤◌};
+    ghost use Rattle.std.specs.Prelude.{◌≡◌};
     ghost use Rattle.fc_moves.specs.GameRules.{IsPositionOf};
-    ghost use Rattle.fc_home.specs.declared.settling.TheConstants.{GREATEST_RULE};
     ghost use Rattle.fc_home.specs.Settles.{NoneGoesHome};
     ghost use Rattle.fc_bound.specs.Kinds.{guide_of};
     ghost use Rattle.fc_search.specs.Children.{AreAllowed, Left, Spells};
 
     ghost Value = { Left G };
 
-    ghost view = { λ s. record { game = s.game; rule = s.rule; kind = s.kind; position = s.position; moves = s.left.items } };
+    ghost view = { λ s. record { game = s.rules.game; rule = s.rules.rule; kind = s.rules.kind; position = s.position; moves = s.left.items } };
 
-    ghost invariant = { λ s. (s.rule ≤ GREATEST_RULE) × IsPositionOf (G.game s.game) s.position × AreAllowed (G.game s.game) s.position s.left.items
-        × (s.bound ≡ guide_of s.kind s.position) × NoneGoesHome s.rule (G.game s.game) s.position × Spells s.key s.position };
+    ghost invariant = { λ s. IsPositionOf (G.game s.rules.game) s.position × AreAllowed (G.game s.rules.game) s.position s.left.items
+        × (s.bound ≡ guide_of s.rules.kind s.position) × NoneGoesHome s.rules.rule (G.game s.rules.game) s.position × Spells s.key s.position };
 }
 
 impl<G: Game + Drop> Positions<G> {
-    /// The question for a position that fits the game.
-    pub fn new(game: G, rule: u8, bound: BoundKind, start: Position) -> Self
-        requires rule { rule ≤ GREATEST_RULE }
+    /// The classes from a position that fits the game, by the home rule and the bound of a method.
+    pub fn new(game: G, method: Method, start: Position) -> Self
         requires fits { Fits (G.game game).cells start }
-        ensures game { result.game ≡ game }
-        ensures rule { result.rule ≡ rule }
-        ensures bound { result.bound ≡ bound }
+        ensures game { result.rules.game ≡ game }
+        ensures rule { result.rules.rule ≡ method.rule }
+        ensures kind { result.rules.kind ≡ method.bound }
         ensures start { result.start ≡ start }
     {
-        Positions {
+        let Method { rule, bound, .. } = method;
+        let rules = ClassRules {
             game,
             rule,
-            bound,
-            start,
-        }
+            kind: bound,
+        };
+        Positions { rules, start }
     }
 
     // The position that a key of the game spells.
     #[inline]
     fn position(&self, key: &ClassKey) -> Position
-        requires key { IsKeyIn (G.game self.now.game) key.now }
+        requires key { IsKeyIn (G.game self.now.rules.game) key.now }
         ensures value { result ≡ spelled key.now }
         ensures whole { IsPosition result }
     {
@@ -98,14 +99,16 @@ impl<G: Game + Drop> Positions<G> {
 
     // A walk with no child left, which begins at a class that was reached.
     fn walk(&self, key: &ClassKey) -> Children<G>
-        requires reached { (d : ℕ) × Reached (classes (guide_of self.now.bound) (G.game self.now.game) self.now.rule self.now.start) key.now d }
+        requires reached { (d : ℕ) × Reached (classes (guide_of self.now.rules.kind) (G.game self.now.rules.game) self.now.rules.rule self.now.start) key.now d }
     {
         let position = self.position(key);
-        let bound = self.bound.guide(&position);
+        let bound = self.rules.kind.guide(&position);
         Children {
-            game: self.game.copy(),
-            rule: self.rule,
-            kind: self.bound,
+            rules: ClassRules {
+                game: self.rules.game.copy(),
+                rule: self.rules.rule,
+                kind: self.rules.kind,
+            },
             position,
             key: key.copy(),
             bound,
@@ -114,14 +117,13 @@ impl<G: Game + Drop> Positions<G> {
     }
 }
 
-// The class that the position settles to by the rule, where so many moves led to the position.
-fn settled<G: Game>(game: &G, rule: u8, position: Position, moves: u8) -> Child<ClassKey>
-    requires known { rule ≤ GREATEST_RULE }
+// The class that the position settles to, where so many moves led to the position.
+fn settled<G: Game + Drop>(rules: &ClassRules<G>, position: Position, moves: u8) -> Child<ClassKey>
     requires few { moves ≤ 1 }
-    ensures settled { (kind : BoundKind) → IsSettled (G.game game.now) rule kind position moves result }
+    ensures settled { IsSettled (G.game rules.now.game) rules.now.rule rules.now.kind position moves result }
 {
     let mut position = position;
-    let settling = settle(game, &mut position, rule);
+    let settling = settle(&rules.game, &mut position, rules.rule.get());
     Child {
         key: ClassKey::of(&position),
         cost: moves + settling.len() as u8,
@@ -131,22 +133,19 @@ fn settled<G: Game>(game: &G, rule: u8, position: Position, moves: u8) -> Child<
 
 // The class of the position to which a card that was moved from this place led, where no card goes home by the rule
 // after it: only the card that lay below it can.
-fn settled_already<G: Game>(
-    game: &G,
-    rule: u8,
-    kind: BoundKind,
+fn settled_already<G: Game + Drop>(
+    rules: &ClassRules<G>,
     position: &Position,
     from: Place,
     bound: Option<u8>,
     key: Option<ClassKey>,
 ) -> Option<Child<ClassKey>>
-    requires known { rule ≤ GREATEST_RULE }
-    requires bound { IfSome bound (λ b. b ≡ guide_of kind position.now) }
+    requires bound { IfSome bound (λ b. b ≡ guide_of rules.now.kind position.now) }
     requires key { IfSome key (IsKeyOf position.now) }
-    requires others { OthersStay rule (G.game game.now) position.now from }
-    ensures settled { IfSome result (IsSettled (G.game game.now) rule kind position.now 1) }
+    requires others { OthersStay rules.now.rule (G.game rules.now.game) position.now from }
+    ensures settled { IfSome result (IsSettled (G.game rules.now.game) rules.now.rule rules.now.kind position.now 1) }
 {
-    if goes_home_from(game, position, rule, from) {
+    if goes_home_from(&rules.game, position, rules.rule.get(), from) {
         return None;
     }
     Some(Child {
@@ -212,72 +211,69 @@ fn shift<G: Game>(
 
 // The child to which a move leads, made by moving the card forth and back; `None` where cards go home, which can't be
 // taken back. The position is as it was.
-fn child_by_shift<G: Game>(
-    game: &G,
-    rule: u8,
-    kind: BoundKind,
+fn child_by_shift<G: Game + Drop>(
+    rules: &ClassRules<G>,
     position: &mut Position,
     key: &ClassKey,
     bound: u8,
     m: Move,
 ) -> Option<Child<ClassKey>>
-    requires known { rule ≤ GREATEST_RULE }
-    requires bound { bound ≡ guide_of kind position.old }
-    requires settled { NoneGoesHome rule (G.game game.now) position.old }
+    requires bound { bound ≡ guide_of rules.now.kind position.old }
+    requires settled { NoneGoesHome rules.now.rule (G.game rules.now.game) position.old }
     requires whole { IsPosition position.old }
     requires key { Spells key.now position.old }
-    requires allowed { Allows (G.game game.now) position.old m }
-    ensures child { IfSome result (IsChildOf (G.game game.now) rule kind position.old m) }
+    requires allowed { Allows (G.game rules.now.game) position.old m }
+    ensures child { IfSome result (IsChildOf (G.game rules.now.game) rules.now.rule rules.now.kind position.old m) }
     ensures same { position.new ≡ position.old }
 {
     if m.to == Place::Home {
         return None;
     }
     let key = key_after(key, position, m);
-    let bound = shift(game, kind, position, bound, m);
-    let child = settled_already(game, rule, kind, position, m.from, bound, key);
+    let bound = shift(&rules.game, rules.kind, position, bound, m);
+    let child = settled_already(rules, position, m.from, bound, key);
     position.shift(m.to, m.from);
     child
 }
 
 // The child to which a move leads, made on a copy of the position.
-fn child_by_copy<G: Game>(game: &G, rule: u8, position: &Position, m: Move) -> Child<ClassKey>
-    requires known { rule ≤ GREATEST_RULE }
-    requires allowed { Allows (G.game game.now) position.now m }
-    ensures child { (kind : BoundKind) → IsChildOf (G.game game.now) rule kind position.now m result }
+fn child_by_copy<G: Game + Drop>(
+    rules: &ClassRules<G>,
+    position: &Position,
+    m: Move,
+) -> Child<ClassKey>
+    requires allowed { Allows (G.game rules.now.game) position.now m }
+    ensures child { IsChildOf (G.game rules.now.game) rules.now.rule rules.now.kind position.now m result }
 {
     let mut next = position.copy();
-    apply(game, &mut next, m);
-    settled(game, rule, next, 1)
+    apply(&rules.game, &mut next, m);
+    settled(rules, next, 1)
 }
 
 // The child to which a move leads. The position is as it was.
-fn child_by<G: Game>(
-    game: &G,
-    rule: u8,
-    kind: BoundKind,
+fn child_by<G: Game + Drop>(
+    rules: &ClassRules<G>,
     position: &mut Position,
     key: &ClassKey,
     bound: u8,
     m: Move,
 ) -> Child<ClassKey>
-    requires known { rule ≤ GREATEST_RULE }
-    requires bound { bound ≡ guide_of kind position.old }
-    requires settled { NoneGoesHome rule (G.game game.now) position.old }
+    requires bound { bound ≡ guide_of rules.now.kind position.old }
+    requires settled { NoneGoesHome rules.now.rule (G.game rules.now.game) position.old }
     requires whole { IsPosition position.old }
     requires key { Spells key.now position.old }
-    requires allowed { Allows (G.game game.now) position.old m }
-    ensures child { IsChildOf (G.game game.now) rule kind position.old m result }
+    requires allowed { Allows (G.game rules.now.game) position.old m }
+    ensures child { IsChildOf (G.game rules.now.game) rules.now.rule rules.now.kind position.old m result }
     ensures same { position.new ≡ position.old }
 {
-    match child_by_shift(game, rule, kind, position, key, bound, m) {
+    match child_by_shift(rules, position, key, bound, m) {
         Some(child) => child,
-        None => child_by_copy(game, rule, position, m),
+        None => child_by_copy(rules, position, m),
     }
 }
 
 impl<G: Game + Drop> Space<ClassKey> for Positions<G> {
-    ghost graph = { λ s. classes (guide_of s.bound) (G.game s.game) s.rule s.start };
+    ghost graph = { λ s. classes (guide_of s.rules.kind) (G.game s.rules.game) s.rules.rule s.start };
 
     type Walk = Children<G>;
 
@@ -286,7 +282,7 @@ impl<G: Game + Drop> Space<ClassKey> for Positions<G> {
     ghost left = { λ w. length w.moves };
 
     fn start(&self) -> (Child<ClassKey>, Children<G>) {
-        let child = settled(&self.game, self.rule, self.start.copy(), 0);
+        let child = settled(&self.rules, self.start.copy(), 0);
         let walk = self.walk(&child.key);
         (child, walk)
     }
@@ -296,32 +292,24 @@ impl<G: Game + Drop> Space<ClassKey> for Positions<G> {
     }
 
     fn bound(&self, key: &ClassKey) -> u8 {
-        self.bound.guide(&self.position(key))
+        self.rules.kind.guide(&self.position(key))
     }
 
     fn visit(&self, key: &ClassKey, walk: &mut Children<G>) -> u8 {
-        walk.game = self.game.copy();
-        walk.rule = self.rule;
-        walk.kind = self.bound;
+        walk.rules.game = self.rules.game.copy();
+        walk.rules.rule = self.rules.rule;
+        walk.rules.kind = self.rules.kind;
         walk.position = self.position(key);
         walk.key = key.copy();
-        walk.bound = self.bound.guide(&walk.position);
-        walk.left = distinct_moves(&self.game, &walk.position);
+        walk.bound = self.rules.kind.guide(&walk.position);
+        walk.left = distinct_moves(&self.rules.game, &walk.position);
         walk.bound
     }
 
     fn next(&self, walk: &mut Children<G>) -> Option<Child<ClassKey>> {
         let m = walk.left.pop()?;
-        Some(child_by(
-            &walk.game,
-            walk.rule,
-            walk.kind,
-            &mut walk.position,
-            &walk.key,
-            walk.bound,
-            m,
-        ))
+        Some(child_by(&walk.rules, &mut walk.position, &walk.key, walk.bound, m))
     }
 
-    ghost lawful = { λ s. lawful (guide_of s.bound) (G.game s.game) s.rule s.start (bounds_lower s.bound).0 s.fits };
+    ghost lawful = { λ s. lawful (guide_of s.rules.kind) (G.game s.rules.game) s.rules.rule s.start (bounds_lower s.rules.kind).0 s.fits };
 }

@@ -12,11 +12,18 @@ impl<F: Frontier + Drop, G: Game + Drop> Search<F, G> {
     /// No list of fewer moves wins: the core's floor divided by the weight, rounded up. Takes no memory; for a search in any
     /// state.
     pub fn at_least(&self) -> u32
-        ensures floor { (moves : List Move) → Wins self.now.question.game self.now.question.start moves → result ≤ length moves }
-        ensures value { (self.now.floor ≤ self.now.question.weight * result) × (self.now.question.weight * result < self.now.floor + self.now.question.weight) }
+        ensures floor { (moves : List Move) → Wins self.now.problem.game self.now.problem.start moves → result ≤ length moves }
+        ensures value { (self.now.floor ≤ self.now.problem.method.weight * result) × (self.now.problem.method.weight * result < self.now.floor + self.now.problem.method.weight) }
     {
-        let weight = u32::from(self.search.weight());
+        let weight = u32::from(self.search.weight().get());
         self.search.floor().div_ceil(weight)
+    }
+
+    /// How many classes may be stored, 1 to 4,000,000.
+    pub(crate) fn budget(&self) -> u32
+        ensures value { result ≡ self.now.problem.method.budget }
+    {
+        self.search.budget().get()
     }
 
     /// How many classes are stored.

@@ -2,22 +2,25 @@ ghost use Rattle.std.specs.Prelude.{◌≡◌, ◌<◌, ◌≤◌, ◌⊎◌, �
 ghost use Rattle.fc_position.specs.Position.{Fits};
 ghost use Rattle.fc_moves.specs.GameRules.{IsPositionOf};
 ghost use Rattle.fc_frontier.specs.Queue.{Adds};
-ghost use Rattle.fc_best_first.specs.Search.{Begins, FloorAfter, IsBudget, IsRefused, IsWeight, Turns, Runs, reply_of};
+ghost use Rattle.fc_best_first.specs.Limits.{IsBudget};
+ghost use Rattle.fc_best_first.specs.Search.{Begins, FloorAfter, Turns, Runs, reply_of};
 ghost use Rattle.fc_best_first.specs.Kept.{IsSound};
 ghost use Rattle.fc_best_first.specs.Shown.{Holds, Shows};
 ghost use Rattle.fc_best_first.specs.Store.{Stands};
 ghost use Rattle.fc_best_first.specs.Turn.{work_left};
 ghost use Rattle.fc_answers.specs.Verdict.{verdict_of};
-ghost use Rattle.fc_search.specs.Search.{classes_of, Answers, IsFloorOf, IsVerdict, IsOfStatus, IsUnanswered, IsRunToEnd, HasRun};
+ghost use Rattle.fc_methods.specs.Method.{as_written};
+ghost use Rattle.fc_search.specs.Problem.{classes_of, problem_of, shortest_from};
+ghost use Rattle.fc_search.specs.Search.{Answers, IsFloorOf, IsVerdict, IsOfStatus, IsRefused, IsUnanswered};
 
 use crate::positions::Positions;
 use fc_answers::{Answer, MoveList, Verdict};
 use fc_best_first as best_first;
-use fc_best_first::{MOST_BUDGET, Mark, SearchFault, Status, Step};
-use fc_bound::BoundKind;
+use fc_best_first::{Mark, SearchFault, Status, Step};
 use fc_classes::ClassKey;
-use fc_frontier::{BucketFrontier, Frontier};
+use fc_frontier::Frontier;
 use fc_home::GREATEST_RULE;
+use fc_methods::{Budget, HomeRule, Method, Question};
 use fc_moves::Game;
 use fc_position::Position;
 use std::alloc::{AllocError, Global};
@@ -37,8 +40,11 @@ impl<F: Frontier + Drop, G: Game + Drop> Model for Search<F, G> {
     ghost Value = { State };
 
     ghost view = { λ s. record {
-      question = record { game = G.game s.search.space.game; rule = s.search.space.rule; weight = s.search.weight; bound = s.search.space.bound; start = s.search.space.start };
-      budget = s.search.budget;
+      problem = record {
+        game = G.game s.search.space.rules.game;
+        method = record { rule = s.search.space.rules.rule; weight = s.search.weight; bound = s.search.space.rules.kind; budget = s.search.budget };
+        start = s.search.space.start;
+      };
       store = s.search.store;
       status = s.search.status;
       floor = s.search.floor;
@@ -46,8 +52,8 @@ impl<F: Frontier + Drop, G: Game + Drop> Model for Search<F, G> {
 }
 
 impl<F: Frontier + Drop, G: Game + Drop> Search<F, G> {
-    /// A search that has had no turn, for a position that fits the game, a home rule of at most 2, a weight of 1 to 10, and a
-    /// budget of 1 to 4,000,000 stored classes.
+    /// A search for a shortest list by the plain bound, for a position that fits the game, under a home rule of at most 2 and
+    /// with a budget of 1 to 4,000,000 stored classes. It has had no turn.
     ///
     /// # Errors
     /// `Budget` outside that range, before any memory is asked for; `Memory` where a growth was refused.
@@ -55,29 +61,46 @@ impl<F: Frontier + Drop, G: Game + Drop> Search<F, G> {
         alloc: Global,
         game: &G,
         rule: u8,
-        weight: u8,
-        bound: BoundKind,
         position: &Position,
         budget: u32,
     ) -> Result<Self, SearchFault>
         requires rule { rule ≤ GREATEST_RULE }
-        requires weight { IsWeight weight }
         requires fits { Fits (G.game game.now).cells position.now }
-        ensures game { IfOk result (λ search. search.question.game ≡ G.game game.now) }
-        ensures rule { IfOk result (λ search. search.question.rule ≡ rule) }
-        ensures weight { IfOk result (λ search. search.question.weight ≡ weight) }
-        ensures bound { IfOk result (λ search. search.question.bound ≡ bound) }
-        ensures start { IfOk result (λ search. search.question.start ≡ position.now) }
-        ensures budget { IfOk result (λ search. search.budget ≡ budget) }
+        ensures problem { IfOk result (λ search. search.problem ≡ shortest_from (G.game game.now) rule position.now budget) }
         ensures status { IfOk result (λ search. search.status ≡ Status.Running) }
-        ensures begins { IfOk result (λ search. Begins (classes_of search.question) weight search.store) }
+        ensures begins { IfOk result (λ search. Begins (classes_of search.problem) 1 search.store) }
         ensures floor { IfOk result (λ search. Adds [] search.store.waiting (search.floor, 0)) }
         ensures range { OnOk result (IsBudget budget) }
         ensures fault { IfErr result (IsRefused budget) }
     {
-        let space = Positions::new(game.copy(), rule, bound, position.copy());
-        let search = best_first::Search::new(alloc, space, weight, budget)?;
-        Ok(Search { alloc, search })
+        let question = shortest(game, rule, budget)?;
+        match Search::new_by(alloc, &question, position) {
+            Ok(search) => Ok(search),
+            Err(_) => Err(SearchFault::Memory),
+        }
+    }
+
+    /// A search of a question for a position that fits its game. It has had no turn.
+    ///
+    /// # Errors
+    /// A growth was refused.
+    pub fn new_by(
+        alloc: Global,
+        question: &Question<G>,
+        position: &Position,
+    ) -> Result<Self, AllocError>
+        requires fits { Fits question.now.game.cells position.now }
+        ensures problem { IfOk result (λ search. search.problem ≡ problem_of question.now position.now) }
+        ensures status { IfOk result (λ search. search.status ≡ Status.Running) }
+        ensures begins { IfOk result (λ search. Begins (classes_of search.problem) search.problem.method.weight search.store) }
+        ensures floor { IfOk result (λ search. Adds [] search.store.waiting (search.floor, 0)) }
+    {
+        let Method { weight, budget, .. } = question.method();
+        let space = Positions::new(question.game().copy(), question.method(), position.copy());
+        match best_first::Search::new(alloc, space, weight, budget) {
+            Ok(search) => Ok(Search { alloc, search }),
+            Err(_) => Err(AllocError),
+        }
     }
 
     /// One turn: a running search takes one open class of least cost and weighed bound, which is its floor from then on, where
@@ -86,12 +109,11 @@ impl<F: Frontier + Drop, G: Game + Drop> Search<F, G> {
     /// # Errors
     /// `Memory` where a growth was refused, and the search is stopped; `Stopped` from then on, and it stays as it is.
     pub fn turn(&mut self) -> Result<Step, SearchFault>
-        ensures question { self.new.question ≡ self.old.question }
-        ensures budget { self.new.budget ≡ self.old.budget }
-        ensures turns { Turns (classes_of self.old.question) self.old.question.weight self.old.budget self.old.status self.old.store self.new.store self.new.status result }
+        ensures problem { self.new.problem ≡ self.old.problem }
+        ensures turns { Turns (classes_of self.old.problem) self.old.problem.method.weight self.old.problem.method.budget self.old.status self.old.store self.new.store self.new.status result }
         ensures floor { FloorAfter self.old.status self.old.store.waiting self.old.floor self.new.floor }
         ensures rises { self.old.floor ≤ self.new.floor }
-        ensures falls { result ≡ Ok Step.Running → work_left self.old.budget self.new.store < work_left self.old.budget self.old.store }
+        ensures falls { result ≡ Ok Step.Running → work_left self.old.problem.method.budget self.new.store < work_left self.old.problem.method.budget self.old.store }
     {
         self.search.turn()
     }
@@ -101,9 +123,8 @@ impl<F: Frontier + Drop, G: Game + Drop> Search<F, G> {
     /// # Errors
     /// `Memory` where a growth was refused, and the search is stopped; `Stopped` where it was before.
     pub fn run(&mut self) -> Result<(), SearchFault>
-        ensures question { self.new.question ≡ self.old.question }
-        ensures budget { self.new.budget ≡ self.old.budget }
-        ensures runs { Runs (classes_of self.old.question) self.old.question.weight self.old.budget self.old.status self.old.store self.new.store self.new.status }
+        ensures problem { self.new.problem ≡ self.old.problem }
+        ensures runs { Runs (classes_of self.old.problem) self.old.problem.method.weight self.old.problem.method.budget self.old.status self.old.store self.new.store self.new.status }
         ensures done { OnOk result (reply_of self.new.status ≡ Ok Step.Done) }
         ensures stopped { OnErr result (self.new.status ≡ Status.Stopped) }
         ensures fault { IfErr result (λ f. ((f ≡ SearchFault.Memory) × (self.old.status ≡ Status.Running)) ⊎ ((f ≡ SearchFault.Stopped) × (self.old.status ≡ Status.Stopped))) }
@@ -117,8 +138,8 @@ impl<F: Frontier + Drop, G: Game + Drop> Search<F, G> {
     /// `Stopped` after a want of memory stopped the search; `NotDone` before it is done; `Memory` where a growth was
     /// refused.
     pub fn answer(&self) -> Result<Answer, SearchFault>
-        ensures answers { IfOk result (Answers self.now.question.game self.now.question.rule self.now.question.weight self.now.question.bound self.now.question.start self.now.budget) }
-        ensures kind { IfOk result (λ answer. IsOfStatus (classes_of self.now.question) self.now.question.weight self.now.store self.now.budget self.now.status (verdict_of answer)) }
+        ensures answers { IfOk result (Answers self.now.problem) }
+        ensures kind { IfOk result (λ answer. IsOfStatus self.now.problem self.now.store self.now.status (verdict_of answer)) }
         ensures fault { IfErr result (IsUnanswered self.now.status) }
     {
         let answer = match self.search.status() {
@@ -126,7 +147,7 @@ impl<F: Frontier + Drop, G: Game + Drop> Search<F, G> {
             Status::Stopped => return Err(SearchFault::Stopped),
             Status::Won(number) => self.won(*number),
             Status::CannotWin => self.cannot_win(),
-            Status::GaveUp(_, _) => Ok(Answer::GaveUp(self.search.budget())),
+            Status::GaveUp(_, _) => Ok(Answer::GaveUp(self.search.budget().get())),
         };
         match answer {
             Ok(answer) => Ok(answer),
@@ -139,10 +160,11 @@ impl<F: Frontier + Drop, G: Game + Drop> Search<F, G> {
     /// # Errors
     /// Those of `answer`.
     pub fn verdict(&self) -> Result<Verdict, SearchFault>
-        ensures told { IfOk result (IsVerdict self.now.question.game self.now.question.rule self.now.question.weight self.now.question.bound self.now.question.start self.now.budget) }
-        ensures kind { IfOk result (IsOfStatus (classes_of self.now.question) self.now.question.weight self.now.store self.now.budget self.now.status) }
+        ensures told { IfOk result (IsVerdict self.now.problem) }
+        ensures kind { IfOk result (IsOfStatus self.now.problem self.now.store self.now.status) }
         ensures fault { IfErr result (IsUnanswered self.now.status) }
     {
+        self.known();
         match self.search.status() {
             Status::Running => Err(SearchFault::NotDone),
             Status::Stopped => Err(SearchFault::Stopped),
@@ -151,7 +173,7 @@ impl<F: Frontier + Drop, G: Game + Drop> Search<F, G> {
                 Err(_) => Err(SearchFault::Memory),
             },
             Status::CannotWin => Ok(Verdict::CannotWin),
-            Status::GaveUp(_, _) => Ok(Verdict::GaveUp(self.search.budget())),
+            Status::GaveUp(_, _) => Ok(Verdict::GaveUp(self.search.budget().get())),
         }
     }
 
@@ -163,28 +185,35 @@ impl<F: Frontier + Drop, G: Game + Drop> Search<F, G> {
         self.search.entry(number).unwrap()
     }
 
+    // What is known of each search: its limits are in range, and its start fits the game.
+    pub(crate) fn known(&self)
+        ensures rule { self.now.problem.method.rule ≤ GREATEST_RULE }
+        ensures budget { IsBudget self.now.problem.method.budget }
+        ensures fits { IsPositionOf self.now.problem.game self.now.problem.start }
+    {
+        let _ = (self.search.space().rules.rule.get(), self.search.budget());
+    }
+
     // A list that wins, where the class with this number is won: by weight 1 a shortest one, else one within the weight.
     fn won_list(&self, number: u32) -> Result<MoveList, AllocError>
-        requires held { Holds (classes_of self.now.question) self.now.question.weight self.now.budget self.now.store self.now.status }
-        requires shown { Shows (classes_of self.now.question) self.now.question.weight self.now.budget self.now.store self.now.status }
-        requires most { self.now.budget ≤ MOST_BUDGET }
-        requires known { self.now.question.rule ≤ GREATEST_RULE }
-        requires fits { IsPositionOf self.now.question.game self.now.question.start }
+        requires held { Holds (classes_of self.now.problem) self.now.problem.method.weight self.now.problem.method.budget self.now.store self.now.status }
+        requires shown { Shows (classes_of self.now.problem) self.now.problem.method.weight self.now.problem.method.budget self.now.store self.now.status }
         requires done { self.now.status ≡ Status.Won number }
-        ensures shortest { IfOk result (λ moves. self.now.question.weight ≡ 1
-            → IsVerdict self.now.question.game self.now.question.rule self.now.question.weight self.now.question.bound self.now.question.start self.now.budget (Verdict.Shortest moves)
-            × IsOfStatus (classes_of self.now.question) self.now.question.weight self.now.store self.now.budget self.now.status (Verdict.Shortest moves)) }
-        ensures within { IfOk result (λ moves. 2 ≤ self.now.question.weight → (floor : ℕ) → IsFloorOf self.now number floor
-            → IsVerdict self.now.question.game self.now.question.rule self.now.question.weight self.now.question.bound self.now.question.start self.now.budget (Verdict.Won moves floor)
-            × IsOfStatus (classes_of self.now.question) self.now.question.weight self.now.store self.now.budget self.now.status (Verdict.Won moves floor)) }
+        ensures shortest { IfOk result (λ moves. self.now.problem.method.weight ≡ 1
+            → IsVerdict self.now.problem (Verdict.Shortest moves)
+            × IsOfStatus self.now.problem self.now.store self.now.status (Verdict.Shortest moves)) }
+        ensures within { IfOk result (λ moves. 2 ≤ self.now.problem.method.weight → (floor : ℕ) → IsFloorOf self.now number floor
+            → IsVerdict self.now.problem (Verdict.Won moves floor)
+            × IsOfStatus self.now.problem self.now.store self.now.status (Verdict.Won moves floor)) }
     {
+        self.known();
         let moves = self.moves_to(number)?;
         Ok(moves)
     }
 
     // The least cost and bound of what is open, and no more than the class with this number costs.
     pub(crate) fn floor_of(&self, number: u32) -> u32
-        requires sound { IsSound (classes_of self.now.question) self.now.question.weight self.now.budget self.now.store }
+        requires sound { IsSound (classes_of self.now.problem) self.now.problem.method.weight self.now.problem.method.budget self.now.store }
         requires within { number < length self.now.store.stored }
         ensures value { IsFloorOf self.now number result }
     {
@@ -194,17 +223,14 @@ impl<F: Frontier + Drop, G: Game + Drop> Search<F, G> {
 
     // The verdict where the class with this number is won: only by weight 1 the list is known to be a shortest one.
     fn won_verdict(&self, number: u32) -> Result<Verdict, AllocError>
-        requires held { Holds (classes_of self.now.question) self.now.question.weight self.now.budget self.now.store self.now.status }
-        requires shown { Shows (classes_of self.now.question) self.now.question.weight self.now.budget self.now.store self.now.status }
-        requires most { self.now.budget ≤ MOST_BUDGET }
-        requires known { self.now.question.rule ≤ GREATEST_RULE }
-        requires fits { IsPositionOf self.now.question.game self.now.question.start }
+        requires held { Holds (classes_of self.now.problem) self.now.problem.method.weight self.now.problem.method.budget self.now.store self.now.status }
+        requires shown { Shows (classes_of self.now.problem) self.now.problem.method.weight self.now.problem.method.budget self.now.store self.now.status }
         requires done { self.now.status ≡ Status.Won number }
-        ensures told { IfOk result (IsVerdict self.now.question.game self.now.question.rule self.now.question.weight self.now.question.bound self.now.question.start self.now.budget) }
-        ensures kind { IfOk result (IsOfStatus (classes_of self.now.question) self.now.question.weight self.now.store self.now.budget self.now.status) }
+        ensures told { IfOk result (IsVerdict self.now.problem) }
+        ensures kind { IfOk result (IsOfStatus self.now.problem self.now.store self.now.status) }
     {
         let moves = self.won_list(number)?;
-        if self.search.weight() > 1 {
+        if self.search.weight().get() > 1 {
             return Ok(Verdict::Won(moves, self.floor_of(number)));
         }
         Ok(Verdict::Shortest(moves))
@@ -212,17 +238,15 @@ impl<F: Frontier + Drop, G: Game + Drop> Search<F, G> {
 
     // The answer where the class with this number is won, with the table of its length by weight 1, else of its floor.
     fn won(&self, number: u32) -> Result<Answer, AllocError>
-        requires held { Holds (classes_of self.now.question) self.now.question.weight self.now.budget self.now.store self.now.status }
-        requires shown { Shows (classes_of self.now.question) self.now.question.weight self.now.budget self.now.store self.now.status }
-        requires most { self.now.budget ≤ MOST_BUDGET }
-        requires known { self.now.question.rule ≤ GREATEST_RULE }
-        requires fits { IsPositionOf self.now.question.game self.now.question.start }
+        requires held { Holds (classes_of self.now.problem) self.now.problem.method.weight self.now.problem.method.budget self.now.store self.now.status }
+        requires shown { Shows (classes_of self.now.problem) self.now.problem.method.weight self.now.problem.method.budget self.now.store self.now.status }
         requires done { self.now.status ≡ Status.Won number }
-        ensures answers { IfOk result (Answers self.now.question.game self.now.question.rule self.now.question.weight self.now.question.bound self.now.question.start self.now.budget) }
-        ensures kind { IfOk result (λ answer. IsOfStatus (classes_of self.now.question) self.now.question.weight self.now.store self.now.budget self.now.status (verdict_of answer)) }
+        ensures answers { IfOk result (Answers self.now.problem) }
+        ensures kind { IfOk result (λ answer. IsOfStatus self.now.problem self.now.store self.now.status (verdict_of answer)) }
     {
+        self.known();
         let moves = self.won_list(number)?;
-        if self.search.weight() > 1 {
+        if self.search.weight().get() > 1 {
             let floor = self.floor_of(number);
             let table = self.table_below(floor as usize)?;
             return Ok(Answer::Won(moves, floor, table));
@@ -233,91 +257,32 @@ impl<F: Frontier + Drop, G: Game + Drop> Search<F, G> {
 
     // The answer where no list wins.
     fn cannot_win(&self) -> Result<Answer, AllocError>
-        requires held { Holds (classes_of self.now.question) self.now.question.weight self.now.budget self.now.store self.now.status }
-        requires shown { Shows (classes_of self.now.question) self.now.question.weight self.now.budget self.now.store self.now.status }
-        requires most { self.now.budget ≤ MOST_BUDGET }
-        requires known { self.now.question.rule ≤ GREATEST_RULE }
-        requires fits { IsPositionOf self.now.question.game self.now.question.start }
+        requires held { Holds (classes_of self.now.problem) self.now.problem.method.weight self.now.problem.method.budget self.now.store self.now.status }
+        requires shown { Shows (classes_of self.now.problem) self.now.problem.method.weight self.now.problem.method.budget self.now.store self.now.status }
         requires done { self.now.status ≡ Status.CannotWin }
-        ensures answers { IfOk result (Answers self.now.question.game self.now.question.rule self.now.question.weight self.now.question.bound self.now.question.start self.now.budget) }
-        ensures kind { IfOk result (λ answer. IsOfStatus (classes_of self.now.question) self.now.question.weight self.now.store self.now.budget self.now.status (verdict_of answer)) }
+        ensures answers { IfOk result (Answers self.now.problem) }
+        ensures kind { IfOk result (λ answer. IsOfStatus self.now.problem self.now.store self.now.status (verdict_of answer)) }
     {
+        self.known();
         Ok(Answer::CannotWin(self.table_of_all()?))
     }
 }
 
-/// The answer for a position that fits the game, under a home rule of at most 2, of a search by a weight of 1 to 10 that
-/// runs to its end with a budget of 1 to 4,000,000 stored classes. It gives up only where one more must be stored.
-///
-/// # Errors
-/// `Budget` outside that range, before any memory is asked for; `Memory` where a growth was refused.
-pub fn solve<G: Game + Drop>(
-    alloc: Global,
+// The question of a shortest list by the plain bound, under a home rule of at most 2; `Budget` where the budget is none.
+pub(crate) fn shortest<G: Game + Drop>(
     game: &G,
     rule: u8,
-    weight: u8,
-    bound: BoundKind,
-    position: &Position,
     budget: u32,
-) -> Result<Answer, SearchFault>
+) -> Result<Question<G>, SearchFault>
     requires rule { rule ≤ GREATEST_RULE }
-    requires weight { IsWeight weight }
-    requires fits { Fits (G.game game.now).cells position.now }
-    ensures answers { IfOk result (Answers (G.game game.now) rule weight bound position.now budget) }
-    ensures ran { IfOk result (λ answer. IsRunToEnd (G.game game.now) rule weight bound position.now budget (verdict_of answer)) }
+    ensures game { IfOk result (λ question. question.game ≡ G.game game.now) }
+    ensures method { IfOk result (λ question. question.method ≡ as_written rule budget) }
     ensures range { OnOk result (IsBudget budget) }
-    ensures fault { IfErr result (IsRefused budget) }
+    ensures fault { IfErr result (λ f. (f ≡ SearchFault.Budget) × (IsBudget budget → ⊥)) }
 {
-    at_end(alloc, game, rule, weight, bound, position, budget)?.answer()
-}
-
-/// The verdict of such a search, as `solve` gives its answer, with no table made.
-///
-/// # Errors
-/// `Budget` outside that range, before any memory is asked for; `Memory` where a growth was refused.
-pub fn decide<G: Game + Drop>(
-    alloc: Global,
-    game: &G,
-    rule: u8,
-    weight: u8,
-    bound: BoundKind,
-    position: &Position,
-    budget: u32,
-) -> Result<Verdict, SearchFault>
-    requires rule { rule ≤ GREATEST_RULE }
-    requires weight { IsWeight weight }
-    requires fits { Fits (G.game game.now).cells position.now }
-    ensures told { IfOk result (IsVerdict (G.game game.now) rule weight bound position.now budget) }
-    ensures ran { IfOk result (IsRunToEnd (G.game game.now) rule weight bound position.now budget) }
-    ensures range { OnOk result (IsBudget budget) }
-    ensures fault { IfErr result (IsRefused budget) }
-{
-    at_end(alloc, game, rule, weight, bound, position, budget)?.verdict()
-}
-
-// Such a search, which has run to its end.
-fn at_end<G: Game + Drop>(
-    alloc: Global,
-    game: &G,
-    rule: u8,
-    weight: u8,
-    bound: BoundKind,
-    position: &Position,
-    budget: u32,
-) -> Result<Search<BucketFrontier, G>, SearchFault>
-    requires rule { rule ≤ GREATEST_RULE }
-    requires weight { IsWeight weight }
-    requires fits { Fits (G.game game.now).cells position.now }
-    ensures question { IfOk result (λ search. search.question ≡ record { game = G.game game.now; rule = rule; weight = weight; bound = bound; start = position.now }) }
-    ensures budget { IfOk result (λ search. search.budget ≡ budget) }
-    ensures ran { IfOk result (λ search. HasRun (G.game game.now) rule weight bound position.now budget search.store search.status) }
-    ensures done { IfOk result (λ search. reply_of search.status ≡ Ok Step.Done) }
-    ensures range { OnOk result (IsBudget budget) }
-    ensures fault { IfErr result (IsRefused budget) }
-{
-    let mut search: Search<BucketFrontier, G> = Search::new(
-        alloc, game, rule, weight, bound, position, budget,
-    )?;
-    search.run()?;
-    Ok(search)
+    let rule = HomeRule::new(rule).unwrap();
+    match Budget::new(budget) {
+        Some(budget) => Ok(Question::new(game, Method::shortest(rule, budget))),
+        None => Err(SearchFault::Budget),
+    }
 }

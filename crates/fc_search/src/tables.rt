@@ -5,7 +5,7 @@ ghost use Rattle.std.specs.List.Sorted.{IsPermutation};
 ghost use Rattle.fc_best_first.specs.Kept.{IsSound};
 ghost use Rattle.fc_bound.specs.Kinds.{guide_of};
 ghost use Rattle.fc_answers.specs.Table.{IsRising, inside, at_no_cost};
-ghost use Rattle.fc_search.specs.Search.{classes_of};
+ghost use Rattle.fc_search.specs.Problem.{classes_of};
 ghost use Rattle.fc_search.specs.Stored.{costs_of};
 
 use crate::searches::Search;
@@ -19,17 +19,17 @@ use std::alloc::AllocError;
 impl<F: Frontier + Drop, G: Game + Drop> Search<F, G> {
     // The stored classes whose cost and bound are below n.
     pub(crate) fn table_below(&self, n: usize) -> Result<Table, AllocError>
-        requires sound { IsSound (classes_of self.now.question) self.now.question.weight self.now.budget self.now.store }
-        requires most { self.now.budget ≤ MOST_BUDGET }
-        ensures rule { IfOk result (λ table. table.rule ≡ self.now.question.rule) }
-        ensures bound { IfOk result (λ table. table.bound ≡ self.now.question.bound) }
+        requires sound { IsSound (classes_of self.now.problem) self.now.problem.method.weight self.now.problem.method.budget self.now.store }
+        ensures rule { IfOk result (λ table. table.rule ≡ self.now.problem.method.rule) }
+        ensures bound { IfOk result (λ table. table.bound ≡ self.now.problem.method.bound) }
         ensures known { IfOk result (λ table. table.rule ≤ GREATEST_RULE) }
         ensures few { IfOk result (λ table. length table.rows ≤ MOST_BUDGET) }
-        ensures rows { IfOk result (λ table. IsPermutation (inside (guide_of self.now.question.bound) n (costs_of self.now.store)) table.rows) }
+        ensures rows { IfOk result (λ table. IsPermutation (inside (guide_of self.now.problem.method.bound) n (costs_of self.now.store)) table.rows) }
         ensures rising { IfOk result (λ table. IsRising table.rows) }
     {
+        self.known();
         let space = self.search.space();
-        let kind = space.bound;
+        let kind = space.rules.kind;
         let mut rows = Vec::new(self.alloc);
         for number in 0..self.search.len() as u32 {
             let (key, mark) = self.at(number);
@@ -41,20 +41,20 @@ impl<F: Frontier + Drop, G: Game + Drop> Search<F, G> {
                 })?;
             }
         }
-        Ok(Table::sorted(space.rule, kind, rows))
+        Ok(Table::sorted(space.rules.rule.get(), kind, rows))
     }
 
     // The stored classes, each at no cost.
     pub(crate) fn table_of_all(&self) -> Result<Table, AllocError>
-        requires sound { IsSound (classes_of self.now.question) self.now.question.weight self.now.budget self.now.store }
-        requires most { self.now.budget ≤ MOST_BUDGET }
-        ensures rule { IfOk result (λ table. table.rule ≡ self.now.question.rule) }
-        ensures bound { IfOk result (λ table. table.bound ≡ self.now.question.bound) }
+        requires sound { IsSound (classes_of self.now.problem) self.now.problem.method.weight self.now.problem.method.budget self.now.store }
+        ensures rule { IfOk result (λ table. table.rule ≡ self.now.problem.method.rule) }
+        ensures bound { IfOk result (λ table. table.bound ≡ self.now.problem.method.bound) }
         ensures known { IfOk result (λ table. table.rule ≤ GREATEST_RULE) }
         ensures few { IfOk result (λ table. length table.rows ≤ MOST_BUDGET) }
         ensures rows { IfOk result (λ table. IsPermutation (at_no_cost (costs_of self.now.store)) table.rows) }
         ensures rising { IfOk result (λ table. IsRising table.rows) }
     {
+        self.known();
         let mut rows = Vec::new(self.alloc);
         for number in 0..self.search.len() as u32 {
             let (key, _mark) = self.at(number);
@@ -64,6 +64,6 @@ impl<F: Frontier + Drop, G: Game + Drop> Search<F, G> {
             })?;
         }
         let space = self.search.space();
-        Ok(Table::sorted(space.rule, space.bound, rows))
+        Ok(Table::sorted(space.rules.rule.get(), space.rules.kind, rows))
     }
 }

@@ -11,7 +11,7 @@ ghost use Rattle.fc_best_first.specs.declared.books.Mark.{Mark};
 ghost use Rattle.fc_best_first.specs.Kept.{IsSound};
 ghost use Rattle.fc_best_first.specs.Store.{Stands};
 ghost use Rattle.fc_canonical.specs.Key.{IsKeyOf};
-ghost use Rattle.fc_search.specs.Search.{classes_of};
+ghost use Rattle.fc_search.specs.Problem.{classes_of};
 ghost use Rattle.fc_search.specs.Walk.{IsStart, IsWay, IsAtClass, LeadsWithin, LeadsOn};
 
 use crate::positions::Positions;
@@ -28,14 +28,14 @@ use std::alloc::AllocError;
 impl<F: Frontier + Drop, G: Game + Drop> Search<F, G> {
     // Moves that lead to the class with this number, no more than it costs.
     pub(crate) fn moves_to(&self, number: u32) -> Result<MoveList, AllocError>
-        requires sound { IsSound (classes_of self.now.question) self.now.question.weight self.now.budget self.now.store }
+        requires sound { IsSound (classes_of self.now.problem) self.now.problem.method.weight self.now.problem.method.budget self.now.store }
         requires within { number < length self.now.store.stored }
-        ensures there { IfOk result (λ made. (b : Board) × IsAtClass self.now.question.game self.now.store self.now.question.start number made b) }
+        ensures there { IfOk result (λ made. (b : Board) × IsAtClass self.now.problem.game self.now.store self.now.problem.start number made b) }
     {
         let space = self.search.space();
         let (_start, mut way) = self.way_to(number)?;
         let mut position = space.start.copy();
-        let settling = settle(&space.game, &mut position, space.rule);
+        let settling = settle(&space.rules.game, &mut position, space.rules.rule.get());
         let mut made = Vec::from_slice(self.alloc, settling.as_slice())?;
         while let Some(next) = way.pop() {
             let (key, mark) = self.at(next);
@@ -47,7 +47,7 @@ impl<F: Frontier + Drop, G: Game + Drop> Search<F, G> {
 
     // The number of a class that starts, and of those on the way from there to the class with this number, which is first.
     fn way_to(&self, number: u32) -> Result<(u32, Vec<u32>), AllocError>
-        requires sound { IsSound (classes_of self.now.question) self.now.question.weight self.now.budget self.now.store }
+        requires sound { IsSound (classes_of self.now.problem) self.now.problem.method.weight self.now.problem.method.budget self.now.store }
         requires within { number < length self.now.store.stored }
         ensures way { IfOk result (λ r. IsStart self.now.store r.0 × IsWay self.now.store r.0 (reverse r.1.items) number) }
     {
@@ -90,11 +90,11 @@ fn follow<G: Game + Drop>(
     most: usize,
     made: &mut Vec<Move>,
 ) -> Result<(), AllocError>
-    requires fits { IsPositionOf (G.game space.now.game) position.old }
-    requires leads { (m : Move) × LeadsWithin (G.game space.now.game) space.now.rule position.old key.now most m }
-    ensures led { OnOk result ((more : List Move) × (made.new.items ≡ made.old.items ++ more) × Run (G.game space.now.game) position.old more position.new × (length more ≤ most)) }
+    requires fits { IsPositionOf (G.game space.now.rules.game) position.old }
+    requires leads { (m : Move) × LeadsWithin (G.game space.now.rules.game) space.now.rules.rule position.old key.now most m }
+    ensures led { OnOk result ((more : List Move) × (made.new.items ≡ made.old.items ++ more) × Run (G.game space.now.rules.game) position.old more position.new × (length more ≤ most)) }
     ensures there { OnOk result (IsKeyOf position.new key.now) }
-    ensures fits { OnOk result (IsPositionOf (G.game space.now.game) position.new) }
+    ensures fits { OnOk result (IsPositionOf (G.game space.now.rules.game) position.new) }
 {
     let way = way_on(space, position, key, most).unwrap();
     made.push(way.m)?;
@@ -111,10 +111,10 @@ fn way_on<G: Game + Drop>(
     key: &ClassKey,
     most: usize,
 ) -> Option<WayOn>
-    ensures first { MatchOption result ((m : Move) → LeadsWithin (G.game space.now.game) space.now.rule position.now key.now most m → ⊥)
-        (LeadsOn (G.game space.now.game) space.now.rule position.now key.now most) }
+    ensures first { MatchOption result ((m : Move) → LeadsWithin (G.game space.now.rules.game) space.now.rules.rule position.now key.now most m → ⊥)
+        (LeadsOn (G.game space.now.rules.game) space.now.rules.rule position.now key.now most) }
 {
-    for m in moves(&space.game, position).as_slice() {
+    for m in moves(&space.rules.game, position).as_slice() {
         let way = way_by(space, position, *m, key, most);
         if way.is_some() {
             return way;
@@ -132,13 +132,13 @@ fn way_by<G: Game + Drop>(
     key: &ClassKey,
     most: usize,
 ) -> Option<WayOn>
-    requires allowed { Allows (G.game space.now.game) position.now m }
-    ensures value { MatchOption result (LeadsWithin (G.game space.now.game) space.now.rule position.now key.now most m → ⊥)
-        (LeadsOn (G.game space.now.game) space.now.rule position.now key.now most) }
+    requires allowed { Allows (G.game space.now.rules.game) position.now m }
+    ensures value { MatchOption result (LeadsWithin (G.game space.now.rules.game) space.now.rules.rule position.now key.now most m → ⊥)
+        (LeadsOn (G.game space.now.rules.game) space.now.rules.rule position.now key.now most) }
 {
     let mut next = position.copy();
-    apply(&space.game, &mut next, m);
-    let settling = settle(&space.game, &mut next, space.rule);
+    apply(&space.rules.game, &mut next, m);
+    let settling = settle(&space.rules.game, &mut next, space.rules.rule.get());
     if settling.len() < most && ClassKey::of(&next) == *key {
         return Some(WayOn {
             m,

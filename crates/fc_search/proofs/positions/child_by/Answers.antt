@@ -4,5 +4,5 @@ use Rattle.fc_search.proofs.positions.child_by.Goals as goal
 
 pub returns-in-None-clause-child : goal.returns-in-None-clause-child
 returns-in-None-clause-child g c =
-    subst (λ b. IsChildOf (g.G.Game.game c.args.game.now) c.args.rule c.args.kind b c.args.m c.child_by_copy.result) c.child_by_shift.ensures.same
-    (c.child_by_copy.ensures.child c.args.kind)
+    subst (λ b. IsChildOf (g.G.Game.game c.args.rules.now.game) c.args.rules.now.rule c.args.rules.now.kind b c.args.m c.child_by_copy.result) c.child_by_shift.ensures.same
+    c.child_by_copy.ensures.child

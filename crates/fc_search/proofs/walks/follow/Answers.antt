@@ -17,14 +17,14 @@ returns-clause-led g c =
       way.m ∷ settling,
       c.in_ok-extend_from_slice.ensures.items ∙ ap (λ l. c.push.new.self.items ++ l) c.as_slice.ensures.value
           ∙ ap (λ l. l ++ settling) c.in_ok-push.ensures.items ∙ append_assoc c.args.made.now.items (way.m ∷ []) settling,
-      (on.0, on.1, settles_run (g.G.Game.game c.args.space.now.game) c.args.space.now.rule on.0 way.position settling on.2),
+      (on.0, on.1, settles_run (g.G.Game.game c.args.space.now.rules.game) c.args.space.now.rules.rule on.0 way.position settling on.2),
       (let few = on.4 in omega (arith, few)),
     )
 
 pub returns-clause-fits : goal.returns-clause-fits
 returns-clause-fits g c =
     let way = c.unwrap-way.result in
-    let game = g.G.Game.game c.args.space.now.game in
+    let game = g.G.Game.game c.args.space.now.rules.game in
     let on = MatchOption-at_some _ _ way c.unwrap-way.ensures c.way_on.ensures.first in
     run_keeps game c.args.position.now way.position (way.m ∷ way.settling.items) c.requires.fits
-    (on.0, on.1, settles_run game c.args.space.now.rule on.0 way.position way.settling.items on.2)
+    (on.0, on.1, settles_run game c.args.space.now.rules.rule on.0 way.position way.settling.items on.2)

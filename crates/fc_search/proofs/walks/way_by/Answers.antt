@@ -2,6 +2,7 @@ use Rattle.std.proofs.Common.{◌≡◌, ◌+◌, ◌≤◌, length, subst, sym,
 use Rattle.std.specs.Cmp.Lexicographic.{bytes_decides}
 use Rattle.fc_moves.specs.Step.{Step}
 use Rattle.fc_canonical.specs.Key.{IsKeyOf}
+use Rattle.fc_home.specs.Settles.{SettlesBy}
 use Rattle.fc_search.specs.Walk.{LeadsWithin}
 use Rattle.fc_search.proofs.WalkLemmas.{leads_once, key_once}
 use Rattle.fc_search.proofs.walks.way_by.Goals.{else-len-most-via-then-len-most+else-eq, else-len-most-via-else-len-most}
@@ -9,8 +10,8 @@ use Rattle.fc_search.proofs.walks.way_by.Goals as goal
 
 pub returns : goal.returns
 returns g c =
-    let rules_of = g.G.Game.game c.args.space.now.game in
-    let rule = c.args.space.now.rule in
+    let rules_of = g.G.Game.game c.args.space.now.rules.game in
+    let rule = c.args.space.now.rules.rule in
     let b = c.args.position.now in
     let key = c.args.key.now in
     let m = c.args.m in
@@ -22,7 +23,7 @@ returns g c =
     let step : Step rules_of b m z = subst (λ v. Step rules_of v m z) c.copy-next.ensures.value c.apply.ensures.step in
     let there : LeadsWithin rules_of rule b key most m → IsKeyOf q key × (1 + length settling ≤ most) =
     leads_once rules_of rule b z q key m most settling c.apply.ensures.whole c.settle-settling.ensures.whole step
-    c.settle-settling.ensures.settled in
+    (subst (λ r. SettlesBy rules_of r z settling q) c.get.ensures.value c.settle-settling.ensures.settled) in
     elim c.else-len-most.branch [
       | else-len-most-via-then-len-most+else-eq w ↦ record {
         value = (

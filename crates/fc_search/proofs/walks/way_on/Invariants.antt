@@ -6,4 +6,4 @@ use Rattle.fc_search.proofs.walks.way_on.Given as goal
 -- none of the moves so far leads there
 abbrev pub invariant-loop-m : goal.invariant-loop-m
 invariant-loop-m g l = (k : ℕ) (d : Move) → k < l.m-index
-    → LeadsWithin (g.G.Game.game l.space.game) l.space.rule l.position l.key l.most (get_or l.m-items k d) → ⊥
+    → LeadsWithin (g.G.Game.game l.space.rules.game) l.space.rules.rule l.position l.key l.most (get_or l.m-items k d) → ⊥

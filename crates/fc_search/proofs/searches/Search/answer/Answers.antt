@@ -1,23 +1,22 @@
 use Rattle.std.proofs.Common.{◌≡◌, sym, ◌∙◌, subst}
 use Rattle.std.specs.Prelude.{IfOk}
 use Rattle.fc_best_first.specs.Shown.{Shows}
-use Rattle.fc_classes.specs.Classes.{classes}
 use Rattle.fc_best_first.specs.declared.turns.Status.TheVariants.{GaveUp}
 use Rattle.fc_answers.specs.declared.answers.Answer.TheVariants as answer
 use Rattle.fc_search.specs.Search.{Answers}
 use Rattle.fc_search.proofs.AnswerLemmas.{gave_up_verdict}
+use Rattle.fc_search.specs.Problem.{Problem, classes_of}
 use Rattle.fc_search.proofs.searches.Search.answer.Goals as goal
 use Rattle.fc_search.proofs.searches.Search.answer.Goals.{in-Won, in-CannotWin, in-GaveUp}
-use Rattle.fc_bound.specs.Kinds.{guide_of}
 
 pub won-answer-requires-clause-shown : goal.won-answer-requires-clause-shown
 won-answer-requires-clause-shown g c =
-    subst (λ s. Shows (classes (guide_of s.question.bound) s.question.game s.question.rule s.question.start) s.question.weight s.budget s.store s.status)
+    subst (λ s. Shows (classes_of s.problem) s.problem.method.weight s.problem.method.budget s.store s.status)
     c.self.view_is c.status.ensures.shows
 
 pub cannot_win-answer-requires-clause-shown : goal.cannot_win-answer-requires-clause-shown
 cannot_win-answer-requires-clause-shown g c =
-    subst (λ s. Shows (classes (guide_of s.question.bound) s.question.game s.question.rule s.question.start) s.question.weight s.budget s.store s.status)
+    subst (λ s. Shows (classes_of s.problem) s.problem.method.weight s.problem.method.budget s.store s.status)
     c.self.view_is c.status.ensures.shows
 
 pub returns-in-Ok-clause-answers : goal.returns-in-Ok-clause-answers
@@ -25,22 +24,27 @@ returns-in-Ok-clause-answers g c =
     let now = c.args.self.now in
     elim c.match-status.branch [
       | in-Won w ↦
-          subst (λ r. IfOk r (Answers now.question.game now.question.rule now.question.weight now.question.bound now.question.start now.budget))
+          subst (λ r. IfOk r (Answers now.problem))
           (sym w.answer-is ∙ c.in-Ok.is) w.won-answer.ensures.answers
       | in-CannotWin w ↦
-          subst (λ r. IfOk r (Answers now.question.game now.question.rule now.question.weight now.question.bound now.question.start now.budget))
+          subst (λ r. IfOk r (Answers now.problem))
           (sym w.answer-is ∙ c.in-Ok.is) w.cannot_win-answer.ensures.answers
       | in-GaveUp w ↦
           let inner = c.self.inside.search in
           let stands : inner.status ≡ GaveUp w.in-GaveUp.field-0 w.in-GaveUp.field-1 = sym c.status.ensures.value ∙ w.in-GaveUp.is in
-          let shows = subst (Shows (classes (guide_of inner.space.bound) (g.G.Game.game inner.space.game) inner.space.rule inner.space.start) inner.weight inner.budget inner.store)
+          let own : Problem = record {
+            game = g.G.Game.game inner.space.rules.game;
+            method = record { rule = inner.space.rules.rule; weight = inner.weight; bound = inner.space.rules.kind; budget = inner.budget };
+            start = inner.space.start;
+          } in
+          let shows = subst (Shows (classes_of own) inner.weight inner.budget inner.store)
           stands c.status.ensures.shows in
-          let told = gave_up_verdict (g.G.Game.game inner.space.game) inner.space.rule inner.weight inner.space.bound inner.space.start inner.budget inner.store
-          inner.space.fits w.in-GaveUp.field-0 w.in-GaveUp.field-1 w.budget.result shows w.budget.ensures.value in
-          let answers : Answers (g.G.Game.game inner.space.game) inner.space.rule inner.weight inner.space.bound inner.space.start inner.budget (answer.GaveUp w.budget.result) =
+          let told = gave_up_verdict own inner.store
+          inner.space.fits w.in-GaveUp.field-0 w.in-GaveUp.field-1 w.get.result shows (w.get.ensures.value ∙ w.budget.ensures.value) in
+          let answers : Answers own (answer.GaveUp w.get.result) =
           record { told = told; backed = tt; searched = tt } in
-          subst (λ r. IfOk r (Answers now.question.game now.question.rule now.question.weight now.question.bound now.question.start now.budget))
+          subst (λ r. IfOk r (Answers now.problem))
           (sym w.answer-is ∙ c.in-Ok.is)
-          (subst (λ s. Answers s.question.game s.question.rule s.question.weight s.question.bound s.question.start s.budget (answer.GaveUp w.budget.result))
+          (subst (λ s. Answers s.problem (answer.GaveUp w.get.result))
           c.self.view_is answers)
     ]

@@ -12,21 +12,23 @@ pub loop-next-init : goal.loop-next-init
 loop-next-init g c =
     let now = c.args.self.now in
     let sp = c.space-space.result.now in
-    let e : record { game = g.G.Game.game sp.game; rule = sp.rule; weight = c.self.inside.search.weight; bound = sp.bound; start = sp.start } ≡ now.question =
-    ap (λ v. record { game = g.G.Game.game v.game; rule = v.rule; weight = c.self.inside.search.weight; bound = v.bound; start = v.start }) c.space-space.ensures.value
-    ∙ ap (λ s. s.question) c.self.view_is in
+    let e : record { game = g.G.Game.game sp.rules.game; method = record { rule = sp.rules.rule; weight = c.self.inside.search.weight; bound = sp.rules.kind; budget = c.self.inside.search.budget }; start = sp.start } ≡ now.problem =
+    ap (λ v. record { game = g.G.Game.game v.rules.game; method = record { rule = v.rules.rule; weight = c.self.inside.search.weight; bound = v.rules.kind; budget = c.self.inside.search.budget }; start = v.start }) c.space-space.ensures.value
+    ∙ ap (λ s. s.problem) c.self.view_is in
     let pp = subst (λ v. IsPositionOf v.game v.start) e sp.fits in
-    let by = subst (λ v. SettlesBy v.game v.rule v.start c.settle-settling.result.items c.settle-settling.new.position) e
-    (subst (λ b. SettlesBy (g.G.Game.game sp.game) sp.rule b c.settle-settling.result.items c.settle-settling.new.position)
-    c.copy-position.ensures.value c.settle-settling.ensures.settled) in
+    let by = subst (λ v. SettlesBy v.game v.method.rule v.start c.settle-settling.result.items c.settle-settling.new.position) e
+    (subst (λ b. SettlesBy (g.G.Game.game sp.rules.game) sp.rules.rule b c.settle-settling.result.items c.settle-settling.new.position)
+    c.copy-position.ensures.value
+    (subst (λ r. SettlesBy (g.G.Game.game sp.rules.game) r c.copy-position.result c.settle-settling.result.items c.settle-settling.new.position)
+    c.get.ensures.value c.settle-settling.ensures.settled)) in
     let way = c.in_ok-_start.ensures.way in
     let made : c.settle-settling.result.items ≡ c.in_ok-made.made.items =
     sym (c.in_ok-made.ensures.items ∙ c.as_slice.ensures.value) in
-    let begins = walk_begins now.question.game now.question.rule now.question.weight now.question.bound now.question.start now.budget now.store pp
+    let begins = walk_begins now.problem now.store pp
     c.requires.sound c.in_ok-_start._start c.settle-settling.result.items c.settle-settling.new.position way.0 by
     c.settle-settling.ensures.whole in (
       c.in_ok-_start._start,
-      subst (λ l. IsAtClass now.question.game now.store now.question.start c.in_ok-_start._start l c.settle-settling.new.position) made begins,
+      subst (λ l. IsAtClass now.problem.game now.store now.problem.start c.in_ok-_start._start l c.settle-settling.new.position) made begins,
       way.1,
     )
 
@@ -41,20 +43,20 @@ pub follow-requires-clause-fits : goal.follow-requires-clause-fits
 follow-requires-clause-fits g c =
     let now = c.args.self.now in
     let sp = c.space-space.result.now in
-    let e : record { game = g.G.Game.game sp.game; rule = sp.rule; weight = c.self.inside.search.weight; bound = sp.bound; start = sp.start } ≡ now.question =
-    ap (λ v. record { game = g.G.Game.game v.game; rule = v.rule; weight = c.self.inside.search.weight; bound = v.bound; start = v.start }) c.space-space.ensures.value
-    ∙ ap (λ s. s.question) c.self.view_is in
+    let e : record { game = g.G.Game.game sp.rules.game; method = record { rule = sp.rules.rule; weight = c.self.inside.search.weight; bound = sp.rules.kind; budget = c.self.inside.search.budget }; start = sp.start } ≡ now.problem =
+    ap (λ v. record { game = g.G.Game.game v.rules.game; method = record { rule = v.rules.rule; weight = c.self.inside.search.weight; bound = v.rules.kind; budget = c.self.inside.search.budget }; start = v.start }) c.space-space.ensures.value
+    ∙ ap (λ s. s.problem) c.self.view_is in
     let run = subst (λ v. Run v.game v.start c.loop-next.made.items c.loop-next.position) (sym e)
     c.loop-next.invariant.1.3 in
-    run_keeps (g.G.Game.game sp.game) sp.start c.loop-next.position c.loop-next.made.items sp.fits run
+    run_keeps (g.G.Game.game sp.rules.game) sp.start c.loop-next.position c.loop-next.made.items sp.fits run
 
 pub follow-requires-clause-leads : goal.follow-requires-clause-leads
 follow-requires-clause-leads g c =
     let now = c.args.self.now in
     let sp = c.space-space.result.now in
-    let e : record { game = g.G.Game.game sp.game; rule = sp.rule; weight = c.self.inside.search.weight; bound = sp.bound; start = sp.start } ≡ now.question =
-    ap (λ v. record { game = g.G.Game.game v.game; rule = v.rule; weight = c.self.inside.search.weight; bound = v.bound; start = v.start }) c.space-space.ensures.value
-    ∙ ap (λ s. s.question) c.self.view_is in
+    let e : record { game = g.G.Game.game sp.rules.game; method = record { rule = sp.rules.rule; weight = c.self.inside.search.weight; bound = sp.rules.kind; budget = c.self.inside.search.budget }; start = sp.start } ≡ now.problem =
+    ap (λ v. record { game = g.G.Game.game v.rules.game; method = record { rule = v.rules.rule; weight = c.self.inside.search.weight; bound = v.rules.kind; budget = c.self.inside.search.budget }; start = v.start }) c.space-space.ensures.value
+    ∙ ap (λ s. s.problem) c.self.view_is in
     let pp = subst (λ v. IsPositionOf v.game v.start) e sp.fits in
     let at = c.loop-next.invariant.0 in
     let on = next_on now.store at c.in-Some.next c.args.number c.loop-next.way.items c.pop.new.self.items
@@ -62,22 +64,22 @@ follow-requires-clause-leads g c =
     let key = c.at.result.0.now in
     let mark = c.at.result.1 in
     let one = same_entry now.store c.in-Some.next on.0.0 key on.0.1 mark on.0.2 c.at.ensures.stands in
-    let leads = leads_on now.question.game now.question.rule now.question.weight now.question.bound now.question.start now.budget now.store pp
+    let leads = leads_on now.problem now.store pp
     c.requires.sound at c.in-Some.next c.loop-next.made.items c.loop-next.position key mark c.loop-next.invariant.1
     c.at.ensures.stands (sym (ap (λ m. m.parent) one.1) ∙ on.0.3) on.0.4 in
     let size : length c.loop-next.made.items ≡ c.len.result = search rules in (
       leads.1.0,
-      subst (λ v. LeadsWithin v.game v.rule c.loop-next.position key (mark.cost - c.len.result) leads.1.0) (sym e)
-          (subst (λ n. LeadsWithin now.question.game now.question.rule c.loop-next.position key (mark.cost - n) leads.1.0) size leads.1.1),
+      subst (λ v. LeadsWithin v.game v.method.rule c.loop-next.position key (mark.cost - c.len.result) leads.1.0) (sym e)
+          (subst (λ n. LeadsWithin now.problem.game now.problem.method.rule c.loop-next.position key (mark.cost - n) leads.1.0) size leads.1.1),
     )
 
 pub loop-next-preserved : goal.loop-next-preserved
 loop-next-preserved g c =
     let now = c.args.self.now in
     let sp = c.space-space.result.now in
-    let e : record { game = g.G.Game.game sp.game; rule = sp.rule; weight = c.self.inside.search.weight; bound = sp.bound; start = sp.start } ≡ now.question =
-    ap (λ v. record { game = g.G.Game.game v.game; rule = v.rule; weight = c.self.inside.search.weight; bound = v.bound; start = v.start }) c.space-space.ensures.value
-    ∙ ap (λ s. s.question) c.self.view_is in
+    let e : record { game = g.G.Game.game sp.rules.game; method = record { rule = sp.rules.rule; weight = c.self.inside.search.weight; bound = sp.rules.kind; budget = c.self.inside.search.budget }; start = sp.start } ≡ now.problem =
+    ap (λ v. record { game = g.G.Game.game v.rules.game; method = record { rule = v.rules.rule; weight = c.self.inside.search.weight; bound = v.rules.kind; budget = c.self.inside.search.budget }; start = v.start }) c.space-space.ensures.value
+    ∙ ap (λ s. s.problem) c.self.view_is in
     let pp = subst (λ v. IsPositionOf v.game v.start) e sp.fits in
     let at = c.loop-next.invariant.0 in
     let on = next_on now.store at c.in-Some.next c.args.number c.loop-next.way.items c.pop.new.self.items
@@ -85,7 +87,7 @@ loop-next-preserved g c =
     let key = c.at.result.0.now in
     let mark = c.at.result.1 in
     let one = same_entry now.store c.in-Some.next on.0.0 key on.0.1 mark on.0.2 c.at.ensures.stands in
-    let leads = leads_on now.question.game now.question.rule now.question.weight now.question.bound now.question.start now.budget now.store pp
+    let leads = leads_on now.problem now.store pp
     c.requires.sound at c.in-Some.next c.loop-next.made.items c.loop-next.position key mark c.loop-next.invariant.1
     c.at.ensures.stands (sym (ap (λ m. m.parent) one.1) ∙ on.0.3) on.0.4 in
     let size : length c.loop-next.made.items ≡ c.len.result = search rules in
@@ -93,10 +95,10 @@ loop-next-preserved g c =
     let run = subst (λ v. Run v.game c.loop-next.position led.0 c.follow.new.position) e led.2 in
     let few : length led.0 ≤ mark.cost - length c.loop-next.made.items = let le = led.3 in omega (arith, le, size) in
     let fits = subst (λ v. IsPositionOf v.game c.follow.new.position) e c.in_ok-follow.ensures.fits in
-    let there = walked_on now.question.game now.question.rule now.question.start now.budget now.store pp
+    let there = walked_on now.problem.game now.problem.method.rule now.problem.start now.problem.method.budget now.store pp
     at c.in-Some.next c.loop-next.made.items led.0 c.loop-next.position c.follow.new.position key mark c.loop-next.invariant.1
     c.at.ensures.stands leads.0 run few c.in_ok-follow.ensures.there fits in (
       c.in-Some.next,
-      subst (λ l. IsAtClass now.question.game now.store now.question.start c.in-Some.next l c.follow.new.position) (sym led.1) there,
+      subst (λ l. IsAtClass now.problem.game now.store now.problem.start c.in-Some.next l c.follow.new.position) (sym led.1) there,
       on.1,
     )

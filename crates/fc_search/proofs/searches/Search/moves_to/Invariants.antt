@@ -5,7 +5,7 @@ use Rattle.fc_search.proofs.searches.Search.moves_to.Given as goal
 -- the walk is at a class from which the rest of the way leads to the one that is sought
 abbrev pub invariant-loop-next : goal.invariant-loop-next
 invariant-loop-next g l = (at : ℕ)
-    × IsAtClass l.self.question.game l.self.store l.self.question.start at l.made.items l.position
+    × IsAtClass l.self.problem.game l.self.store l.self.problem.start at l.made.items l.position
     × IsWay l.self.store at (reverse l.way.items) l.number
 
 abbrev pub decreases-loop-next : goal.decreases-loop-next

@@ -9,6 +9,7 @@ use Rattle.fc_answers.specs.Table.{inside, pairs_of, HaveKeysOnce}
 use Rattle.fc_search.specs.Stored.{costs_of}
 use Rattle.fc_answers.proofs.RowLemmas.{inside_few, inside_once}
 use Rattle.fc_search.proofs.RowLemmas.{listed, passed_over, stored_once, looked, stored_long}
+use Rattle.fc_search.specs.Problem.{classes_of}
 use Rattle.fc_search.proofs.searches.Search.table_below.Goals as goal
 use Rattle.fc_search.proofs.searches.Search.table_below.Goals.{then-mark-from+in_ok-push, else-mark-from}
 
@@ -17,27 +18,27 @@ bound-bound-requires g c =
     let key = c.at.result.0.now in
     let cost = c.at.result.1.cost in
     let reached = c.requires.sound.reached c.loop-number.number key c.at.result.1 c.at.ensures.stands in
-    let inner = subst (λ s. Reached (classes (guide_of s.question.bound) s.question.game s.question.rule s.question.start) key cost)
+    let inner = subst (λ s. Reached (classes_of s.problem) key cost)
     (sym c.self.view_is) reached in
     record {
       reached = (
         cost,
-        subst (λ s. Reached (classes (guide_of s.bound) (g.G.Game.game s.game) s.rule s.start) key cost) (sym c.space-space.ensures.value) inner,
+        subst (λ s. Reached (classes (guide_of s.rules.kind) (g.G.Game.game s.rules.game) s.rules.rule s.start) key cost) (sym c.space-space.ensures.value) inner,
       );
     }
 
 pub loop-number-preserved : goal.loop-number-preserved
 loop-number-preserved g c =
-    let low = guide_of c.args.self.now.question.bound in
+    let low = guide_of c.args.self.now.problem.method.bound in
     let store = c.args.self.now.store in
     let number = c.loop-number.number in
     let key = c.at.result.0.now in
     let mark = c.at.result.1 in
-    let asked = ap (λ s. guide_of s.bound (spelled key)) c.space-space.ensures.value in
-    let same = ap (λ s. guide_of s.question.bound (spelled key)) c.self.view_is in
-    let told : c.from.result ≡ guide_of c.args.self.now.question.bound (spelled key) =
+    let asked = ap (λ s. guide_of s.rules.kind (spelled key)) c.space-space.ensures.value in
+    let same = ap (λ s. guide_of s.problem.method.bound (spelled key)) c.self.view_is in
+    let told : c.from.result ≡ guide_of c.args.self.now.problem.method.bound (spelled key) =
     c.from.ensures ∙ c.bound-bound.ensures.value ∙ asked ∙ same in
-    let sum : mark.cost + c.from.result ≡ mark.cost + guide_of c.args.self.now.question.bound (spelled key) = ap (λ b. mark.cost + b) told in
+    let sum : mark.cost + c.from.result ≡ mark.cost + guide_of c.args.self.now.problem.method.bound (spelled key) = ap (λ b. mark.cost + b) told in
     elim c.if-mark-from.branch [
       | then-mark-from+in_ok-push w ↦
           let row : Row = record { key = w.copied.result; cost = mark.cost } in
@@ -52,7 +53,7 @@ loop-number-preserved g c =
 
 pub sorted-requires-clause-few : goal.sorted-requires-clause-few
 sorted-requires-clause-few g c =
-    let low = guide_of c.args.self.now.question.bound in
+    let low = guide_of c.args.self.now.problem.method.bound in
     let store = c.args.self.now.store in
     let size = c.len-number-end.ensures.size in
     let past = subst (λ s. length s.store.stored ≤ c.loop-number.number) c.self.view_is
@@ -61,12 +62,12 @@ sorted-requires-clause-few g c =
     let few = inside_few low c.args.n (costs_of store) c.loop-number.rows.items same in
     let long = stored_long store in
     let room = c.requires.sound.room in
-    let most = c.requires.most in
+    let most = c.known.ensures.budget.greatest in
     omega (arith, few, long, room, most)
 
 pub sorted-requires-clause-once : goal.sorted-requires-clause-once
 sorted-requires-clause-once g c =
-    let low = guide_of c.args.self.now.question.bound in
+    let low = guide_of c.args.self.now.problem.method.bound in
     let store = c.args.self.now.store in
     let size = c.len-number-end.ensures.size in
     let past = subst (λ s. length s.store.stored ≤ c.loop-number.number) c.self.view_is
@@ -74,12 +75,12 @@ sorted-requires-clause-once g c =
     let same = c.loop-number.invariant ∙ ap (inside low c.args.n) (looked store c.loop-number.number past) in
     subst HaveKeysOnce (sym same)
     (inside_once low c.args.n (costs_of store)
-    (stored_once (classes (guide_of c.args.self.now.question.bound) c.args.self.now.question.game c.args.self.now.question.rule c.args.self.now.question.start)
-    c.args.self.now.question.weight c.args.self.now.budget store c.requires.sound))
+    (stored_once (classes_of c.args.self.now.problem)
+    c.args.self.now.problem.method.weight c.args.self.now.problem.method.budget store c.requires.sound))
 
 pub returns-clause-rows : goal.returns-clause-rows
 returns-clause-rows g c =
-    let low = guide_of c.args.self.now.question.bound in
+    let low = guide_of c.args.self.now.problem.method.bound in
     let store = c.args.self.now.store in
     let size = c.len-number-end.ensures.size in
     let past = subst (λ s. length s.store.stored ≤ c.loop-number.number) c.self.view_is

@@ -1,13 +1,12 @@
 use Rattle.std.proofs.Common.{◌≤◌, length, refl, sym, ◌∙◌, ap, subst, arith}
 use Rattle.std.specs.List.Sorted.{IsPermutation}
-use Rattle.fc_classes.specs.Classes.{classes}
 use Rattle.fc_answers.specs.declared.tables.Row.{Row}
 use Rattle.fc_answers.specs.Table.{at_no_cost, pairs_of, HaveKeysOnce}
 use Rattle.fc_search.specs.Stored.{costs_of}
 use Rattle.fc_answers.proofs.RowLemmas.{all_few, no_cost_once}
 use Rattle.fc_search.proofs.RowLemmas.{listed_free, stored_once, looked, stored_long}
+use Rattle.fc_search.specs.Problem.{classes_of}
 use Rattle.fc_search.proofs.searches.Search.table_of_all.Goals as goal
-use Rattle.fc_bound.specs.Kinds.{guide_of}
 
 pub loop-number-preserved : goal.loop-number-preserved
 loop-number-preserved g c =
@@ -26,7 +25,7 @@ sorted-requires-clause-few g c =
     let few = all_few (costs_of store) c.loop-number.rows.items same in
     let long = stored_long store in
     let room = c.requires.sound.room in
-    let most = c.requires.most in
+    let most = c.known.ensures.budget.greatest in
     omega (arith, few, long, room, most)
 
 pub sorted-requires-clause-once : goal.sorted-requires-clause-once
@@ -38,8 +37,8 @@ sorted-requires-clause-once g c =
     let same = c.loop-number.invariant ∙ ap at_no_cost (looked store c.loop-number.number past) in
     subst HaveKeysOnce (sym same)
     (no_cost_once (costs_of store)
-    (stored_once (classes (guide_of c.args.self.now.question.bound) c.args.self.now.question.game c.args.self.now.question.rule c.args.self.now.question.start)
-    c.args.self.now.question.weight c.args.self.now.budget store c.requires.sound))
+    (stored_once (classes_of c.args.self.now.problem)
+    c.args.self.now.problem.method.weight c.args.self.now.problem.method.budget store c.requires.sound))
 
 pub returns-clause-rows : goal.returns-clause-rows
 returns-clause-rows g c =

@@ -6,7 +6,7 @@ use Rattle.std.proofs.lemmas.List.Sorted.{length_permutation}
 use Rattle.fc_best_first.specs.declared.books.Mark.{Mark}
 use Rattle.fc_best_first.specs.declared.turns.Status.{Status}
 use Rattle.fc_best_first.specs.declared.turns.Status.TheVariants.{Running, Won, CannotWin, GaveUp, Stopped}
-use Rattle.fc_best_first.specs.declared.turns.TheConstants.{MOST_BUDGET}
+use Rattle.fc_best_first.specs.declared.limits.TheConstants.{MOST_BUDGET}
 use Rattle.fc_best_first.specs.declared.searches.Step.{Step}
 use Rattle.fc_best_first.specs.declared.searches.Step.TheVariants.{Running as running}
 use Rattle.fc_best_first.specs.declared.searches.SearchFault.{SearchFault}
@@ -15,33 +15,33 @@ use Rattle.fc_best_first.specs.Graph.{Graph, IsLawful}
 use Rattle.fc_best_first.specs.Store.{Store}
 use Rattle.fc_best_first.specs.Search.{Begins, FloorAfter, Turns, TurnsOn, reply_of}
 use Rattle.fc_best_first.specs.Turn.{work_left}
-use Rattle.fc_search.specs.Search.{Question, State, classes_of}
-use Rattle.fc_watch.specs.Watch.{Stage, TurnsMany, TurnsOnce, stage_of}
+use Rattle.fc_search.specs.Problem.{Problem, classes_of}
+use Rattle.fc_search.specs.Search.{State}
+use Rattle.fc_search.specs.Watch.{Stage, TurnsMany, TurnsOnce, stage_of}
 
-module _ (q : Question) (budget : ℕ) where
+module _ (q : Problem) where
   -- some turns, and then one more
-  pub turns_more : (made : ℕ) (old mid new : Stage) → TurnsMany made q budget old mid → TurnsOnce q budget mid new
-      → TurnsMany (made + 1) q budget old new
-  turns_more zero old mid new same one = (new, subst (λ s. TurnsOnce q budget s new) same one, refl)
+  pub turns_more : (made : ℕ) (old mid new : Stage) → TurnsMany made q old mid → TurnsOnce q mid new
+      → TurnsMany (made + 1) q old new
+  turns_more zero old mid new same one = (new, subst (λ s. TurnsOnce q s new) same one, refl)
   turns_more (suc made) old mid new (next, first, rest) one =
       let count : suc (made + 1) ≡ suc made + 1 = omega arith in
-      subst (λ n. TurnsMany n q budget old new) count (next, first, turns_more made next mid new rest one)
+      subst (λ n. TurnsMany n q old new) count (next, first, turns_more made next mid new rest one)
 
   -- turns with their floors are turns
-  pub turns_on : (made : ℕ) (old new : Stage) → TurnsMany made q budget old new
-      → TurnsOn made (classes_of q) q.weight budget old.status old.store new.store new.status
+  pub turns_on : (made : ℕ) (old new : Stage) → TurnsMany made q old new
+      → TurnsOn made (classes_of q) q.method.weight q.method.budget old.status old.store new.store new.status
   turns_on zero old new same = (ap (λ (s : Stage). s.store) same, ap (λ (s : Stage). s.status) same)
   turns_on (suc made) old new (mid, one, rest) = (mid.store, mid.status, one.reply, one.turn, turns_on made mid new rest)
 
-  -- a turn of a search that is still of the question and the budget with which it began
-  pub one_turn : (old new : State) (before : ℕ) (reply : Result Step SearchFault) → old.question ≡ q → old.budget ≡ budget
-      → Turns (classes_of old.question) old.question.weight old.budget old.status old.store new.store new.status reply
+  -- a turn of a search that is still of the problem with which it began
+  pub one_turn : (old new : State) (before : ℕ) (reply : Result Step SearchFault) → old.problem ≡ q
+      → Turns (classes_of old.problem) old.problem.method.weight old.problem.method.budget old.status old.store new.store new.status reply
       → FloorAfter old.status old.store.waiting old.floor new.floor
-      → TurnsOnce q budget (stage_of old before) (stage_of new (before + 1))
-  one_turn old new before reply asked budgeted turn floor = record {
+      → TurnsOnce q (stage_of old before) (stage_of new (before + 1))
+  one_turn old new before reply asked turn floor = record {
     reply = reply;
-    turn = subst (λ p. Turns (classes_of p) p.weight budget old.status old.store new.store new.status reply) asked
-        (subst (λ b. Turns (classes_of old.question) old.question.weight b old.status old.store new.store new.status reply) budgeted turn);
+    turn = subst (λ p. Turns (classes_of p) p.method.weight p.method.budget old.status old.store new.store new.status reply) asked turn;
     floor = floor;
     counted = refl;
   }
@@ -85,6 +85,12 @@ module _ {K : Type 0} (g : Graph K) (weight budget : ℕ) where
   -- a status that replies at all is not that of a search that was stopped
   pub replies_going : (status : Status K) (step : Step) → reply_of status ≡ Ok step → status ≡ Stopped → ⊥
   replies_going status step replied stopped = absurd (let e = sym (ap (λ (s : Status K). reply_of s) stopped) ∙ replied in cc)
+
+-- a turn that replied neither that there is more to do nor that the search is done stopped it
+pub ended_stopped : {K : Type 0} (reply : Result Step SearchFault) (status : Status K) → ((step : Step) → reply ≡ Ok step → ⊥)
+    → MatchResult reply (λ step. reply_of status ≡ Ok step) (λ f. (f ≡ Memory) × (status ≡ Stopped)) → status ≡ Stopped
+ended_stopped (Ok step) status other replied = absurd (other step refl)
+ended_stopped (Err f) status other replied = replied.1
 
 -- how much a search may do that has had no turn
 module _ {K : Type 0} (g : Graph K) (weight : ℕ) where

@@ -2,10 +2,10 @@
 use Rattle.std.proofs.Common.{◌≡◌, ◌≢◌, ℕ, ◌≤◌, List, [], ◌∷◌, ◌++◌, refl, subst}
 use Rattle.std.specs.Prelude.{max}
 use Rattle.fc_best_first.specs.Search.{Runs}
-use Rattle.fc_search.specs.Search.{Question, classes_of}
-use Rattle.fc_watch.specs.declared.listeners.Progress.{Progress}
-use Rattle.fc_watch.specs.Watch.{HearsAll, IsFar, IsHeard, Stage, TurnsMany}
-use Rattle.fc_watch.proofs.TurnLemmas.{turns_both, turns_on}
+use Rattle.fc_search.specs.Problem.{Problem, classes_of}
+use Rattle.fc_search.specs.declared.listeners.Progress.{Progress}
+use Rattle.fc_search.specs.Watch.{HearsAll, IsFar, IsHeard, Stage, TurnsMany}
+use Rattle.fc_search.proofs.TurnLemmas.{turns_both, turns_on}
 
 -- after some that were heard one more is
 pub hears_on : {L : Type 0} (hears : L → Progress → L → Type 0) (old mid new : L) (heard : List Progress) (far : Progress)
@@ -31,34 +31,34 @@ pub some_heard : (heard : List Progress) (far : Progress) → (heard ++ far ∷ 
 some_heard [] far e = cc
 some_heard (told ∷ later) far e = cc
 
-module _ (q : Question) (budget : ℕ) where
+module _ (q : Problem) where
   -- what was heard, and how far the search is some turns later
-  pub heard_on : (old mid new : Stage) (most made : ℕ) (heard : List Progress) (far : Progress) → IsHeard q budget old most heard mid
-      → 1 ≤ made → TurnsMany made q budget mid new → IsFar q budget new far → far.most_open ≡ max (most_of most heard) far.open
-      → IsHeard q budget old most (heard ++ far ∷ []) new
+  pub heard_on : (old mid new : Stage) (most made : ℕ) (heard : List Progress) (far : Progress) → IsHeard q old most heard mid
+      → 1 ≤ made → TurnsMany made q mid new → IsFar q new far → far.most_open ≡ max (most_of most heard) far.open
+      → IsHeard q old most (heard ++ far ∷ []) new
   unfolding most_of
   heard_on old mid new most made [] far same some turned is greatest =
-      (new, made, some, subst (λ s. TurnsMany made q budget s new) same turned, is, greatest, refl)
+      (new, made, some, subst (λ s. TurnsMany made q s new) same turned, is, greatest, refl)
   heard_on old mid new most made (told ∷ later) far (next, by, some_by, first, is_told, most_told, rest) some turned is greatest =
       (next, by, some_by, first, is_told, most_told, heard_on next mid new told.most_open made later far rest some turned is greatest)
 
   -- a search that was heard ran
-  pub heard_runs : (old new : Stage) (most : ℕ) (heard : List Progress) → IsHeard q budget old most heard new
-      → Runs (classes_of q) q.weight budget old.status old.store new.store new.status
-  heard_runs old new most [] same = (0, turns_on q budget 0 old new same)
+  pub heard_runs : (old new : Stage) (most : ℕ) (heard : List Progress) → IsHeard q old most heard new
+      → Runs (classes_of q) q.method.weight q.method.budget old.status old.store new.store new.status
+  heard_runs old new most [] same = (0, turns_on q 0 old new same)
   heard_runs old new most (far ∷ later) (mid, made, some, turned, is, greatest, rest) =
       let (more, ran) = heard_runs mid new far.most_open later rest in (
         _,
-        turns_both (classes_of q) q.weight budget made more old.status mid.status new.status old.store mid.store new.store
-            (turns_on q budget made old mid turned) ran,
+        turns_both (classes_of q) q.method.weight q.method.budget made more old.status mid.status new.status old.store mid.store new.store
+            (turns_on q made old mid turned) ran,
       )
 
   -- and so did one that was stopped then
-  pub stopped_runs : (old mid new : Stage) (most made : ℕ) (heard : List Progress) → IsHeard q budget old most heard mid
-      → TurnsMany made q budget mid new → Runs (classes_of q) q.weight budget old.status old.store new.store new.status
+  pub stopped_runs : (old mid new : Stage) (most made : ℕ) (heard : List Progress) → IsHeard q old most heard mid
+      → TurnsMany made q mid new → Runs (classes_of q) q.method.weight q.method.budget old.status old.store new.store new.status
   stopped_runs old mid new most made heard told turned =
       let (before, ran) = heard_runs old mid most heard told in (
         _,
-        turns_both (classes_of q) q.weight budget before made old.status mid.status new.status old.store mid.store new.store
-            ran (turns_on q budget made mid new turned),
+        turns_both (classes_of q) q.method.weight q.method.budget before made old.status mid.status new.status old.store mid.store new.store
+            ran (turns_on q made mid new turned),
       )

@@ -20,7 +20,7 @@ pub struct Progress {
 
 /// Who hears how far a search is.
 pub trait Listener {
-    ghost use Rattle.fc_watch.specs.declared.listeners.Progress.{Progress};
+    ghost use Rattle.fc_search.specs.declared.listeners.Progress.{Progress};
 
     /// What hearing it does to the listener.
     ghost hears: { Self → Progress → Self → Type 0 };

@@ -1,0 +1,34 @@
+use Rattle.std.proofs.Common.{[], refl, subst, inl, inr}
+use Rattle.std.proofs.lemmas.Result.{err_from_is_err_and}
+use Rattle.fc_best_first.specs.declared.turns.Status.TheVariants.{Running}
+use Rattle.fc_best_first.specs.Search.{Begins, Runs}
+use Rattle.fc_search.specs.Problem.{classes_of}
+use Rattle.fc_search.specs.Watch.{IsHeardInPart, IsHeardOn}
+use Rattle.fc_search.proofs.solving.at_end.Goals as goal
+
+pub returns-clause-ran : goal.returns-clause-ran
+returns-clause-ran g c =
+    let search = c.in_ok-search.search in
+    let e = c.in_ok-search.ensures in
+    let last = c.watch.new.search in
+    record {
+      first = search.store;
+      begins = subst (λ q. Begins (classes_of q) q.method.weight search.store) e.problem e.begins;
+      runs = subst (λ q. Runs (classes_of q) q.method.weight q.method.budget Running search.store last.store last.status) e.problem c.watch.ensures.runs;
+    }
+
+pub returns-clause-heard : goal.returns-clause-heard
+returns-clause-heard g c =
+    let (heard, hears, is) = c.in_ok-watch.ensures.heard in
+    (heard, hears, subst (λ q. IsHeardOn q heard c.watch.new.search) c.in_ok-search.ensures.problem is)
+
+pub returns-in_err-search-clause-heard : goal.returns-in_err-search-clause-heard
+returns-in_err-search-clause-heard g c =
+    let p = err_from_is_err_and c.from_residual.result c.from_residual.ensures.1 in
+    ([], refl, rw p.1 (inl refl))
+
+pub returns-in_err-watch-clause-heard : goal.returns-in_err-watch-clause-heard
+returns-in_err-watch-clause-heard g c =
+    let p = err_from_is_err_and c.from_residual-in_err-watch.result c.from_residual-in_err-watch.ensures.1 in
+    let (heard, hears, part) = c.in_err-watch.ensures.heard in
+    (heard, hears, rw p.1 (inr (subst (λ q. IsHeardInPart q heard) c.in_ok-search.ensures.problem part)))

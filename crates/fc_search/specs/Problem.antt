@@ -1,0 +1,27 @@
+-- What is searched: a position of a game, and how.
+use Rattle.std.specs.Prelude.{ℕ, List}
+use Rattle.fc_position.specs.Board.{Board}
+use Rattle.fc_moves.specs.GameRules.{GameRules}
+use Rattle.fc_bound.specs.Kinds.{guide_of}
+use Rattle.fc_best_first.specs.Graph.{Graph}
+use Rattle.fc_classes.specs.Classes.{classes}
+use Rattle.fc_methods.specs.declared.methods.Method.{Method}
+use Rattle.fc_methods.specs.Method.{Asked, as_written}
+
+-- a problem: by how few moves of the game a list wins from the start, and the method by which that is searched
+pub record Problem : Type 0 where
+  pub game : GameRules
+  pub method : Method
+  pub start : Board
+
+-- the problem of a question and a start
+abbrev pub problem_of : Asked → Board → Problem
+problem_of q b = record { game = q.game; method = q.method; start = b }
+
+-- the problem of a shortest list, searched by the plain bound under a home rule and within a budget
+abbrev pub shortest_from : GameRules → ℕ → Board → ℕ → Problem
+shortest_from g rule b budget = record { game = g; method = as_written rule budget; start = b }
+
+-- the graph of classes in which it is searched, whatever the weight and the budget
+abbrev pub classes_of : Problem → Graph (List ℕ)
+classes_of p = classes (guide_of p.method.bound) p.game p.method.rule p.start

@@ -1,0 +1,118 @@
+//! Searches that run to their end.
+
+ghost use Rattle.std.specs.Prelude.{◌≡◌, ◌≤◌, List, IfOk, IfErr, OnOk, MatchResult};
+ghost use Rattle.fc_position.specs.Position.{Fits};
+ghost use Rattle.fc_best_first.specs.Limits.{IsBudget};
+ghost use Rattle.fc_best_first.specs.Search.{reply_of};
+ghost use Rattle.fc_answers.specs.Verdict.{verdict_of};
+ghost use Rattle.fc_search.specs.declared.listeners.Progress.{Progress};
+ghost use Rattle.fc_search.specs.Problem.{problem_of, shortest_from};
+ghost use Rattle.fc_search.specs.Search.{Answers, IsOneOfThree, IsRefused, IsVerdict, IsRunToEnd, HasRun};
+ghost use Rattle.fc_search.specs.Watch.{HearsAll, IsHeardAtMost, IsHeardOn, IsHeardToEnd};
+
+use crate::listeners::{Listener, Unheard};
+use crate::searches::{Search, shortest};
+use crate::watches::watch;
+use fc_answers::{Answer, Verdict};
+use fc_best_first::{SearchFault, Step};
+use fc_frontier::BucketFrontier;
+use fc_home::GREATEST_RULE;
+use fc_methods::Question;
+use fc_moves::Game;
+use fc_position::Position;
+use std::alloc::{AllocError, Global};
+
+/// The answer for a position that fits the game, under a home rule of at most 2, of a search that runs to its end with a
+/// budget of 1 to 4,000,000 stored classes: a shortest list, or that none wins, or that the search gave up, which it does
+/// only where one more class must be stored.
+///
+/// # Errors
+/// `Budget` outside that range, before any memory is asked for; `Memory` where a growth was refused.
+pub fn solve<G: Game + Drop>(
+    alloc: Global,
+    game: &G,
+    rule: u8,
+    position: &Position,
+    budget: u32,
+) -> Result<Answer, SearchFault>
+    requires rule { rule ≤ GREATEST_RULE }
+    requires fits { Fits (G.game game.now).cells position.now }
+    ensures three { IfOk result (λ answer. IsOneOfThree (G.game game.now) position.now budget (verdict_of answer)) }
+    ensures answers { IfOk result (Answers (shortest_from (G.game game.now) rule position.now budget)) }
+    ensures ran { IfOk result (λ answer. IsRunToEnd (shortest_from (G.game game.now) rule position.now budget) (verdict_of answer)) }
+    ensures range { OnOk result (IsBudget budget) }
+    ensures fault { IfErr result (IsRefused budget) }
+{
+    let question = shortest(game, rule, budget)?;
+    match solve_by(alloc, &question, position, &mut Unheard) {
+        Ok(answer) => Ok(answer),
+        Err(_) => Err(SearchFault::Memory),
+    }
+}
+
+/// The answer of a question for a position that fits its game, of a search that runs to its end. The listener hears how far
+/// the search is after each stretch of turns, and once when it ends, also where memory ends it.
+///
+/// # Errors
+/// A growth was refused.
+pub fn solve_by<G: Game + Drop, L: Listener>(
+    alloc: Global,
+    question: &Question<G>,
+    position: &Position,
+    listener: &mut L,
+) -> Result<Answer, AllocError>
+    requires fits { Fits question.now.game.cells position.now }
+    ensures answers { IfOk result (Answers (problem_of question.now position.now)) }
+    ensures ran { IfOk result (λ answer. IsRunToEnd (problem_of question.now position.now) (verdict_of answer)) }
+    ensures heard { (heard : List Progress) × HearsAll L.hears listener.old heard listener.new
+        × MatchResult result (λ answer. IsHeardToEnd (problem_of question.now position.now) heard (verdict_of answer))
+        (λ refused. IsHeardAtMost (problem_of question.now position.now) heard) }
+{
+    match at_end(alloc, question, position, listener)?.answer() {
+        Ok(answer) => Ok(answer),
+        Err(_) => Err(AllocError),
+    }
+}
+
+/// The verdict of such a search, as `solve_by` gives its answer, with no table made. It is heard as that of `solve_by` is.
+///
+/// # Errors
+/// A growth was refused.
+pub fn decide_by<G: Game + Drop, L: Listener>(
+    alloc: Global,
+    question: &Question<G>,
+    position: &Position,
+    listener: &mut L,
+) -> Result<Verdict, AllocError>
+    requires fits { Fits question.now.game.cells position.now }
+    ensures told { IfOk result (IsVerdict (problem_of question.now position.now)) }
+    ensures ran { IfOk result (IsRunToEnd (problem_of question.now position.now)) }
+    ensures heard { (heard : List Progress) × HearsAll L.hears listener.old heard listener.new
+        × MatchResult result (IsHeardToEnd (problem_of question.now position.now) heard)
+        (λ refused. IsHeardAtMost (problem_of question.now position.now) heard) }
+{
+    match at_end(alloc, question, position, listener)?.verdict() {
+        Ok(verdict) => Ok(verdict),
+        Err(_) => Err(AllocError),
+    }
+}
+
+// Such a search, which has run to its end.
+fn at_end<G: Game + Drop, L: Listener>(
+    alloc: Global,
+    question: &Question<G>,
+    position: &Position,
+    listener: &mut L,
+) -> Result<Search<BucketFrontier, G>, AllocError>
+    requires fits { Fits question.now.game.cells position.now }
+    ensures problem { IfOk result (λ search. search.problem ≡ problem_of question.now position.now) }
+    ensures ran { IfOk result (λ search. HasRun (problem_of question.now position.now) search.store search.status) }
+    ensures done { IfOk result (λ search. reply_of search.status ≡ Ok Step.Done) }
+    ensures heard { (heard : List Progress) × HearsAll L.hears listener.old heard listener.new
+        × MatchResult result (IsHeardOn (problem_of question.now position.now) heard)
+        (λ refused. IsHeardAtMost (problem_of question.now position.now) heard) }
+{
+    let mut search: Search<BucketFrontier, G> = Search::new_by(alloc, question, position)?;
+    watch(&mut search, listener)?;
+    Ok(search)
+}

@@ -1,4 +1,0 @@
-pub mod EndLemmas
-pub mod FarLemmas
-pub mod HearLemmas
-pub mod TurnLemmas
