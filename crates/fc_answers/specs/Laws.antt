@@ -1,8 +1,11 @@
 -- What the laws of this crate state.
-use Rattle.std.specs.Prelude.{ℕ, List, AllPairs}
+use Rattle.std.specs.Prelude.{◌≡◌, ◌↔◌, ℕ, List, None, AllPairs}
+use Rattle.fc_position.specs.Board.{Board}
 use Rattle.fc_moves.specs.GameRules.{GameRules}
 use Rattle.fc_canonical.specs.Class.{SameClass}
 use Rattle.fc_canonical.specs.Spelled.{spelled}
+use Rattle.fc_answers.specs.declared.answers.Answer.{Answer}
+use Rattle.fc_answers.specs.Answer.{HasGivenUp, IsBacked}
 use Rattle.fc_answers.specs.Table.{AreClasses, HaveKeysOnce, IsRising}
 
 -- no two of the rows' keys spell boards of one class, where the rows rise and are of classes of the game
@@ -13,3 +16,8 @@ RisingRowsListClassesOnce = (g : GameRules) (rows : List (List ℕ × ℕ)) → 
 -- rising rows have no key twice
 abbrev pub RisingRowsHaveKeysOnce : Type 0
 RisingRowsHaveKeysOnce = (rows : List (List ℕ × ℕ)) → IsRising rows → HaveKeysOnce rows
+
+-- only giving up is uncertified: a backed answer has no table exactly where its verdict gave up
+abbrev pub OnlyGivingUpIsUncertified : Type 0
+OnlyGivingUpIsUncertified = (g : GameRules) (b : Board) (answer : Answer) → IsBacked g b answer
+    → (answer.table ≡ None) ↔ HasGivenUp answer.verdict

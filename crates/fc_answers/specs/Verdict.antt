@@ -6,19 +6,10 @@ use Rattle.fc_moves.specs.GameRules.{GameRules}
 use Rattle.fc_moves.specs.MoveText.{HasText}
 use Rattle.fc_moves.specs.Run.{Wins, IsShortest, CannotWin, ReachesMore}
 use Rattle.fc_answers.specs.declared.answers.TheConstants.{MOST_MOVES}
-use Rattle.fc_answers.specs.declared.answers.Answer.{Answer}
-use Rattle.fc_answers.specs.declared.answers.Answer.TheVariants as answer
 use Rattle.fc_answers.specs.declared.answers.Outcome.{Outcome}
 use Rattle.fc_answers.specs.declared.answers.Outcome.TheVariants as outcome
 use Rattle.fc_answers.specs.declared.answers.Verdict.{Verdict}
 use Rattle.fc_answers.specs.declared.answers.Verdict.TheVariants.{Shortest, Won, CannotWin as cannot_win, GaveUp}
-
--- the verdict of an answer: all but its table
-abbrev pub verdict_of : Answer → Verdict
-verdict_of (answer.Shortest moves table) = Shortest moves
-verdict_of (answer.Won moves floor table) = Won moves floor
-verdict_of (answer.CannotWin table) = cannot_win
-verdict_of (answer.GaveUp told) = GaveUp told
 
 -- what is told of a verdict without its moves: how many there are, and the floor
 abbrev pub outcome_of : Verdict → Outcome

@@ -7,28 +7,23 @@ use std::marker::Model;
 /// The most moves of a list that is answered: a move and 52 home moves for each class that a table may list.
 pub const MOST_MOVES: u32 = 53 * MOST_CLASSES;
 
-/// What is answered of a position and a budget.
+/// What is answered of a position and a budget: a verdict, and the classes that back it.
 #[derive(Drop)]
-pub enum Answer {
-    /// Moves that win, no list of moves that wins being shorter, and the classes that show it.
-    Shortest(MoveList, Table),
-    /// Moves that win, no more than the weight of the search times a shortest list; and a number of moves that no list that
-    /// wins is below, and the classes that show it.
-    Won(MoveList, u32, Table),
-    /// No list of moves wins; the classes show it.
-    CannotWin(Table),
-    /// More positions than the budget, which is told, can be reached.
-    GaveUp(u32),
+pub struct Answer {
+    /// What is told of the position and the budget.
+    pub verdict: Verdict,
+    /// The classes that show that no list of moves is shorter, or below the floor, or that none wins. Giving up has none.
+    pub table: Option<Table>,
 }
 
-/// An answer without its table.
+/// What is told of a position and a budget.
 #[derive(Drop)]
 pub enum Verdict {
     /// Moves that win, no list of moves that wins being shorter.
     Shortest(MoveList),
     /// Moves that win, no more than the weight of the search times a shortest list; and a number of moves that no list that
     /// wins is below.
-    Won(MoveList, u32),
+    Won { moves: MoveList, floor: u32 },
     /// No list of moves wins.
     CannotWin,
     /// More positions than the budget, which is told, can be reached.
@@ -42,7 +37,7 @@ pub enum Outcome {
     Shortest(u32),
     /// So many moves win, no more than the weight of the search times a shortest list; and a number of moves that no list that
     /// wins is below.
-    Won(u32, u32),
+    Won { moves: u32, floor: u32 },
     /// No list of moves wins.
     CannotWin,
     /// More positions than the budget, which is told, can be reached.

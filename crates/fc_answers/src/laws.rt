@@ -1,6 +1,6 @@
 //! Laws of the definitions, each the contract of a function that does nothing.
 
-ghost use Rattle.fc_answers.specs.Laws.{RisingRowsListClassesOnce, RisingRowsHaveKeysOnce};
+ghost use Rattle.fc_answers.specs.Laws.{OnlyGivingUpIsUncertified, RisingRowsListClassesOnce, RisingRowsHaveKeysOnce};
 
 /// Rising rows of keys of the game list no class twice: no two of their keys spell boards of one class.
 pub fn rising_rows_list_classes_once()
@@ -10,4 +10,9 @@ pub fn rising_rows_list_classes_once()
 /// Rising rows have no key twice.
 pub fn rising_rows_have_keys_once()
     ensures { RisingRowsHaveKeysOnce }
+{}
+
+/// Only giving up is uncertified: a backed answer has no table exactly where its verdict gave up.
+pub fn only_giving_up_is_uncertified()
+    ensures { OnlyGivingUpIsUncertified }
 {}

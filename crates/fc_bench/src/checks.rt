@@ -78,7 +78,9 @@ fn tell_claim(rt: &HostRuntime, checked: Result<Claim, CheckFault>) -> io::Resul
     match checked {
         Ok(Claim::Shortest(moves)) => println!(rt; "accepted: shortest {moves}"),
         Ok(Claim::CannotWin) => println!(rt; "accepted: can't be won"),
-        Ok(Claim::Between(floor, moves)) => println!(rt; "accepted: won {moves}, at least {floor}"),
+        Ok(Claim::Between { floor, moves }) => println!(rt;
+            "accepted: won {moves}, at least {floor}"
+        ),
         Err(fault) => println!(rt; "certificate refused: {fault}"),
     }
 }

@@ -1,6 +1,6 @@
 -- What certificates claim is true, and backed answers have certificates.
 use Rattle.std.proofs.Common.{◌≡◌, ℕ, ◌^◌, ◌<◌, ◌≤◌, List, [], length, refl, sym, subst, arith}
-use Rattle.std.specs.Prelude.{All, Contains}
+use Rattle.std.specs.Prelude.{All, Contains, Option, Some, None, MatchOption}
 use Rattle.fc_position.specs.Board.{Board}
 use Rattle.fc_moves.specs.declared.steps.Move.{Move}
 use Rattle.fc_moves.specs.GameLaws.{All-from_members}
@@ -16,15 +16,16 @@ use Rattle.fc_tables.proofs.BoundLemmas.{bounds_lower}
 use Rattle.fc_tables.proofs.TableLemmas.{below_long, closed_never}
 use Rattle.fc_tables.specs.Table.{IsClosedBelow, as_boards}
 use Rattle.fc_answers.specs.declared.answers.Answer.{Answer}
-use Rattle.fc_answers.specs.declared.answers.Answer.TheVariants as answer
-use Rattle.fc_answers.specs.Answer.{IsBacked}
+use Rattle.fc_answers.specs.declared.answers.Verdict.{Verdict}
+use Rattle.fc_answers.specs.declared.answers.Verdict.TheVariants as verdict
+use Rattle.fc_answers.specs.Answer.{IsBacked, IsBackedBy, HasGivenUp}
 use Rattle.fc_answers.specs.Table.{Listing, IsTable}
-use Rattle.fc_answers.specs.Verdict.{verdict_of, CanBeWritten}
+use Rattle.fc_answers.specs.Verdict.{CanBeWritten}
 use Rattle.fc_cert.specs.declared.claims.Claim.{Claim}
 use Rattle.fc_cert.specs.declared.claims.Claim.TheVariants as claim
 use Rattle.fc_cert.specs.declared.contents.Kind.{Kind}
 use Rattle.fc_cert.specs.declared.contents.Kind.TheVariants as kind
-use Rattle.fc_cert.specs.Claim.{Shows, IsTrueOf, IsWrittenAs, Claims, HasWinningMoves, written_form}
+use Rattle.fc_cert.specs.Claim.{Shows, IsTrueOf, IsWrittenAs, IsWrittenWith, Claims, HasWinningMoves, written_form}
 use Rattle.fc_cert.specs.Content.{Content, IsContent, IsRecord, IsSpelled, MayName, MayBind, MayClaim, MayFloor, MayCost, MayList, bytes_of}
 use Rattle.fc_cert.specs.Laws.{CertificatesAreTrue, BackedAnswersAreCertified}
 use Rattle.fc_cert.proofs.WritingLemmas.{content}
@@ -107,18 +108,18 @@ has_bytes g claimed floor moves table game listed may_floor may_list may_cost = 
 abbrev IsShowing : GameRules → Board → Claim → Content → Type 0
 IsShowing g b claimed c = IsContent c × (c.head.game ≡ g.code) × (c.head.cells ≡ g.cells) × Shows g b c claimed
 
--- so is the content that a backed answer is written as
-written_shows : (g : GameRules) (b : Board) (answered : Answer) (c : Content) (claimed : Claim) → IsGame g → IsPositionOf g b
-    → IsBacked g b answered → HasWinningMoves g b answered → CanBeWritten (verdict_of answered) → IsWrittenAs g answered c
-    → Claims answered claimed → IsShowing g b claimed c
-written_shows g b (answer.Shortest moves table) c claimed game position backed wins can same claims =
+-- so is the content that a verdict is written as, by a table that backs it
+shows_by : (g : GameRules) (b : Board) (told : Verdict) (table : Listing) (c : Content) (claimed : Claim) → IsGame g → IsPositionOf g b
+    → IsBackedBy g b told table → HasWinningMoves g b told → CanBeWritten told → IsWrittenWith g table told c
+    → Claims told claimed → IsShowing g b claimed c
+shows_by g b (verdict.Shortest moves) table c claimed game position backed wins can same claims =
     let told : Content = content g table kind.Shortest 0 moves in
     let few : length moves < 2 ^ 32 = can.1 in
     let has : IsContent told = has_bytes g kind.Shortest 0 moves table game backed.listed refl (few, can.0)
     (λ e there. omega (arith, backed.below e there, few)) in
     subst (IsShowing g b claimed) (sym same)
     (subst (λ said. IsShowing g b said told) (sym claims) (has, refl, refl, (refl, refl, wins, backed.closed)))
-written_shows g b (answer.Won moves floor table) c claimed game position backed wins can same claims =
+shows_by g b (verdict.Won moves floor) table c claimed game position backed wins can same claims =
     let told : Content = content g table kind.Between floor moves in
     let few : length moves < 2 ^ 32 = can.1 in
     let least : floor ≤ length moves = none_shorter g b told floor moves position backed.closed wins in
@@ -126,17 +127,31 @@ written_shows g b (answer.Won moves floor table) c claimed game position backed 
     (λ e there. omega (arith, backed.below e there, few, least)) in
     subst (IsShowing g b claimed) (sym same)
     (subst (λ said. IsShowing g b said told) (sym claims) (has, refl, refl, (refl, refl, refl, wins, backed.closed)))
-written_shows g b (answer.CannotWin table) c claimed game position backed wins can same claims =
+shows_by g b verdict.CannotWin table c claimed game position backed wins can same claims =
     let told : Content = content g table kind.CannotWin 0 [] in
     let has : IsContent told = has_bytes g kind.CannotWin 0 [] table game backed.listed refl refl backed.free in
     subst (IsShowing g b claimed) (sym same)
     (subst (λ said. IsShowing g b said told) (sym claims) (has, refl, refl, (refl, backed.closed)))
-written_shows g b (answer.GaveUp told) c claimed game position backed wins can same claims = absurd same
+shows_by g b (verdict.GaveUp told) table c claimed game position backed wins can same claims = absurd same
+
+-- and the one that a backed answer is written as
+shows_with : (g : GameRules) (b : Board) (told : Verdict) (backing : Option Listing) (c : Content) (claimed : Claim) → IsGame g
+    → IsPositionOf g b → MatchOption backing (HasGivenUp told) (IsBackedBy g b told) → HasWinningMoves g b told → CanBeWritten told
+    → MatchOption backing ⊥ (λ table. IsWrittenWith g table told c) → Claims told claimed → IsShowing g b claimed c
+shows_with g b told (Some table) c claimed game position backed wins can same claims =
+    shows_by g b told table c claimed game position backed wins can same claims
+shows_with g b told None c claimed game position backed wins can same claims = absurd same
+
+written_shows : (g : GameRules) (b : Board) (answered : Answer) (c : Content) (claimed : Claim) → IsGame g → IsPositionOf g b
+    → IsBacked g b answered → HasWinningMoves g b answered.verdict → CanBeWritten answered.verdict → IsWrittenAs g answered c
+    → Claims answered.verdict claimed → IsShowing g b claimed c
+written_shows g b answered c claimed game position backed wins can same claims =
+    shows_with g b answered.verdict answered.table c claimed game position backed wins can same claims
 
 -- its bytes are a certificate with it
 pub backed_spelled : (g : GameRules) (b : Board) (answered : Answer) (c : Content) (claimed : Claim) → IsGame g → IsPositionOf g b
-    → IsBacked g b answered → HasWinningMoves g b answered → CanBeWritten (verdict_of answered) → IsWrittenAs g answered c
-    → Claims answered claimed → IsSpelled (bytes_of c) c
+    → IsBacked g b answered → HasWinningMoves g b answered.verdict → CanBeWritten answered.verdict → IsWrittenAs g answered c
+    → Claims answered.verdict claimed → IsSpelled (bytes_of c) c
 backed_spelled g b answered c claimed game position backed wins can same claims =
     record { content = (written_shows g b answered c claimed game position backed wins can same claims).0; written = refl }
 

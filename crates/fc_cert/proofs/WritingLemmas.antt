@@ -1,6 +1,6 @@
 -- Bytes that are written piece by piece.
 use Rattle.std.proofs.Common.{◌≡◌, ℕ, ◌+◌, ◌<◌, ◌≤◌, Bool, true, false, List, [], ◌∷◌, ◌++◌, length, get_or, take, drop, Option, refl, sym, ◌∙◌, ap, subst, append_assoc, append-nil, take-append-drop}
-use Rattle.std.specs.Prelude.{Result, Ok, Err, OnOk, IsTrue, IsErr, IsErrAnd, ◌↔◌, Some, slice_get}
+use Rattle.std.specs.Prelude.{Result, Ok, Err, OnOk, IsTrue, IsErr, IsErrAnd, ◌↔◌, Some, MatchOption, slice_get}
 use Rattle.std.specs.List.{flat_map}
 use Rattle.std.proofs.lemmas.List.{take_more, take_all}
 use Rattle.std.proofs.lemmas.List.Concat.{flat_map-append}
@@ -11,7 +11,8 @@ use Rattle.fc_io.proofs.MoveLemmas.{Takes-both, takes_then_front, sound_at_ok}
 use Rattle.fc_moves.specs.declared.steps.Move.{Move}
 use Rattle.fc_moves.specs.GameRules.{GameRules}
 use Rattle.fc_answers.specs.declared.answers.Answer.{Answer}
-use Rattle.fc_answers.specs.declared.answers.Answer.TheVariants as answer
+use Rattle.fc_answers.specs.declared.answers.Verdict.{Verdict}
+use Rattle.fc_answers.specs.declared.answers.Verdict.TheVariants as verdict
 use Rattle.fc_answers.specs.Table.{Listing}
 use Rattle.fc_cert.specs.declared.contents.Form.{Form}
 use Rattle.fc_cert.specs.declared.contents.Form.TheVariants.{Third}
@@ -20,7 +21,7 @@ use Rattle.fc_cert.specs.declared.contents.Kind.{Kind}
 use Rattle.fc_cert.specs.declared.contents.Kind.TheVariants as kind
 use Rattle.fc_cert.specs.declared.faults.CertFault.{CertFault}
 use Rattle.fc_cert.specs.declared.faults.CertFault.TheVariants.{Write}
-use Rattle.fc_cert.specs.Claim.{IsWrittenAs, written_form, written_head}
+use Rattle.fc_cert.specs.Claim.{IsWrittenAs, IsWrittenWith, written_form, written_head}
 use Rattle.fc_cert.specs.Content.{Content, magic, bound_byte, kind_byte, floor_bytes, head_bytes, bytes_of}
 use Rattle.fc_cert.specs.Writing.{SinkState, TakesWhole, IsCutShort, Gathers, Writes, WritesAnswer}
 
@@ -208,23 +209,33 @@ third_ends {a} {b} {piece} c g table claimed floor third same whole (Ok done) la
 third_ends {a} {b} {piece} c g table claimed floor third same whole (Err failed) last =
     subst (IsCutShort a c) (third_written g table claimed floor third) (cut_later (subst (TakesWhole a b) same whole) last)
 
+-- what a verdict is written as with a table is what an answer of the two is
+answer_written : (g : GameRules) (answered : Answer) (said : Verdict) (table : Listing) (c : Content) → answered.table ≡ Some table
+    → answered.verdict ≡ said → IsWrittenWith g table said c → IsWrittenAs g answered c
+answer_written g answered said table c has is written =
+    subst (λ (backing : Option Listing). MatchOption backing ⊥ (λ t. IsWrittenWith g t answered.verdict c)) (sym has)
+    (subst (λ v. IsWrittenWith g table v c) (sym is) written)
+
 -- the content of an answer of moves, by the moves that are read of it
-pub shortest_written : (g : GameRules) (answered : Answer) (moves told : List Move) (table : Listing)
-    → answered ≡ answer.Shortest moves table → told ≡ moves → IsWrittenAs g answered (content g table kind.Shortest 0 told)
-shortest_written g answered moves told table is moves_are =
-    subst (λ a. IsWrittenAs g a (content g table kind.Shortest 0 told)) (sym is) (ap (content g table kind.Shortest 0) moves_are)
+pub shortest_written : (g : GameRules) (answered : Answer) (moves told : List Move) (table : Listing) → answered.table ≡ Some table
+    → answered.verdict ≡ verdict.Shortest moves → told ≡ moves → IsWrittenAs g answered (content g table kind.Shortest 0 told)
+shortest_written g answered moves told table has is moves_are =
+    answer_written g answered (verdict.Shortest moves) table (content g table kind.Shortest 0 told) has is
+    (ap (content g table kind.Shortest 0) moves_are)
 
 -- and of one of moves and a floor
 pub won_written : (g : GameRules) (answered : Answer) (moves told : List Move) (floor : ℕ) (table : Listing)
-    → answered ≡ answer.Won moves floor table → told ≡ moves → IsWrittenAs g answered (content g table kind.Between floor told)
-won_written g answered moves told floor table is moves_are =
-    subst (λ a. IsWrittenAs g a (content g table kind.Between floor told)) (sym is) (ap (content g table kind.Between floor) moves_are)
+    → answered.table ≡ Some table → answered.verdict ≡ verdict.Won moves floor → told ≡ moves
+    → IsWrittenAs g answered (content g table kind.Between floor told)
+won_written g answered moves told floor table has is moves_are =
+    answer_written g answered (verdict.Won moves floor) table (content g table kind.Between floor told) has is
+    (ap (content g table kind.Between floor) moves_are)
 
 -- and of one that no list wins
-pub cannot_win_written : (g : GameRules) (answered : Answer) (table : Listing) → answered ≡ answer.CannotWin table
-    → IsWrittenAs g answered (content g table kind.CannotWin 0 [])
-cannot_win_written g answered table is =
-    subst (λ a. IsWrittenAs g a (content g table kind.CannotWin 0 [])) (sym is) refl
+pub cannot_win_written : (g : GameRules) (answered : Answer) (table : Listing) → answered.table ≡ Some table
+    → answered.verdict ≡ verdict.CannotWin → IsWrittenAs g answered (content g table kind.CannotWin 0 [])
+cannot_win_written g answered table has is =
+    answer_written g answered verdict.CannotWin table (content g table kind.CannotWin 0 []) has is refl
 
 -- where the sink failed, `Write` is told
 pub answer_cut : (g : GameRules) (answered : Answer) (old new : SinkState) (c : Content) (told : Result (Unit {0}) CertFault)

@@ -1,5 +1,5 @@
 -- What certificates claim, and which of them prove it.
-use Rattle.std.specs.Prelude.{◌≡◌, ℕ, ◌≤◌, List, [], length}
+use Rattle.std.specs.Prelude.{◌≡◌, ℕ, ◌≤◌, List, [], length, MatchOption}
 use Rattle.fc_position.specs.Board.{Board}
 use Rattle.fc_moves.specs.declared.steps.Move.{Move}
 use Rattle.fc_moves.specs.GameRules.{GameRules}
@@ -9,7 +9,8 @@ use Rattle.fc_bound.specs.declared.kinds.BoundKind.TheVariants.{Plain, Clearing}
 use Rattle.fc_bound.specs.Kinds.{low_of}
 use Rattle.fc_tables.specs.Table.{IsClosed, IsClosedBelow, as_boards}
 use Rattle.fc_answers.specs.declared.answers.Answer.{Answer}
-use Rattle.fc_answers.specs.declared.answers.Answer.TheVariants as answer
+use Rattle.fc_answers.specs.declared.answers.Verdict.{Verdict}
+use Rattle.fc_answers.specs.declared.answers.Verdict.TheVariants as verdict
 use Rattle.fc_answers.specs.Table.{Listing}
 use Rattle.fc_cert.specs.declared.claims.Claim.{Claim}
 use Rattle.fc_cert.specs.declared.claims.Claim.TheVariants as claim
@@ -64,26 +65,30 @@ written_head g table claimed floor = record {
   floor = floor;
 }
 
--- the content that an answer is written as; one that gave up isn't
-abbrev pub IsWrittenAs : GameRules → Answer → Content → Type 0
-IsWrittenAs g (answer.Shortest moves table) c =
+-- the content that a verdict is written as, by the table that backs it; giving up isn't
+abbrev pub IsWrittenWith : GameRules → Listing → Verdict → Content → Type 0
+IsWrittenWith g table (verdict.Shortest moves) c =
     c ≡ record { head = written_head g table kind.Shortest 0; moves = moves; rows = table.rows }
-IsWrittenAs g (answer.Won moves floor table) c =
+IsWrittenWith g table (verdict.Won moves floor) c =
     c ≡ record { head = written_head g table kind.Between floor; moves = moves; rows = table.rows }
-IsWrittenAs g (answer.CannotWin table) c =
+IsWrittenWith g table verdict.CannotWin c =
     c ≡ record { head = written_head g table kind.CannotWin 0; moves = []; rows = table.rows }
-IsWrittenAs g (answer.GaveUp told) c = ⊥
+IsWrittenWith g table (verdict.GaveUp told) c = ⊥
 
--- what an answer claims
-abbrev pub Claims : Answer → Claim → Type 0
-Claims (answer.Shortest moves table) claimed = claimed ≡ claim.Shortest (length moves)
-Claims (answer.Won moves floor table) claimed = claimed ≡ claim.Between floor (length moves)
-Claims (answer.CannotWin table) claimed = claimed ≡ claim.CannotWin
-Claims (answer.GaveUp told) claimed = ⊥
+-- the content that an answer is written as; one that gave up, or has no table, isn't
+abbrev pub IsWrittenAs : GameRules → Answer → Content → Type 0
+IsWrittenAs g answered c = MatchOption answered.table ⊥ (λ table. IsWrittenWith g table answered.verdict c)
 
--- the moves of an answer win from the board
-abbrev pub HasWinningMoves : GameRules → Board → Answer → Type 0
-HasWinningMoves g b (answer.Shortest moves table) = Wins g b moves
-HasWinningMoves g b (answer.Won moves floor table) = Wins g b moves
-HasWinningMoves g b (answer.CannotWin table) = Unit {0}
-HasWinningMoves g b (answer.GaveUp told) = Unit {0}
+-- what a verdict claims
+abbrev pub Claims : Verdict → Claim → Type 0
+Claims (verdict.Shortest moves) claimed = claimed ≡ claim.Shortest (length moves)
+Claims (verdict.Won moves floor) claimed = claimed ≡ claim.Between floor (length moves)
+Claims verdict.CannotWin claimed = claimed ≡ claim.CannotWin
+Claims (verdict.GaveUp told) claimed = ⊥
+
+-- the moves of a verdict win from the board
+abbrev pub HasWinningMoves : GameRules → Board → Verdict → Type 0
+HasWinningMoves g b (verdict.Shortest moves) = Wins g b moves
+HasWinningMoves g b (verdict.Won moves floor) = Wins g b moves
+HasWinningMoves g b verdict.CannotWin = Unit {0}
+HasWinningMoves g b (verdict.GaveUp told) = Unit {0}

@@ -4,7 +4,7 @@ use Rattle.fc_position.specs.Board.{Board}
 use Rattle.fc_moves.specs.GameRules.{GameRules, IsGame, IsPositionOf}
 use Rattle.fc_answers.specs.declared.answers.Answer.{Answer}
 use Rattle.fc_answers.specs.Answer.{IsBacked}
-use Rattle.fc_answers.specs.Verdict.{verdict_of, CanBeWritten}
+use Rattle.fc_answers.specs.Verdict.{CanBeWritten}
 use Rattle.fc_cert.specs.declared.claims.Claim.{Claim}
 use Rattle.fc_cert.specs.declared.faults.CertFault.{CertFault}
 use Rattle.fc_cert.specs.Claim.{IsCertificate, IsTrueOf, IsWrittenAs, Claims, HasWinningMoves}
@@ -27,5 +27,5 @@ CertificatesAreTrue = (g : GameRules) (b : Board) (bytes : List ℕ) (claimed : 
 -- what is written of a backed answer whose moves win is a certificate of its claim
 abbrev pub BackedAnswersAreCertified : Type 0
 BackedAnswersAreCertified = (g : GameRules) (b : Board) (answered : Answer) (c : Content) (claimed : Claim)
-    → IsGame g → IsPositionOf g b → IsBacked g b answered → HasWinningMoves g b answered → CanBeWritten (verdict_of answered)
-    → IsWrittenAs g answered c → Claims answered claimed → IsCertificate g b (bytes_of c) claimed
+    → IsGame g → IsPositionOf g b → IsBacked g b answered → HasWinningMoves g b answered.verdict → CanBeWritten answered.verdict
+    → IsWrittenAs g answered c → Claims answered.verdict claimed → IsCertificate g b (bytes_of c) claimed

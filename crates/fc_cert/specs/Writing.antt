@@ -1,10 +1,10 @@
 -- What becomes of the sink that a certificate is written to.
-use Rattle.std.specs.Prelude.{◌≡◌, ℕ, Bool, false, List, ◌++◌, Option, Result, Ok, Err, IsTrue}
+use Rattle.std.specs.Prelude.{◌≡◌, ◌⊎◌, ℕ, Bool, false, List, ◌++◌, Option, None, Result, Ok, Err, IsTrue}
 use Rattle.fc_io.specs.declared.devices.Failed.{Failed}
 use Rattle.fc_io.specs.Moves.{Takes, TakesFront, Stays}
 use Rattle.fc_moves.specs.GameRules.{GameRules}
 use Rattle.fc_answers.specs.declared.answers.Answer.{Answer}
-use Rattle.fc_answers.specs.declared.answers.Answer.TheVariants as answer
+use Rattle.fc_answers.specs.Answer.{HasGivenUp}
 use Rattle.fc_cert.specs.declared.faults.CertFault.{CertFault}
 use Rattle.fc_cert.specs.declared.faults.CertFault.TheVariants.{NotCertified, Write}
 use Rattle.fc_cert.specs.Claim.{IsWrittenAs}
@@ -38,12 +38,9 @@ abbrev pub Writes : SinkState → SinkState → List ℕ → Result (Unit {0}) F
 Writes old new bytes (Ok done) = TakesWhole old new bytes
 Writes old new bytes (Err failed) = IsCutShort old new bytes
 
--- the answer has no certificate: a search gave up
+-- the answer has no certificate: it has no table, or a search gave up
 abbrev pub IsUncertified : Answer → Type 0
-IsUncertified (answer.Shortest moves table) = ⊥
-IsUncertified (answer.Won moves floor table) = ⊥
-IsUncertified (answer.CannotWin table) = ⊥
-IsUncertified (answer.GaveUp told) = Unit {0}
+IsUncertified answered = (answered.table ≡ None) ⊎ HasGivenUp answered.verdict
 
 -- the bytes of the content that the answer is written as were written, or the sink failed on the way; or the answer has
 -- no certificate, and the sink stays as it was

@@ -5,6 +5,6 @@ pub enum Claim {
     Shortest(u32),
     /// No list of moves wins.
     CannotWin,
-    /// No list of fewer moves than the first number wins, and some list of as many as the second does.
-    Between(u32, u32),
+    /// No list of fewer moves than the floor wins, and some list of so many moves does.
+    Between { floor: u32, moves: u32 },
 }

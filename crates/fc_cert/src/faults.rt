@@ -3,7 +3,7 @@ use thiserror::Error;
 /// Why an answer has no certificate, or bytes are none. Moves count from 1, records from 0.
 #[derive(Clone, Copy, Debug, PartialEq, Eq, Error)]
 pub enum CertFault {
-    /// A search gave up.
+    /// A search gave up, so there is no table.
     #[error("NotCertified")]
     NotCertified,
     /// The sink has failed.

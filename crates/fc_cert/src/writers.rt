@@ -3,7 +3,7 @@
 ghost use Rattle.std.specs.Prelude.{◌≡◌, ◌+◌, ◌<◌, ◌≤◌, ◌^◌, [], ◌∷◌, ◌++◌, false, length, All, OnOk, OnErr};
 ghost use Rattle.arrayvec.specs.ArrayVec.{array_vec_len};
 ghost use Rattle.fc_moves.specs.MoveText.{HasText};
-ghost use Rattle.fc_answers.specs.Verdict.{CanBeWritten, verdict_of};
+ghost use Rattle.fc_answers.specs.Verdict.{CanBeWritten};
 ghost use Rattle.fc_cert.specs.declared.contents.Form.TheVariants.{Second, Third};
 ghost use Rattle.fc_cert.specs.Claim.{written_form, written_head};
 ghost use Rattle.fc_cert.specs.Content.{magic, bound_byte, kind_byte, floor_bytes, head_bytes, listed_bytes, record_bytes, rows_bytes};
@@ -12,7 +12,7 @@ ghost use Rattle.fc_cert.specs.Writing.{Gathers, IsCutShort, Writes, WritesAnswe
 use crate::contents::{Form, Kind};
 use crate::faults::CertFault;
 use arrayvec::ArrayVec;
-use fc_answers::{Answer, Table};
+use fc_answers::{Answer, Table, Verdict};
 use fc_bound::BoundKind;
 use fc_canonical::Key;
 use fc_io::{Failed, Sink, write_all};
@@ -37,37 +37,40 @@ impl From<Failed> for CertFault {
 /// Writes the certificate of an answer for a game, its records gathered in pieces. No memory is asked for.
 ///
 /// # Errors
-/// `NotCertified` for the answer of a search that gave up, and nothing is written; `Write` where the sink has failed, of
-/// which a front may be written.
+/// `NotCertified` for the answer of a search that gave up, and for one with no table, and nothing is written; `Write` where
+/// the sink has failed, of which a front may be written.
 pub fn write_answer<G: Game, K: Sink>(
     game: &G,
     answer: &Answer,
     sink: &mut K,
 ) -> Result<(), CertFault>
-    requires written { CanBeWritten (verdict_of answer.now) }
+    requires written { CanBeWritten answer.now.verdict }
     ensures ends { WritesAnswer (G.game game.now) answer.now
         record { held = K.held sink.old; has_failed = K.has_failed sink.old }
         record { held = K.held sink.new; has_failed = K.has_failed sink.new } result }
 {
-    match answer {
-        Answer::Shortest(moves, table) => {
+    let Some(table) = &answer.table else {
+        return Err(CertFault::NotCertified);
+    };
+    match &answer.verdict {
+        Verdict::Shortest(moves) => {
             write_head(game, table, Kind::Shortest, 0, sink)?;
             write_moves(moves.as_slice(), sink)?;
             write_rows(table, sink)?;
             Ok(())
         }
-        Answer::Won(moves, floor, table) => {
+        Verdict::Won { moves, floor } => {
             write_head(game, table, Kind::Between, *floor, sink)?;
             write_moves(moves.as_slice(), sink)?;
             write_rows(table, sink)?;
             Ok(())
         }
-        Answer::CannotWin(table) => {
+        Verdict::CannotWin => {
             write_head(game, table, Kind::CannotWin, 0, sink)?;
             write_rows(table, sink)?;
             Ok(())
         }
-        Answer::GaveUp(_) => Err(CertFault::NotCertified),
+        Verdict::GaveUp(_) => Err(CertFault::NotCertified),
     }
 }
 

@@ -34,7 +34,7 @@ fn printed(claim: Claim) -> &'static [u8] {
         Claim::Shortest(5) => b"accepted: shortest 5\n",
         Claim::Shortest(_) => b"",
         Claim::CannotWin => b"accepted: can't be won\n",
-        Claim::Between(_, _) => b"",
+        Claim::Between { .. } => b"",
     }
 }
 

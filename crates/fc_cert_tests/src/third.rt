@@ -3,13 +3,13 @@
 ghost use Rattle.std.specs.Prelude.{◌≤◌, length};
 
 use crate::given::{board, fault_of, free_cell, sure};
-use fc_answers::MoveList;
+use fc_answers::{MoveList, Verdict};
 use fc_bound::BoundKind;
 use fc_cert::{CertFault, Claim, write_answer};
 use fc_checker::{CheckFault, check};
 use fc_io::{FromSlice, Sink, ToArray};
 use fc_runs::run_check;
-use fc_search::{Answer, solve};
+use fc_search::solve;
 use fc_tests::boards::{FREE_KING, LOCKED, ONE_KING, THREE_SPADES, TWO_KINGS};
 use std::alloc::Global;
 use std::process::Abort;
@@ -53,7 +53,7 @@ static CHANGED: [Changed; 14] = [
         bytes: BETWEEN,
         at: 0,
         value: 0x46,
-        told: Ok(Claim::Between(4, 5)),
+        told: Ok(Claim::Between { floor: 4, moves: 5 }),
     },
     // by the plain bound the start isn't covered
     Changed {
@@ -67,7 +67,7 @@ static CHANGED: [Changed; 14] = [
         bytes: BETWEEN,
         at: 7,
         value: 1,
-        told: Ok(Claim::Between(4, 5)),
+        told: Ok(Claim::Between { floor: 4, moves: 5 }),
     },
     Changed {
         bytes: SHORTEST,
@@ -92,7 +92,7 @@ static CHANGED: [Changed; 14] = [
         bytes: BETWEEN,
         at: 12,
         value: 0,
-        told: Ok(Claim::Between(0, 5)),
+        told: Ok(Claim::Between { floor: 0, moves: 5 }),
     },
     // by the plain bound a greater one isn't shown
     Changed {
@@ -184,7 +184,7 @@ fn fronts_are_short(rt: HostRuntime) {
 fn is_true(claim: Claim) -> bool {
     match claim {
         Claim::Shortest(moves) => moves == 5,
-        Claim::Between(floor, moves) => floor <= 5 && moves >= 5,
+        Claim::Between { floor, moves } => floor <= 5 && moves >= 5,
         Claim::CannotWin => false,
     }
 }
@@ -241,13 +241,16 @@ fn count(moves: &MoveList) -> u32 {
     moves.len().min(1000) as u32
 }
 
-// What an answer claims; `None` where it gave up.
-fn claim_of(answer: &Answer) -> Option<Claim> {
-    match answer {
-        Answer::Shortest(moves, _) => Some(Claim::Shortest(count(moves))),
-        Answer::Won(moves, floor, _) => Some(Claim::Between(*floor, count(moves))),
-        Answer::CannotWin(_) => Some(Claim::CannotWin),
-        Answer::GaveUp(_) => None,
+// What a verdict claims; `None` where a search gave up.
+fn claim_of(verdict: &Verdict) -> Option<Claim> {
+    match verdict {
+        Verdict::Shortest(moves) => Some(Claim::Shortest(count(moves))),
+        Verdict::Won { moves, floor } => Some(Claim::Between {
+            floor: *floor,
+            moves: count(moves),
+        }),
+        Verdict::CannotWin => Some(Claim::CannotWin),
+        Verdict::GaveUp(_) => None,
     }
 }
 
@@ -261,7 +264,7 @@ fn check_written(rt: &impl Abort, alloc: Global, text: &str, weight: u8, bound: 
     let mut out = ToArray::<800>::new();
     assert!(rt; write_answer(&game, &answer, &mut out).is_ok(), "written");
     let told = check(alloc, &game, &start, out.held());
-    assert!(rt; told.ok() == claim_of(&answer), "weight {weight}");
+    assert!(rt; told.ok() == claim_of(&answer.verdict), "weight {weight}");
 }
 
 #[test]

@@ -1,7 +1,7 @@
 //! Certificates as the search's answers are written.
 
 ghost use Rattle.std.specs.Prelude.{◌≤◌, length};
-ghost use Rattle.fc_answers.specs.Verdict.{CanBeWritten, verdict_of};
+ghost use Rattle.fc_answers.specs.Verdict.{CanBeWritten};
 
 use crate::given::{TWO_KINGS, board, certificate, free_cell, sure};
 use fc_answers::Answer;
@@ -74,7 +74,7 @@ fn answer_for<G: Game + Drop>(
     text: &str,
     budget: u32,
 ) -> Answer
-    ensures written { CanBeWritten (verdict_of result) }
+    ensures written { CanBeWritten result.verdict }
 {
     assert!(rt; rule <= 2, "a rule");
     let start = board(rt, game, text);
@@ -138,7 +138,7 @@ fn no_certificate_of_giving_up(rt: HostRuntime) {
 
 // A device that fails after so many calls takes a front of the bytes, one a call.
 fn check_failing(rt: &impl Abort, answer: &Answer, game: &FreeCell, calls: u32, bytes: &[u8])
-    requires written { CanBeWritten (verdict_of answer.now) }
+    requires written { CanBeWritten answer.now.verdict }
     requires within { calls ≤ length bytes.now }
 {
     let mut out = Failing::new(ToArray::<200>::new(), calls);

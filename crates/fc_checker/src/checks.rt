@@ -97,7 +97,10 @@ fn claim_of(certificate: &Certificate) -> Claim
     match head.kind {
         Kind::Shortest => Claim::Shortest(certificate.move_count()),
         Kind::CannotWin => Claim::CannotWin,
-        Kind::Between => Claim::Between(head.floor, certificate.move_count()),
+        Kind::Between => Claim::Between {
+            floor: head.floor,
+            moves: certificate.move_count(),
+        },
     }
 }
 
