@@ -1,5 +1,5 @@
 -- What a search that is done holds makes its verdict right, and its table backs it.
-use Rattle.std.proofs.Common.{◌≡◌, ℕ, zero, suc, ◌+◌, ◌*◌, ◌<◌, ◌≤◌, Bool, List, [], ◌∷◌, length, refl, sym, ◌∙◌, ap, subst, arith, nat_lt}
+use Rattle.std.proofs.Common.{◌≡◌, ℕ, zero, suc, ◌+◌, ◌*◌, ◌<◌, ◌≤◌, Bool, List, [], ◌∷◌, length, Some, None, refl, sym, ◌∙◌, ap, subst, arith, nat_lt}
 use Rattle.std.specs.Prelude.{All, Contains}
 use Rattle.std.specs.List.Sorted.{IsPermutation}
 use Rattle.std.proofs.lemmas.List.{length-map}
@@ -27,7 +27,6 @@ use Rattle.fc_tables.specs.Table.{as_boards}
 use Rattle.fc_canonical.specs.Spelled.{spelled}
 use Rattle.fc_classes.proofs.PathLemmas.{reached_of_positions}
 use Rattle.fc_classes.proofs.TableLemmas.{board_listed, key_listed, closed_board, lawful}
-use Rattle.fc_answers.specs.declared.answers.Answer.TheVariants as answer
 use Rattle.fc_answers.specs.declared.answers.Verdict.TheVariants.{Shortest, Won, CannotWin, GaveUp}
 use Rattle.fc_methods.specs.declared.methods.Method.{Method}
 use Rattle.fc_methods.specs.Method.{Asked, as_written}
@@ -241,7 +240,7 @@ module _ (pr : Problem) (s : Store (List ℕ)) (pp : IsPositionOf pr.game pr.sta
         earned = tt;
         written = (run_texts pr.game pr.start b ms pp run, omega (arith, low, inside_store, room, few, cost));
         few = omega (arith, low, inside_store, room, few, cost);
-        backed = record { answer = answer.Shortest ms table; told = refl; backed = backed; searched = (listed.1, listed.2) };
+        backed = record { answer = record { verdict = Shortest ms; table = Some table }; told = refl; backed = backed; searched = (listed.1, listed.2) };
       }
 
   -- the verdict of a search by a greater weight that found a list, no longer than the won class costs
@@ -268,7 +267,7 @@ module _ (pr : Problem) (s : Store (List ℕ)) (pp : IsPositionOf pr.game pr.sta
         earned = tt;
         written = (run_texts pr.game pr.start wins.0 ms pp wins.1, omega (arith, low, inside_store, room, few, le));
         few = omega (arith, low, inside_store, room, few, le);
-        backed = record { answer = answer.Won ms floor table; told = refl; backed = backed; searched = (listed.1, listed.2) };
+        backed = record { answer = record { verdict = Won ms floor; table = Some table }; told = refl; backed = backed; searched = (listed.1, listed.2) };
       }
 
   -- the verdict of a search that found no way to win
@@ -286,7 +285,7 @@ module _ (pr : Problem) (s : Store (List ℕ)) (pp : IsPositionOf pr.game pr.sta
         earned = tt;
         written = tt;
         few = tt;
-        backed = record { answer = answer.CannotWin table; told = refl; backed = backed; searched = (listed.1, listed.2) };
+        backed = record { answer = record { verdict = CannotWin; table = Some table }; told = refl; backed = backed; searched = (listed.1, listed.2) };
       }
 
   -- the verdict of a search that gave up
@@ -298,7 +297,7 @@ module _ (pr : Problem) (s : Store (List ℕ)) (pp : IsPositionOf pr.game pr.sta
         earned = more;
         written = tt;
         few = tt;
-        backed = record { answer = answer.GaveUp told; told = refl; backed = tt; searched = tt };
+        backed = record { answer = record { verdict = GaveUp told; table = None }; told = refl; backed = tt; searched = tt };
       }
 
 -- a right verdict of a search for a shortest list is one of three

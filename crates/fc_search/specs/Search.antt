@@ -14,7 +14,7 @@ use Rattle.fc_answers.specs.declared.answers.Answer.{Answer}
 use Rattle.fc_answers.specs.declared.answers.Verdict.{Verdict}
 use Rattle.fc_answers.specs.declared.answers.Verdict.TheVariants as verdict
 use Rattle.fc_answers.specs.Answer.{IsBacked, IsSearchedBy, CanBeBacked}
-use Rattle.fc_answers.specs.Verdict.{verdict_of, IsRight, CanBeWritten, HasFewMoves}
+use Rattle.fc_answers.specs.Verdict.{IsRight, CanBeWritten, HasFewMoves}
 use Rattle.fc_search.specs.Need.{IsEarned}
 use Rattle.fc_search.specs.Problem.{Problem, classes_of}
 use Rattle.fc_best_first.specs.Limits.{IsBudget}
@@ -57,7 +57,7 @@ pub record IsVerdict (p : Problem) (verdict : Verdict) : Type 0 where
 
 -- all that an answer of a problem is: a verdict that is right, backed by a table of the problem's rule and bound
 pub record Answers (p : Problem) (answer : Answer) : Type 0 where
-  pub told : IsVerdict p (verdict_of answer)
+  pub told : IsVerdict p answer.verdict
   pub backed : IsBacked p.game p.start answer
   pub searched : IsSearchedBy p.method.rule p.method.bound answer
 

@@ -8,7 +8,6 @@ ghost use Rattle.fc_best_first.specs.Kept.{IsSound};
 ghost use Rattle.fc_best_first.specs.Shown.{Holds, Shows};
 ghost use Rattle.fc_best_first.specs.Store.{Stands};
 ghost use Rattle.fc_best_first.specs.Turn.{work_left};
-ghost use Rattle.fc_answers.specs.Verdict.{verdict_of};
 ghost use Rattle.fc_methods.specs.Method.{as_written};
 ghost use Rattle.fc_search.specs.Problem.{classes_of, problem_of, shortest_from};
 ghost use Rattle.fc_search.specs.Search.{Answers, IsFloorOf, IsVerdict, IsOfStatus, IsRefused, IsUnanswered};
@@ -139,7 +138,7 @@ impl<F: Frontier + Drop, G: Game + Drop> Search<F, G> {
     /// refused.
     pub fn answer(&self) -> Result<Answer, SearchFault>
         ensures answers { IfOk result (Answers self.now.problem) }
-        ensures kind { IfOk result (λ answer. IsOfStatus self.now.problem self.now.store self.now.status (verdict_of answer)) }
+        ensures kind { IfOk result (λ answer. IsOfStatus self.now.problem self.now.store self.now.status answer.verdict) }
         ensures fault { IfErr result (IsUnanswered self.now.status) }
     {
         let answer = match self.search.status() {
@@ -147,7 +146,10 @@ impl<F: Frontier + Drop, G: Game + Drop> Search<F, G> {
             Status::Stopped => return Err(SearchFault::Stopped),
             Status::Won(number) => self.won(*number),
             Status::CannotWin => self.cannot_win(),
-            Status::GaveUp(_, _) => Ok(Answer::GaveUp(self.search.budget().get())),
+            Status::GaveUp(_, _) => Ok(Answer {
+                verdict: Verdict::GaveUp(self.search.budget().get()),
+                table: None,
+            }),
         };
         match answer {
             Ok(answer) => Ok(answer),
@@ -231,7 +233,8 @@ impl<F: Frontier + Drop, G: Game + Drop> Search<F, G> {
     {
         let moves = self.won_list(number)?;
         if self.search.weight().get() > 1 {
-            return Ok(Verdict::Won(moves, self.floor_of(number)));
+            let floor = self.floor_of(number);
+            return Ok(Verdict::Won { moves, floor });
         }
         Ok(Verdict::Shortest(moves))
     }
@@ -242,17 +245,23 @@ impl<F: Frontier + Drop, G: Game + Drop> Search<F, G> {
         requires shown { Shows (classes_of self.now.problem) self.now.problem.method.weight self.now.problem.method.budget self.now.store self.now.status }
         requires done { self.now.status ≡ Status.Won number }
         ensures answers { IfOk result (Answers self.now.problem) }
-        ensures kind { IfOk result (λ answer. IsOfStatus self.now.problem self.now.store self.now.status (verdict_of answer)) }
+        ensures kind { IfOk result (λ answer. IsOfStatus self.now.problem self.now.store self.now.status answer.verdict) }
     {
         self.known();
         let moves = self.won_list(number)?;
         if self.search.weight().get() > 1 {
             let floor = self.floor_of(number);
             let table = self.table_below(floor as usize)?;
-            return Ok(Answer::Won(moves, floor, table));
+            return Ok(Answer {
+                verdict: Verdict::Won { moves, floor },
+                table: Some(table),
+            });
         }
         let table = self.table_below(moves.len())?;
-        Ok(Answer::Shortest(moves, table))
+        Ok(Answer {
+            verdict: Verdict::Shortest(moves),
+            table: Some(table),
+        })
     }
 
     // The answer where no list wins.
@@ -261,10 +270,14 @@ impl<F: Frontier + Drop, G: Game + Drop> Search<F, G> {
         requires shown { Shows (classes_of self.now.problem) self.now.problem.method.weight self.now.problem.method.budget self.now.store self.now.status }
         requires done { self.now.status ≡ Status.CannotWin }
         ensures answers { IfOk result (Answers self.now.problem) }
-        ensures kind { IfOk result (λ answer. IsOfStatus self.now.problem self.now.store self.now.status (verdict_of answer)) }
+        ensures kind { IfOk result (λ answer. IsOfStatus self.now.problem self.now.store self.now.status answer.verdict) }
     {
         self.known();
-        Ok(Answer::CannotWin(self.table_of_all()?))
+        let table = self.table_of_all()?;
+        Ok(Answer {
+            verdict: Verdict::CannotWin,
+            table: Some(table),
+        })
     }
 }
 

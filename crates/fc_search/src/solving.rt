@@ -4,7 +4,6 @@ ghost use Rattle.std.specs.Prelude.{◌≡◌, ◌≤◌, List, IfOk, IfErr, OnO
 ghost use Rattle.fc_position.specs.Position.{Fits};
 ghost use Rattle.fc_best_first.specs.Limits.{IsBudget};
 ghost use Rattle.fc_best_first.specs.Search.{reply_of};
-ghost use Rattle.fc_answers.specs.Verdict.{verdict_of};
 ghost use Rattle.fc_search.specs.declared.listeners.Progress.{Progress};
 ghost use Rattle.fc_search.specs.Problem.{problem_of, shortest_from};
 ghost use Rattle.fc_search.specs.Search.{Answers, IsOneOfThree, IsRefused, IsVerdict, IsRunToEnd, HasRun};
@@ -37,9 +36,9 @@ pub fn solve<G: Game + Drop>(
 ) -> Result<Answer, SearchFault>
     requires rule { rule ≤ GREATEST_RULE }
     requires fits { Fits (G.game game.now).cells position.now }
-    ensures three { IfOk result (λ answer. IsOneOfThree (G.game game.now) position.now budget (verdict_of answer)) }
+    ensures three { IfOk result (λ answer. IsOneOfThree (G.game game.now) position.now budget answer.verdict) }
     ensures answers { IfOk result (Answers (shortest_from (G.game game.now) rule position.now budget)) }
-    ensures ran { IfOk result (λ answer. IsRunToEnd (shortest_from (G.game game.now) rule position.now budget) (verdict_of answer)) }
+    ensures ran { IfOk result (λ answer. IsRunToEnd (shortest_from (G.game game.now) rule position.now budget) answer.verdict) }
     ensures range { OnOk result (IsBudget budget) }
     ensures fault { IfErr result (IsRefused budget) }
 {
@@ -63,9 +62,9 @@ pub fn solve_by<G: Game + Drop, L: Listener>(
 ) -> Result<Answer, AllocError>
     requires fits { Fits question.now.game.cells position.now }
     ensures answers { IfOk result (Answers (problem_of question.now position.now)) }
-    ensures ran { IfOk result (λ answer. IsRunToEnd (problem_of question.now position.now) (verdict_of answer)) }
+    ensures ran { IfOk result (λ answer. IsRunToEnd (problem_of question.now position.now) answer.verdict) }
     ensures heard { (heard : List Progress) × HearsAll L.hears listener.old heard listener.new
-        × MatchResult result (λ answer. IsHeardToEnd (problem_of question.now position.now) heard (verdict_of answer))
+        × MatchResult result (λ answer. IsHeardToEnd (problem_of question.now position.now) heard answer.verdict)
         (λ refused. IsHeardAtMost (problem_of question.now position.now) heard) }
 {
     match at_end(alloc, question, position, listener)?.answer() {

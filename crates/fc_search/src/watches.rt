@@ -6,7 +6,6 @@ ghost use Rattle.fc_position.specs.Position.{Fits};
 ghost use Rattle.fc_moves.specs.GameRules.{IsPositionOf};
 ghost use Rattle.fc_best_first.specs.Search.{Begins, Runs, reply_of};
 ghost use Rattle.fc_best_first.specs.Turn.{work_left};
-ghost use Rattle.fc_answers.specs.Verdict.{verdict_of};
 ghost use Rattle.fc_search.specs.Problem.{classes_of};
 ghost use Rattle.fc_search.specs.declared.listeners.Progress.{Progress};
 ghost use Rattle.fc_search.specs.Watch.{HearsAll, IsHeardInPart, IsHeardOn, TurnsMany, stage_of};

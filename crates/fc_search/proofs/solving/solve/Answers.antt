@@ -1,5 +1,4 @@
 use Rattle.std.proofs.Common.{◌≡◌, subst}
-use Rattle.fc_answers.specs.Verdict.{verdict_of}
 use Rattle.fc_search.specs.Problem.{problem_of, shortest_from}
 use Rattle.fc_search.specs.Search.{Answers, IsRunToEnd}
 use Rattle.fc_search.proofs.AnswerLemmas.{asked_shortest, one_of_three}
@@ -17,9 +16,9 @@ pub returns-in-Ok-clause-answers : goal.returns-in-Ok-clause-answers
 returns-in-Ok-clause-answers g c = subst (λ p. Answers p c.in-Ok.answer) (asked g (goal.at.returns-in-Ok-clause-answers g c).In-Ok) c.in-Ok.ensures.answers
 
 pub returns-in-Ok-clause-ran : goal.returns-in-Ok-clause-ran
-returns-in-Ok-clause-ran g c = subst (λ p. IsRunToEnd p (verdict_of c.in-Ok.answer)) (asked g (goal.at.returns-in-Ok-clause-ran g c).In-Ok) c.in-Ok.ensures.ran
+returns-in-Ok-clause-ran g c = subst (λ p. IsRunToEnd p c.in-Ok.answer.verdict) (asked g (goal.at.returns-in-Ok-clause-ran g c).In-Ok) c.in-Ok.ensures.ran
 
 pub returns-in-Ok-clause-three : goal.returns-in-Ok-clause-three
 returns-in-Ok-clause-three g c =
     let answers = subst (λ p. Answers p c.in-Ok.answer) (asked g (goal.at.returns-in-Ok-clause-three g c).In-Ok) c.in-Ok.ensures.answers in
-    one_of_three (g.G.Game.game c.args.game.now) c.args.position.now c.args.budget (verdict_of c.in-Ok.answer) answers.told.right
+    one_of_three (g.G.Game.game c.args.game.now) c.args.position.now c.args.budget c.in-Ok.answer.verdict answers.told.right

@@ -1,8 +1,8 @@
-use Rattle.std.proofs.Common.{◌≡◌, sym, ◌∙◌, subst}
+use Rattle.std.proofs.Common.{◌≡◌, None, sym, ◌∙◌, subst}
 use Rattle.std.specs.Prelude.{IfOk}
 use Rattle.fc_best_first.specs.Shown.{Shows}
 use Rattle.fc_best_first.specs.declared.turns.Status.TheVariants.{GaveUp}
-use Rattle.fc_answers.specs.declared.answers.Answer.TheVariants as answer
+use Rattle.fc_answers.specs.declared.answers.Verdict.TheVariants as verdict
 use Rattle.fc_search.specs.Search.{Answers}
 use Rattle.fc_search.proofs.AnswerLemmas.{gave_up_verdict}
 use Rattle.fc_search.specs.Problem.{Problem, classes_of}
@@ -41,10 +41,10 @@ returns-in-Ok-clause-answers g c =
           stands c.status.ensures.shows in
           let told = gave_up_verdict own inner.store
           inner.space.fits w.in-GaveUp.field-0 w.in-GaveUp.field-1 w.get.result shows (w.get.ensures.value ∙ w.budget.ensures.value) in
-          let answers : Answers own (answer.GaveUp w.get.result) =
+          let answers : Answers own (record { verdict = verdict.GaveUp w.get.result; table = None }) =
           record { told = told; backed = tt; searched = tt } in
           subst (λ r. IfOk r (Answers now.problem))
           (sym w.answer-is ∙ c.in-Ok.is)
-          (subst (λ s. Answers s.problem (answer.GaveUp w.get.result))
+          (subst (λ s. Answers s.problem (record { verdict = verdict.GaveUp w.get.result; table = None }))
           c.self.view_is answers)
     ]

@@ -14,11 +14,11 @@ returns-clause-answers g c =
     let q = c.args.self.now.problem in
     let graph = classes_of q in
     let store = c.args.self.now.store in
-    let made = c.in_ok-table_of_all.ensures in record {
+    let made = c.in_ok-table.ensures in record {
       told = cannot_win_verdict q store c.known.ensures.fits c.known.ensures.rule c.known.ensures.budget.greatest
           (subst (Holds graph q.method.weight q.method.budget store) c.requires.done c.requires.held)
           (subst (Shows graph q.method.weight q.method.budget store) c.requires.done c.requires.shown);
-      backed = backed_whole q store c.known.ensures.fits c.in_ok-table_of_all.field-0
+      backed = backed_whole q store c.known.ensures.fits c.in_ok-table.table
           (subst (Holds graph q.method.weight q.method.budget store) c.requires.done c.requires.held) made.rule made.known made.few made.rising made.rows;
       searched = (made.rule, made.bound);
     }

@@ -8,4 +8,4 @@ returns-then-get-gt1-clause-told g c =
     let value : c.get.result ≡ c.self.inside.search.weight = c.get.ensures.value ∙ c.weight.ensures.value in
     let many = c.if-get-gt1.true in
     let heavy : 2 ≤ q.method.weight = omega (arith, same, value, many) in
-    (c.in_ok-moves.ensures.within heavy c.floor_of.result c.floor_of.ensures.value).0
+    (c.in_ok-moves.ensures.within heavy c.floor_of-floor.result c.floor_of-floor.ensures.value).0
