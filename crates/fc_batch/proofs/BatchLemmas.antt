@@ -16,7 +16,8 @@ use Rattle.fc_best_first.specs.Graph.{Graph}
 use Rattle.fc_best_first.specs.Search.{Turns}
 use Rattle.fc_best_first.specs.Store.{Store}
 use Rattle.fc_best_first.specs.Turn.{work_left as left_of}
-use Rattle.fc_search.specs.Search.{State, classes_of}
+use Rattle.fc_search.specs.Problem.{Problem, classes_of}
+use Rattle.fc_search.specs.Search.{State}
 use Rattle.fc_batch.specs.Batch.{Batch, Stays, TurnsAt, TurnFor, TurnsFor, HasTurn, NumbersWereGiven, found, search_at, running, while_running, work_of, work_left}
 
 -- the search with a number is what a look-up finds
@@ -135,12 +136,12 @@ by_status g weight budget old new status.Stopped after reply (same, stays, told)
 
 -- a turn leaves its search less to do, where it runs on, and never more
 turn_falls : (before after : State) (reply : Result Step SearchFault) → HasTurn before after reply
-    → (reply ≡ Ok Running → left_of before.budget after.store < left_of before.budget before.store)
+    → (reply ≡ Ok Running → left_of before.problem.method.budget after.store < left_of before.problem.method.budget before.store)
     → work_of after + running reply ≤ work_of before
 turn_falls before after reply turn falls =
-    let less = by_status (classes_of before.question) before.question.weight before.budget before.store after.store before.status after.status reply
+    let less = by_status (classes_of before.problem) before.problem.method.weight before.problem.method.budget before.store after.store before.status after.status reply
     turn.turned falls in
-    let same = ap (λ b. while_running after.status (left_of b after.store)) turn.budget in
+    let same = ap (λ (p : Problem). while_running after.status (left_of p.method.budget after.store)) turn.problem in
     omega (arith, less, same)
 
 -- what a map's entries are after its search with a number was written to
@@ -173,7 +174,7 @@ module _ (i : ℕ) (es fs : List (ℕ × State)) (before after : State) (there :
 
   -- what is left to do falls where the search runs on, and never rises
   pub work_falls : (added : ℕ) (reply : Result Step SearchFault) → fs ≡ set_value (nat_eq i) es after → HasTurn before after reply
-      → (reply ≡ Ok Running → left_of before.budget after.store < left_of before.budget before.store)
+      → (reply ≡ Ok Running → left_of before.problem.method.budget after.store < left_of before.problem.method.budget before.store)
       → work_left (record { searches = fs; added = added }) + running reply ≤ work_left (record { searches = es; added = added })
   work_falls added reply written turn falls =
       let less = turn_falls before after reply turn falls in

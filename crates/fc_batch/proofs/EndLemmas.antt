@@ -10,7 +10,8 @@ use Rattle.fc_best_first.specs.declared.turns.Status.TheVariants.{Running, Won, 
 use Rattle.fc_best_first.specs.Graph.{Graph}
 use Rattle.fc_best_first.specs.Search.{Turns, reply_of}
 use Rattle.fc_best_first.specs.Store.{Store}
-use Rattle.fc_search.specs.Search.{State, classes_of}
+use Rattle.fc_search.specs.Problem.{classes_of}
+use Rattle.fc_search.specs.Search.{State}
 use Rattle.fc_batch.specs.Batch.{Batch, Stays, TurnsAt, TurnsFor, HasTurns, search_at, running}
 use Rattle.fc_batch.specs.Laws.{QuietTurnsEnd}
 use Rattle.fc_batch.proofs.LawLemmas.{numbers_stay, turn_alone}
@@ -46,7 +47,7 @@ all_kept : (turns : ℕ) (before after : State) → HasTurns turns before after 
 all_kept zero before after same other = subst (λ s. s.status ≡ Running → ⊥) (sym same) other
 all_kept (suc turns) before after (mid, reply, turn, rest) other =
     all_kept turns mid after rest
-    (kept (classes_of before.question) before.question.weight before.budget before.store mid.store before.status mid.status reply turn.turned other)
+    (kept (classes_of before.problem) before.problem.method.weight before.problem.method.budget before.store mid.store before.status mid.status reply turn.turned other)
 
 -- a search that had a turn with another reply has ended, whatever turns follow
 ends_at : (j : ℕ) (o : Option State) (old mid new : Batch) (reply : Result Step SearchFault) (list : List ℕ) (count : ℕ)
@@ -59,7 +60,7 @@ ends_at j (Some before) old mid new reply list count turn there none rest s at r
     let on = turn_alone list mid new count rest j turn.after turn.there in
     let same : on.0 ≡ s = same_Some on.0 s (sym on.1 ∙ at) in
     let own = turn.turn in
-    let end = ended (classes_of before.question) before.question.weight before.budget before.store turn.after.store before.status turn.after.status reply
+    let end = ended (classes_of before.problem) before.problem.method.weight before.problem.method.budget before.store turn.after.store before.status turn.after.status reply
     own.turned none in
     subst (λ v. v.status ≡ Running → ⊥) same (all_kept _ turn.after on.0 on.2 end) runs
 

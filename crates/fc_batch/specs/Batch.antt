@@ -8,7 +8,8 @@ use Rattle.fc_best_first.specs.declared.turns.Status.{Status}
 use Rattle.fc_best_first.specs.declared.turns.Status.TheVariants.{Running as runs}
 use Rattle.fc_best_first.specs.Search.{FloorAfter, Turns}
 use Rattle.fc_best_first.specs.Turn.{work_left as left_of}
-use Rattle.fc_search.specs.Search.{State, classes_of}
+use Rattle.fc_search.specs.Problem.{classes_of}
+use Rattle.fc_search.specs.Search.{State}
 
 -- a batch, to its callers: the searches that it holds, each with its number, and how many were ever added, which is the
 -- next number
@@ -40,9 +41,8 @@ OthersStay i old new = (j : ℕ) → j ≢ i → search_at new j ≡ search_at o
 
 -- a search has one turn, with this reply
 pub record HasTurn (old new : State) (reply : Result Step SearchFault) : Type 0 where
-  pub question : new.question ≡ old.question
-  pub budget : new.budget ≡ old.budget
-  pub turned : Turns (classes_of old.question) old.question.weight old.budget old.status old.store new.store new.status reply
+  pub problem : new.problem ≡ old.problem
+  pub turned : Turns (classes_of old.problem) old.problem.method.weight old.problem.method.budget old.status old.store new.store new.status reply
   pub floor : FloorAfter old.status old.store.waiting old.floor new.floor
 
 -- so many turns of a search, one after the other
@@ -87,7 +87,7 @@ while_running other left = 0
 
 -- how much a search may still do, by its status: nothing unless it runs
 abbrev pub work_of : State → ℕ
-work_of s = while_running s.status (left_of s.budget s.store)
+work_of s = while_running s.status (left_of s.problem.method.budget s.store)
 
 -- how much the searches of a batch may still do, in all
 abbrev pub work_left : Batch → ℕ

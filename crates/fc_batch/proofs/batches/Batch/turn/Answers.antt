@@ -33,7 +33,7 @@ returns-clause-turn g c =
     let new : Batch = record { searches = left.entries; added = c.self.inside.added } in
     subst (λ b. TurnFor c.args.i b new c.turn.result) c.self.view_is
     (turned c.args.i map.entries left.entries c.in-Some.search.now after there c.self.inside.added c.turn.result
-    changes.1 changes.2 (record { question = c.turn.ensures.question; budget = c.turn.ensures.budget; turned = c.turn.ensures.turns; floor = c.turn.ensures.floor }))
+    changes.1 changes.2 (record { problem = c.turn.ensures.problem; turned = c.turn.ensures.turns; floor = c.turn.ensures.floor }))
 
 pub returns-clause-most : goal.returns-clause-most
 returns-clause-most g c =
@@ -43,7 +43,7 @@ returns-clause-most g c =
     subst (λ b. work_left new + running c.turn.result ≤ work_left b) c.self.view_is
     (work_falls c.args.i map.entries left.entries c.in-Some.search.now c.turn.new.self (sym c.in-Some.ensures.value)
     c.self.inside.added c.turn.result (c.get_mut.follows.holds c.turn.new.self).0
-    (record { question = c.turn.ensures.question; budget = c.turn.ensures.budget; turned = c.turn.ensures.turns; floor = c.turn.ensures.floor })
+    (record { problem = c.turn.ensures.problem; turned = c.turn.ensures.turns; floor = c.turn.ensures.floor })
     c.turn.ensures.falls)
 
 pub returns-clause-falls : goal.returns-clause-falls
@@ -53,7 +53,7 @@ returns-clause-falls g c = λ runs.
     let new : Batch = record { searches = left.entries; added = c.self.inside.added } in
     let less = work_falls c.args.i map.entries left.entries c.in-Some.search.now c.turn.new.self (sym c.in-Some.ensures.value)
     c.self.inside.added c.turn.result (c.get_mut.follows.holds c.turn.new.self).0
-    (record { question = c.turn.ensures.question; budget = c.turn.ensures.budget; turned = c.turn.ensures.turns; floor = c.turn.ensures.floor })
+    (record { problem = c.turn.ensures.problem; turned = c.turn.ensures.turns; floor = c.turn.ensures.floor })
     c.turn.ensures.falls in
     let one : running c.turn.result ≡ 1 = ap running runs in
     subst (λ b. work_left new < work_left b) c.self.view_is (omega (arith, less, one))
