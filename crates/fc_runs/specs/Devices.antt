@@ -17,6 +17,10 @@ pub record Device : Type 0 where
   pub new : Option (List ℕ)
   pub failed : Bool
 
+-- a device from one state to another, by what it tells or holds in a state and whether it has failed there
+abbrev pub change : {D : Type 0} → (D → Option (List ℕ)) → (D → Bool) → D → D → Device
+change bytes has_failed old new = record { old = bytes old; new = bytes new; failed = has_failed new }
+
 -- a source gave a text: all that it told, or more than 4,096 bytes of it
 pub record GivesText (source : Device) (text : List ℕ) : Type 0 where
   pub given : Gives source.old source.new text

@@ -2,6 +2,7 @@
 
 ghost use Rattle.std.specs.Prelude.{◌≡◌, ◌+◌, IfOk, IfErr};
 ghost use Rattle.fc_io.specs.Moves.{GivesAtMost};
+ghost use Rattle.fc_runs.specs.Devices.{change};
 ghost use Rattle.fc_runs.specs.Checking.{IsChecked, IsRefusal};
 ghost use Rattle.fc_runs.specs.Fault.{check_fault};
 
@@ -29,13 +30,13 @@ pub fn run_check<G: Game, B: Source, C: Source, K: Sink>(
     out: &mut K,
 ) -> Result<u8, ProgramFault>
     ensures checked { IfOk result (IsChecked (G.game game.now)
-        record { old = B.told board.old; new = B.told board.new; failed = B.has_failed board.new }
-        record { old = C.told cert.old; new = C.told cert.new; failed = C.has_failed cert.new }
-        record { old = K.held out.old; new = K.held out.new; failed = K.has_failed out.new }) }
+        (change B.told B.has_failed board.old board.new)
+        (change C.told C.has_failed cert.old cert.new)
+        (change K.held K.has_failed out.old out.new)) }
     ensures fault { IfErr result (IsRefusal (G.game game.now)
-        record { old = B.told board.old; new = B.told board.new; failed = B.has_failed board.new }
-        record { old = C.told cert.old; new = C.told cert.new; failed = C.has_failed cert.new }
-        record { old = K.held out.old; new = K.held out.new; failed = K.has_failed out.new }) }
+        (change B.told B.has_failed board.old board.new)
+        (change C.told C.has_failed cert.old cert.new)
+        (change K.held K.has_failed out.old out.new)) }
     ensures taken_board { GivesAtMost (B.told board.old) (B.told board.new) (LONGEST_BOARD + 1) }
     ensures taken_cert { GivesAtMost (C.told cert.old) (C.told cert.new) (LONGEST_CERTIFICATE + 1) }
 {

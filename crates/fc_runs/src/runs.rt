@@ -2,7 +2,7 @@
 
 ghost use Rattle.std.specs.Prelude.{◌≡◌, ◌+◌, ◌≤◌, IfOk, IfErr};
 ghost use Rattle.fc_io.specs.Moves.{GivesAtMost};
-ghost use Rattle.fc_runs.specs.Devices.{GivesBoard, IsReadFault};
+ghost use Rattle.fc_runs.specs.Devices.{change, GivesBoard, IsReadFault};
 ghost use Rattle.fc_runs.specs.Fault.{replay_fault};
 ghost use Rattle.fc_runs.specs.Runs.{IsDealt, IsDealFault, IsReplayed, IsReplayFault, IsReplayedAs, IsReplayFaultAs};
 
@@ -25,9 +25,9 @@ pub const LONGEST_MOVES: usize = 1_048_576;
 pub(crate) fn read_position<S: Source>(board: &mut S, cells: u8) -> Result<Position, ProgramFault>
     requires game { cells ≤ 4 }
     ensures read { IfOk result (GivesBoard cells
-        record { old = S.told board.old; new = S.told board.new; failed = S.has_failed board.new }) }
+        (change S.told S.has_failed board.old board.new)) }
     ensures fault { IfErr result (IsReadFault cells
-        record { old = S.told board.old; new = S.told board.new; failed = S.has_failed board.new }) }
+        (change S.told S.has_failed board.old board.new)) }
     ensures taken { GivesAtMost (S.told board.old) (S.told board.new) (LONGEST_BOARD + 1) }
 {
     let mut room = [0; LONGEST_BOARD + 1];
@@ -47,9 +47,9 @@ pub(crate) fn read_position<S: Source>(board: &mut S, cells: u8) -> Result<Posit
 /// A number outside 1 to 1,000,000, and nothing is written; or a text that can't be written, of which a front may be.
 pub fn run_deal<K: Sink>(n: u32, out: &mut K) -> Result<u8, ProgramFault>
     ensures dealt { IfOk result (IsDealt n
-        record { old = K.held out.old; new = K.held out.new; failed = K.has_failed out.new }) }
+        (change K.held K.has_failed out.old out.new)) }
     ensures fault { IfErr result (IsDealFault n
-        record { old = K.held out.old; new = K.held out.new; failed = K.has_failed out.new }) }
+        (change K.held K.has_failed out.old out.new)) }
 {
     let Some(position) = deal(n) else {
         return Err(ProgramFault::Number(n));
@@ -75,13 +75,13 @@ pub fn run_replay<G: Game, B: Source, M: Source, K: Sink>(
     out: &mut K,
 ) -> Result<u8, ProgramFault>
     ensures replayed { IfOk result (IsReplayed (G.game game.now)
-        record { old = B.told board.old; new = B.told board.new; failed = B.has_failed board.new }
-        record { old = M.told moves.old; new = M.told moves.new; failed = M.has_failed moves.new }
-        record { old = K.held out.old; new = K.held out.new; failed = K.has_failed out.new }) }
+        (change B.told B.has_failed board.old board.new)
+        (change M.told M.has_failed moves.old moves.new)
+        (change K.held K.has_failed out.old out.new)) }
     ensures fault { IfErr result (IsReplayFault (G.game game.now)
-        record { old = B.told board.old; new = B.told board.new; failed = B.has_failed board.new }
-        record { old = M.told moves.old; new = M.told moves.new; failed = M.has_failed moves.new }
-        record { old = K.held out.old; new = K.held out.new; failed = K.has_failed out.new }) }
+        (change B.told B.has_failed board.old board.new)
+        (change M.told M.has_failed moves.old moves.new)
+        (change K.held K.has_failed out.old out.new)) }
     ensures taken_board { GivesAtMost (B.told board.old) (B.told board.new) (LONGEST_BOARD + 1) }
     ensures taken_moves { GivesAtMost (M.told moves.old) (M.told moves.new) (LONGEST_MOVES + 1) }
 {
@@ -105,13 +105,13 @@ pub fn run_replay_as<G: Game, B: Source, M: Source, K: Sink>(
     out: &mut K,
 ) -> Result<Ended, ProgramFault>
     ensures replayed { IfOk result (IsReplayedAs page (G.game game.now)
-        record { old = B.told board.old; new = B.told board.new; failed = B.has_failed board.new }
-        record { old = M.told moves.old; new = M.told moves.new; failed = M.has_failed moves.new }
-        record { old = K.held out.old; new = K.held out.new; failed = K.has_failed out.new }) }
+        (change B.told B.has_failed board.old board.new)
+        (change M.told M.has_failed moves.old moves.new)
+        (change K.held K.has_failed out.old out.new)) }
     ensures fault { IfErr result (IsReplayFaultAs page (G.game game.now)
-        record { old = B.told board.old; new = B.told board.new; failed = B.has_failed board.new }
-        record { old = M.told moves.old; new = M.told moves.new; failed = M.has_failed moves.new }
-        record { old = K.held out.old; new = K.held out.new; failed = K.has_failed out.new }) }
+        (change B.told B.has_failed board.old board.new)
+        (change M.told M.has_failed moves.old moves.new)
+        (change K.held K.has_failed out.old out.new)) }
     ensures taken_board { GivesAtMost (B.told board.old) (B.told board.new) (LONGEST_BOARD + 1) }
     ensures taken_moves { GivesAtMost (M.told moves.old) (M.told moves.new) (LONGEST_MOVES + 1) }
 {

@@ -5,6 +5,7 @@ ghost use Rattle.std.specs.Prelude.{◌≡◌, ◌+◌, ◌≤◌, length, IfOk,
 ghost use Rattle.fc_io.specs.Moves.{GivesAtMost};
 ghost use Rattle.fc_moves.specs.GameRules.{IsPositionOf};
 ghost use Rattle.fc_replay.specs.Token.{move_tokens};
+ghost use Rattle.fc_runs.specs.Devices.{change};
 ghost use Rattle.fc_runs.specs.Fault.{list_fault};
 ghost use Rattle.fc_runs.specs.Sequences.{IsExpanded, IsListFaultAs, IsPlayed, IsUnplayed, IsUnread, SpellPairs};
 
@@ -37,13 +38,13 @@ pub fn run_replay_sequences<G: Game, B: Source, M: Source, K: Sink>(
     out: &mut K,
 ) -> Result<Ended, ProgramFault>
     ensures played { IfOk result (IsPlayed page (G.game game.now)
-        record { old = B.told board.old; new = B.told board.new; failed = B.has_failed board.new }
-        record { old = M.told moves.old; new = M.told moves.new; failed = M.has_failed moves.new }
-        record { old = K.held out.old; new = K.held out.new; failed = K.has_failed out.new }) }
+        (change B.told B.has_failed board.old board.new)
+        (change M.told M.has_failed moves.old moves.new)
+        (change K.held K.has_failed out.old out.new)) }
     ensures fault { IfErr result (IsListFaultAs page (G.game game.now)
-        record { old = B.told board.old; new = B.told board.new; failed = B.has_failed board.new }
-        record { old = M.told moves.old; new = M.told moves.new; failed = M.has_failed moves.new }
-        record { old = K.held out.old; new = K.held out.new; failed = K.has_failed out.new }) }
+        (change B.told B.has_failed board.old board.new)
+        (change M.told M.has_failed moves.old moves.new)
+        (change K.held K.has_failed out.old out.new)) }
     ensures taken_board { GivesAtMost (B.told board.old) (B.told board.new) (LONGEST_BOARD + 1) }
     ensures taken_moves { GivesAtMost (M.told moves.old) (M.told moves.new) (LONGEST_MOVES + 1) }
 {

@@ -3,6 +3,7 @@
 ghost use Rattle.std.specs.Prelude.{◌+◌, ◌≤◌, ◌↔◌, IfOk, IfErr, OnOk, IsErr, IsTrue};
 ghost use Rattle.fc_io.specs.Moves.{GivesAtMost, Takes, TakesFront};
 ghost use Rattle.fc_position.specs.Position.{Fits};
+ghost use Rattle.fc_runs.specs.Devices.{change};
 ghost use Rattle.fc_runs.specs.Showing.{IsShown, IsShowFault, shown};
 
 use crate::faults::{Output, ProgramFault};
@@ -36,11 +37,11 @@ pub fn run_show<G: Game, B: Source, K: Sink>(
     out: &mut K,
 ) -> Result<u8, ProgramFault>
     ensures shown { IfOk result (IsShown look (G.game game.now).cells
-        record { old = B.told board.old; new = B.told board.new; failed = B.has_failed board.new }
-        record { old = K.held out.old; new = K.held out.new; failed = K.has_failed out.new }) }
+        (change B.told B.has_failed board.old board.new)
+        (change K.held K.has_failed out.old out.new)) }
     ensures fault { IfErr result (IsShowFault look (G.game game.now).cells
-        record { old = B.told board.old; new = B.told board.new; failed = B.has_failed board.new }
-        record { old = K.held out.old; new = K.held out.new; failed = K.has_failed out.new }) }
+        (change B.told B.has_failed board.old board.new)
+        (change K.held K.has_failed out.old out.new)) }
     ensures taken_board { GivesAtMost (B.told board.old) (B.told board.new) (LONGEST_BOARD + 1) }
 {
     let cells = game.cells();
