@@ -7,14 +7,14 @@ ghost use Rattle.fc_deal.specs.Deal.{IsDealNumber};
 ghost use Rattle.fc_best_first.specs.Search.{IsBudget, IsWeight};
 ghost use Rattle.fc_search.specs.Search.{State};
 ghost use Rattle.fc_batch.specs.Batch.{OthersStay, search_at, work_left};
-ghost use Rattle.fc_runs.specs.Devices.{change};
+ghost use Rattle.fc_board_runs.specs.Devices.{change};
 ghost use Rattle.fc_runs.specs.Batches.{AreCutShort, AreTold, HaveEnded, HoldsDeals, IsAsked, IsBatched, IsBatchFault, IsRightOf, IsSearchOf, IsUnasked};
 
 use crate::answers::{line_text, outcome_of, told_status};
-use crate::faults::{Output, ProgramFault};
 use fc_answers::Outcome;
 use fc_batch::Batch;
 use fc_best_first::{Status, Step};
+use fc_board_runs::{Output, ProgramFault};
 use fc_bound::BoundKind;
 use fc_deal::deal;
 use fc_frontier::BucketFrontier;

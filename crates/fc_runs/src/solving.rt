@@ -9,14 +9,13 @@ ghost use Rattle.fc_bound.specs.declared.kinds.BoundKind.{BoundKind};
 ghost use Rattle.fc_answers.specs.Verdict.{CanBeWritten, verdict_of};
 ghost use Rattle.fc_best_first.specs.Search.{IsBudget, IsWeight};
 ghost use Rattle.fc_search.specs.Search.{Answers};
-ghost use Rattle.fc_runs.specs.Devices.{change, GivesBoard, IsHandedBack, lent};
+ghost use Rattle.fc_board_runs.specs.Devices.{change, GivesBoard, IsHandedBack, lent};
 ghost use Rattle.fc_watch.specs.declared.listeners.Progress.{Progress};
 ghost use Rattle.fc_watch.specs.Watch.{HearsAll, IsHeardAtMost, question_of};
 ghost use Rattle.fc_runs.specs.Solving.{IsAnswered, IsCertified, IsCutShort, IsHeardAnswered, IsHeardOf, IsHeardUnanswered, IsSolved, IsSolveFault, IsStartFault, IsUnanswered};
 
 use crate::answers::{answer_status, answer_text, verdict_status, verdict_text};
-use crate::faults::{Output, ProgramFault};
-use crate::runs::{LONGEST_BOARD, read_position};
+use fc_board_runs::{LONGEST_BOARD, Output, ProgramFault, read_position};
 use fc_bound::BoundKind;
 use fc_cert::{CertFault, write_answer};
 use fc_home::GREATEST_RULE;

@@ -6,15 +6,15 @@ ghost use Rattle.fc_best_first.specs.Search.{IsBudget, IsWeight};
 ghost use Rattle.arrayvec.specs.ArrayString.{array_string_len};
 ghost use Rattle.fc_watch.specs.declared.listeners.Progress.{Progress};
 ghost use Rattle.fc_watch.specs.Watch.{HearsAll, TellFloors};
-ghost use Rattle.fc_runs.specs.Devices.{change};
+ghost use Rattle.fc_board_runs.specs.Devices.{change};
 ghost use Rattle.fc_runs.specs.Batches.{IsToldOf};
 ghost use Rattle.fc_runs.specs.Tabling.{AreTabled, IsDealFloor, IsTabled, IsTableCutShort, IsTableFault, answer_name, far_text, floor_of, moves_of, number_text, row_text};
 
 use crate::answers::{outcome_of, told_status};
 use crate::batches::deals_of;
-use crate::faults::{Output, ProgramFault};
 use arrayvec::ArrayString;
 use fc_answers::Outcome;
+use fc_board_runs::{Output, ProgramFault};
 use fc_bound::BoundKind;
 use fc_deal::deal;
 use fc_home::GREATEST_RULE;

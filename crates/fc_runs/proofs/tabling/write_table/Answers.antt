@@ -1,5 +1,5 @@
 use Rattle.std.proofs.Common.{rules, IsTrue, OnErr}
-use Rattle.fc_runs.specs.Devices.{Device}
+use Rattle.fc_board_runs.specs.Devices.{Device}
 use Rattle.fc_runs.specs.Tabling.{IsTableCutShort}
 use Rattle.fc_runs.proofs.TablingLemmas.{one_more_written, row_cut_short}
 use Rattle.fc_runs.proofs.tabling.write_table.Goals as goal
