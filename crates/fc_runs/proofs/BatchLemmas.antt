@@ -24,8 +24,8 @@ use Rattle.fc_batch.specs.Batch.{Batch, HasTurn, HasTurns, OthersStay, TurnFor, 
 use Rattle.fc_batch.proofs.BatchLemmas.{stays_self}
 use Rattle.fc_batch.proofs.LawLemmas.{turn_alone}
 use Rattle.fc_watch.proofs.FarLemmas.{asked_all}
+use Rattle.fc_board_runs.specs.Devices.{Device}
 use Rattle.fc_runs.specs.Batches.{AreCutShort, AreLines, AreTold, HaveEnded, HoldsDeals, IsRightOf, IsSearchOf, Line, greatest_status, line_text, told_status}
-use Rattle.fc_runs.specs.Devices.{Device}
 
 -- no card of a deal stands in a cell, so it is of every game
 pub dealt_fits : (n deal : ℕ) → Fits n (dealt_board deal)

@@ -15,10 +15,10 @@ use Rattle.fc_cert.specs.Content.{Content, bytes_of}
 use Rattle.fc_cert.proofs.CertifiedLemmas.{backed_certified, backed_spelled}
 use Rattle.fc_cert.specs.declared.faults.CertFault.TheVariants.{Write}
 use Rattle.fc_cert.specs.Writing.{SinkState, WritesAnswer}
-use Rattle.fc_runs.specs.Devices.{Device}
+use Rattle.fc_board_runs.specs.Devices.{Device}
 use Rattle.fc_search.specs.Search.{IsRunToEnd}
-use Rattle.fc_runs.specs.declared.faults.Output.TheVariants.{Answer as of_answer, Cert as of_certificate}
-use Rattle.fc_runs.specs.declared.faults.ProgramFault.TheVariants.{Write as unwritten}
+use Rattle.fc_board_runs.specs.declared.faults.Output.TheVariants.{Answer as of_answer, Cert as of_certificate}
+use Rattle.fc_board_runs.specs.declared.faults.ProgramFault.TheVariants.{Write as unwritten}
 use Rattle.fc_runs.specs.AnswerText.{answer_text, status_of}
 use Rattle.fc_runs.specs.Solving.{IsAnswered, IsCertificateOf, IsCertified, IsCutShort, IsUnanswered}
 

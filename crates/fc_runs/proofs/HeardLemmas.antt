@@ -6,8 +6,8 @@ use Rattle.fc_moves.specs.GameRules.{GameRules}
 use Rattle.fc_bound.specs.declared.kinds.BoundKind.{BoundKind}
 use Rattle.fc_watch.specs.declared.listeners.Progress.{Progress}
 use Rattle.fc_watch.specs.Watch.{IsHeardAtMost, question_of}
-use Rattle.fc_runs.specs.declared.faults.ProgramFault.{ProgramFault}
-use Rattle.fc_runs.specs.Devices.{Device, GivesBoard}
+use Rattle.fc_board_runs.specs.declared.faults.ProgramFault.{ProgramFault}
+use Rattle.fc_board_runs.specs.Devices.{Device, GivesBoard}
 use Rattle.fc_runs.specs.Solving.{IsHeardAnswered, IsHeardOf, IsHeardUnanswered}
 
 -- what is heard of a search of the position that was given is heard of the source

@@ -3,7 +3,5 @@ pub mod CertificateLemmas
 mod HeardLemmas
 pub mod ListTextLemmas
 pub mod RefusalLemmas
-pub mod ReplayLemmas
-pub mod SequenceLemmas
 pub mod SolveLemmas
 pub mod TablingLemmas

@@ -5,8 +5,8 @@ use Rattle.fc_position.specs.Board.{Board}
 use Rattle.fc_moves.specs.GameRules.{GameRules}
 use Rattle.fc_bound.specs.declared.kinds.BoundKind.{BoundKind}
 use Rattle.fc_best_first.specs.Search.{IsBudget}
-use Rattle.fc_runs.specs.declared.faults.ProgramFault.{ProgramFault}
-use Rattle.fc_runs.specs.Devices.{Device, GivesBoard}
+use Rattle.fc_board_runs.specs.declared.faults.ProgramFault.{ProgramFault}
+use Rattle.fc_board_runs.specs.Devices.{Device, GivesBoard}
 use Rattle.fc_runs.specs.Solving.{IsAnswered, IsSolved, IsSolveFault, IsUnanswered}
 
 -- something is lent, or nothing

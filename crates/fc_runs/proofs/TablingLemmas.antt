@@ -14,11 +14,11 @@ use Rattle.fc_answers.specs.declared.answers.Verdict.TheVariants as verdict
 use Rattle.fc_answers.specs.Verdict.{IsRight, outcome_of}
 use Rattle.fc_watch.specs.declared.listeners.Progress.{Progress}
 use Rattle.fc_watch.specs.Watch.{HearsAll, TellFloors}
+use Rattle.fc_board_runs.specs.Devices.{Device}
 use Rattle.fc_runs.specs.declared.tabling.Last.{Last}
 use Rattle.fc_runs.specs.declared.tabling.Row.{Row}
 use Rattle.fc_runs.specs.Batches.{IsToldOf, greatest_status, told_status}
 use Rattle.fc_runs.specs.Tabling.{AreRows, IsDealFloor, IsTableCutShort, floor_of, line_of, names_text, row_text, table_text, told_floor}
-use Rattle.fc_runs.specs.Devices.{Device}
 use Rattle.fc_runs.proofs.BatchLemmas.{greatest_more}
 
 -- a row after others

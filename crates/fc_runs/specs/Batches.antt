@@ -14,12 +14,12 @@ use Rattle.fc_best_first.specs.declared.turns.Status.{Status}
 use Rattle.fc_best_first.specs.declared.turns.Status.TheVariants.{Running}
 use Rattle.fc_search.specs.Search.{HasRun, State}
 use Rattle.fc_batch.specs.Batch.{Batch, search_at}
+use Rattle.fc_board_runs.specs.declared.faults.Output.TheVariants.{Answer as of_answer}
+use Rattle.fc_board_runs.specs.declared.faults.ProgramFault.{ProgramFault}
+use Rattle.fc_board_runs.specs.declared.faults.ProgramFault.TheVariants.{Number, Range, Budget, Write, Memory}
+use Rattle.fc_board_runs.specs.Devices.{Device, IsUntouched}
 use Rattle.fc_runs.specs.declared.batches.TheConstants.{MOST_DEALS}
-use Rattle.fc_runs.specs.declared.faults.Output.TheVariants.{Answer as of_answer}
-use Rattle.fc_runs.specs.declared.faults.ProgramFault.{ProgramFault}
-use Rattle.fc_runs.specs.declared.faults.ProgramFault.TheVariants.{Number, Range, Budget, Write, Memory}
 use Rattle.fc_runs.specs.AnswerText.{outcome_text, outcome_status}
-use Rattle.fc_runs.specs.Devices.{Device, IsUntouched}
 use Rattle.fc_runs.specs.Solving.{IsDecided}
 
 -- a line of a batch: the number of its deal, and what is told of it; `None` where memory was wanted

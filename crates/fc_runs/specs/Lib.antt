@@ -1,10 +1,5 @@
 pub mod AnswerText
 pub mod Batches
 pub mod Checking
-pub mod Devices
-pub mod Fault
-pub mod Runs
-pub mod Sequences
-pub mod Showing
 pub mod Solving
 pub mod Tabling

@@ -15,12 +15,12 @@ use Rattle.fc_cert.specs.declared.claims.Claim.{Claim}
 use Rattle.fc_cert.specs.declared.claims.Claim.TheVariants as claim
 use Rattle.fc_cert.specs.Claim.{IsCertificate, written_form}
 use Rattle.fc_cert.specs.Content.{Content, IsSpelled}
-use Rattle.fc_runs.specs.declared.faults.Input.TheVariants.{Board as of_board}
-use Rattle.fc_runs.specs.declared.faults.Output.TheVariants.{Answer as of_answer, Cert as of_certificate}
-use Rattle.fc_runs.specs.declared.faults.ProgramFault.{ProgramFault}
-use Rattle.fc_runs.specs.declared.faults.ProgramFault.TheVariants.{Budget, Board as bad_board, Read, Write, Memory}
+use Rattle.fc_board_runs.specs.declared.faults.Input.TheVariants.{Board as of_board}
+use Rattle.fc_board_runs.specs.declared.faults.Output.TheVariants.{Answer as of_answer, Cert as of_certificate}
+use Rattle.fc_board_runs.specs.declared.faults.ProgramFault.{ProgramFault}
+use Rattle.fc_board_runs.specs.declared.faults.ProgramFault.TheVariants.{Budget, Board as bad_board, Read, Write, Memory}
+use Rattle.fc_board_runs.specs.Devices.{Device, GivesBoard, GivesFault, IsUntouched}
 use Rattle.fc_runs.specs.AnswerText.{answer_text, status_of}
-use Rattle.fc_runs.specs.Devices.{Device, GivesBoard, GivesFault, IsUntouched}
 
 -- the verdict is right for the board, and that of a search by the home rule, the weight and the kind of bound that ran to its
 -- end within the budget

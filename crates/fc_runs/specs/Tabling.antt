@@ -10,12 +10,12 @@ use Rattle.fc_bound.specs.declared.kinds.BoundKind.{BoundKind}
 use Rattle.fc_answers.specs.declared.answers.Outcome.{Outcome}
 use Rattle.fc_answers.specs.declared.answers.Outcome.TheVariants.{Shortest, Won, CannotWin, GaveUp}
 use Rattle.fc_watch.specs.declared.listeners.Progress.{Progress}
-use Rattle.fc_runs.specs.declared.faults.Output.TheVariants.{Answer as of_answer}
-use Rattle.fc_runs.specs.declared.faults.ProgramFault.{ProgramFault}
-use Rattle.fc_runs.specs.declared.faults.ProgramFault.TheVariants.{Write}
+use Rattle.fc_board_runs.specs.declared.faults.Output.TheVariants.{Answer as of_answer}
+use Rattle.fc_board_runs.specs.declared.faults.ProgramFault.{ProgramFault}
+use Rattle.fc_board_runs.specs.declared.faults.ProgramFault.TheVariants.{Write}
+use Rattle.fc_board_runs.specs.Devices.{Device, IsUntouched}
 use Rattle.fc_runs.specs.declared.tabling.Row.{Row}
 use Rattle.fc_runs.specs.Batches.{IsAsked, IsToldOf, IsUnasked, Line, greatest_status}
-use Rattle.fc_runs.specs.Devices.{Device, IsUntouched}
 
 -- the names of the columns
 abbrev pub names_text : List ℕ

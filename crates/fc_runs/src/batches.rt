@@ -7,13 +7,14 @@ ghost use Rattle.fc_deal.specs.Deal.{IsDealNumber};
 ghost use Rattle.fc_best_first.specs.Search.{IsBudget, IsWeight};
 ghost use Rattle.fc_search.specs.Search.{State};
 ghost use Rattle.fc_batch.specs.Batch.{OthersStay, search_at, work_left};
+ghost use Rattle.fc_board_runs.specs.Devices.{change};
 ghost use Rattle.fc_runs.specs.Batches.{AreCutShort, AreTold, HaveEnded, HoldsDeals, IsAsked, IsBatched, IsBatchFault, IsRightOf, IsSearchOf, IsUnasked};
 
 use crate::answers::{line_text, outcome_of, told_status};
-use crate::faults::{Output, ProgramFault};
 use fc_answers::Outcome;
 use fc_batch::Batch;
 use fc_best_first::{Status, Step};
+use fc_board_runs::{Output, ProgramFault};
 use fc_bound::BoundKind;
 use fc_deal::deal;
 use fc_frontier::BucketFrontier;
@@ -49,9 +50,9 @@ pub fn run_batch<G: Game + Drop, K: Sink>(
     requires rule { rule ≤ GREATEST_RULE }
     requires weight { IsWeight weight }
     ensures batched { IfOk result (IsBatched (G.game game.now) rule weight bound from to budget
-        record { old = K.held out.old; new = K.held out.new; failed = K.has_failed out.new }) }
+        (change K.held K.has_failed out.old out.new)) }
     ensures fault { IfErr result (IsBatchFault (G.game game.now) rule weight bound from to budget
-        record { old = K.held out.old; new = K.held out.new; failed = K.has_failed out.new }) }
+        (change K.held K.has_failed out.old out.new)) }
 {
     let count = deals_of(from, to, budget)?;
     let mut batch = begin(alloc, game, rule, weight, bound, from, count, budget)?;
@@ -194,10 +195,10 @@ fn write_lines<G: Game + Drop, K: Sink>(
     requires numbers { from + count ≤ 1000001 }
     ensures told { (g : GameRules) (rule weight : ℕ) (kind : BoundKind) (budget : ℕ) → HoldsDeals g rule weight kind budget from count batch.now → HaveEnded count batch.now
         → IfOk result (AreTold g rule weight kind budget from count
-        record { old = K.held out.old; new = K.held out.new; failed = K.has_failed out.new }) }
+        (change K.held K.has_failed out.old out.new)) }
     ensures cut { (g : GameRules) (rule weight : ℕ) (kind : BoundKind) (budget : ℕ) → HoldsDeals g rule weight kind budget from count batch.now → HaveEnded count batch.now
         → OnErr result (AreCutShort g rule weight kind budget from count
-        record { old = K.held out.old; new = K.held out.new; failed = K.has_failed out.new }) }
+        (change K.held K.has_failed out.old out.new)) }
 {
     let mut greatest = 0;
     for i in 0..count {

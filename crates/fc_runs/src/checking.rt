@@ -2,16 +2,17 @@
 
 ghost use Rattle.std.specs.Prelude.{◌≡◌, ◌+◌, IfOk, IfErr};
 ghost use Rattle.fc_io.specs.Moves.{GivesAtMost};
-ghost use Rattle.fc_runs.specs.Checking.{IsChecked, IsRefusal};
-ghost use Rattle.fc_runs.specs.Fault.{check_fault};
+ghost use Rattle.fc_position.specs.Position.{Fits};
+ghost use Rattle.fc_board_runs.specs.Devices.{change};
+ghost use Rattle.fc_runs.specs.Checking.{IsChecked, IsCheckedOf, IsRefusal, IsRefusalOf, check_fault};
 
 use crate::answers::accepted_text;
-use crate::faults::{Input, Output, ProgramFault, read_fault};
-use crate::runs::{LONGEST_BOARD, read_position};
+use fc_board_runs::{Input, LONGEST_BOARD, Output, ProgramFault, read_fault, read_position};
 use fc_cert::LONGEST_CERTIFICATE;
 use fc_checker::{CheckFault, check};
 use fc_io::{Sink, Source, read_to_vec, write_all};
 use fc_moves::Game;
+use fc_position::Position;
 use std::alloc::Global;
 
 /// Reads a board of the game and a certificate, and writes the claim that the certificate proves of the board. The status
@@ -29,22 +30,48 @@ pub fn run_check<G: Game, B: Source, C: Source, K: Sink>(
     out: &mut K,
 ) -> Result<u8, ProgramFault>
     ensures checked { IfOk result (IsChecked (G.game game.now)
-        record { old = B.told board.old; new = B.told board.new; failed = B.has_failed board.new }
-        record { old = C.told cert.old; new = C.told cert.new; failed = C.has_failed cert.new }
-        record { old = K.held out.old; new = K.held out.new; failed = K.has_failed out.new }) }
+        (change B.told B.has_failed board.old board.new)
+        (change C.told C.has_failed cert.old cert.new)
+        (change K.held K.has_failed out.old out.new)) }
     ensures fault { IfErr result (IsRefusal (G.game game.now)
-        record { old = B.told board.old; new = B.told board.new; failed = B.has_failed board.new }
-        record { old = C.told cert.old; new = C.told cert.new; failed = C.has_failed cert.new }
-        record { old = K.held out.old; new = K.held out.new; failed = K.has_failed out.new }) }
+        (change B.told B.has_failed board.old board.new)
+        (change C.told C.has_failed cert.old cert.new)
+        (change K.held K.has_failed out.old out.new)) }
     ensures taken_board { GivesAtMost (B.told board.old) (B.told board.new) (LONGEST_BOARD + 1) }
     ensures taken_cert { GivesAtMost (C.told cert.old) (C.told cert.new) (LONGEST_CERTIFICATE + 1) }
 {
     let start = read_position(board, game.cells())?;
+    run_check_of(alloc, game, &start, cert, out)
+}
+
+/// Reads a certificate, and writes the claim that it proves of a position that fits the game. The status is 0. Nothing is
+/// searched.
+///
+/// # Errors
+/// In this order: a certificate that can't be read, is longer than 1 GiB, or want of memory, whichever is met first; the first
+/// thing that is asked of a certificate and doesn't hold, or want of memory; a text that can't be written, of which a front
+/// may be. After any other fault nothing is written.
+pub fn run_check_of<G: Game, C: Source, K: Sink>(
+    alloc: Global,
+    game: &G,
+    start: &Position,
+    cert: &mut C,
+    out: &mut K,
+) -> Result<u8, ProgramFault>
+    requires fits { Fits (G.game game.now).cells start.now }
+    ensures checked { IfOk result (IsCheckedOf (G.game game.now) start.now
+        (change C.told C.has_failed cert.old cert.new)
+        (change K.held K.has_failed out.old out.new)) }
+    ensures fault { IfErr result (IsRefusalOf (G.game game.now) start.now
+        (change C.told C.has_failed cert.old cert.new)
+        (change K.held K.has_failed out.old out.new)) }
+    ensures taken_cert { GivesAtMost (C.told cert.old) (C.told cert.new) (LONGEST_CERTIFICATE + 1) }
+{
     let bytes = match read_to_vec(alloc, cert, LONGEST_CERTIFICATE) {
         Ok(bytes) => bytes,
         Err(fault) => return Err(read_fault(Input::Cert, fault)),
     };
-    let claim = match check(alloc, game, &start, bytes.as_slice()) {
+    let claim = match check(alloc, game, start, bytes.as_slice()) {
         Ok(claim) => claim,
         Err(fault) => return Err(check_fault(fault)),
     };

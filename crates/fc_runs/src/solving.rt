@@ -9,14 +9,13 @@ ghost use Rattle.fc_bound.specs.declared.kinds.BoundKind.{BoundKind};
 ghost use Rattle.fc_answers.specs.Verdict.{CanBeWritten, verdict_of};
 ghost use Rattle.fc_best_first.specs.Search.{IsBudget, IsWeight};
 ghost use Rattle.fc_search.specs.Search.{Answers};
-ghost use Rattle.fc_runs.specs.Devices.{GivesBoard, IsHandedBack, lent};
+ghost use Rattle.fc_board_runs.specs.Devices.{change, GivesBoard, IsHandedBack, lent};
 ghost use Rattle.fc_watch.specs.declared.listeners.Progress.{Progress};
 ghost use Rattle.fc_watch.specs.Watch.{HearsAll, IsHeardAtMost, question_of};
 ghost use Rattle.fc_runs.specs.Solving.{IsAnswered, IsCertified, IsCutShort, IsHeardAnswered, IsHeardOf, IsHeardUnanswered, IsSolved, IsSolveFault, IsStartFault, IsUnanswered};
 
 use crate::answers::{answer_status, answer_text, verdict_status, verdict_text};
-use crate::faults::{Output, ProgramFault};
-use crate::runs::{LONGEST_BOARD, read_position};
+use fc_board_runs::{LONGEST_BOARD, Output, ProgramFault, read_position};
 use fc_bound::BoundKind;
 use fc_cert::{CertFault, write_answer};
 use fc_home::GREATEST_RULE;
@@ -51,13 +50,13 @@ pub fn run_solve<G: Game + Drop, S: Source, K: Sink, C: Sink>(
     requires rule { rule ≤ GREATEST_RULE }
     requires weight { IsWeight weight }
     ensures answered { IfOk result (IsSolved (G.game game.now) rule weight bound budget
-        record { old = S.told board.old; new = S.told board.new; failed = S.has_failed board.new }
+        (change S.told S.has_failed board.old board.new)
         (lent C.held C.has_failed cert.entry cert.exit)
-        record { old = K.held out.old; new = K.held out.new; failed = K.has_failed out.new }) }
+        (change K.held K.has_failed out.old out.new)) }
     ensures fault { IfErr result (IsSolveFault (G.game game.now) rule weight bound budget
-        record { old = S.told board.old; new = S.told board.new; failed = S.has_failed board.new }
+        (change S.told S.has_failed board.old board.new)
         (lent C.held C.has_failed cert.entry cert.exit)
-        record { old = K.held out.old; new = K.held out.new; failed = K.has_failed out.new }) }
+        (change K.held K.has_failed out.old out.new)) }
     ensures taken { GivesAtMost (S.told board.old) (S.told board.new) (LONGEST_BOARD + 1) }
     ensures back { IsHandedBack cert.entry cert.exit }
 {
@@ -93,21 +92,21 @@ pub fn run_solve_heard<G: Game + Drop, S: Source, K: Sink, C: Sink, L: Listener>
     requires rule { rule ≤ GREATEST_RULE }
     requires weight { IsWeight weight }
     ensures answered { IfOk result (IsSolved (G.game game.now) rule weight bound budget
-        record { old = S.told board.old; new = S.told board.new; failed = S.has_failed board.new }
+        (change S.told S.has_failed board.old board.new)
         (lent C.held C.has_failed cert.entry cert.exit)
-        record { old = K.held out.old; new = K.held out.new; failed = K.has_failed out.new }) }
+        (change K.held K.has_failed out.old out.new)) }
     ensures fault { IfErr result (IsSolveFault (G.game game.now) rule weight bound budget
-        record { old = S.told board.old; new = S.told board.new; failed = S.has_failed board.new }
+        (change S.told S.has_failed board.old board.new)
         (lent C.held C.has_failed cert.entry cert.exit)
-        record { old = K.held out.old; new = K.held out.new; failed = K.has_failed out.new }) }
+        (change K.held K.has_failed out.old out.new)) }
     ensures taken { GivesAtMost (S.told board.old) (S.told board.new) (LONGEST_BOARD + 1) }
     ensures back { IsHandedBack cert.entry cert.exit }
     ensures heard { (heard : List Progress) × HearsAll L.hears listener.old heard listener.new
         × MatchResult result (λ status. IsHeardOf (G.game game.now) rule weight bound budget
-        record { old = S.told board.old; new = S.told board.new; failed = S.has_failed board.new }
-        record { old = K.held out.old; new = K.held out.new; failed = K.has_failed out.new } heard)
+        (change S.told S.has_failed board.old board.new)
+        (change K.held K.has_failed out.old out.new) heard)
         (λ fault. IsHeardUnanswered (G.game game.now) rule weight bound budget
-        record { old = S.told board.old; new = S.told board.new; failed = S.has_failed board.new } heard) }
+        (change S.told S.has_failed board.old board.new) heard) }
 {
     let start = read_start(game, board, budget)?;
     match cert {
@@ -128,9 +127,9 @@ fn read_start<G: Game, S: Source>(
 ) -> Result<Position, ProgramFault>
     ensures budgeted { OnOk result (IsBudget budget) }
     ensures read { IfOk result (GivesBoard (G.game game.now).cells
-        record { old = S.told board.old; new = S.told board.new; failed = S.has_failed board.new }) }
+        (change S.told S.has_failed board.old board.new)) }
     ensures fault { IfErr result (IsStartFault (G.game game.now) budget
-        record { old = S.told board.old; new = S.told board.new; failed = S.has_failed board.new }) }
+        (change S.told S.has_failed board.old board.new)) }
     ensures taken { GivesAtMost (S.told board.old) (S.told board.new) (LONGEST_BOARD + 1) }
 {
     if budget == 0 || budget > MOST_BUDGET {
@@ -156,12 +155,12 @@ fn tell<G: Game + Drop, K: Sink, L: Listener>(
     requires fits { Fits (G.game game.now).cells start.now }
     requires budgeted { IsBudget budget }
     ensures answered { IfOk result (IsAnswered (G.game game.now) rule weight bound start.now budget None
-        record { old = K.held out.old; new = K.held out.new; failed = K.has_failed out.new }) }
+        (change K.held K.has_failed out.old out.new)) }
     ensures fault { IfErr result (IsUnanswered (G.game game.now) rule weight bound start.now budget None
-        record { old = K.held out.old; new = K.held out.new; failed = K.has_failed out.new }) }
+        (change K.held K.has_failed out.old out.new)) }
     ensures heard { (heard : List Progress) × HearsAll L.hears listener.old heard listener.new
         × MatchResult result (λ status. IsHeardAnswered (G.game game.now) rule weight bound start.now budget
-        record { old = K.held out.old; new = K.held out.new; failed = K.has_failed out.new } heard)
+        (change K.held K.has_failed out.old out.new) heard)
         (λ fault. IsHeardAtMost (question_of (G.game game.now) rule weight bound start.now) budget heard) }
 {
     let Ok(verdict) = decide(alloc, game, rule, weight, bound, start, budget, listener) else {
@@ -192,14 +191,14 @@ fn certify<G: Game + Drop, K: Sink, C: Sink, L: Listener>(
     requires position { IsPositionOf (G.game game.now) start.now }
     requires budgeted { IsBudget budget }
     ensures answered { IfOk result (IsAnswered (G.game game.now) rule weight bound start.now budget
-        (Some record { old = C.held cert.old; new = C.held cert.new; failed = C.has_failed cert.new })
-        record { old = K.held out.old; new = K.held out.new; failed = K.has_failed out.new }) }
+        (Some (change C.held C.has_failed cert.old cert.new))
+        (change K.held K.has_failed out.old out.new)) }
     ensures fault { IfErr result (IsUnanswered (G.game game.now) rule weight bound start.now budget
-        (Some record { old = C.held cert.old; new = C.held cert.new; failed = C.has_failed cert.new })
-        record { old = K.held out.old; new = K.held out.new; failed = K.has_failed out.new }) }
+        (Some (change C.held C.has_failed cert.old cert.new))
+        (change K.held K.has_failed out.old out.new)) }
     ensures heard { (heard : List Progress) × HearsAll L.hears listener.old heard listener.new
         × MatchResult result (λ status. IsHeardAnswered (G.game game.now) rule weight bound start.now budget
-        record { old = K.held out.old; new = K.held out.new; failed = K.has_failed out.new } heard)
+        (change K.held K.has_failed out.old out.new) heard)
         (λ fault. IsHeardAtMost (question_of (G.game game.now) rule weight bound start.now) budget heard) }
 {
     let Ok(answer) = solve(alloc, game, rule, weight, bound, start, budget, listener) else {
@@ -225,11 +224,11 @@ fn write_certificate<G: Game, C: Sink>(
     ensures certified { (rule weight : ℕ) (kind : BoundKind) (start : Board) (budget : ℕ) → IsPositionOf (G.game game.now) start
         → Answers (G.game game.now) rule weight kind start budget answer.now
         → OnOk result (IsCertified (G.game game.now) rule kind start (verdict_of answer.now)
-        record { old = C.held cert.old; new = C.held cert.new; failed = C.has_failed cert.new }) }
+        (change C.held C.has_failed cert.old cert.new)) }
     ensures cut { (rule weight : ℕ) (kind : BoundKind) (start : Board) (budget : ℕ) → IsPositionOf (G.game game.now) start
         → Answers (G.game game.now) rule weight kind start budget answer.now
         → OnErr result (IsCutShort (G.game game.now) rule kind start (verdict_of answer.now)
-        record { old = C.held cert.old; new = C.held cert.new; failed = C.has_failed cert.new }) }
+        (change C.held C.has_failed cert.old cert.new)) }
 {
     match write_answer(game, answer, cert) {
         Ok(()) => Ok(()),

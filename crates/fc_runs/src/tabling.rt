@@ -6,14 +6,15 @@ ghost use Rattle.fc_best_first.specs.Search.{IsBudget, IsWeight};
 ghost use Rattle.arrayvec.specs.ArrayString.{array_string_len};
 ghost use Rattle.fc_watch.specs.declared.listeners.Progress.{Progress};
 ghost use Rattle.fc_watch.specs.Watch.{HearsAll, TellFloors};
+ghost use Rattle.fc_board_runs.specs.Devices.{change};
 ghost use Rattle.fc_runs.specs.Batches.{IsToldOf};
 ghost use Rattle.fc_runs.specs.Tabling.{AreTabled, IsDealFloor, IsTabled, IsTableCutShort, IsTableFault, answer_name, far_text, floor_of, moves_of, number_text, row_text};
 
 use crate::answers::{outcome_of, told_status};
 use crate::batches::deals_of;
-use crate::faults::{Output, ProgramFault};
 use arrayvec::ArrayString;
 use fc_answers::Outcome;
+use fc_board_runs::{Output, ProgramFault};
 use fc_bound::BoundKind;
 use fc_deal::deal;
 use fc_home::GREATEST_RULE;
@@ -75,9 +76,9 @@ pub fn run_table<G: Game + Drop, K: Sink>(
     requires rule { rule ≤ GREATEST_RULE }
     requires weight { IsWeight weight }
     ensures tabled { IfOk result (IsTabled (G.game game.now) rule weight bound from to budget
-        record { old = K.held out.old; new = K.held out.new; failed = K.has_failed out.new }) }
+        (change K.held K.has_failed out.old out.new)) }
     ensures fault { IfErr result (IsTableFault (G.game game.now) rule weight bound from to budget
-        record { old = K.held out.old; new = K.held out.new; failed = K.has_failed out.new }) }
+        (change K.held K.has_failed out.old out.new)) }
 {
     let count = deals_of(from, to, budget)?;
     match write_table(alloc, game, rule, weight, bound, from, count, budget, out) {
@@ -104,9 +105,9 @@ fn write_table<G: Game + Drop, K: Sink>(
     requires last { from + count ≤ 1000001 }
     requires budgeted { IsBudget budget }
     ensures tabled { IfOk result (AreTabled (G.game game.now) rule weight bound budget from count
-        record { old = K.held out.old; new = K.held out.new; failed = K.has_failed out.new }) }
+        (change K.held K.has_failed out.old out.new)) }
     ensures cut { OnErr result (IsTableCutShort (G.game game.now) rule weight bound budget from count
-        record { old = K.held out.old; new = K.held out.new; failed = K.has_failed out.new }) }
+        (change K.held K.has_failed out.old out.new)) }
 {
     write_all(
         out,

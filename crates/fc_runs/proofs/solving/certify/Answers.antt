@@ -1,5 +1,5 @@
 use Rattle.std.proofs.Common.{◌∙◌, refl, rules, IsTrue}
-use Rattle.fc_runs.specs.Devices.{Device}
+use Rattle.fc_board_runs.specs.Devices.{Device}
 use Rattle.fc_runs.proofs.CertificateLemmas.{uncertified, told_whole, told_short}
 use Rattle.fc_runs.proofs.solving.certify.Goals as goal
 

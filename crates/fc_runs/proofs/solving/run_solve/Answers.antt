@@ -1,5 +1,5 @@
 use Rattle.std.proofs.Common.{rules, inl, inr, Some}
-use Rattle.fc_runs.specs.Devices.{Device}
+use Rattle.fc_board_runs.specs.Devices.{Device}
 use Rattle.fc_runs.proofs.SolveLemmas.{is_lent, solved, unsolved}
 use Rattle.fc_runs.proofs.solving.run_solve.Goals as goal
 

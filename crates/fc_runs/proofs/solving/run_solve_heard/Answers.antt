@@ -1,6 +1,6 @@
 use Rattle.std.proofs.Common.{[], refl, rules, inl, inr, Some}
 use Rattle.std.proofs.lemmas.Result.{err_from_is_err_and}
-use Rattle.fc_runs.specs.Devices.{Device}
+use Rattle.fc_board_runs.specs.Devices.{Device}
 use Rattle.fc_runs.proofs.HeardLemmas.{heard_of}
 use Rattle.fc_runs.proofs.SolveLemmas.{is_lent, solved, unsolved}
 use Rattle.fc_runs.proofs.solving.run_solve_heard.Goals as goal

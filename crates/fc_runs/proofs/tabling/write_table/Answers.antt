@@ -1,7 +1,19 @@
-use Rattle.std.proofs.Common.{rules, IsTrue}
-use Rattle.fc_runs.specs.Devices.{Device}
+use Rattle.std.proofs.Common.{rules, IsTrue, OnErr}
+use Rattle.fc_board_runs.specs.Devices.{Device}
+use Rattle.fc_runs.specs.Tabling.{IsTableCutShort}
 use Rattle.fc_runs.proofs.TablingLemmas.{one_more_written, row_cut_short}
 use Rattle.fc_runs.proofs.tabling.write_table.Goals as goal
+
+pub returns-in_err-write_all-clause-cut : goal.returns-in_err-write_all-clause-cut
+returns-in_err-write_all-clause-cut g c =
+    let sink : Device = record {
+      old = g.K.Sink.held c.args.out.now;
+      new = g.K.Sink.held c.write_all.new.sink;
+      failed = g.K.Sink.has_failed c.write_all.new.sink;
+    } in
+    let cut : OnErr c.from_residual.result (IsTableCutShort (g.G.Game.game c.args.game.now) c.args.rule c.args.weight c.args.bound c.args.budget c.args.from c.args.count sink) =
+    search rules in
+    cut
 
 pub returns-in_default-clause-cut : goal.returns-in_default-clause-cut
 returns-in_default-clause-cut g c =

@@ -1,0 +1,123 @@
+-- Lists of entries: their tokens, the moves that they are expanded to, and why they aren't.
+use Rattle.std.proofs.Common.{◌≡◌, ⊎_elim, inr, ℕ, suc, ◌+◌, ◌<◌, ◌≤◌, List, [], ◌∷◌, ◌++◌, length, refl, sym, ◌∙◌, ap, subst, append_assoc, length-append, arith}
+use Rattle.std.specs.Prelude.{◌⊎◌, Result, Ok, IsErr, take}
+use Rattle.fc_io.specs.declared.devices.Failed.{Failed}
+use Rattle.fc_io.specs.Moves.{Stays}
+use Rattle.fc_position.specs.Board.{Board}
+use Rattle.fc_position.specs.Position.{IsWon}
+use Rattle.fc_moves.specs.declared.steps.Move.{Move}
+use Rattle.fc_moves.specs.GameRules.{GameRules}
+use Rattle.fc_text.proofs.PartLemmas.{length-tokens_between}
+use Rattle.fc_sequences.specs.declared.lists.ListFault.{ListFault}
+use Rattle.fc_sequences.specs.declared.lists.ListFault.TheVariants.{Refused, TooMany, Memory as wanting}
+use Rattle.fc_sequences.specs.declared.pairs.Pair.{Pair}
+use Rattle.fc_sequences.specs.Following.{Expands, Follows, IsListFault, LeadsToMany}
+use Rattle.fc_sequences.specs.Pair.{SpellsPair, IsNoPair}
+use Rattle.fc_replay.specs.declared.pages.Page.{Page}
+use Rattle.fc_replay.specs.declared.replays.Ended.{Ended}
+use Rattle.fc_replay.specs.Token.{is_gap, move_tokens}
+use Rattle.fc_board_runs.specs.declared.faults.Input.TheVariants.{Board as of_board, Moves as of_moves, Cert as of_certificate}
+use Rattle.fc_board_runs.specs.declared.faults.ProgramFault.{ProgramFault}
+use Rattle.fc_board_runs.specs.declared.faults.ProgramFault.TheVariants.{Number, Range, Budget, Board as bad_board, TooLong, Moves, TooManyWays, Cert, Read, Write, Memory}
+use Rattle.fc_replay.specs.declared.faults.ReplayFault.TheVariants.{BadMove, NotAllowed, Write as unwritten_page}
+use Rattle.fc_board_runs.specs.Devices.{Device, GivesWhole}
+use Rattle.fc_board_runs.specs.Fault.{list_fault}
+use Rattle.fc_board_runs.specs.Sequences.{IsExpanded, IsFirstNoPair, IsLeft, IsListFaultAs, IsUnplayed, SpellPairs}
+
+-- one more token that spells an entry
+spell_pair : (tokens : List (List ℕ)) (pairs : List Pair) (token : List ℕ) (pair : Pair) → SpellPairs tokens pairs → SpellsPair token pair
+    → SpellPairs (tokens ++ token ∷ []) (pairs ++ pair ∷ [])
+spell_pair [] pairs token pair none spells = subst (λ l. SpellPairs (token ∷ []) (l ++ pair ∷ [])) (sym none) (spells, refl)
+spell_pair (t ∷ tokens) [] token pair spelled spells = absurd spelled
+spell_pair (t ∷ tokens) (p ∷ pairs) token pair (first, rest) spells = (first, spell_pair tokens pairs token pair rest spells)
+
+-- there are as many entries as tokens
+pairs_length : (tokens : List (List ℕ)) (pairs : List Pair) → SpellPairs tokens pairs → length pairs ≡ length tokens
+pairs_length [] pairs none = ap length none
+pairs_length (t ∷ tokens) [] spelled = absurd spelled
+pairs_length (t ∷ tokens) (p ∷ pairs) (first, rest) = ap suc (pairs_length tokens pairs rest)
+
+-- the tokens so far spell these entries, and the others are left
+pub record Listed (text rest : List ℕ) (pairs : List Pair) : Type 0 where
+  pub front : List (List ℕ)
+  pub parts : front ++ move_tokens rest ≡ move_tokens text
+  pub spelled : SpellPairs front pairs
+
+pub listed_next : (text rest more : List ℕ) (pairs : List Pair) (token : List ℕ) (pair : Pair) → Listed text rest pairs
+    → move_tokens rest ≡ token ∷ move_tokens more → SpellsPair token pair → Listed text more (pairs ++ pair ∷ [])
+listed_next text rest more pairs token pair so first spells = record {
+  front = so.front ++ token ∷ [];
+  parts = append_assoc so.front (token ∷ []) (move_tokens more) ∙ ap (λ l. so.front ++ l) (sym first) ∙ so.parts;
+  spelled = spell_pair so.front pairs token pair so.spelled spells;
+}
+
+-- no more entries than bytes
+pub listed_few : (text rest : List ℕ) (pairs : List Pair) → Listed text rest pairs → length pairs ≤ length text
+listed_few text rest pairs so =
+    let size = ap length so.parts in
+    let count = pairs_length so.front pairs so.spelled in
+    omega (arith, count, size, length-append so.front (move_tokens rest), length-tokens_between is_gap text)
+
+-- the next token is no entry
+pub listed_bad : (text rest : List ℕ) (more : List (List ℕ)) (pairs : List Pair) (token : List ℕ) → Listed text rest pairs
+    → move_tokens rest ≡ token ∷ more → IsNoPair token → IsFirstNoPair (move_tokens text) (length pairs + 1)
+listed_bad text rest more pairs token so first none = record {
+  front = so.front;
+  token = token;
+  rest = more;
+  parts = sym so.parts ∙ ap (λ l. so.front ++ l) first;
+  place = ap (λ n. n + 1) (pairs_length so.front pairs so.spelled);
+  pairs = pairs;
+  spelled = so.spelled;
+  none = none;
+}
+
+-- a text of entries that was given and isn't played from a position, where nothing was written
+module _ (page : Page) (g : GameRules) (start : Board) (moves sink : Device) (text : List ℕ) (read : GivesWhole moves text) (unwritten : Stays sink.old sink.new) where
+  left : (fault : ProgramFault) → IsUnplayed g start (move_tokens text) fault → IsLeft g start moves sink fault
+  left fault why = record { text = text; read = read; why = why; unwritten = unwritten }
+
+  -- and so a list wasn't played to its end
+  pub left_for : (fault : ProgramFault) → IsUnplayed g start (move_tokens text) fault → IsListFaultAs page g start moves sink fault
+  left_for (Moves (NotAllowed step)) why = left (Moves (NotAllowed step)) why
+  left_for (Moves (BadMove step)) why = left (Moves (BadMove step)) why
+  left_for (Moves unwritten_page) why = absurd why
+  left_for (TooManyWays step) why = left (TooManyWays step) why
+  left_for (TooLong of_board) why = absurd why
+  left_for (TooLong of_moves) why = inr (left (TooLong of_moves) why)
+  left_for (TooLong of_certificate) why = absurd why
+  left_for (Number n) why = absurd why
+  left_for Range why = absurd why
+  left_for Budget why = absurd why
+  left_for (bad_board fault) why = absurd why
+  left_for (Cert fault) why = absurd why
+  left_for (Read input) why = absurd why
+  left_for (Write output) why = absurd why
+  left_for Memory why = (unwritten, read.sound)
+
+-- moves that were made to their end over a sink that has failed are none
+pub none_made : (steps : List Move) (result : Result Ended Failed) (ended : Ended) (Before : Type 0) → result ≡ Ok ended
+    → IsErr result ⊎ Before → (Before → 0 < length steps → IsErr result) → steps ≡ []
+none_made [] result ended Before is failed stays = refl
+none_made (m ∷ ms) result ended Before is failed stays =
+    let never : IsErr result → ⊥ = λ wrong. absurd (cc (wrong, is)) in
+    ⊎_elim (λ wrong. absurd (never wrong)) (λ before. absurd (never (stays before (omega arith)))) failed
+
+module _ (g : GameRules) (b : Board) (tokens : List (List ℕ)) (pairs own : List Pair) (same : own ≡ pairs) (spelled : SpellPairs tokens pairs) where
+  -- the tokens of entries that are expanded are
+  pub expanded_of : (moves : List Move) (last : Board) → Expands g b own moves last → ((c : Board) → Follows g b own c → IsWon c → IsWon last)
+      → ((step : ℕ) → step ≤ length own → LeadsToMany g b (take step own) → ⊥) → IsExpanded g b tokens moves
+  expanded_of moves last expanded won few = record {
+    pairs = pairs;
+    spelled = spelled;
+    last = last;
+    expanded = subst (λ ps. Expands g b ps moves last) same expanded;
+    won = subst (λ ps. (c : Board) → Follows g b ps c → IsWon c → IsWon last) same won;
+    few = subst (λ ps. (step : ℕ) → step ≤ length ps → LeadsToMany g b (take step ps) → ⊥) same few;
+  }
+
+  -- and why the tokens of entries that aren't are not played
+  pub unplayed_of : (fault : ListFault) → IsListFault g b own fault → IsUnplayed g b tokens (list_fault fault)
+  unplayed_of (Refused step) here = record { pairs = pairs; spelled = spelled; here = subst (λ ps. IsListFault g b ps (Refused step)) same here }
+  unplayed_of (TooMany step) here = record { pairs = pairs; spelled = spelled; here = subst (λ ps. IsListFault g b ps (TooMany step)) same here }
+  unplayed_of wanting here = tt

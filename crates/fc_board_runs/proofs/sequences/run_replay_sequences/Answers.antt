@@ -1,0 +1,56 @@
+use Rattle.std.proofs.Common.{rules, ◌<◌, length, Ok, refl, sym, subst}
+use Rattle.std.specs.Prelude.{IfErr, IsTrue}
+use Rattle.fc_moves.specs.Run.{Run}
+use Rattle.fc_sequences.proofs.RunLemmas.{expands_run}
+use Rattle.fc_replay.specs.Played.{PlaysAs}
+use Rattle.fc_replay.specs.Token.{move_tokens}
+use Rattle.fc_replay.proofs.ReplayLoop.{err_is}
+use Rattle.fc_board_runs.specs.Devices.{Device, GivesWhole, change}
+use Rattle.fc_board_runs.specs.Sequences.{IsExpanded, IsListFaultAs, IsUnplayed}
+use Rattle.fc_board_runs.proofs.SequenceLemmas.{left_for, none_made}
+use Rattle.fc_board_runs.proofs.sequences.run_replay_sequences.Goals as goal
+
+pub returns-in_err-steps-clause-fault : goal.returns-in_err-steps-clause-fault
+returns-in_err-steps-clause-fault g c =
+    let moves : Device = change g.M.Source.told g.M.Source.has_failed c.args.moves.now c.read_to_vec.new.source in
+    let sink : Device = change g.K.Sink.held g.K.Sink.has_failed c.args.out.now c.args.out.now in
+    let read : GivesWhole moves c.in-Ok.text.items = search rules in
+    let why : IsUnplayed (g.G.Game.game c.args.game.now) c.args.start.now (move_tokens c.in-Ok.text.items) c.in_err-steps.field-0.0 =
+    subst (λ l. IsUnplayed (g.G.Game.game c.args.game.now) c.args.start.now (move_tokens l) c.in_err-steps.field-0.0)
+    c.as_slice.ensures.value c.in_err-steps.ensures.fault in
+    subst (λ r. IfErr r (IsListFaultAs c.args.page (g.G.Game.game c.args.game.now) c.args.start.now moves sink))
+    (err_is _ c.in_err-steps.field-0.0 c.from_residual.result c.from_residual.ensures)
+    (left_for c.args.page (g.G.Game.game c.args.game.now) c.args.start.now moves sink c.in-Ok.text.items read refl c.in_err-steps.field-0.0 why)
+
+pub play-requires-clause-run : goal.play-requires-clause-run
+play-requires-clause-run g c =
+    let all = c.in_ok-steps.ensures.expanded in (
+      all.last,
+      subst (λ l. Run (g.G.Game.game c.args.game.now) c.args.start.now l all.last) (sym c.as_slice-2.ensures.value)
+          (expands_run (g.G.Game.game c.args.game.now) c.args.start.now all.last all.pairs c.in_ok-steps.steps.items all.expanded),
+    )
+
+pub returns-in-Ok-play-clause-played : goal.returns-in-Ok-play-clause-played
+returns-in-Ok-play-clause-played g c =
+    let moves : Device = change g.M.Source.told g.M.Source.has_failed c.args.moves.now c.read_to_vec.new.source in
+    let sink : Device = change g.K.Sink.held g.K.Sink.has_failed c.args.out.now c.play.new.sink in
+    let read : GivesWhole moves c.in-Ok.text.items = search rules in
+    let expanded : IsExpanded (g.G.Game.game c.args.game.now) c.args.start.now (move_tokens c.in-Ok.text.items) c.in_ok-steps.steps.items =
+    subst (λ l. IsExpanded (g.G.Game.game c.args.game.now) c.args.start.now (move_tokens l) c.in_ok-steps.steps.items)
+    c.as_slice.ensures.value c.in_ok-steps.ensures.expanded in
+    let played : PlaysAs c.args.page (g.G.Game.game c.args.game.now) c.args.start.now c.in_ok-steps.steps.items sink.old sink.new (Ok c.in-Ok-play.ended) =
+    subst (λ l. PlaysAs c.args.page (g.G.Game.game c.args.game.now) c.args.start.now l sink.old sink.new (Ok c.in-Ok-play.ended))
+    c.as_slice-2.ensures.value c.in-Ok-play.ensures.played in
+    record {
+      play = record {
+        text = c.in-Ok.text.items;
+        read = read;
+        steps = c.in_ok-steps.steps.items;
+        expanded = expanded;
+        played = played;
+      };
+      sound = λ failed.
+          none_made c.in_ok-steps.steps.items c.play.result c.in-Ok-play.ended (IsTrue (g.K.Sink.has_failed c.args.out.now)) c.in-Ok-play.is
+          (c.play.ensures.fault.0 failed)
+          (λ before some. c.play.ensures.stays before (subst (λ l. 0 < length l) (sym c.as_slice-2.ensures.value) some));
+    }

@@ -1,0 +1,5 @@
+pub mod Devices
+pub mod Fault
+pub mod Runs
+pub mod Sequences
+pub mod Showing

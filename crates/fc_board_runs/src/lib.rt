@@ -1,0 +1,13 @@
+//! The runs of the program that no search has a part in, which deal, show and replay, over any source and any sink; what the
+//! program reads and writes, and every run's faults and their statuses.
+#![tactic(auto)]
+
+pub use faults::{Input, Output, ProgramFault, read_fault};
+pub use runs::{LONGEST_BOARD, LONGEST_MOVES, read_position, run_deal, run_replay, run_replay_as};
+pub use sequences::run_replay_sequences;
+pub use showing::{Look, run_show};
+
+mod faults;
+mod runs;
+mod sequences;
+mod showing;

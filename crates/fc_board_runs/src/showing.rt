@@ -1,0 +1,67 @@
+//! The run of the program that shows a board, over any source and any sink.
+
+ghost use Rattle.std.specs.Prelude.{◌≤◌, ◌↔◌, IfOk, IfErr, OnOk, IsErr, IsTrue};
+ghost use Rattle.fc_io.specs.Moves.{Takes, TakesFront};
+ghost use Rattle.fc_position.specs.Position.{Fits};
+ghost use Rattle.fc_board_runs.specs.Devices.{change};
+ghost use Rattle.fc_board_runs.specs.Showing.{IsShown, IsShowFault, shown};
+
+use crate::faults::{Output, ProgramFault};
+use fc_io::{Failed, Sink, write_all};
+use fc_moves::Game;
+use fc_position::Position;
+use fc_show::draw;
+use fc_text::print_board;
+
+/// How a board is shown.
+#[derive(Clone, Copy, Debug, PartialEq, Eq)]
+pub enum Look {
+    /// As players see it, with its columns downward.
+    Drawn,
+    /// The same with red suits in red, as terminals show it.
+    Coloured,
+    /// As its text, which is read again.
+    Text,
+}
+
+/// Writes what shows a position that fits the game. The status is 0.
+///
+/// # Errors
+/// What shows it can't be written, of which a front may be.
+pub fn run_show<G: Game, K: Sink>(
+    game: &G,
+    look: Look,
+    start: &Position,
+    out: &mut K,
+) -> Result<u8, ProgramFault>
+    requires fits { Fits (G.game game.now).cells start.now }
+    ensures shown { IfOk result (IsShown look (G.game game.now).cells start.now
+        (change K.held K.has_failed out.old out.new)) }
+    ensures fault { IfErr result (IsShowFault look (G.game game.now).cells start.now
+        (change K.held K.has_failed out.old out.new)) }
+{
+    match write_look(start, game.cells(), look, out) {
+        Ok(()) => Ok(0),
+        Err(Failed) => Err(ProgramFault::Write(Output::Answer)),
+    }
+}
+
+// Writes what shows a position in a game with so many cells, which it fits.
+fn write_look<K: Sink>(
+    position: &Position,
+    cells: u8,
+    look: Look,
+    out: &mut K,
+) -> Result<(), Failed>
+    requires game { cells ≤ 4 }
+    requires fits { Fits cells position.now }
+    ensures front { TakesFront (K.held out.old) (K.held out.new) (shown look cells position.now) }
+    ensures whole { OnOk result (Takes (K.held out.old) (K.held out.new) (shown look cells position.now)) }
+    ensures fault { IsErr result ↔ IsTrue (K.has_failed out.new) }
+{
+    match look {
+        Look::Drawn => write_all(out, draw(position, cells, false).as_slice()),
+        Look::Coloured => write_all(out, draw(position, cells, true).as_slice()),
+        Look::Text => write_all(out, print_board(position, cells).as_bytes()),
+    }
+}

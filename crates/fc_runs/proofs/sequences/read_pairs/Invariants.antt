@@ -1,6 +1,0 @@
-use Rattle.fc_runs.proofs.SequenceLemmas.{Listed}
-use Rattle.fc_runs.proofs.sequences.read_pairs.Given as goal
-
--- the tokens so far spell these entries, and the others are left
-abbrev pub invariant-loop-token : goal.invariant-loop-token
-invariant-loop-token l = Listed l.text l.token-iterator.rest.now l.pairs.items
