@@ -12,3 +12,7 @@ as_written rule budget = record { rule = rule; weight = 1; bound = Plain; budget
 pub record Asked : Type 0 where
   pub game : GameRules
   pub method : Method
+
+-- the question of a shortest list, searched by the plain bound
+abbrev pub shortest_asked : GameRules → ℕ → ℕ → Asked
+shortest_asked g rule budget = record { game = g; method = as_written rule budget }

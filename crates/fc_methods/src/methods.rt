@@ -1,5 +1,5 @@
 ghost use Rattle.std.specs.Prelude.{◌≡◌};
-ghost use Rattle.fc_methods.specs.Method.{as_written};
+ghost use Rattle.fc_methods.specs.Method.{as_written, shortest_asked};
 
 use fc_best_first::{Budget, Weight};
 use fc_bound::BoundKind;
@@ -58,6 +58,16 @@ impl<G: Game + Drop> Question<G> {
         Question {
             game: game.copy(),
             method,
+        }
+    }
+
+    /// The question of a shortest list of a game, to be searched by the plain bound under a home rule and within a budget.
+    pub fn shortest(game: &G, rule: HomeRule, budget: Budget) -> Self
+        ensures value { result ≡ shortest_asked (G.game game.now) rule budget }
+    {
+        Question {
+            game: game.copy(),
+            method: Method::shortest(rule, budget),
         }
     }
 

@@ -8,9 +8,7 @@ use Rattle.std.proofs.lemmas.List.{flat_map_more, length-append}
 use Rattle.fc_io.specs.Moves.{Takes, TakesFront}
 use Rattle.fc_io.proofs.MoveLemmas.{Takes-both, takes_then_front}
 use Rattle.fc_position.specs.Position.{Fits}
-use Rattle.fc_moves.specs.GameRules.{GameRules}
 use Rattle.fc_deal.specs.Deal.{dealt_board}
-use Rattle.fc_bound.specs.declared.kinds.BoundKind.{BoundKind}
 use Rattle.fc_answers.specs.declared.answers.Outcome.{Outcome}
 use Rattle.fc_best_first.specs.declared.searches.SearchFault.{SearchFault}
 use Rattle.fc_best_first.specs.declared.searches.Step.{Step}
@@ -19,11 +17,12 @@ use Rattle.fc_best_first.specs.declared.turns.Status.TheVariants.{Running}
 use Rattle.fc_best_first.specs.Graph.{Graph}
 use Rattle.fc_best_first.specs.Search.{Begins, Turns, TurnsOn}
 use Rattle.fc_best_first.specs.Store.{Store}
-use Rattle.fc_search.specs.Search.{State, classes_of}
+use Rattle.fc_methods.specs.Method.{Asked}
+use Rattle.fc_search.specs.Problem.{Problem, classes_of, problem_of}
+use Rattle.fc_search.specs.Search.{State}
 use Rattle.fc_batch.specs.Batch.{Batch, HasTurn, HasTurns, OthersStay, TurnFor, TurnsFor, running, search_at, times}
 use Rattle.fc_batch.proofs.BatchLemmas.{stays_self}
 use Rattle.fc_batch.proofs.LawLemmas.{turn_alone}
-use Rattle.fc_watch.proofs.FarLemmas.{asked_all}
 use Rattle.fc_board_runs.specs.Devices.{Device}
 use Rattle.fc_runs.specs.Batches.{AreCutShort, AreLines, AreTold, HaveEnded, HoldsDeals, IsRightOf, IsSearchOf, Line, greatest_status, line_text, told_status}
 
@@ -52,62 +51,58 @@ module _ {K : Type 0} (g : Graph K) (weight budget : ℕ) where
       (next, then, told, one, turns_more turns then between after next mid new reply rest turn)
 
 -- a search that began for a deal, and had no turn
-pub search_begun : (g : GameRules) (rule weight : ℕ) (kind : BoundKind) (budget deal : ℕ) (s : State) → s.question.game ≡ g → s.question.rule ≡ rule → s.question.weight ≡ weight
-    → s.question.bound ≡ kind → s.question.start ≡ dealt_board deal → s.budget ≡ budget → s.status ≡ Running → Begins (classes_of s.question) weight s.store
-    → IsSearchOf g rule weight kind budget deal s
-search_begun g rule weight kind budget deal s game ruled weighed bounded starts budgeted begun begins =
-    let same = asked_all s.question g rule weight kind (dealt_board deal) game ruled weighed bounded starts in
-    record {
-      question = same;
-      budgeted = budgeted;
-      ran = record {
-        first = s.store;
-        begins = subst (λ q. Begins (classes_of q) weight s.store) same begins;
-        runs = (zero, (refl, begun));
-      };
-    }
+pub search_begun : (q : Asked) (deal : ℕ) (s : State) → s.problem ≡ problem_of q (dealt_board deal) → s.status ≡ Running
+    → Begins (classes_of s.problem) s.problem.method.weight s.store → IsSearchOf q deal s
+search_begun q deal s asked begun begins = record {
+  problem = asked;
+  ran = record {
+    first = s.store;
+    begins = subst (λ (p : Problem). Begins (classes_of p) p.method.weight s.store) asked begins;
+    runs = (zero, (refl, begun));
+  };
+}
 
 -- a search of a deal that has one more turn is the search of that deal still
-one_turn_on : (g : GameRules) (rule weight : ℕ) (kind : BoundKind) (budget deal : ℕ) (old new : State) (reply : Result Step SearchFault) → HasTurn old new reply
-    → IsSearchOf g rule weight kind budget deal old → IsSearchOf g rule weight kind budget deal new
-one_turn_on g rule weight kind budget deal old new reply turn search = record {
-  question = turn.question ∙ search.question;
-  budgeted = turn.budget ∙ search.budgeted;
+one_turn_on : (q : Asked) (deal : ℕ) (old new : State) (reply : Result Step SearchFault) → HasTurn old new reply
+    → IsSearchOf q deal old → IsSearchOf q deal new
+one_turn_on q deal old new reply turn search = record {
+  problem = turn.problem ∙ search.problem;
   ran = record {
     first = search.ran.first;
     begins = search.ran.begins;
     runs = (
       suc search.ran.runs.0,
-      turns_more _ weight budget search.ran.runs.0 Running old.status new.status search.ran.first old.store new.store reply search.ran.runs.1
-          (subst (λ q. Turns (classes_of q) q.weight budget old.status old.store new.store new.status reply) search.question
-          (subst (λ b. Turns (classes_of old.question) old.question.weight b old.status old.store new.store new.status reply) search.budgeted turn.turned)),
+      turns_more _ q.method.weight q.method.budget search.ran.runs.0 Running old.status new.status search.ran.first old.store new.store reply
+          search.ran.runs.1
+          (subst (λ (p : Problem). Turns (classes_of p) p.method.weight p.method.budget old.status old.store new.store new.status reply) search.problem
+          turn.turned),
     );
   };
 }
 
-turns_on : (g : GameRules) (rule weight : ℕ) (kind : BoundKind) (budget deal : ℕ) (turns : ℕ) (old new : State) → HasTurns turns old new
-    → IsSearchOf g rule weight kind budget deal old → IsSearchOf g rule weight kind budget deal new
-turns_on g rule weight kind budget deal zero old new same search = subst (IsSearchOf g rule weight kind budget deal) (sym same) search
-turns_on g rule weight kind budget deal (suc turns) old new (mid, reply, turn, rest) search =
-    turns_on g rule weight kind budget deal turns mid new rest (one_turn_on g rule weight kind budget deal old mid reply turn search)
+turns_on : (q : Asked) (deal : ℕ) (turns : ℕ) (old new : State) → HasTurns turns old new
+    → IsSearchOf q deal old → IsSearchOf q deal new
+turns_on q deal zero old new same search = subst (IsSearchOf q deal) (sym same) search
+turns_on q deal (suc turns) old new (mid, reply, turn, rest) search =
+    turns_on q deal turns mid new rest (one_turn_on q deal old mid reply turn search)
 
 -- turns of the searches of a batch leave it with the searches of its deals
-pub held_on : (g : GameRules) (rule weight : ℕ) (kind : BoundKind) (budget from count : ℕ) (list : List ℕ) (old new : Batch) (replies : ℕ) → TurnsFor list old new replies
-    → HoldsDeals g rule weight kind budget from count old → HoldsDeals g rule weight kind budget from count new
-held_on g rule weight kind budget from count list old new replies turns holds i within =
+pub held_on : (q : Asked) (from count : ℕ) (list : List ℕ) (old new : Batch) (replies : ℕ) → TurnsFor list old new replies
+    → HoldsDeals q from count old → HoldsDeals q from count new
+held_on q from count list old new replies turns holds i within =
     let before = holds i within in
     let on = turn_alone list old new replies turns i before.0 before.1 in
-    (on.0, on.1, turns_on g rule weight kind budget (from + i) (times i list) before.0 on.0 on.2 before.2)
+    (on.0, on.1, turns_on q (from + i) (times i list) before.0 on.0 on.2 before.2)
 
 -- one turn, as turns for a list of one number
 one_turn : (number : ℕ) (old new : Batch) (reply : Result Step SearchFault) → TurnFor number old new reply
     → TurnsFor (number ∷ []) old new (running reply + 0)
 one_turn number old new reply turn = (new, reply, 0, turn, (stays_self new, refl), refl)
 
-pub one_held : (g : GameRules) (rule weight : ℕ) (kind : BoundKind) (budget from count number : ℕ) (old new : Batch) (reply : Result Step SearchFault)
-    → TurnFor number old new reply → HoldsDeals g rule weight kind budget from count old → HoldsDeals g rule weight kind budget from count new
-one_held g rule weight kind budget from count number old new reply turn =
-    held_on g rule weight kind budget from count (number ∷ []) old new (running reply + 0) (one_turn number old new reply turn)
+pub one_held : (q : Asked) (from count number : ℕ) (old new : Batch) (reply : Result Step SearchFault)
+    → TurnFor number old new reply → HoldsDeals q from count old → HoldsDeals q from count new
+one_held q from count number old new reply turn =
+    held_on q from count (number ∷ []) old new (running reply + 0) (one_turn number old new reply turn)
 
 -- with the search of the next number, all below it have ended
 pub ended_more : (count : ℕ) (old new : Batch) → HaveEnded count old → OthersStay count old new
@@ -128,12 +123,12 @@ last_line (y ∷ lines) line P all last (suc i) x at =
     last_line lines line (λ j z. P (suc j) z) (λ j z there. all (suc j) z there) last i x at
 
 -- one more line that is right
-pub one_more_line : (g : GameRules) (rule weight : ℕ) (kind : BoundKind) (budget from deal : ℕ) (lines : List Line) (told : Option Outcome) → AreLines g rule weight kind budget from lines
-    → deal ≡ from + length lines → IsRightOf g rule weight kind budget deal told
-    → AreLines g rule weight kind budget from (lines ++ record { deal = deal; told = told } ∷ [])
-one_more_line g rule weight kind budget from deal lines told right next here = record {
+pub one_more_line : (q : Asked) (from deal : ℕ) (lines : List Line) (told : Option Outcome) → AreLines q from lines
+    → deal ≡ from + length lines → IsRightOf q deal told
+    → AreLines q from (lines ++ record { deal = deal; told = told } ∷ [])
+one_more_line q from deal lines told right next here = record {
   rising = last_line lines (record { deal = deal; told = told }) (λ i line. line.deal ≡ from + i) right.rising next;
-  right = last_line lines (record { deal = deal; told = told }) (λ i line. IsRightOf g rule weight kind budget line.deal line.told) right.right here;
+  right = last_line lines (record { deal = deal; told = told }) (λ i line. IsRightOf q line.deal line.told) right.right here;
 }
 
 max_assoc : (a b c : ℕ) → max (max a b) c ≡ max a (max b c)
@@ -152,9 +147,9 @@ greatest_more (first ∷ lines) line =
     ∙ sym (max_assoc (told_status first.told) (greatest_status lines) (told_status line.told))
 
 -- so many lines were written, and this is the greatest of their statuses
-pub record AreWritten (g : GameRules) (rule weight : ℕ) (kind : BoundKind) (budget from count : ℕ) (old new : Option (List ℕ)) (status : ℕ) : Type 0 where
+pub record AreWritten (q : Asked) (from count : ℕ) (old new : Option (List ℕ)) (status : ℕ) : Type 0 where
   pub lines : List Line
-  pub right : AreLines g rule weight kind budget from lines
+  pub right : AreLines q from lines
   pub whole : length lines ≡ count
   pub written : Takes old new (flat_map line_text lines)
   pub greatest : status ≡ greatest_status lines
@@ -163,16 +158,16 @@ pub record AreWritten (g : GameRules) (rule weight : ℕ) (kind : BoundKind) (bu
 text_more : (lines : List Line) (line : Line) → flat_map line_text lines ++ line_text line ≡ flat_map line_text (lines ++ line ∷ [])
 text_more lines line = flat_map_more line_text [] lines line
 
-pub one_more_written : (g : GameRules) (rule weight : ℕ) (kind : BoundKind) (budget from count : ℕ) (old mid new : Option (List ℕ)) (status : ℕ) (told : Option Outcome)
-    (text : List ℕ) (next : ℕ) → AreWritten g rule weight kind budget from count old mid status → IsRightOf g rule weight kind budget (from + count) told
+pub one_more_written : (q : Asked) (from count : ℕ) (old mid new : Option (List ℕ)) (status : ℕ) (told : Option Outcome)
+    (text : List ℕ) (next : ℕ) → AreWritten q from count old mid status → IsRightOf q (from + count) told
     → text ≡ line_text (record { deal = from + count; told = told }) → Takes mid new text → next ≡ max status (told_status told)
-    → AreWritten g rule weight kind budget from (count + 1) old new next
-one_more_written g rule weight kind budget from count old mid new status told text next so_far here same taken greater =
+    → AreWritten q from (count + 1) old new next
+one_more_written q from count old mid new status told text next so_far here same taken greater =
     let line : Line = record { deal = from + count; told = told } in
     let whole = so_far.whole in
     record {
       lines = so_far.lines ++ line ∷ [];
-      right = one_more_line g rule weight kind budget from (from + count) so_far.lines told so_far.right (omega (arith, whole)) here;
+      right = one_more_line q from (from + count) so_far.lines told so_far.right (omega (arith, whole)) here;
       whole = omega (arith, whole, length-append so_far.lines (line ∷ []));
       written = subst (Takes old new) (text_more so_far.lines line)
           (Takes-both old mid new (flat_map line_text so_far.lines) (line_text line) so_far.written (subst (Takes mid new) same taken));
@@ -180,16 +175,16 @@ one_more_written g rule weight kind budget from count old mid new status told te
     }
 
 -- and one whose text was cut short
-pub cut_short : (g : GameRules) (rule weight : ℕ) (kind : BoundKind) (budget from count most : ℕ) (mid : Option (List ℕ)) (sink : Device) (status : ℕ) (told : Option Outcome)
-    (text : List ℕ) → AreWritten g rule weight kind budget from count sink.old mid status → IsRightOf g rule weight kind budget (from + count) told
+pub cut_short : (q : Asked) (from count most : ℕ) (mid : Option (List ℕ)) (sink : Device) (status : ℕ) (told : Option Outcome)
+    (text : List ℕ) → AreWritten q from count sink.old mid status → IsRightOf q (from + count) told
     → text ≡ line_text (record { deal = from + count; told = told }) → TakesFront mid sink.new text → count < most → IsTrue sink.failed
-    → AreCutShort g rule weight kind budget from most sink
-cut_short g rule weight kind budget from count most mid sink status told text so_far here same front within failed =
+    → AreCutShort q from most sink
+cut_short q from count most mid sink status told text so_far here same front within failed =
     let line : Line = record { deal = from + count; told = told } in
     let whole = so_far.whole in
     record {
       lines = so_far.lines ++ line ∷ [];
-      right = one_more_line g rule weight kind budget from (from + count) so_far.lines told so_far.right (omega (arith, whole)) here;
+      right = one_more_line q from (from + count) so_far.lines told so_far.right (omega (arith, whole)) here;
       some = omega (arith, whole, within, length-append so_far.lines (line ∷ []));
       front = subst (TakesFront sink.old sink.new) (text_more so_far.lines line)
           (takes_then_front sink.old mid sink.new (flat_map line_text so_far.lines) (line_text line) so_far.written (subst (TakesFront mid sink.new) same front));
@@ -197,9 +192,9 @@ cut_short g rule weight kind budget from count most mid sink status told text so
     }
 
 -- all lines are written to a sink that hasn't failed
-pub all_told : (g : GameRules) (rule weight : ℕ) (kind : BoundKind) (budget from count : ℕ) (sink : Device) (status : ℕ)
-    → AreWritten g rule weight kind budget from count sink.old sink.new status → (IsTrue sink.failed → ⊥) → AreTold g rule weight kind budget from count sink status
-all_told g rule weight kind budget from count sink status all sound = record {
+pub all_told : (q : Asked) (from count : ℕ) (sink : Device) (status : ℕ)
+    → AreWritten q from count sink.old sink.new status → (IsTrue sink.failed → ⊥) → AreTold q from count sink status
+all_told q from count sink status all sound = record {
   lines = all.lines;
   right = all.right;
   whole = all.whole;
@@ -209,15 +204,15 @@ all_told g rule weight kind budget from count sink status all sound = record {
 }
 
 -- a batch to which the search of the next deal was added
-pub held_more : (g : GameRules) (rule weight : ℕ) (kind : BoundKind) (budget from count : ℕ) (old new : Batch) (search : State) → HoldsDeals g rule weight kind budget from count old
-    → OthersStay count old new → search_at new count ≡ Some search → IsSearchOf g rule weight kind budget (from + count) search
-    → HoldsDeals g rule weight kind budget from (count + 1) new
-held_more g rule weight kind budget from count old new search holds others there here i within =
+pub held_more : (q : Asked) (from count : ℕ) (old new : Batch) (search : State) → HoldsDeals q from count old
+    → OthersStay count old new → search_at new count ≡ Some search → IsSearchOf q (from + count) search
+    → HoldsDeals q from (count + 1) new
+held_more q from count old new search holds others there here i within =
     ⊎_elim
     (λ (same : i ≡ count). (
       search,
       subst (λ k. search_at new k ≡ Some search) (sym same) there,
-      subst (λ k. IsSearchOf g rule weight kind budget (from + k) search) (sym same) here,
+      subst (λ k. IsSearchOf q (from + k) search) (sym same) here,
     ))
     (λ (other : i ≢ count).
     let before = holds i (omega (arith, within, other)) in

@@ -1,16 +1,17 @@
 -- What is written of an answer of a search certifies its verdict.
-use Rattle.std.proofs.Common.{◌≡◌, ◌∙◌, ℕ, List, Some, length, refl, sym, ap, subst, Ok, Err, IsTrue, false}
+use Rattle.std.proofs.Common.{◌≡◌, ◌∙◌, ℕ, List, Option, Some, None, length, refl, sym, ap, subst, Ok, Err, IsTrue, false}
 use Rattle.fc_io.specs.Moves.{Takes, TakesFront}
-use Rattle.fc_position.specs.Board.{Board}
-use Rattle.fc_moves.specs.GameRules.{GameRules, IsGame, IsPositionOf}
+use Rattle.fc_moves.specs.GameRules.{IsGame, IsPositionOf}
 use Rattle.fc_bound.specs.declared.kinds.BoundKind.{BoundKind}
 use Rattle.fc_answers.specs.declared.answers.Answer.{Answer}
-use Rattle.fc_answers.specs.declared.answers.Answer.TheVariants.{Shortest, Won, CannotWin, GaveUp}
-use Rattle.fc_answers.specs.Verdict.{verdict_of}
+use Rattle.fc_answers.specs.declared.answers.Verdict.{Verdict}
+use Rattle.fc_answers.specs.declared.answers.Verdict.TheVariants.{Shortest, Won, CannotWin, GaveUp}
+use Rattle.fc_answers.specs.Table.{Listing}
+use Rattle.fc_search.specs.Problem.{Problem}
 use Rattle.fc_search.specs.Search.{Answers}
 use Rattle.fc_cert.specs.declared.claims.Claim.{Claim}
 use Rattle.fc_cert.specs.declared.claims.Claim.TheVariants as claim
-use Rattle.fc_cert.specs.Claim.{IsWrittenAs, written_form}
+use Rattle.fc_cert.specs.Claim.{IsWrittenWith, written_form}
 use Rattle.fc_cert.specs.Content.{Content, bytes_of}
 use Rattle.fc_cert.proofs.CertifiedLemmas.{backed_certified, backed_spelled}
 use Rattle.fc_cert.specs.declared.faults.CertFault.TheVariants.{Write}
@@ -20,54 +21,57 @@ use Rattle.fc_search.specs.Search.{IsRunToEnd}
 use Rattle.fc_board_runs.specs.declared.faults.Output.TheVariants.{Answer as of_answer, Cert as of_certificate}
 use Rattle.fc_board_runs.specs.declared.faults.ProgramFault.TheVariants.{Write as unwritten}
 use Rattle.fc_runs.specs.AnswerText.{answer_text, status_of}
-use Rattle.fc_runs.specs.Solving.{IsAnswered, IsCertificateOf, IsCertified, IsCutShort, IsUnanswered}
+use Rattle.fc_runs.specs.Solving.{IsAnswered, IsCertificateOf, IsCertified, IsCutShort, IsUnanswered, TakesCertificate}
 
 -- the form is the one of the bound that was searched by
 form_by : (kind bound : BoundKind) (c : Content) → c.head.form ≡ written_form bound c.head.kind → bound ≡ kind
     → c.head.form ≡ written_form kind c.head.kind
 form_by kind bound c form same = form ∙ ap (λ x. written_form x c.head.kind) same
 
-pub certifies : (g : GameRules) (rule weight : ℕ) (kind : BoundKind) (b : Board) (budget : ℕ) (answered : Answer) (c : Content) → IsGame g → IsPositionOf g b
-    → Answers g rule weight kind b budget answered → IsWrittenAs g answered c → IsCertificateOf g rule kind b (verdict_of answered) (bytes_of c)
-certifies g rule weight kind b budget (Shortest moves table) c game position answers same =
+pub certifies : (p : Problem) (verdict : Verdict) (table : Listing) (c : Content) → IsGame p.game → IsPositionOf p.game p.start
+    → Answers p (record { verdict = verdict; table = Some table }) → IsWrittenWith p.game table verdict c → IsCertificateOf p verdict (bytes_of c)
+certifies p (Shortest moves) table c game position answers same =
+    let answered : Answer = record { verdict = Shortest moves; table = Some table } in
     let said : Claim = claim.Shortest (length moves) in
     record {
       claim = said;
       claimed = refl;
-      proves = backed_certified g b (Shortest moves table) c said game position answers.backed answers.told.right.wins answers.told.written same refl;
+      proves = backed_certified p.game p.start answered c said game position answers.backed answers.told.right.wins answers.told.written same refl;
       content = c;
-      spelled = backed_spelled g b (Shortest moves table) c said game position answers.backed answers.told.right.wins answers.told.written same refl;
-      form = form_by kind table.bound c (ap (λ x. x.head.form) same ∙ ap (λ x. written_form table.bound x.head.kind) (sym same)) answers.searched.1;
+      spelled = backed_spelled p.game p.start answered c said game position answers.backed answers.told.right.wins answers.told.written same refl;
+      form = form_by p.method.bound table.bound c (ap (λ x. x.head.form) same ∙ ap (λ x. written_form table.bound x.head.kind) (sym same)) answers.searched.1;
       ruled = ap (λ x. x.head.rule) same ∙ answers.searched.0;
       bound = ap (λ x. x.head.bound) same ∙ answers.searched.1;
       listed = ap (λ x. x.moves) same;
     }
-certifies g rule weight kind b budget (Won moves floor table) c game position answers same =
+certifies p (Won moves floor) table c game position answers same =
+    let answered : Answer = record { verdict = Won moves floor; table = Some table } in
     let said : Claim = claim.Between floor (length moves) in
     record {
       claim = said;
       claimed = refl;
-      proves = backed_certified g b (Won moves floor table) c said game position answers.backed answers.told.right.wins answers.told.written same refl;
+      proves = backed_certified p.game p.start answered c said game position answers.backed answers.told.right.wins answers.told.written same refl;
       content = c;
-      spelled = backed_spelled g b (Won moves floor table) c said game position answers.backed answers.told.right.wins answers.told.written same refl;
-      form = form_by kind table.bound c (ap (λ x. x.head.form) same ∙ ap (λ x. written_form table.bound x.head.kind) (sym same)) answers.searched.1;
+      spelled = backed_spelled p.game p.start answered c said game position answers.backed answers.told.right.wins answers.told.written same refl;
+      form = form_by p.method.bound table.bound c (ap (λ x. x.head.form) same ∙ ap (λ x. written_form table.bound x.head.kind) (sym same)) answers.searched.1;
       ruled = ap (λ x. x.head.rule) same ∙ answers.searched.0;
       bound = ap (λ x. x.head.bound) same ∙ answers.searched.1;
       listed = ap (λ x. x.moves) same;
     }
-certifies g rule weight kind b budget (CannotWin table) c game position answers same =
+certifies p CannotWin table c game position answers same =
+    let answered : Answer = record { verdict = CannotWin; table = Some table } in
     record {
       claim = claim.CannotWin;
       claimed = refl;
-      proves = backed_certified g b (CannotWin table) c claim.CannotWin game position answers.backed tt answers.told.written same refl;
+      proves = backed_certified p.game p.start answered c claim.CannotWin game position answers.backed tt answers.told.written same refl;
       content = c;
-      spelled = backed_spelled g b (CannotWin table) c claim.CannotWin game position answers.backed tt answers.told.written same refl;
-      form = form_by kind table.bound c (ap (λ x. x.head.form) same ∙ ap (λ x. written_form table.bound x.head.kind) (sym same)) answers.searched.1;
+      spelled = backed_spelled p.game p.start answered c claim.CannotWin game position answers.backed tt answers.told.written same refl;
+      form = form_by p.method.bound table.bound c (ap (λ x. x.head.form) same ∙ ap (λ x. written_form table.bound x.head.kind) (sym same)) answers.searched.1;
       ruled = ap (λ x. x.head.rule) same ∙ answers.searched.0;
       bound = ap (λ x. x.head.bound) same ∙ answers.searched.1;
       listed = ap (λ x. x.moves) same;
     }
-certifies g rule weight kind b budget (GaveUp told) c game position answers same = absurd same
+certifies p (GaveUp told) table c game position answers same = absurd same
 
 -- a sink that a certificate is written to, as a device
 abbrev pub device_of : SinkState → SinkState → Device
@@ -77,47 +81,63 @@ device_of old new = record { old = old.held; new = new.held; failed = new.has_fa
 sound : (new : SinkState) → new.has_failed ≡ false → IsTrue new.has_failed → ⊥
 sound new is failed = absurd (cc (is, failed))
 
+-- a sink took a certificate of a verdict whole: it took what there is of its certificates
+certified_so : (p : Problem) (verdict : Verdict) (table : Listing) (c : Content) (sink : Device) → IsWrittenWith p.game table verdict c
+    → TakesCertificate p verdict sink → IsCertified p verdict sink
+certified_so p (Shortest moves) table c sink same taken = taken
+certified_so p (Won moves floor) table c sink same taken = taken
+certified_so p CannotWin table c sink same taken = taken
+certified_so p (GaveUp told) table c sink same taken = absurd same
+
 -- the sink took the certificate of an answer, whole
-pub written_whole : (g : GameRules) (rule weight : ℕ) (kind : BoundKind) (b : Board) (budget : ℕ) (answered : Answer) (old new : SinkState) (done : Unit {0}) → IsGame g
-    → IsPositionOf g b → Answers g rule weight kind b budget answered → WritesAnswer g answered old new (Ok done)
-    → IsCertified g rule kind b (verdict_of answered) (device_of old new)
-written_whole g rule weight kind b budget (Shortest moves table) old new done game position answers (c, same, whole) = (
-  (bytes_of c, certifies g rule weight kind b budget (Shortest moves table) c game position answers same, whole.taken),
-  sound new whole.is_sound,
-)
-written_whole g rule weight kind b budget (Won moves floor table) old new done game position answers (c, same, whole) = (
-  (bytes_of c, certifies g rule weight kind b budget (Won moves floor table) c game position answers same, whole.taken),
-  sound new whole.is_sound,
-)
-written_whole g rule weight kind b budget (CannotWin table) old new done game position answers (c, same, whole) = (
-  (bytes_of c, certifies g rule weight kind b budget (CannotWin table) c game position answers same, whole.taken),
-  sound new whole.is_sound,
-)
-written_whole g rule weight kind b budget (GaveUp told) old new done game position answers (c, same, whole) = absurd same
+whole_of : (p : Problem) (verdict : Verdict) (table : Option Listing) (old new : SinkState) (done : Unit {0}) → IsGame p.game
+    → IsPositionOf p.game p.start → Answers p (record { verdict = verdict; table = table })
+    → WritesAnswer p.game (record { verdict = verdict; table = table }) old new (Ok done)
+    → IsCertified p verdict (device_of old new)
+whole_of p verdict (Some table) old new done game position answers (c, same, whole) =
+    certified_so p verdict table c (device_of old new) same (
+      (bytes_of c, certifies p verdict table c game position answers same, whole.taken),
+      sound new whole.is_sound,
+    )
+whole_of p verdict None old new done game position answers (c, same, whole) = absurd same
+
+pub written_whole : (p : Problem) (answered : Answer) (old new : SinkState) (done : Unit {0}) → IsGame p.game
+    → IsPositionOf p.game p.start → Answers p answered → WritesAnswer p.game answered old new (Ok done)
+    → IsCertified p answered.verdict (device_of old new)
+written_whole p answered old new done game position answers writes =
+    whole_of p answered.verdict answered.table old new done game position answers writes
 
 -- the sink failed while it was given the certificate of an answer
-pub written_short : (g : GameRules) (rule weight : ℕ) (kind : BoundKind) (b : Board) (budget : ℕ) (answered : Answer) (old new : SinkState) → IsGame g
-    → IsPositionOf g b → Answers g rule weight kind b budget answered → WritesAnswer g answered old new (Err Write)
-    → IsCutShort g rule kind b (verdict_of answered) (device_of old new)
-written_short g rule weight kind b budget answered old new game position answers (c, same, short) = (
-  (bytes_of c, certifies g rule weight kind b budget answered c game position answers same, short.front),
+short_of : (p : Problem) (verdict : Verdict) (table : Option Listing) (old new : SinkState) → IsGame p.game
+    → IsPositionOf p.game p.start → Answers p (record { verdict = verdict; table = table })
+    → WritesAnswer p.game (record { verdict = verdict; table = table }) old new (Err Write)
+    → IsCutShort p verdict (device_of old new)
+short_of p verdict (Some table) old new game position answers (c, same, short) = (
+  (bytes_of c, certifies p verdict table c game position answers same, short.front),
   short.failed,
 )
+short_of p verdict None old new game position answers (c, same, short) = absurd same
+
+pub written_short : (p : Problem) (answered : Answer) (old new : SinkState) → IsGame p.game
+    → IsPositionOf p.game p.start → Answers p answered → WritesAnswer p.game answered old new (Err Write)
+    → IsCutShort p answered.verdict (device_of old new)
+written_short p answered old new game position answers writes =
+    short_of p answered.verdict answered.table old new game position answers writes
 
 -- a certificate that is cut short leaves the board unanswered
-pub uncertified : (g : GameRules) (rule weight : ℕ) (kind : BoundKind) (b : Board) (budget : ℕ) (answered : Answer) (cert sink : Device) → Answers g rule weight kind b budget answered
-    → IsRunToEnd g rule weight kind b budget (verdict_of answered) → IsCutShort g rule kind b (verdict_of answered) cert → sink.new ≡ sink.old
-    → IsUnanswered g rule weight kind b budget (Some cert) sink (unwritten of_certificate)
-uncertified g rule weight kind b budget answered cert sink answers ran cut same =
-    (verdict_of answered, record { right = answers.told; ran = ran }, (cert, refl, cut), same)
+pub uncertified : (p : Problem) (answered : Answer) (cert sink : Device) → Answers p answered
+    → IsRunToEnd p answered.verdict → IsCutShort p answered.verdict cert → sink.new ≡ sink.old
+    → IsUnanswered p (Some cert) sink (unwritten of_certificate)
+uncertified p answered cert sink answers ran cut same =
+    (answered.verdict, record { right = answers.told; ran = ran }, (cert, refl, cut), same)
 
 -- an answer whose text was written after its certificate
-pub told_whole : (g : GameRules) (rule weight : ℕ) (kind : BoundKind) (b : Board) (budget : ℕ) (answered : Answer) (cert sink : Device) (text : List ℕ) (status : ℕ)
-    → Answers g rule weight kind b budget answered → IsRunToEnd g rule weight kind b budget (verdict_of answered) → IsCertified g rule kind b (verdict_of answered) cert
-    → text ≡ answer_text (verdict_of answered) → Takes sink.old sink.new text → (IsTrue sink.failed → ⊥)
-    → status ≡ status_of (verdict_of answered) → IsAnswered g rule weight kind b budget (Some cert) sink status
-told_whole g rule weight kind b budget answered cert sink text status answers ran certified same taken sound told = record {
-  verdict = verdict_of answered;
+pub told_whole : (p : Problem) (answered : Answer) (cert sink : Device) (text : List ℕ) (status : ℕ)
+    → Answers p answered → IsRunToEnd p answered.verdict → IsCertified p answered.verdict cert
+    → text ≡ answer_text answered.verdict → Takes sink.old sink.new text → (IsTrue sink.failed → ⊥)
+    → status ≡ status_of answered.verdict → IsAnswered p (Some cert) sink status
+told_whole p answered cert sink text status answers ran certified same taken sound told = record {
+  verdict = answered.verdict;
   decided = record { right = answers.told; ran = ran };
   certified = certified;
   written = subst (Takes sink.old sink.new) same taken;
@@ -126,12 +146,12 @@ told_whole g rule weight kind b budget answered cert sink text status answers ra
 }
 
 -- and one whose text was cut short
-pub told_short : (g : GameRules) (rule weight : ℕ) (kind : BoundKind) (b : Board) (budget : ℕ) (answered : Answer) (cert sink : Device) (text : List ℕ)
-    → Answers g rule weight kind b budget answered → IsRunToEnd g rule weight kind b budget (verdict_of answered) → IsCertified g rule kind b (verdict_of answered) cert
-    → text ≡ answer_text (verdict_of answered) → TakesFront sink.old sink.new text → IsTrue sink.failed
-    → IsUnanswered g rule weight kind b budget (Some cert) sink (unwritten of_answer)
-told_short g rule weight kind b budget answered cert sink text answers ran certified same front failed = (
-  verdict_of answered,
+pub told_short : (p : Problem) (answered : Answer) (cert sink : Device) (text : List ℕ)
+    → Answers p answered → IsRunToEnd p answered.verdict → IsCertified p answered.verdict cert
+    → text ≡ answer_text answered.verdict → TakesFront sink.old sink.new text → IsTrue sink.failed
+    → IsUnanswered p (Some cert) sink (unwritten of_answer)
+told_short p answered cert sink text answers ran certified same front failed = (
+  answered.verdict,
   record { right = answers.told; ran = ran },
   certified,
   subst (TakesFront sink.old sink.new) same front,

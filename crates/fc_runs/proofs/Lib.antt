@@ -1,6 +1,5 @@
 pub mod BatchLemmas
 pub mod CertificateLemmas
-mod HeardLemmas
 pub mod ListTextLemmas
 pub mod RefusalLemmas
 pub mod SolveLemmas

@@ -1,10 +1,12 @@
 -- From a position that was given to the end of a run.
-use Rattle.std.proofs.Common.{◌≡◌, ◌⊎◌, inl, inr, ℕ, Option, Some, None, Result, Ok, Err, refl}
+use Rattle.std.proofs.Common.{◌≡◌, ◌⊎◌, inl, inr, ℕ, Option, Some, None, Result, Ok, Err, refl, subst}
 use Rattle.std.specs.Prelude.{IfOk, IfErr}
 use Rattle.fc_position.specs.Board.{Board}
 use Rattle.fc_moves.specs.GameRules.{GameRules}
-use Rattle.fc_bound.specs.declared.kinds.BoundKind.{BoundKind}
-use Rattle.fc_best_first.specs.Search.{IsBudget}
+use Rattle.fc_best_first.specs.Limits.{IsBudget}
+use Rattle.fc_methods.specs.Method.{Asked, shortest_asked}
+use Rattle.fc_search.specs.Problem.{problem_of}
+use Rattle.fc_search.proofs.AnswerLemmas.{one_of_three}
 use Rattle.fc_board_runs.specs.declared.faults.ProgramFault.{ProgramFault}
 use Rattle.fc_board_runs.specs.Devices.{Device, GivesBoard}
 use Rattle.fc_runs.specs.Solving.{IsAnswered, IsSolved, IsSolveFault, IsUnanswered}
@@ -14,19 +16,30 @@ pub is_lent : {A : Type 0} (o : Option A) → (o ≡ None) ⊎ ((x : A) × (o �
 is_lent None = inl refl
 is_lent (Some x) = inr (x, refl)
 
-pub solved : (g : GameRules) (rule weight : ℕ) (kind : BoundKind) (budget : ℕ) (source : Device) (cert : Option Device) (sink : Device) (start : Board) (result : Result ℕ ProgramFault)
-    → IsBudget budget → GivesBoard g.cells source start → IfOk result (IsAnswered g rule weight kind start budget cert sink)
-    → IfOk result (IsSolved g rule weight kind budget source cert sink)
-solved g rule weight kind budget source cert sink start (Ok status) budgeted given answered = record {
-  budgeted = budgeted;
-  start = start;
-  given = given;
-  answered = answered;
-}
-solved g rule weight kind budget source cert sink start (Err fault) budgeted given answered = tt
+pub solved : (g : GameRules) (rule budget : ℕ) (q : Asked) (n : ℕ) (source : Device) (cert : Option Device) (sink : Device) (start : Board)
+    (result : Result ℕ ProgramFault) → q ≡ shortest_asked g rule budget → n ≡ g.cells → IsBudget budget → GivesBoard n source start
+    → IfOk result (IsAnswered (problem_of q start) cert sink) → IfOk result (IsSolved (shortest_asked g rule budget) source cert sink)
+solved g rule budget q n source cert sink start (Ok status) asked cells budgeted given answered =
+    let own = subst (λ (x : Asked). IsAnswered (problem_of x start) cert sink status) asked answered in
+    record {
+      budgeted = budgeted;
+      start = start;
+      given = subst (λ m. GivesBoard m source start) cells given;
+      answered = own;
+      three = one_of_three g start budget own.verdict own.decided.right.right;
+    }
+solved g rule budget q n source cert sink start (Err fault) asked cells budgeted given answered = tt
 
-pub unsolved : (g : GameRules) (rule weight : ℕ) (kind : BoundKind) (budget : ℕ) (source : Device) (cert : Option Device) (sink : Device) (start : Board) (result : Result ℕ ProgramFault)
-    → IsBudget budget → GivesBoard g.cells source start → IfErr result (IsUnanswered g rule weight kind start budget cert sink)
-    → IfErr result (IsSolveFault g rule weight kind budget source cert sink)
-unsolved g rule weight kind budget source cert sink start (Ok status) budgeted given unanswered = tt
-unsolved g rule weight kind budget source cert sink start (Err fault) budgeted given unanswered = inr (budgeted, (start, given, unanswered))
+pub unsolved : (g : GameRules) (rule budget : ℕ) (q : Asked) (n : ℕ) (source : Device) (cert : Option Device) (sink : Device) (start : Board)
+    (result : Result ℕ ProgramFault) → q ≡ shortest_asked g rule budget → n ≡ g.cells → IsBudget budget → GivesBoard n source start
+    → IfErr result (IsUnanswered (problem_of q start) cert sink) → IfErr result (IsSolveFault (shortest_asked g rule budget) source cert sink)
+unsolved g rule budget q n source cert sink start (Ok status) asked cells budgeted given unanswered = tt
+unsolved g rule budget q n source cert sink start (Err fault) asked cells budgeted given unanswered =
+    inr (
+      budgeted,
+      (
+        start,
+        subst (λ m. GivesBoard m source start) cells given,
+        subst (λ (x : Asked). IsUnanswered (problem_of x start) cert sink fault) asked unanswered,
+      ),
+    )

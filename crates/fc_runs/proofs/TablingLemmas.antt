@@ -6,17 +6,17 @@ use Rattle.fc_io.specs.Moves.{Takes, TakesFront}
 use Rattle.fc_io.proofs.MoveLemmas.{Takes-both, takes_then_front}
 use Rattle.fc_deal.specs.Deal.{dealt_board}
 use Rattle.fc_moves.specs.GameRules.{GameRules}
-use Rattle.fc_bound.specs.declared.kinds.BoundKind.{BoundKind}
 use Rattle.fc_answers.specs.declared.answers.Outcome.{Outcome}
 use Rattle.fc_answers.specs.declared.answers.Outcome.TheVariants as outcome
 use Rattle.fc_answers.specs.declared.answers.Verdict.{Verdict}
 use Rattle.fc_answers.specs.declared.answers.Verdict.TheVariants as verdict
 use Rattle.fc_answers.specs.Verdict.{IsRight, outcome_of}
-use Rattle.fc_watch.specs.declared.listeners.Progress.{Progress}
-use Rattle.fc_watch.specs.Watch.{HearsAll, TellFloors}
+use Rattle.fc_search.specs.declared.listeners.Progress.{Progress}
+use Rattle.fc_search.specs.Watch.{HearsAll, TellFloors}
 use Rattle.fc_board_runs.specs.Devices.{Device}
 use Rattle.fc_runs.specs.declared.tabling.Last.{Last}
 use Rattle.fc_runs.specs.declared.tabling.Row.{Row}
+use Rattle.fc_methods.specs.Method.{Asked}
 use Rattle.fc_runs.specs.Batches.{IsToldOf, greatest_status, told_status}
 use Rattle.fc_runs.specs.Tabling.{AreRows, IsDealFloor, IsTableCutShort, floor_of, line_of, names_text, row_text, table_text, told_floor}
 use Rattle.fc_runs.proofs.BatchLemmas.{greatest_more}
@@ -31,21 +31,21 @@ last_row (y ∷ rows) row P all last (suc i) x at =
     last_row rows row (λ j z. P (suc j) z) (λ j z there. all (suc j) z there) last i x at
 
 -- one more row that is right
-one_more_row : (g : GameRules) (rule weight : ℕ) (kind : BoundKind) (budget from count : ℕ) (rows : List Row) (row : Row) → AreRows g rule weight kind budget from rows
-    → length rows ≡ count → row.deal ≡ from + count → IfSome row.told (IsToldOf g rule weight kind budget (from + count))
-    → IfSome (floor_of row.told row.far) (IsDealFloor g (from + count)) → AreRows g rule weight kind budget from (rows ++ row ∷ [])
-one_more_row g rule weight kind budget from count rows row right whole deal told floor = record {
+one_more_row : (q : Asked) (from count : ℕ) (rows : List Row) (row : Row) → AreRows q from rows
+    → length rows ≡ count → row.deal ≡ from + count → IfSome row.told (IsToldOf q (from + count))
+    → IfSome (floor_of row.told row.far) (IsDealFloor q.game (from + count)) → AreRows q from (rows ++ row ∷ [])
+one_more_row q from count rows row right whole deal told floor = record {
   rising = last_row rows row (λ i x. x.deal ≡ from + i) right.rising (deal ∙ ap (λ n. from + n) (sym whole));
-  right = last_row rows row (λ i x. IfSome x.told (IsToldOf g rule weight kind budget x.deal)) right.right
-      (subst (λ n. IfSome row.told (IsToldOf g rule weight kind budget n)) (sym deal) told);
-  floors = last_row rows row (λ i x. IfSome (floor_of x.told x.far) (IsDealFloor g x.deal)) right.floors
-      (subst (λ n. IfSome (floor_of row.told row.far) (IsDealFloor g n)) (sym deal) floor);
+  right = last_row rows row (λ i x. IfSome x.told (IsToldOf q x.deal)) right.right
+      (subst (λ n. IfSome row.told (IsToldOf q n)) (sym deal) told);
+  floors = last_row rows row (λ i x. IfSome (floor_of x.told x.far) (IsDealFloor q.game x.deal)) right.floors
+      (subst (λ n. IfSome (floor_of row.told row.far) (IsDealFloor q.game n)) (sym deal) floor);
 }
 
 -- the names and so many rows were written, and this is the greatest of their statuses
-pub record RowsAreWritten (g : GameRules) (rule weight : ℕ) (kind : BoundKind) (budget from count : ℕ) (old new : Option (List ℕ)) (status : ℕ) : Type 0 where
+pub record RowsAreWritten (q : Asked) (from count : ℕ) (old new : Option (List ℕ)) (status : ℕ) : Type 0 where
   pub rows : List Row
-  pub right : AreRows g rule weight kind budget from rows
+  pub right : AreRows q from rows
   pub whole : length rows ≡ count
   pub written : Takes old new (table_text rows)
   pub greatest : status ≡ greatest_status (map line_of rows)
@@ -54,16 +54,16 @@ pub record RowsAreWritten (g : GameRules) (rule weight : ℕ) (kind : BoundKind)
 text_more : (rows : List Row) (row : Row) → table_text rows ++ row_text row ≡ table_text (rows ++ row ∷ [])
 text_more rows row = flat_map_more row_text names_text rows row
 
-pub one_more_written : (g : GameRules) (rule weight : ℕ) (kind : BoundKind) (budget from count : ℕ) (old mid new : Option (List ℕ)) (status next : ℕ) (row : Row)
-    → RowsAreWritten g rule weight kind budget from count old mid status → row.deal ≡ from + count
-    → IfSome row.told (IsToldOf g rule weight kind budget (from + count)) → IfSome (floor_of row.told row.far) (IsDealFloor g (from + count))
+pub one_more_written : (q : Asked) (from count : ℕ) (old mid new : Option (List ℕ)) (status next : ℕ) (row : Row)
+    → RowsAreWritten q from count old mid status → row.deal ≡ from + count
+    → IfSome row.told (IsToldOf q (from + count)) → IfSome (floor_of row.told row.far) (IsDealFloor q.game (from + count))
     → Takes mid new (row_text row) → next ≡ max status (told_status row.told)
-    → RowsAreWritten g rule weight kind budget from (count + 1) old new next
-one_more_written g rule weight kind budget from count old mid new status next row so_far deal told floor taken greater =
+    → RowsAreWritten q from (count + 1) old new next
+one_more_written q from count old mid new status next row so_far deal told floor taken greater =
     let whole = so_far.whole in
     record {
       rows = so_far.rows ++ row ∷ [];
-      right = one_more_row g rule weight kind budget from count so_far.rows row so_far.right whole deal told floor;
+      right = one_more_row q from count so_far.rows row so_far.right whole deal told floor;
       whole = omega (arith, whole, length-append so_far.rows (row ∷ []));
       written = subst (Takes old new) (text_more so_far.rows row)
           (Takes-both old mid new (table_text so_far.rows) (row_text row) so_far.written taken);
@@ -72,16 +72,16 @@ one_more_written g rule weight kind budget from count old mid new status next ro
     }
 
 -- and one that was cut short
-pub row_cut_short : (g : GameRules) (rule weight : ℕ) (kind : BoundKind) (budget from count most : ℕ) (mid : Option (List ℕ)) (sink : Device) (status : ℕ) (row : Row)
-    → RowsAreWritten g rule weight kind budget from count sink.old mid status → row.deal ≡ from + count
-    → IfSome row.told (IsToldOf g rule weight kind budget (from + count)) → IfSome (floor_of row.told row.far) (IsDealFloor g (from + count))
+pub row_cut_short : (q : Asked) (from count most : ℕ) (mid : Option (List ℕ)) (sink : Device) (status : ℕ) (row : Row)
+    → RowsAreWritten q from count sink.old mid status → row.deal ≡ from + count
+    → IfSome row.told (IsToldOf q (from + count)) → IfSome (floor_of row.told row.far) (IsDealFloor q.game (from + count))
     → TakesFront mid sink.new (row_text row) → count < most → IsTrue sink.failed
-    → IsTableCutShort g rule weight kind budget from most sink
-row_cut_short g rule weight kind budget from count most mid sink status row so_far deal told floor front within failed =
+    → IsTableCutShort q from most sink
+row_cut_short q from count most mid sink status row so_far deal told floor front within failed =
     let whole = so_far.whole in
     record {
       rows = so_far.rows ++ row ∷ [];
-      right = one_more_row g rule weight kind budget from count so_far.rows row so_far.right whole deal told floor;
+      right = one_more_row q from count so_far.rows row so_far.right whole deal told floor;
       some = omega (arith, whole, within, length-append so_far.rows (row ∷ []));
       front = subst (TakesFront sink.old sink.new) (text_more so_far.rows row)
           (takes_then_front sink.old mid sink.new (table_text so_far.rows) (row_text row) so_far.written front);
@@ -111,15 +111,15 @@ answer_floor g weight budget deal verdict.CannotWin right = tt
 answer_floor g weight budget deal (verdict.GaveUp told) right = tt
 
 -- the floor of a row: what its answer tells, and else what was told last
-pub row_floor : (g : GameRules) (rule weight : ℕ) (kind : BoundKind) (budget deal : ℕ) (told : Option Outcome) (far : Option Progress)
-    → IfSome told (IsToldOf g rule weight kind budget deal) → IfSome (told_floor far) (IsDealFloor g deal) → IfSome (floor_of told far) (IsDealFloor g deal)
+pub row_floor : (q : Asked) (deal : ℕ) (told : Option Outcome) (far : Option Progress)
+    → IfSome told (IsToldOf q deal) → IfSome (told_floor far) (IsDealFloor q.game deal) → IfSome (floor_of told far) (IsDealFloor q.game deal)
 unfolding answered_floor
-row_floor g rule weight kind budget deal None far right floor = floor
-row_floor g rule weight kind budget deal (Some (outcome.GaveUp told)) far right floor = floor
-row_floor g rule weight kind budget deal (Some outcome.CannotWin) far right floor = tt
-row_floor g rule weight kind budget deal (Some (outcome.Shortest count)) far right floor =
-    subst (λ o. IfSome (answered_floor o) (IsDealFloor g deal)) (sym right.answer)
-    (answer_floor g weight budget deal right.verdict right.decided.right.right)
-row_floor g rule weight kind budget deal (Some (outcome.Won count least)) far right floor =
-    subst (λ o. IfSome (answered_floor o) (IsDealFloor g deal)) (sym right.answer)
-    (answer_floor g weight budget deal right.verdict right.decided.right.right)
+row_floor q deal None far right floor = floor
+row_floor q deal (Some (outcome.GaveUp told)) far right floor = floor
+row_floor q deal (Some outcome.CannotWin) far right floor = tt
+row_floor q deal (Some (outcome.Shortest count)) far right floor =
+    subst (λ o. IfSome (answered_floor o) (IsDealFloor q.game deal)) (sym right.answer)
+    (answer_floor q.game q.method.weight q.method.budget deal right.verdict right.decided.right.right)
+row_floor q deal (Some (outcome.Won count least)) far right floor =
+    subst (λ o. IfSome (answered_floor o) (IsDealFloor q.game deal)) (sym right.answer)
+    (answer_floor q.game q.method.weight q.method.budget deal right.verdict right.decided.right.right)

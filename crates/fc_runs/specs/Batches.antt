@@ -2,13 +2,13 @@
 use Rattle.std.specs.Prelude.{◌≡◌, ◌⊎◌, ℕ, ◌+◌, ◌<◌, ◌≤◌, List, [], ◌∷◌, ◌++◌, max, length, slice_get, Option, Some, None, IsTrue, codes, decimal}
 use Rattle.std.specs.List.{flat_map}
 use Rattle.fc_io.specs.Moves.{Takes, TakesFront}
-use Rattle.fc_moves.specs.GameRules.{GameRules}
 use Rattle.fc_deal.specs.Deal.{IsDealNumber, dealt_board}
-use Rattle.fc_bound.specs.declared.kinds.BoundKind.{BoundKind}
 use Rattle.fc_answers.specs.declared.answers.Outcome.{Outcome}
 use Rattle.fc_answers.specs.declared.answers.Verdict.{Verdict}
 use Rattle.fc_answers.specs.Verdict.{outcome_of}
-use Rattle.fc_best_first.specs.Search.{IsBudget}
+use Rattle.fc_best_first.specs.Limits.{IsBudget}
+use Rattle.fc_methods.specs.Method.{Asked}
+use Rattle.fc_search.specs.Problem.{problem_of}
 use Rattle.fc_best_first.specs.Store.{Store}
 use Rattle.fc_best_first.specs.declared.turns.Status.{Status}
 use Rattle.fc_best_first.specs.declared.turns.Status.TheVariants.{Running}
@@ -48,25 +48,25 @@ greatest_status (line ∷ lines) = max (told_status line.told) (greatest_status 
 
 -- an answer without moves is told of a deal: that of a verdict that is right for its board, of a search by the home rule,
 -- the weight and the kind of bound that ran to its end with the budget
-pub record IsToldOf (g : GameRules) (rule : ℕ) (weight : ℕ) (kind : BoundKind) (budget : ℕ) (deal : ℕ) (told : Outcome) : Type 0 where
+pub record IsToldOf (q : Asked) (deal : ℕ) (told : Outcome) : Type 0 where
   pub verdict : Verdict
-  pub decided : IsDecided g rule weight kind (dealt_board deal) budget verdict
+  pub decided : IsDecided (problem_of q (dealt_board deal)) verdict
   pub answer : told ≡ outcome_of verdict
 
 -- memory was wanted for a deal: its search was stopped, or ended and has no list of its moves
-abbrev pub IsWanting : GameRules → ℕ → ℕ → BoundKind → ℕ → ℕ → Type 0
-IsWanting g rule weight kind budget deal = (last : Store (List ℕ)) × (status : Status (List ℕ))
-    × HasRun g rule weight kind (dealt_board deal) budget last status × (status ≡ Running → ⊥)
+abbrev pub IsWanting : Asked → ℕ → Type 0
+IsWanting q deal = (last : Store (List ℕ)) × (status : Status (List ℕ))
+    × HasRun (problem_of q (dealt_board deal)) last status × (status ≡ Running → ⊥)
 
 -- what is told of a deal is right: its answer, or that memory was wanted
-abbrev pub IsRightOf : GameRules → ℕ → ℕ → BoundKind → ℕ → ℕ → Option Outcome → Type 0
-IsRightOf g rule weight kind budget deal (Some told) = IsToldOf g rule weight kind budget deal told
-IsRightOf g rule weight kind budget deal None = IsWanting g rule weight kind budget deal
+abbrev pub IsRightOf : Asked → ℕ → Option Outcome → Type 0
+IsRightOf q deal (Some told) = IsToldOf q deal told
+IsRightOf q deal None = IsWanting q deal
 
 -- lines that are right, one a deal, rising from this one
-pub record AreLines (g : GameRules) (rule : ℕ) (weight : ℕ) (kind : BoundKind) (budget : ℕ) (from : ℕ) (lines : List Line) : Type 0 where
+pub record AreLines (q : Asked) (from : ℕ) (lines : List Line) : Type 0 where
   pub rising : (i : ℕ) (line : Line) → slice_get lines i ≡ Some line → line.deal ≡ from + i
-  pub right : (i : ℕ) (line : Line) → slice_get lines i ≡ Some line → IsRightOf g rule weight kind budget line.deal line.told
+  pub right : (i : ℕ) (line : Line) → slice_get lines i ≡ Some line → IsRightOf q line.deal line.told
 
 -- the deals from the one number to the other are at least one and at most 32
 pub record IsRange (from to : ℕ) : Type 0 where
@@ -80,61 +80,60 @@ pub record AreDeals (from to : ℕ) : Type 0 where
   pub range : IsRange from to
 
 -- so many deals were told: the sink took a line for each, and the status is the greatest of theirs
-pub record AreTold (g : GameRules) (rule : ℕ) (weight : ℕ) (kind : BoundKind) (budget : ℕ) (from count : ℕ) (sink : Device) (status : ℕ) : Type 0 where
+pub record AreTold (q : Asked) (from count : ℕ) (sink : Device) (status : ℕ) : Type 0 where
   pub lines : List Line
-  pub right : AreLines g rule weight kind budget from lines
+  pub right : AreLines q from lines
   pub whole : length lines ≡ count
   pub written : Takes sink.old sink.new (flat_map line_text lines)
   pub sound : IsTrue sink.failed → ⊥
   pub greatest : status ≡ greatest_status lines
 
 -- a batch that can be asked for, of so many deals
-pub record IsAsked (from to budget : ℕ) (count : ℕ) : Type 0 where
+pub record IsAsked (from to count : ℕ) : Type 0 where
   pub deals : AreDeals from to
-  pub budgeted : IsBudget budget
   pub whole : from + count ≡ to + 1
 
--- a batch was told: it can be asked for, and each of its deals was told
-pub record IsBatched (g : GameRules) (rule : ℕ) (weight : ℕ) (kind : BoundKind) (from to : ℕ) (budget : ℕ) (sink : Device) (status : ℕ) : Type 0 where
+-- a batch was told: it can be asked for, the budget is one, and each of the deals was told
+pub record IsBatched (q : Asked) (from to : ℕ) (sink : Device) (status : ℕ) : Type 0 where
   pub count : ℕ
-  pub asked : IsAsked from to budget count
-  pub told : AreTold g rule weight kind budget from count sink status
+  pub asked : IsAsked from to count
+  pub budgeted : IsBudget q.method.budget
+  pub told : AreTold q from count sink status
 
 -- the sink failed while it was given the lines of at most so many deals
-pub record AreCutShort (g : GameRules) (rule : ℕ) (weight : ℕ) (kind : BoundKind) (budget : ℕ) (from count : ℕ) (sink : Device) : Type 0 where
+pub record AreCutShort (q : Asked) (from count : ℕ) (sink : Device) : Type 0 where
   pub lines : List Line
-  pub right : AreLines g rule weight kind budget from lines
+  pub right : AreLines q from lines
   pub some : length lines ≤ count
   pub front : TakesFront sink.old sink.new (flat_map line_text lines)
   pub failed : IsTrue sink.failed
 
--- why a batch can't be asked for, each fault only where those before it have no cause: a number, the first one first, is of no
--- deal; the deals are none or too many; the budget is none
-abbrev pub IsUnasked : ℕ → ℕ → ℕ → ProgramFault → Type 0
-IsUnasked from to budget (Number told) =
+-- why deals can't be asked for, each fault only where those before it have no cause: a number, the first one first, is of no
+-- deal; the deals are none or too many
+abbrev pub IsUnasked : ℕ → ℕ → ProgramFault → Type 0
+IsUnasked from to (Number told) =
     ((IsDealNumber from → ⊥) × (told ≡ from)) ⊎ (IsDealNumber from × (IsDealNumber to → ⊥) × (told ≡ to))
-IsUnasked from to budget Range = IsDealNumber from × IsDealNumber to × (IsRange from to → ⊥)
-IsUnasked from to budget Budget = AreDeals from to × (IsBudget budget → ⊥)
-IsUnasked from to budget other = ⊥
+IsUnasked from to Range = IsDealNumber from × IsDealNumber to × (IsRange from to → ⊥)
+IsUnasked from to other = ⊥
 
--- why no batch was told, or not all of it: it can't be asked for, or a growth was refused before the first turn, and nothing is
--- written; or the sink failed
-abbrev pub IsBatchFault : GameRules → ℕ → ℕ → BoundKind → ℕ → ℕ → ℕ → Device → ProgramFault → Type 0
-IsBatchFault g rule weight kind from to budget sink Memory = ((count : ℕ) × IsAsked from to budget count) × IsUntouched sink
-IsBatchFault g rule weight kind from to budget sink (Write of_answer) =
-    (count : ℕ) × IsAsked from to budget count × AreCutShort g rule weight kind budget from count sink
-IsBatchFault g rule weight kind from to budget sink fault = IsUnasked from to budget fault × IsUntouched sink
+-- why no batch was told, or not all of it: the deals can't be asked for, or they can and the budget is none, or it is one and
+-- a growth was refused before the first turn, and nothing is written; or the sink failed
+abbrev pub IsBatchFault : Asked → ℕ → ℕ → Device → ProgramFault → Type 0
+IsBatchFault q from to sink Budget = AreDeals from to × (IsBudget q.method.budget → ⊥) × IsUntouched sink
+IsBatchFault q from to sink Memory = AreDeals from to × IsBudget q.method.budget × IsUntouched sink
+IsBatchFault q from to sink (Write of_answer) =
+    IsBudget q.method.budget × ((count : ℕ) × IsAsked from to count × AreCutShort q from count sink)
+IsBatchFault q from to sink fault = IsUnasked from to fault × IsUntouched sink
 
 -- the search of a deal: asked for its board, with the budget, and run on to where it stands
-pub record IsSearchOf (g : GameRules) (rule : ℕ) (weight : ℕ) (kind : BoundKind) (budget : ℕ) (deal : ℕ) (s : State) : Type 0 where
-  pub question : s.question ≡ record { game = g; rule = rule; weight = weight; bound = kind; start = dealt_board deal }
-  pub budgeted : s.budget ≡ budget
-  pub ran : HasRun g rule weight kind (dealt_board deal) budget s.store s.status
+pub record IsSearchOf (q : Asked) (deal : ℕ) (s : State) : Type 0 where
+  pub problem : s.problem ≡ problem_of q (dealt_board deal)
+  pub ran : HasRun (problem_of q (dealt_board deal)) s.store s.status
 
 -- a batch holds the searches of so many deals, rising from this one, under the numbers from 0
-abbrev pub HoldsDeals : GameRules → ℕ → ℕ → BoundKind → ℕ → ℕ → ℕ → Batch → Type 0
-HoldsDeals g rule weight kind budget from count batch =
-    (i : ℕ) → i < count → (s : State) × (search_at batch i ≡ Some s) × IsSearchOf g rule weight kind budget (from + i) s
+abbrev pub HoldsDeals : Asked → ℕ → ℕ → Batch → Type 0
+HoldsDeals q from count batch =
+    (i : ℕ) → i < count → (s : State) × (search_at batch i ≡ Some s) × IsSearchOf q (from + i) s
 
 -- no search with one of the first numbers runs
 abbrev pub HaveEnded : ℕ → Batch → Type 0

@@ -6,10 +6,10 @@ use Rattle.fc_deal.specs.Deal.{dealt_board}
 use Rattle.fc_moves.specs.declared.steps.Move.{Move}
 use Rattle.fc_moves.specs.GameRules.{GameRules}
 use Rattle.fc_moves.specs.Run.{Wins}
-use Rattle.fc_bound.specs.declared.kinds.BoundKind.{BoundKind}
+use Rattle.fc_methods.specs.Method.{Asked}
 use Rattle.fc_answers.specs.declared.answers.Outcome.{Outcome}
 use Rattle.fc_answers.specs.declared.answers.Outcome.TheVariants.{Shortest, Won, CannotWin, GaveUp}
-use Rattle.fc_watch.specs.declared.listeners.Progress.{Progress}
+use Rattle.fc_search.specs.declared.listeners.Progress.{Progress}
 use Rattle.fc_board_runs.specs.declared.faults.Output.TheVariants.{Answer as of_answer}
 use Rattle.fc_board_runs.specs.declared.faults.ProgramFault.{ProgramFault}
 use Rattle.fc_board_runs.specs.declared.faults.ProgramFault.TheVariants.{Write}
@@ -81,36 +81,36 @@ IsDealFloor g deal floor = (moves : List Move) → Wins g (dealt_board deal) mov
 -- rows that are right, one a deal, rising from this one: an answer that is told is right for its deal, and no list of fewer moves
 -- than a row's floor wins from it. Nothing else is promised of a deal for which memory was wanted, nor of the other numbers that
 -- a search told
-pub record AreRows (g : GameRules) (rule : ℕ) (weight : ℕ) (kind : BoundKind) (budget : ℕ) (from : ℕ) (rows : List Row) : Type 0 where
+pub record AreRows (q : Asked) (from : ℕ) (rows : List Row) : Type 0 where
   pub rising : (i : ℕ) (row : Row) → slice_get rows i ≡ Some row → row.deal ≡ from + i
-  pub right : (i : ℕ) (row : Row) → slice_get rows i ≡ Some row → IfSome row.told (IsToldOf g rule weight kind budget row.deal)
-  pub floors : (i : ℕ) (row : Row) → slice_get rows i ≡ Some row → IfSome (floor_of row.told row.far) (IsDealFloor g row.deal)
+  pub right : (i : ℕ) (row : Row) → slice_get rows i ≡ Some row → IfSome row.told (IsToldOf q row.deal)
+  pub floors : (i : ℕ) (row : Row) → slice_get rows i ≡ Some row → IfSome (floor_of row.told row.far) (IsDealFloor q.game row.deal)
 
 -- so many deals were told: the sink took the names and a row for each, and the status is the greatest of theirs
-pub record AreTabled (g : GameRules) (rule : ℕ) (weight : ℕ) (kind : BoundKind) (budget : ℕ) (from count : ℕ) (sink : Device) (status : ℕ) : Type 0 where
+pub record AreTabled (q : Asked) (from count : ℕ) (sink : Device) (status : ℕ) : Type 0 where
   pub rows : List Row
-  pub right : AreRows g rule weight kind budget from rows
+  pub right : AreRows q from rows
   pub whole : length rows ≡ count
   pub written : Takes sink.old sink.new (table_text rows)
   pub sound : IsTrue sink.failed → ⊥
   pub greatest : status ≡ greatest_status (map line_of rows)
 
 -- a table was told: it can be asked for, and each of its deals was told
-pub record IsTabled (g : GameRules) (rule : ℕ) (weight : ℕ) (kind : BoundKind) (from to : ℕ) (budget : ℕ) (sink : Device) (status : ℕ) : Type 0 where
+pub record IsTabled (q : Asked) (from to : ℕ) (sink : Device) (status : ℕ) : Type 0 where
   pub count : ℕ
-  pub asked : IsAsked from to budget count
-  pub told : AreTabled g rule weight kind budget from count sink status
+  pub asked : IsAsked from to count
+  pub told : AreTabled q from count sink status
 
 -- the sink failed while it was given the names and the rows of at most so many deals
-pub record IsTableCutShort (g : GameRules) (rule : ℕ) (weight : ℕ) (kind : BoundKind) (budget : ℕ) (from count : ℕ) (sink : Device) : Type 0 where
+pub record IsTableCutShort (q : Asked) (from count : ℕ) (sink : Device) : Type 0 where
   pub rows : List Row
-  pub right : AreRows g rule weight kind budget from rows
+  pub right : AreRows q from rows
   pub some : length rows ≤ count
   pub front : TakesFront sink.old sink.new (table_text rows)
   pub failed : IsTrue sink.failed
 
 -- why no table was told, or not all of one: it can't be asked for, and nothing is written; or the sink failed
-abbrev pub IsTableFault : GameRules → ℕ → ℕ → BoundKind → ℕ → ℕ → ℕ → Device → ProgramFault → Type 0
-IsTableFault g rule weight kind from to budget sink (Write of_answer) =
-    (count : ℕ) × IsAsked from to budget count × IsTableCutShort g rule weight kind budget from count sink
-IsTableFault g rule weight kind from to budget sink fault = IsUnasked from to budget fault × IsUntouched sink
+abbrev pub IsTableFault : Asked → ℕ → ℕ → Device → ProgramFault → Type 0
+IsTableFault q from to sink (Write of_answer) =
+    (count : ℕ) × IsAsked from to count × IsTableCutShort q from count sink
+IsTableFault q from to sink fault = IsUnasked from to fault × IsUntouched sink

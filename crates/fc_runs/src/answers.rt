@@ -1,8 +1,8 @@
-//! How a verdict, an answer and a claim are printed, and the exit status that goes with it.
+//! How a verdict and a claim are printed, and the exit status that goes with it.
 
 ghost use Rattle.std.specs.Prelude.{◌≡◌, ◌≤◌, ◌++◌, length, IfOk, OnOk, All};
 ghost use Rattle.fc_moves.specs.MoveText.{HasText};
-ghost use Rattle.fc_answers.specs.Verdict.{CanBeWritten, outcome_of, verdict_of};
+ghost use Rattle.fc_answers.specs.Verdict.{CanBeWritten, outcome_of};
 ghost use Rattle.arrayvec.specs.ArrayString.{array_string_len};
 ghost use Rattle.fc_runs.specs.Batches.{line_text, told_status, told_text};
 ghost use Rattle.fc_runs.specs.AnswerText.{accepted_text, answer_text, list_text, moves_line, shortest_line, won_line, gave_up_text, status_of};
@@ -11,7 +11,7 @@ use arrayvec::ArrayString;
 use fc_answers::Outcome;
 use fc_cert::Claim;
 use fc_moves::{Move, move_text};
-use fc_search::{Answer, Verdict};
+use fc_search::Verdict;
 use itoa::Buffer;
 use std::alloc::{AllocError, Global};
 
@@ -25,25 +25,9 @@ pub fn verdict_text(alloc: Global, verdict: &Verdict) -> Result<Vec<u8>, AllocEr
 {
     match verdict {
         Verdict::Shortest(moves) => shortest_text(alloc, moves.as_slice()),
-        Verdict::Won(moves, floor) => won_text(alloc, moves.as_slice(), *floor),
+        Verdict::Won { moves, floor } => won_text(alloc, moves.as_slice(), *floor),
         Verdict::CannotWin => Vec::from_slice(alloc, b"can't be won\n"),
         Verdict::GaveUp(budget) => gave_up_text(alloc, *budget),
-    }
-}
-
-/// The same lines of an answer, whose table they don't tell.
-///
-/// # Errors
-/// A growth of memory was refused.
-pub fn answer_text(alloc: Global, answer: &Answer) -> Result<Vec<u8>, AllocError>
-    requires texts { CanBeWritten (verdict_of answer.now) }
-    ensures text { IfOk result (λ t. t.items ≡ answer_text (verdict_of answer.now)) }
-{
-    match answer {
-        Answer::Shortest(moves, _) => shortest_text(alloc, moves.as_slice()),
-        Answer::Won(moves, floor, _) => won_text(alloc, moves.as_slice(), *floor),
-        Answer::CannotWin(_) => Vec::from_slice(alloc, b"can't be won\n"),
-        Answer::GaveUp(budget) => gave_up_text(alloc, *budget),
     }
 }
 
@@ -52,20 +36,9 @@ pub fn verdict_status(verdict: &Verdict) -> u8
     ensures value { result ≡ status_of verdict.now }
 {
     match verdict {
-        Verdict::Shortest(_) | Verdict::Won(_, _) => 0,
+        Verdict::Shortest(_) | Verdict::Won { .. } => 0,
         Verdict::CannotWin => 1,
         Verdict::GaveUp(_) => 2,
-    }
-}
-
-/// The exit status that tells an answer.
-pub fn answer_status(answer: &Answer) -> u8
-    ensures value { result ≡ status_of (verdict_of answer.now) }
-{
-    match answer {
-        Answer::Shortest(_, _) | Answer::Won(_, _, _) => 0,
-        Answer::CannotWin(_) => 1,
-        Answer::GaveUp(_) => 2,
     }
 }
 
@@ -80,7 +53,7 @@ pub fn accepted_text(alloc: Global, claim: Claim) -> Result<Vec<u8>, AllocError>
     match claim {
         Claim::Shortest(count) => push_shortest(&mut text, count as usize)?,
         Claim::CannotWin => text.extend_from_slice(b"can't be won\n")?,
-        Claim::Between(floor, count) => push_won(&mut text, count as usize, floor)?,
+        Claim::Between { floor, moves } => push_won(&mut text, moves as usize, floor)?,
     }
     Ok(text)
 }
@@ -104,7 +77,10 @@ pub fn outcome_of(verdict: &Verdict) -> Outcome
 {
     match verdict {
         Verdict::Shortest(moves) => Outcome::Shortest(moves.len() as u32),
-        Verdict::Won(moves, floor) => Outcome::Won(moves.len() as u32, *floor),
+        Verdict::Won { moves, floor } => Outcome::Won {
+            moves: moves.len() as u32,
+            floor: *floor,
+        },
         Verdict::CannotWin => Outcome::CannotWin,
         Verdict::GaveUp(budget) => Outcome::GaveUp(*budget),
     }
@@ -115,7 +91,7 @@ pub fn told_status(told: Option<Outcome>) -> u8
     ensures value { result ≡ told_status told }
 {
     match told {
-        Some(Outcome::Shortest(_) | Outcome::Won(_, _)) => 0,
+        Some(Outcome::Shortest(_) | Outcome::Won { .. }) => 0,
         Some(Outcome::CannotWin) => 1,
         Some(Outcome::GaveUp(_)) => 2,
         None => 4,
@@ -134,9 +110,9 @@ fn push_told(text: &mut ArrayString<128>, told: Option<Outcome>)
             text.push_str(buffer.format(count));
             text.push_str("\n");
         }
-        Some(Outcome::Won(count, floor)) => {
+        Some(Outcome::Won { moves, floor }) => {
             text.push_str("won ");
-            text.push_str(buffer.format(count));
+            text.push_str(buffer.format(moves));
             text.push_str(", at least ");
             text.push_str(buffer.format(floor));
             text.push_str("\n");

@@ -1,36 +1,35 @@
 //! Several numbered deals, whose searches take turns, over any sink.
 
 ghost use Rattle.std.specs.Prelude.{◌≡◌, ◌+◌, ◌<◌, ◌≤◌, ◌↔◌, ℕ, Some, IfOk, IfErr, OnErr, IsTrue, true, false};
-ghost use Rattle.fc_moves.specs.GameRules.{GameRules};
-ghost use Rattle.fc_bound.specs.declared.kinds.BoundKind.{BoundKind};
 ghost use Rattle.fc_deal.specs.Deal.{IsDealNumber};
-ghost use Rattle.fc_best_first.specs.Search.{IsBudget, IsWeight};
+ghost use Rattle.fc_methods.specs.Method.{Asked, shortest_asked};
 ghost use Rattle.fc_search.specs.Search.{State};
 ghost use Rattle.fc_batch.specs.Batch.{OthersStay, search_at, work_left};
 ghost use Rattle.fc_board_runs.specs.Devices.{change};
 ghost use Rattle.fc_runs.specs.Batches.{AreCutShort, AreTold, HaveEnded, HoldsDeals, IsAsked, IsBatched, IsBatchFault, IsRightOf, IsSearchOf, IsUnasked};
 
 use crate::answers::{line_text, outcome_of, told_status};
+use crate::solving::shortest;
 use fc_answers::Outcome;
 use fc_batch::Batch;
 use fc_best_first::{Status, Step};
 use fc_board_runs::{Output, ProgramFault};
-use fc_bound::BoundKind;
 use fc_deal::deal;
 use fc_frontier::BucketFrontier;
 use fc_home::GREATEST_RULE;
 use fc_io::{Failed, Sink, write_all};
+use fc_methods::Question;
 use fc_moves::Game;
-use fc_search::{MOST_BUDGET, Search};
+use fc_search::Search;
 use std::alloc::Global;
 
 /// The most deals of a batch.
 pub const MOST_DEALS: u32 = 32;
 
 /// Searches the deals `from` to `to` of the game, which take turns, one turn each in rising order again and again, under a home
-/// rule of at most 2 by a weight of 1 to 10 and a kind of bound, each with at most `budget` stored classes. Writes a line for
-/// each, rising: its number, and its answer with the number of its moves, or `want of memory`. The status is the greatest of
-/// theirs: 0 for a solution, 1 where a deal can't be won, 2 on giving up, 4 for want of memory.
+/// rule of at most 2, each with at most `budget` stored classes. Writes a line for each, rising: its number, and its answer
+/// with the number of its moves, or `want of memory`. The status is the greatest of theirs: 0 for a shortest solution, 1 where
+/// a deal can't be won, 2 on giving up, 4 for want of memory.
 ///
 /// # Errors
 /// In this order: a number outside 1 to 1,000,000, `from` before `to`; no deal or more than 32; a budget outside 1 to
@@ -40,22 +39,38 @@ pub fn run_batch<G: Game + Drop, K: Sink>(
     alloc: Global,
     game: &G,
     rule: u8,
-    weight: u8,
-    bound: BoundKind,
     from: u32,
     to: u32,
     budget: u32,
     out: &mut K,
 ) -> Result<u8, ProgramFault>
     requires rule { rule ≤ GREATEST_RULE }
-    requires weight { IsWeight weight }
-    ensures batched { IfOk result (IsBatched (G.game game.now) rule weight bound from to budget
-        (change K.held K.has_failed out.old out.new)) }
-    ensures fault { IfErr result (IsBatchFault (G.game game.now) rule weight bound from to budget
-        (change K.held K.has_failed out.old out.new)) }
+    ensures batched { IfOk result (IsBatched (shortest_asked (G.game game.now) rule budget) from to (change K.held K.has_failed out.old out.new)) }
+    ensures fault { IfErr result (IsBatchFault (shortest_asked (G.game game.now) rule budget) from to (change K.held K.has_failed out.old out.new)) }
 {
-    let count = deals_of(from, to, budget)?;
-    let mut batch = begin(alloc, game, rule, weight, bound, from, count, budget)?;
+    deals_of(from, to)?;
+    let question = shortest(game, rule, budget)?;
+    run_batch_by(alloc, &question, from, to, out)
+}
+
+/// Searches the deals `from` to `to` of the question's game by its method, in turns, and writes a line for each, as
+/// `run_batch` does; what is won is `won N, at least L` where the weight isn't 1.
+///
+/// # Errors
+/// Those of `run_batch` but for the budget's.
+pub fn run_batch_by<G: Game + Drop, K: Sink>(
+    alloc: Global,
+    question: &Question<G>,
+    from: u32,
+    to: u32,
+    out: &mut K,
+) -> Result<u8, ProgramFault>
+    ensures batched { IfOk result (IsBatched question.now from to (change K.held K.has_failed out.old out.new)) }
+    ensures fault { IfErr result (IsBatchFault question.now from to (change K.held K.has_failed out.old out.new)) }
+{
+    let _ = question.method().budget.get();
+    let count = deals_of(from, to)?;
+    let mut batch = begin(alloc, question, from, count)?;
     run_to_end(&mut batch, count as usize);
     match write_lines(&batch, from, count, out) {
         Ok(status) => Ok(status),
@@ -64,9 +79,9 @@ pub fn run_batch<G: Game + Drop, K: Sink>(
 }
 
 // How many deals are asked for.
-pub(crate) fn deals_of(from: u32, to: u32, budget: u32) -> Result<u32, ProgramFault>
-    ensures asked { IfOk result (IsAsked from to budget) }
-    ensures fault { IfErr result (IsUnasked from to budget) }
+pub(crate) fn deals_of(from: u32, to: u32) -> Result<u32, ProgramFault>
+    ensures asked { IfOk result (IsAsked from to) }
+    ensures fault { IfErr result (IsUnasked from to) }
 {
     if !is_deal(from) {
         return Err(ProgramFault::Number(from));
@@ -76,9 +91,6 @@ pub(crate) fn deals_of(from: u32, to: u32, budget: u32) -> Result<u32, ProgramFa
     }
     if from > to || to - from >= MOST_DEALS {
         return Err(ProgramFault::Range);
-    }
-    if budget == 0 || budget > MOST_BUDGET {
-        return Err(ProgramFault::Budget);
     }
     Ok(to - from + 1)
 }
@@ -93,25 +105,18 @@ fn is_deal(n: u32) -> bool
 // A batch of the searches of so many deals, rising from this one, which have had no turn.
 fn begin<G: Game + Drop>(
     alloc: Global,
-    game: &G,
-    rule: u8,
-    weight: u8,
-    bound: BoundKind,
+    question: &Question<G>,
     from: u32,
     count: u32,
-    budget: u32,
 ) -> Result<Batch<BucketFrontier, G>, ProgramFault>
-    requires rule { rule ≤ GREATEST_RULE }
-    requires weight { IsWeight weight }
     requires first { 1 ≤ from }
     requires last { from + count ≤ 1000001 }
-    requires budgeted { IsBudget budget }
-    ensures holds { IfOk result (HoldsDeals (G.game game.now) rule weight bound budget from count) }
+    ensures holds { IfOk result (HoldsDeals question.now from count) }
     ensures fault { IfErr result (λ fault. fault ≡ ProgramFault.Memory) }
 {
     let mut batch = Batch::new(alloc);
     for i in 0..count {
-        let search = search_of(alloc, game, rule, weight, bound, from + i, budget)?;
+        let search = search_of(alloc, question, from + i)?;
         let Ok(_) = batch.add(search) else {
             return Err(ProgramFault::Memory);
         };
@@ -122,22 +127,15 @@ fn begin<G: Game + Drop>(
 // The search of a deal, which has had no turn.
 fn search_of<G: Game + Drop>(
     alloc: Global,
-    game: &G,
-    rule: u8,
-    weight: u8,
-    bound: BoundKind,
+    question: &Question<G>,
     number: u32,
-    budget: u32,
 ) -> Result<Search<BucketFrontier, G>, ProgramFault>
-    requires rule { rule ≤ GREATEST_RULE }
-    requires weight { IsWeight weight }
     requires deal { IsDealNumber number }
-    requires budgeted { IsBudget budget }
-    ensures search { IfOk result (IsSearchOf (G.game game.now) rule weight bound budget number) }
+    ensures search { IfOk result (IsSearchOf question.now number) }
     ensures fault { IfErr result (λ fault. fault ≡ ProgramFault.Memory) }
 {
     let position = deal(number).unwrap();
-    match Search::new(alloc, game, rule, weight, bound, &position, budget) {
+    match Search::new_by(alloc, question, &position) {
         Ok(search) => Ok(search),
         Err(_) => Err(ProgramFault::Memory),
     }
@@ -145,8 +143,8 @@ fn search_of<G: Game + Drop>(
 
 // Turns of the searches with the first numbers, in rising order again and again, until none of them runs.
 fn run_to_end<G: Game + Drop>(batch: &mut Batch<BucketFrontier, G>, count: usize)
-    ensures held { (g : GameRules) (rule weight : ℕ) (kind : BoundKind) (budget from : ℕ) → HoldsDeals g rule weight kind budget from count batch.old
-        → HoldsDeals g rule weight kind budget from count batch.new }
+    ensures held { (q : Asked) (from : ℕ) → HoldsDeals q from count batch.old
+        → HoldsDeals q from count batch.new }
     ensures ended { HaveEnded count batch.new }
 {
     while run_each(batch, count) {}
@@ -154,8 +152,8 @@ fn run_to_end<G: Game + Drop>(batch: &mut Batch<BucketFrontier, G>, count: usize
 
 // One turn of each of them; whether one may still run.
 fn run_each<G: Game + Drop>(batch: &mut Batch<BucketFrontier, G>, count: usize) -> bool
-    ensures held { (g : GameRules) (rule weight : ℕ) (kind : BoundKind) (budget from : ℕ) → HoldsDeals g rule weight kind budget from count batch.old
-        → HoldsDeals g rule weight kind budget from count batch.new }
+    ensures held { (q : Asked) (from : ℕ) → HoldsDeals q from count batch.old
+        → HoldsDeals q from count batch.new }
     ensures ended { result ≡ false → HaveEnded count batch.new }
     ensures most { work_left batch.new ≤ work_left batch.old }
     ensures falls { result ≡ true → work_left batch.new < work_left batch.old }
@@ -171,8 +169,8 @@ fn run_each<G: Game + Drop>(batch: &mut Batch<BucketFrontier, G>, count: usize) 
 
 // One turn of one search; whether it may still run.
 fn take_turn<G: Game + Drop>(batch: &mut Batch<BucketFrontier, G>, number: usize) -> bool
-    ensures held { (g : GameRules) (rule weight : ℕ) (kind : BoundKind) (budget from count : ℕ) → HoldsDeals g rule weight kind budget from count batch.old
-        → HoldsDeals g rule weight kind budget from count batch.new }
+    ensures held { (q : Asked) (from count : ℕ) → HoldsDeals q from count batch.old
+        → HoldsDeals q from count batch.new }
     ensures others { OthersStay number batch.old batch.new }
     ensures ended { result ≡ false → (s : State) → search_at batch.new number ≡ Some s → s.status ≡ Status.Running → ⊥ }
     ensures most { work_left batch.new ≤ work_left batch.old }
@@ -193,11 +191,11 @@ fn write_lines<G: Game + Drop, K: Sink>(
 ) -> Result<u8, Failed>
     requires some { 1 ≤ count }
     requires numbers { from + count ≤ 1000001 }
-    ensures told { (g : GameRules) (rule weight : ℕ) (kind : BoundKind) (budget : ℕ) → HoldsDeals g rule weight kind budget from count batch.now → HaveEnded count batch.now
-        → IfOk result (AreTold g rule weight kind budget from count
+    ensures told { (q : Asked) → HoldsDeals q from count batch.now → HaveEnded count batch.now
+        → IfOk result (AreTold q from count
         (change K.held K.has_failed out.old out.new)) }
-    ensures cut { (g : GameRules) (rule weight : ℕ) (kind : BoundKind) (budget : ℕ) → HoldsDeals g rule weight kind budget from count batch.now → HaveEnded count batch.now
-        → OnErr result (AreCutShort g rule weight kind budget from count
+    ensures cut { (q : Asked) → HoldsDeals q from count batch.now → HaveEnded count batch.now
+        → OnErr result (AreCutShort q from count
         (change K.held K.has_failed out.old out.new)) }
 {
     let mut greatest = 0;
@@ -213,8 +211,8 @@ fn write_lines<G: Game + Drop, K: Sink>(
 
 // What is told of the search with this number, which has ended.
 fn told_of<G: Game + Drop>(batch: &Batch<BucketFrontier, G>, number: usize) -> Option<Outcome>
-    ensures told { (g : GameRules) (rule weight : ℕ) (kind : BoundKind) (budget deal : ℕ) (search : State) → search_at batch.now number ≡ Some search
-        → IsSearchOf g rule weight kind budget deal search → (search.status ≡ Status.Running → ⊥) → IsRightOf g rule weight kind budget deal result }
+    ensures told { (q : Asked) (deal : ℕ) (search : State) → search_at batch.now number ≡ Some search
+        → IsSearchOf q deal search → (search.status ≡ Status.Running → ⊥) → IsRightOf q deal result }
 {
     match batch.get(number)?.verdict() {
         Ok(verdict) => Some(outcome_of(&verdict)),

@@ -2,13 +2,13 @@
 //! no search has a part in are `fc_board_runs`'s.
 #![tactic(auto)]
 
-pub use batches::{MOST_DEALS, run_batch};
+pub use batches::{MOST_DEALS, run_batch, run_batch_by};
 pub use checking::{run_check, run_check_of};
 pub use fc_board_runs::{
     Input, LONGEST_BOARD, LONGEST_MOVES, Look, Output, ProgramFault, read_position, run_deal,
     run_replay, run_replay_as, run_replay_sequences, run_show,
 };
-pub use solving::{run_solve, run_solve_heard};
+pub use solving::{run_solve, run_solve_by};
 pub use tabling::run_table;
 
 mod answers;

@@ -2,10 +2,9 @@
 
 ghost use Rattle.std.specs.Prelude.{◌≡◌, ◌+◌, ◌≤◌, ◌++◌, List, length, IfOk, IfErr, IfSome, OnErr};
 ghost use Rattle.fc_deal.specs.Deal.{IsDealNumber, dealt_board};
-ghost use Rattle.fc_best_first.specs.Search.{IsBudget, IsWeight};
 ghost use Rattle.arrayvec.specs.ArrayString.{array_string_len};
-ghost use Rattle.fc_watch.specs.declared.listeners.Progress.{Progress};
-ghost use Rattle.fc_watch.specs.Watch.{HearsAll, TellFloors};
+ghost use Rattle.fc_search.specs.declared.listeners.Progress.{Progress};
+ghost use Rattle.fc_search.specs.Watch.{HearsAll, TellFloors};
 ghost use Rattle.fc_board_runs.specs.Devices.{change};
 ghost use Rattle.fc_runs.specs.Batches.{IsToldOf};
 ghost use Rattle.fc_runs.specs.Tabling.{AreTabled, IsDealFloor, IsTabled, IsTableCutShort, IsTableFault, answer_name, far_text, floor_of, moves_of, number_text, row_text};
@@ -15,15 +14,13 @@ use crate::batches::deals_of;
 use arrayvec::ArrayString;
 use fc_answers::Outcome;
 use fc_board_runs::{Output, ProgramFault};
-use fc_bound::BoundKind;
 use fc_deal::deal;
-use fc_home::GREATEST_RULE;
 use fc_io::{Failed, Sink, write_all};
+use fc_methods::Question;
 use fc_moves::Game;
-use fc_search::SearchFault;
-use fc_watch::{Listener, Progress, decide};
+use fc_search::{Listener, Progress, decide_by};
 use itoa::Buffer;
-use std::alloc::Global;
+use std::alloc::{AllocError, Global};
 
 /// A row of a table: a deal, its answer without moves, or `None` where memory was wanted, and what its search told last.
 #[derive(Clone, Copy)]
@@ -49,8 +46,7 @@ impl Listener for Last {
     }
 }
 
-/// Searches the deals `from` to `to` of the game, one after the other, each under a home rule of at most 2 by a weight of 1 to
-/// 10 and a kind of bound, with at most `budget` stored classes, and writes a table parted by tabs: a line of the columns'
+/// Searches the deals `from` to `to` of the question's game, one after the other, each by its method, and writes a table parted by tabs: a line of the columns'
 /// names, and a row for each deal, rising, as soon as its search has ended. A row has the number of the deal; `shortest`,
 /// `won`, `can't be won`, `gave up` or `want of memory`; how many moves the list has; a floor, which no list that wins has
 /// fewer moves than, as the answer tells it, or else the search; and what the search told of itself last: its classes, its
@@ -60,28 +56,21 @@ impl Listener for Last {
 /// wanted. Of the classes, the turns and the most that was open nothing is proved: these numbers are only tested.
 ///
 /// # Errors
-/// In this order: a number outside 1 to 1,000,000, `from` before `to`; no deal or more than 32; a budget outside 1 to
-/// 4,000,000, and nothing is written; or a table that can't be written, of which a front may be.
+/// In this order: a number outside 1 to 1,000,000, `from` before `to`; no deal or more than 32, and nothing is written; or a table that can't be written, of which a front may be.
 pub fn run_table<G: Game + Drop, K: Sink>(
     alloc: Global,
-    game: &G,
-    rule: u8,
-    weight: u8,
-    bound: BoundKind,
+    question: &Question<G>,
     from: u32,
     to: u32,
-    budget: u32,
     out: &mut K,
 ) -> Result<u8, ProgramFault>
-    requires rule { rule ≤ GREATEST_RULE }
-    requires weight { IsWeight weight }
-    ensures tabled { IfOk result (IsTabled (G.game game.now) rule weight bound from to budget
+    ensures tabled { IfOk result (IsTabled question.now from to
         (change K.held K.has_failed out.old out.new)) }
-    ensures fault { IfErr result (IsTableFault (G.game game.now) rule weight bound from to budget
+    ensures fault { IfErr result (IsTableFault question.now from to
         (change K.held K.has_failed out.old out.new)) }
 {
-    let count = deals_of(from, to, budget)?;
-    match write_table(alloc, game, rule, weight, bound, from, count, budget, out) {
+    let count = deals_of(from, to)?;
+    match write_table(alloc, question, from, count, out) {
         Ok(status) => Ok(status),
         Err(_) => Err(ProgramFault::Write(Output::Answer)),
     }
@@ -90,23 +79,16 @@ pub fn run_table<G: Game + Drop, K: Sink>(
 // Writes the names of the columns, and a row for each of so many deals; the greatest status of the rows.
 fn write_table<G: Game + Drop, K: Sink>(
     alloc: Global,
-    game: &G,
-    rule: u8,
-    weight: u8,
-    bound: BoundKind,
+    question: &Question<G>,
     from: u32,
     count: u32,
-    budget: u32,
     out: &mut K,
 ) -> Result<u8, Failed>
-    requires rule { rule ≤ GREATEST_RULE }
-    requires weight { IsWeight weight }
     requires first { 1 ≤ from }
     requires last { from + count ≤ 1000001 }
-    requires budgeted { IsBudget budget }
-    ensures tabled { IfOk result (AreTabled (G.game game.now) rule weight bound budget from count
+    ensures tabled { IfOk result (AreTabled question.now from count
         (change K.held K.has_failed out.old out.new)) }
-    ensures cut { OnErr result (IsTableCutShort (G.game game.now) rule weight bound budget from count
+    ensures cut { OnErr result (IsTableCutShort question.now from count
         (change K.held K.has_failed out.old out.new)) }
 {
     write_all(
@@ -115,7 +97,7 @@ fn write_table<G: Game + Drop, K: Sink>(
     )?;
     let mut greatest = 0;
     for i in 0..count {
-        let row = row_of(alloc, game, rule, weight, bound, from + i, budget);
+        let row = row_of(alloc, question, from + i);
         let Ok(()) = write_all(out, row_text(&row).as_bytes()) else {
             return Err(Failed);
         };
@@ -125,25 +107,14 @@ fn write_table<G: Game + Drop, K: Sink>(
 }
 
 // The row of a deal, which is searched.
-fn row_of<G: Game + Drop>(
-    alloc: Global,
-    game: &G,
-    rule: u8,
-    weight: u8,
-    bound: BoundKind,
-    number: u32,
-    budget: u32,
-) -> Row
-    requires rule { rule ≤ GREATEST_RULE }
-    requires weight { IsWeight weight }
+fn row_of<G: Game + Drop>(alloc: Global, question: &Question<G>, number: u32) -> Row
     requires deal { IsDealNumber number }
-    requires budgeted { IsBudget budget }
     ensures deal { result.deal ≡ number }
-    ensures right { IfSome result.told (IsToldOf (G.game game.now) rule weight bound budget number) }
-    ensures floor { IfSome (floor_of result.told result.far) (IsDealFloor (G.game game.now) number) }
+    ensures right { IfSome result.told (IsToldOf question.now number) }
+    ensures floor { IfSome (floor_of result.told result.far) (IsDealFloor question.now.game number) }
 {
     let mut last = Last { far: None };
-    let told = told_of(alloc, game, rule, weight, bound, number, budget, &mut last);
+    let told = told_of(alloc, question, number, &mut last);
     Row {
         deal: number,
         told: told.ok(),
@@ -154,26 +125,16 @@ fn row_of<G: Game + Drop>(
 // What the search of a deal answers, without moves.
 fn told_of<G: Game + Drop, L: Listener>(
     alloc: Global,
-    game: &G,
-    rule: u8,
-    weight: u8,
-    bound: BoundKind,
+    question: &Question<G>,
     number: u32,
-    budget: u32,
     listener: &mut L,
-) -> Result<Outcome, SearchFault>
-    requires rule { rule ≤ GREATEST_RULE }
-    requires weight { IsWeight weight }
+) -> Result<Outcome, AllocError>
     requires deal { IsDealNumber number }
-    requires budgeted { IsBudget budget }
-    ensures told { IfOk result (IsToldOf (G.game game.now) rule weight bound budget number) }
-    ensures fault { IfErr result (λ fault. fault ≡ SearchFault.Memory) }
-    ensures floors { (heard : List Progress) × HearsAll L.hears listener.old heard listener.new × TellFloors (G.game game.now) (dealt_board number) heard }
+    ensures told { IfOk result (IsToldOf question.now number) }
+    ensures floors { (heard : List Progress) × HearsAll L.hears listener.old heard listener.new × TellFloors question.now.game (dealt_board number) heard }
 {
     let position = deal(number).unwrap();
-    let verdict = decide(
-        alloc, game, rule, weight, bound, &position, budget, listener,
-    )?;
+    let verdict = decide_by(alloc, question, &position, listener)?;
     Ok(outcome_of(&verdict))
 }
 
@@ -202,7 +163,7 @@ fn answer_name(told: Option<Outcome>) -> &'static str
 {
     match told {
         Some(Outcome::Shortest(_)) => "shortest",
-        Some(Outcome::Won(_, _)) => "won",
+        Some(Outcome::Won { .. }) => "won",
         Some(Outcome::CannotWin) => "can't be won",
         Some(Outcome::GaveUp(_)) => "gave up",
         None => "want of memory",
@@ -214,7 +175,7 @@ fn moves_of(told: Option<Outcome>) -> Option<u32>
     ensures value { result ≡ moves_of told }
 {
     match told {
-        Some(Outcome::Shortest(count) | Outcome::Won(count, _)) => Some(count),
+        Some(Outcome::Shortest(moves) | Outcome::Won { moves, .. }) => Some(moves),
         _ => None,
     }
 }
@@ -224,7 +185,7 @@ fn floor_of(told: Option<Outcome>, far: Option<Progress>) -> Option<u32>
     ensures value { result ≡ floor_of told far }
 {
     match told {
-        Some(Outcome::Shortest(floor) | Outcome::Won(_, floor)) => Some(floor),
+        Some(Outcome::Shortest(floor) | Outcome::Won { floor, .. }) => Some(floor),
         Some(Outcome::CannotWin) => None,
         _ => Some(far?.at_least),
     }

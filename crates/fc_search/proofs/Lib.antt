@@ -1,4 +1,4 @@
-mod AnswerLemmas
+pub mod AnswerLemmas
 mod ChildLemmas
 pub mod EndLemmas
 pub mod FarLemmas

@@ -9,7 +9,7 @@ loop-i-preserved g c =
     let added = c.loop-i.invariant.added in
     let number = c.in-Ok.ensures.number ∙ added in
     record {
-      held = held_more (g.G.Game.game c.args.game.now) c.args.rule c.args.weight c.args.bound c.args.budget c.args.from c.loop-i.i c.loop-i.batch c.add.new.self
+      held = held_more c.args.question.now c.args.from c.loop-i.i c.loop-i.batch c.add.new.self
           c.in_ok-search.search c.loop-i.invariant.held (subst (λ n. OthersStay n c.loop-i.batch c.add.new.self) number c.in-Ok.ensures.others)
           (subst (λ n. search_at c.add.new.self n ≡ Some c.in_ok-search.search) number c.in-Ok.ensures.there) c.in_ok-search.ensures.search;
       added = c.in-Ok.ensures.next ∙ ap (λ n. n + 1) added;
@@ -18,4 +18,4 @@ loop-i-preserved g c =
 pub returns-clause-holds : goal.returns-clause-holds
 returns-clause-holds g c =
     let all : c.loop-i.i ≡ c.args.count = omega arith in
-    subst (λ count. HoldsDeals (g.G.Game.game c.args.game.now) c.args.rule c.args.weight c.args.bound c.args.budget c.args.from count c.loop-i.batch) all c.loop-i.invariant.held
+    subst (λ count. HoldsDeals c.args.question.now c.args.from count c.loop-i.batch) all c.loop-i.invariant.held

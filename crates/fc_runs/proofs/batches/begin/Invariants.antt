@@ -5,6 +5,6 @@ use Rattle.fc_runs.proofs.batches.begin.Given as goal
 -- so many searches were added
 abbrev pub invariant-loop-i : goal.invariant-loop-i
 invariant-loop-i g l = record {
-  held : HoldsDeals (g.G.Game.game l.fn.game) l.fn.rule l.fn.weight l.fn.bound l.fn.budget l.fn.from l.i l.batch;
+  held : HoldsDeals l.fn.question l.fn.from l.i l.batch;
   added : l.batch.added ≡ l.i;
 }

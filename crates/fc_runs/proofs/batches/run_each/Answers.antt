@@ -8,8 +8,8 @@ loop-number-preserved g c =
     let before = c.loop-number.invariant.most in
     let now = c.take_turn.ensures.most in
     record {
-      held = λ r rule weight kind budget from held.
-          c.take_turn.ensures.held r rule weight kind budget from c.args.count (c.loop-number.invariant.held r rule weight kind budget from held);
+      held = λ q from held.
+          c.take_turn.ensures.held q from c.args.count (c.loop-number.invariant.held q from held);
       ended = elim c.if-take_turn.branch [
         | then-take_turn w ↦ (λ none. let is = w.is_running-is in absurd (cc (is, none)))
         | else-take_turn w ↦ (λ none.

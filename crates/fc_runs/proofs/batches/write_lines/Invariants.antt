@@ -1,6 +1,5 @@
-use Rattle.std.proofs.Common.{ℕ, ◌≤◌, IsTrue}
-use Rattle.fc_moves.specs.GameRules.{GameRules}
-use Rattle.fc_bound.specs.declared.kinds.BoundKind.{BoundKind}
+use Rattle.std.proofs.Common.{◌≤◌, IsTrue}
+use Rattle.fc_methods.specs.Method.{Asked}
 use Rattle.fc_runs.specs.Batches.{HaveEnded, HoldsDeals}
 use Rattle.fc_runs.proofs.BatchLemmas.{AreWritten}
 use Rattle.fc_runs.proofs.batches.write_lines.Given as goal
@@ -8,8 +7,8 @@ use Rattle.fc_runs.proofs.batches.write_lines.Given as goal
 -- so many lines are written
 abbrev pub invariant-loop-i : goal.invariant-loop-i
 invariant-loop-i g l = record {
-  so_far : (r : GameRules) (rule weight : ℕ) (kind : BoundKind) (budget : ℕ) → HoldsDeals r rule weight kind budget l.fn.from l.fn.count l.fn.batch
+  so_far : (q : Asked) → HoldsDeals q l.fn.from l.fn.count l.fn.batch
       → HaveEnded l.fn.count l.fn.batch
-      → AreWritten r rule weight kind budget l.fn.from l.i (g.K.Sink.held l.initial.out) (g.K.Sink.held l.out) l.greatest;
+      → AreWritten q l.fn.from l.i (g.K.Sink.held l.initial.out) (g.K.Sink.held l.out) l.greatest;
   sound : 1 ≤ l.i → IsTrue (g.K.Sink.has_failed l.out) → ⊥;
 }
