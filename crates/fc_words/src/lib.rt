@@ -18,6 +18,7 @@ mod bounds;
 mod commands;
 mod faults;
 mod games;
+pub mod laws;
 mod options;
 mod places;
 mod reading;
