@@ -1,10 +1,14 @@
-//! Where a board comes from, and its text as the runs read it.
+//! Where a board comes from, and how it is read.
+ghost use Rattle.std.specs.Prelude.{◌≤◌, IfOk, IfSome};
+ghost use Rattle.fc_position.specs.Position.{Fits};
 
-use crate::endings::{Ending, tell_of_file, tell_of_length, tell_of_reading};
-use fc_io::{FromReader, ReadFault, ToArray};
+use crate::endings::{Ending, tell_of_board, tell_of_file, tell_of_length, tell_of_reading};
+use fc_deal::deal;
+use fc_io::{FromReader, FromSlice, ReadFault};
 use fc_plain::PlainText;
-use fc_runs::{Input, Output, ProgramFault, run_deal};
-use fc_text::BoardFault;
+use fc_position::Position;
+use fc_runs::{Input, Output, ProgramFault, read_position};
+use fc_words::{BoardWord, is_number};
 use std::fs::{self, File};
 use std::io::IsTerminal;
 
@@ -29,12 +33,12 @@ impl BoardSource<'_> {
     }
 }
 
-/// What the word of a board names: standard input where there is none or it is `-`, a deal where it is a number and no
-/// file, else a file.
-pub fn find_board<'a>(rt: &HostRuntime, word: Option<&'a str>) -> Result<BoardSource<'a>, Ending> {
-    match word {
-        None | Some("-") => Ok(BoardSource::Input),
-        Some(word) => match number_of(rt, word) {
+/// Where the board comes from that a word names; a file is opened.
+pub fn find_board<'a>(rt: &HostRuntime, word: &BoardWord<'a>) -> Result<BoardSource<'a>, Ending> {
+    match *word {
+        BoardWord::Deal(number) => Ok(BoardSource::Deal(number)),
+        BoardWord::Input => Ok(BoardSource::Input),
+        BoardWord::Named(word) => match number_of(rt, word) {
             Some(number) => Ok(BoardSource::Deal(number)),
             None => Ok(BoardSource::File(open(rt, word, Input::Board)?, word)),
         },
@@ -49,30 +53,70 @@ fn number_of(rt: &HostRuntime, word: &str) -> Option<u32> {
     word.parse::<u32>().ok()
 }
 
-/// Whether a word is made of digits alone.
-pub fn is_number(word: &str) -> bool {
-    !word.is_empty() && word.bytes().all(|byte| byte.is_ascii_digit())
+/// The board to start from, for a game with so many cells; what is wrong with it is told, with where it lies.
+pub fn read_start(rt: &HostRuntime, source: BoardSource<'_>, cells: u8) -> Result<Position, Ending>
+    requires cells { cells ≤ 4 }
+    ensures fits { IfOk result (Fits cells) }
+{
+    match source {
+        BoardSource::Deal(number) => match deal_for(number, cells) {
+            Some(start) => Ok(start),
+            None => Err(Ending::Fault(ProgramFault::Number(number))),
+        },
+        BoardSource::File(file, path) => read_file(rt, file, path, cells),
+        BoardSource::Input => read_input(rt, cells),
+    }
 }
 
-/// The text of a board, made plain.
-pub fn read_text(rt: &HostRuntime, source: BoardSource<'_>) -> Result<PlainText, Ending> {
-    match source {
-        BoardSource::Deal(number) => deal_text(number),
-        BoardSource::File(mut file, path) => match PlainText::read(&mut file) {
-            Ok(text) => Ok(text),
-            Err(ReadFault::Failed) => Err(tell_of_reading(rt, Input::Board, path)),
-            Err(fault) => Err(unread(rt, fault)),
-        },
-        BoardSource::Input => {
-            let input = rt.stdin();
-            if input.is_terminal() {
-                let _told = eprintln!(rt; "fc_solve: reading a board; Ctrl-D ends it");
-            }
-            match PlainText::read(&mut FromReader::new(input)) {
-                Ok(text) => Ok(text),
-                Err(fault) => Err(unread(rt, fault)),
-            }
-        }
+// A numbered deal, for a game with so many cells: none of them holds a card.
+#[tactic(auto, using(crate::proofs::DealLemmas::dealt_fits))]
+fn deal_for(number: u32, cells: u8) -> Option<Position>
+    ensures fits { IfSome result (Fits cells) }
+{
+    deal(number)
+}
+
+// The board of a file.
+fn read_file(
+    rt: &HostRuntime,
+    file: FromReader<File>,
+    path: &str,
+    cells: u8,
+) -> Result<Position, Ending>
+    requires cells { cells ≤ 4 }
+    ensures fits { IfOk result (Fits cells) }
+{
+    let mut file = file;
+    match PlainText::read(&mut file) {
+        Ok(text) => read_text(rt, text.bytes(), cells),
+        Err(ReadFault::Failed) => Err(tell_of_reading(rt, Input::Board, path)),
+        Err(fault) => Err(unread(rt, fault)),
+    }
+}
+
+// The board of standard input.
+fn read_input(rt: &HostRuntime, cells: u8) -> Result<Position, Ending>
+    requires cells { cells ≤ 4 }
+    ensures fits { IfOk result (Fits cells) }
+{
+    let input = rt.stdin();
+    if input.is_terminal() {
+        let _told = eprintln!(rt; "fc_solve: reading a board; Ctrl-D ends it");
+    }
+    match PlainText::read(&mut FromReader::new(input)) {
+        Ok(text) => read_text(rt, text.bytes(), cells),
+        Err(fault) => Err(unread(rt, fault)),
+    }
+}
+
+// The board of a text that was made plain.
+fn read_text(rt: &HostRuntime, text: &[u8], cells: u8) -> Result<Position, Ending>
+    requires cells { cells ≤ 4 }
+    ensures fits { IfOk result (Fits cells) }
+{
+    match read_position(&mut FromSlice::new(text), cells) {
+        Ok(start) => Ok(start),
+        Err(fault) => Err(tell_of_board(rt, fault, text, cells)),
     }
 }
 
@@ -82,16 +126,6 @@ fn unread(rt: &HostRuntime, fault: ReadFault) -> Ending {
         ReadFault::Failed => Ending::Fault(ProgramFault::Read(Input::Board)),
         ReadFault::TooLong => tell_of_length(rt),
         ReadFault::Memory => Ending::Fault(ProgramFault::Memory),
-    }
-}
-
-// The text of a numbered deal.
-fn deal_text(number: u32) -> Result<PlainText, Ending> {
-    let mut text = ToArray::<400>::new();
-    run_deal(number, &mut text)?;
-    match PlainText::of(text.held()) {
-        Some(text) => Ok(text),
-        None => Err(Ending::Fault(ProgramFault::Board(BoardFault::TooLong))),
     }
 }
 

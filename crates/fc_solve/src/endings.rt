@@ -78,7 +78,7 @@ pub fn tell_of_length(rt: &HostRuntime) -> Ending {
     Ending::Told(status)
 }
 
-/// Ends as a run did that read no board.
+/// Ends as a run did.
 pub fn of_run(ran: Result<u8, ProgramFault>) -> Result<u8, Ending> {
     match ran {
         Ok(status) => Ok(status),
@@ -89,25 +89,15 @@ pub fn of_run(ran: Result<u8, ProgramFault>) -> Result<u8, Ending> {
 // What is said of a text with nothing in it.
 const NO_BOARD: &str = "the board is empty: its text has nothing but blanks";
 
-/// Ends as a run did on a board's text, for a game with so many cells: a fault of the board is told, with where it lies.
-pub fn end_of(
-    rt: &HostRuntime,
-    ran: Result<u8, ProgramFault>,
-    text: &[u8],
-    cells: u8,
-) -> Result<u8, Ending> {
-    match ran {
-        Ok(status) => Ok(status),
-        Err(fault) => {
-            let status = tell(rt, &fault);
-            if let ProgramFault::Board(fault) = fault {
-                if text.iter().all(|byte| byte.is_ascii_whitespace()) {
-                    let _told = eprintln!(rt; "fc_solve: {NO_BOARD}");
-                } else {
-                    add_note(rt, fault, text, cells);
-                }
-            }
-            Err(Ending::Told(status))
+/// Says what is wrong with a board's text, read for a game with so many cells, and where it lies.
+pub fn tell_of_board(rt: &HostRuntime, fault: ProgramFault, text: &[u8], cells: u8) -> Ending {
+    let status = tell(rt, &fault);
+    if let ProgramFault::Board(fault) = fault {
+        if text.iter().all(|byte| byte.is_ascii_whitespace()) {
+            let _told = eprintln!(rt; "fc_solve: {NO_BOARD}");
+        } else {
+            add_note(rt, fault, text, cells);
         }
     }
+    Ending::Told(status)
 }

@@ -1,4 +1,5 @@
 //! Lists of moves: how they are read, and what is said of one that is refused or ends.
+ghost use Rattle.fc_position.specs.Position.{Fits};
 
 use crate::boards::open;
 use crate::endings::Ending;
@@ -9,6 +10,7 @@ use fc_position::Position;
 use fc_replay::{Ended, MoveGaps, ReplayFault, Stop, first_stop};
 use fc_runs::{Input, LONGEST_MOVES, ProgramFault};
 use fc_text::Tokens;
+use fc_words::MovesWord;
 use std::fs::File;
 
 /// Where a list of moves comes from.
@@ -20,11 +22,11 @@ pub enum MovesSource {
     Input,
 }
 
-/// What the word of a list of moves names.
-pub fn find_moves(rt: &HostRuntime, word: &str) -> Result<MovesSource, Ending> {
-    match word {
-        "-" => Ok(MovesSource::Input),
-        path => Ok(MovesSource::File(open(rt, path, Input::Moves)?)),
+/// Where the list of moves comes from that a word names; a file is opened.
+pub fn find_moves(rt: &HostRuntime, word: &MovesWord<'_>) -> Result<MovesSource, Ending> {
+    match *word {
+        MovesWord::Input => Ok(MovesSource::Input),
+        MovesWord::File(path) => Ok(MovesSource::File(open(rt, path, Input::Moves)?)),
     }
 }
 
@@ -84,12 +86,14 @@ pub fn tell_end(rt: &HostRuntime, ended: Ended) {
 }
 
 /// Says which token of a list is refused, and why.
-pub fn tell_stop<G: Game>(rt: &HostRuntime, game: &G, position: &Position, text: &[u8]) {
-    if !position.fits(game.cells()) || text.len() > LONGEST_MOVES {
+pub fn tell_stop<G: Game>(rt: &HostRuntime, game: &G, start: &Position, text: &[u8])
+    requires fits { Fits (G.game game.now).cells start.now }
+{
+    if text.len() > LONGEST_MOVES {
         // (the run has refused these)
         return;
     }
-    let Some(Stop { token, refusal, .. }) = first_stop(game, position, text) else {
+    let Some(Stop { token, refusal, .. }) = first_stop(game, start, text) else {
         return;
     };
     let (shown, more) = (front_of(token).escape_ascii(), rest_of(token));

@@ -2,7 +2,7 @@
 //! asked for, by a line of numbers. Where a line can't be written, the search goes on.
 
 use fc_io::{Failed, Sink};
-use fc_watch::{Listener, Progress};
+use fc_search::{Listener, Progress};
 use std::cell::Cell;
 
 /// After so many turns the line is written over.

@@ -1,0 +1,27 @@
+-- What a board alone on the command line means.
+use Rattle.std.specs.Prelude.{◌≡◌, ℕ, ◌≤◌, ◌&&◌, Bool, cond, nat_eq, List, [], ◌∷◌, ◌++◌, take, drop, codes, All}
+use Rattle.std.specs.List.{list_any, starts_with}
+
+-- a word is the option of this name, whatever is told of it
+abbrev pub is_option : List ℕ → List ℕ → Bool
+is_option name word = starts_with nat_eq word (codes "--") && starts_with nat_eq (drop 2 word) name
+
+-- an option of this name stands among the words
+abbrev pub has_option : List ℕ → List (List ℕ) → Bool
+has_option name words = list_any (is_option name) words
+
+-- a word put before the others, behind the program's name
+abbrev pub put : List ℕ → List (List ℕ) → List (List ℕ)
+put word words = take 1 words ++ word ∷ drop 1 words
+
+-- where the words don't have the option, it is put there with a value
+abbrev pub with_option : List ℕ → List ℕ → List (List ℕ) → List (List ℕ)
+with_option name value words = cond (has_option name words) words (put (codes "--" ++ name ++ codes "=" ++ value) words)
+
+-- the words that stand for those of a board alone: it is solved, within twice the fewest moves, by the clearing bound
+abbrev pub meant : List (List ℕ) → List (List ℕ)
+meant words = put (codes "solve") (with_option (codes "bound") (codes "clearing") (with_option (codes "within") (codes "2") words))
+
+-- digits alone, at least one
+abbrev pub IsNumber : List ℕ → Type 0
+IsNumber word = (word ≡ [] → ⊥) × All (λ b. (48 ≤ b) × (b ≤ 57)) word

@@ -1,0 +1,18 @@
+-- What the laws of this crate state.
+use Rattle.std.specs.Prelude.{◌≡◌}
+use Rattle.fc_bound.specs.declared.kinds.BoundKind.{BoundKind}
+use Rattle.fc_words.specs.Names.{bound_name, game_name, task_name}
+use Rattle.fc_words.specs.declared.games.GameName.{GameName}
+use Rattle.fc_words.specs.declared.tasks.Task.{Task}
+
+-- no two games have one name
+abbrev pub GamesHaveTheirOwnNames : Type 0
+GamesHaveTheirOwnNames = (a b : GameName) → game_name a ≡ game_name b → a ≡ b
+
+-- no two bounds have one name
+abbrev pub BoundsHaveTheirOwnNames : Type 0
+BoundsHaveTheirOwnNames = (a b : BoundKind) → bound_name a ≡ bound_name b → a ≡ b
+
+-- no two subcommands have one name
+abbrev pub TasksHaveTheirOwnNames : Type 0
+TasksHaveTheirOwnNames = (a b : Task) → task_name a ≡ task_name b → a ≡ b

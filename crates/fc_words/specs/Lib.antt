@@ -1,0 +1,4 @@
+pub mod Names
+pub mod Sound
+pub mod Alone
+pub mod Laws

@@ -1,0 +1,27 @@
+-- What is called by which name.
+use Rattle.std.specs.Prelude.{ℕ, List, codes}
+use Rattle.fc_bound.specs.declared.kinds.BoundKind.{BoundKind}
+use Rattle.fc_bound.specs.declared.kinds.BoundKind.TheVariants.{Plain, Clearing}
+use Rattle.fc_words.specs.declared.games.GameName.{GameName}
+use Rattle.fc_words.specs.declared.games.GameName.TheVariants.{FreeCell, Bakers}
+use Rattle.fc_words.specs.declared.tasks.Task.{Task}
+use Rattle.fc_words.specs.declared.tasks.Task.TheVariants.{Deal, Show, Solve, Check, Replay, Batch}
+
+-- the name of a game
+abbrev pub game_name : GameName → List ℕ
+game_name FreeCell = codes "freecell"
+game_name Bakers = codes "bakers"
+
+-- the name of a bound
+abbrev pub bound_name : BoundKind → List ℕ
+bound_name Plain = codes "plain"
+bound_name Clearing = codes "clearing"
+
+-- the name of a subcommand
+abbrev pub task_name : Task → List ℕ
+task_name Deal = codes "deal"
+task_name Show = codes "show"
+task_name Solve = codes "solve"
+task_name Check = codes "check"
+task_name Replay = codes "replay"
+task_name Batch = codes "batch"

@@ -1,0 +1,27 @@
+-- What holds of each command that is read.
+use Rattle.std.specs.Prelude.{◌≡◌, ◌≤◌, ◌⊎◌, ℕ, List, codes}
+use Rattle.fc_words.specs.Names.{task_name}
+use Rattle.fc_words.specs.declared.tasks.Task.{Task}
+use Rattle.fc_words.specs.declared.commands.Command.{Command}
+use Rattle.fc_words.specs.declared.commands.Command.TheVariants.{Deal, Show, Solve, Check, Replay, Batch}
+use Rattle.fc_words.specs.declared.commands.BoardWord.TheVariants.{Input}
+use Rattle.fc_words.specs.declared.commands.MovesWord.TheVariants as moves
+use Rattle.fc_words.specs.declared.commands.ReplayWords.{ReplayWords}
+use Rattle.fc_words.specs.declared.options.TheConstants.{MOST_CELLS}
+
+-- a replay doesn't read both the board and the moves from standard input
+abbrev pub HasOneInput : ReplayWords → Type 0
+HasOneInput words = words.board ≡ Input → words.moves ≡ moves.Input → ⊥
+
+-- a game has four cells at most, and no command reads two things from standard input
+abbrev pub IsSound : Command → Type 0
+IsSound (Deal _) = Unit
+IsSound (Show words) = words.game.cells ≤ MOST_CELLS
+IsSound (Solve words) = words.game.cells ≤ MOST_CELLS
+IsSound (Check words) = words.game.cells ≤ MOST_CELLS
+IsSound (Replay words) = (words.game.cells ≤ MOST_CELLS) × HasOneInput words
+IsSound (Batch words) = words.game.cells ≤ MOST_CELLS
+
+-- the name of a task's subcommand, or of clap's own
+abbrev pub IsSubcommand : List ℕ → Type 0
+IsSubcommand word = (word ≡ codes "help") ⊎ ((task : Task) × (task_name task ≡ word))

@@ -1,0 +1,148 @@
+ghost use Rattle.std.specs.Prelude.{◌≡◌, ◌↔◌, IsSome, IfSome};
+ghost use Rattle.fc_methods.specs.declared.methods.Method.{Method};
+ghost use Rattle.fc_best_first.specs.Limits.{IsBudget};
+
+use crate::games::GameName;
+use fc_methods::{BoundKind, Budget, HomeRule, Method, Weight};
+
+/// What a command line asks for.
+#[derive(Clone, Copy, Debug, PartialEq, Eq)]
+pub enum Command<'a> {
+    /// A numbered deal is printed.
+    Deal(DealWords),
+    /// A board is drawn.
+    Show(ShowWords<'a>),
+    /// A board is solved.
+    Solve(SolveWords<'a>),
+    /// A certificate is checked.
+    Check(CheckWords<'a>),
+    /// A list of moves is replayed.
+    Replay(ReplayWords<'a>),
+    /// Several numbered deals are solved.
+    Batch(BatchWords),
+}
+
+/// What is said of a game, of which a board is one.
+#[derive(Clone, Copy, Debug, PartialEq, Eq)]
+pub struct GameWords {
+    /// Which cards stand on which.
+    pub game: GameName,
+    /// Whether only kings may go to an empty column.
+    pub kings: bool,
+    /// The number of cells, 0 to 4.
+    pub cells: u8,
+}
+
+/// What names a board.
+#[derive(Clone, Copy, Debug, PartialEq, Eq)]
+pub enum BoardWord<'a> {
+    /// The numbered deal; the number is as it was told, and may be no deal's.
+    Deal(u32),
+    /// The file of this name, or, where none has it and it is a number, the numbered deal.
+    Named(&'a str),
+    /// Standard input.
+    Input,
+}
+
+/// What names a list of moves.
+#[derive(Clone, Copy, Debug, PartialEq, Eq)]
+pub enum MovesWord<'a> {
+    /// The file of this name.
+    File(&'a str),
+    /// Standard input.
+    Input,
+}
+
+/// How a position is to be searched.
+#[derive(Clone, Copy, Debug, PartialEq, Eq)]
+pub struct SearchWords {
+    /// Which cards go home at once.
+    pub rule: HomeRule,
+    /// How many times a bound counts.
+    pub weight: Weight,
+    /// The kind of bound.
+    pub bound: BoundKind,
+    /// How many classes of positions may be stored, as it was told: it may be none, or more than a budget can be.
+    pub budget: u32,
+}
+
+impl SearchWords {
+    /// The method that is asked for; `None` where the budget is outside 1 to 4,000,000.
+    pub fn method(&self) -> Option<Method>
+        ensures range { IsSome result ↔ IsBudget self.now.budget }
+        ensures value { IfSome result (λ method. method ≡ record { rule = self.now.rule; weight = self.now.weight; bound = self.now.bound; budget = self.now.budget }) }
+    {
+        Some(Method {
+            rule: self.rule,
+            weight: self.weight,
+            bound: self.bound,
+            budget: Budget::new(self.budget)?,
+        })
+    }
+}
+
+/// The words of `deal`.
+#[derive(Clone, Copy, Debug, PartialEq, Eq)]
+pub struct DealWords {
+    /// The number of the deal, which may be no deal's.
+    pub number: u32,
+}
+
+/// The words of `show`.
+#[derive(Clone, Copy, Debug, PartialEq, Eq)]
+pub struct ShowWords<'a> {
+    pub game: GameWords,
+    pub board: BoardWord<'a>,
+    /// Whether the board's text is printed, and no drawing.
+    pub is_plain: bool,
+}
+
+/// The words of `solve`.
+#[derive(Clone, Copy, Debug, PartialEq, Eq)]
+pub struct SolveWords<'a> {
+    pub game: GameWords,
+    pub board: BoardWord<'a>,
+    pub search: SearchWords,
+    /// The file that takes the certificate, if one is asked for.
+    pub cert: Option<&'a str>,
+    /// Whether the board is drawn after each move.
+    pub has_boards: bool,
+    /// Whether a line of numbers ends the search.
+    pub has_stats: bool,
+    /// Whether nothing is said of how far the search is.
+    pub is_quiet: bool,
+}
+
+/// The words of `check`.
+#[derive(Clone, Copy, Debug, PartialEq, Eq)]
+pub struct CheckWords<'a> {
+    pub game: GameWords,
+    pub board: BoardWord<'a>,
+    /// The file of the certificate.
+    pub cert: &'a str,
+}
+
+/// The words of `replay`, of which the board and the moves are not both from standard input.
+#[derive(Clone, Copy, Debug, PartialEq, Eq)]
+pub struct ReplayWords<'a> {
+    pub game: GameWords,
+    pub board: BoardWord<'a>,
+    pub moves: MovesWord<'a>,
+    /// Whether the number and the move stand above each board.
+    pub is_numbered: bool,
+    /// Whether entries of the list may move several cards.
+    pub has_sequences: bool,
+}
+
+/// The words of `batch`.
+#[derive(Clone, Copy, Debug, PartialEq, Eq)]
+pub struct BatchWords {
+    pub game: GameWords,
+    /// The number of the first deal, which may be no deal's.
+    pub from: u32,
+    /// The number of the last one, which may be less than the first's.
+    pub to: u32,
+    pub search: SearchWords,
+    /// Whether a table is printed, with numbers of each search.
+    pub is_table: bool,
+}

@@ -1,0 +1,43 @@
+use clap::error::ErrorKind;
+use std::alloc::AllocError;
+use thiserror::Error;
+
+/// Why a command line asks for nothing that the program does.
+#[derive(Debug, Drop, Error)]
+pub enum WordsFault {
+    /// The words are none of the command line's, or ask for help or the version: what there is to print, and where.
+    #[error("{0}")]
+    Usage(clap::Error),
+    /// The budget is no number.
+    #[error("--budget is a number, such as 100000, 100_000, 100k, 4M or 1e6, or max")]
+    NoBudget,
+    /// The board and the moves are both to be read from standard input.
+    #[error("BOARD and MOVES can't both be standard input")]
+    OneInput,
+    /// A word that each command line has isn't there; the table of words lets none of these through.
+    #[error("a word is missing")]
+    Missing,
+    /// A growth of memory was refused.
+    #[error("want of memory")]
+    Memory,
+}
+
+impl From<AllocError> for WordsFault {
+    ghost use Rattle.std.specs.Prelude.{◌≡◌};
+    ghost use Rattle.fc_words.specs.declared.faults.WordsFault.TheVariants.{Memory};
+
+    ghost from_gives = { λ _ fault. fault ≡ Memory };
+
+    fn from(_refused: AllocError) -> WordsFault {
+        WordsFault::Memory
+    }
+}
+
+impl From<clap::Error> for WordsFault {
+    fn from(error: clap::Error) -> WordsFault {
+        match error.kind() {
+            ErrorKind::OutOfMemory => WordsFault::Memory,
+            _ => WordsFault::Usage(error),
+        }
+    }
+}

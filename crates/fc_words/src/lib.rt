@@ -1,0 +1,27 @@
+//! The words of the program's command line: its subcommands, options and help, and what a line of them asks for. Nothing
+//! here searches, reads or writes.
+#![tactic(auto)]
+
+pub use alone::{is_number, is_subcommand, mean_solving};
+pub use bounds::{bound_name, bound_of_name};
+pub use commands::{
+    BatchWords, BoardWord, CheckWords, Command, DealWords, GameWords, MovesWord, ReplayWords,
+    SearchWords, ShowWords, SolveWords,
+};
+pub use faults::WordsFault;
+pub use games::GameName;
+pub use reading::read;
+pub use tasks::Task;
+
+mod alone;
+mod bounds;
+mod commands;
+mod faults;
+mod games;
+pub mod laws;
+mod options;
+mod places;
+mod reading;
+mod subcommands;
+mod table;
+mod tasks;

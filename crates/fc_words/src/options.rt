@@ -1,0 +1,220 @@
+//! Each word that a subcommand may have: its name, its help and its default in one item, and how its value is read in the
+//! function below.
+
+ghost use Rattle.std.specs.Prelude.{◌≤◌, IfSome};
+
+use crate::bounds::{BOUND_NAMES, bound_of_name};
+use crate::commands::{BoardWord, GameWords, MovesWord, SearchWords};
+use crate::faults::WordsFault;
+use crate::games::GameName;
+use clap::ArgMatches;
+use fc_home::GREATEST_RULE;
+use fc_methods::{BoundKind, HomeRule, MOST_BUDGET, MOST_WEIGHT, Weight};
+use fc_plain::read_count;
+
+/// What a word of a subcommand is.
+#[derive(Clone, Copy)]
+pub(crate) enum Kind {
+    /// An option with a number in a range; help calls it by the value's name.
+    Number {
+        value: &'static str,
+        range: (u8, u8),
+        default: &'static str,
+    },
+    /// An option with one of these names, the first of which is the default.
+    Name(&'static [&'static str]),
+    /// An option with a text, and the text where none is given.
+    Text {
+        value: &'static str,
+        default: Option<&'static str>,
+    },
+    /// A flag.
+    Flag,
+    /// An option with the number of a deal, in place of the word of this name.
+    DealInPlaceOf(&'static str),
+    /// The number of a deal, which must stand there.
+    DealNumber,
+    /// A word that must stand there.
+    Needed,
+    /// A word that may stand there.
+    Optional,
+}
+
+/// A word of a subcommand, and its help.
+#[derive(Clone, Copy)]
+pub(crate) struct Word {
+    pub(crate) name: &'static str,
+    pub(crate) kind: Kind,
+    pub(crate) help: &'static str,
+}
+
+pub(crate) const GAME: Word = Word {
+    name: "game",
+    kind: Kind::Name(&GameName::NAMES),
+    help: "freecell (columns in turning colours) or bakers (in suit)",
+};
+
+fn game_name(words: &ArgMatches<'_>) -> Option<GameName> {
+    GameName::of_name(words.get_str(GAME.name)?)
+}
+
+pub(crate) const KINGS: Word = Word {
+    name: "kings",
+    kind: Kind::Flag,
+    help: "Only kings may go to an empty column",
+};
+
+pub(crate) const CELLS: Word = Word {
+    name: "cells",
+    kind: Kind::Number {
+        value: "N",
+        range: (0, MOST_CELLS),
+        default: "4",
+    },
+    help: "How many cells there are, 0 to 4",
+};
+
+/// The most cells of a game.
+pub(crate) const MOST_CELLS: u8 = 4;
+
+fn cells(words: &ArgMatches<'_>) -> Option<u8>
+    ensures most { IfSome result (λ cells. cells ≤ MOST_CELLS) }
+{
+    let cells = words.get_one::<u8>(CELLS.name)?;
+    (cells <= MOST_CELLS).then_some(cells)
+}
+
+/// The game that the words name.
+pub(crate) fn game(words: &ArgMatches<'_>) -> Option<GameWords>
+    ensures cells { IfSome result (λ game. game.cells ≤ MOST_CELLS) }
+{
+    Some(GameWords {
+        game: game_name(words)?,
+        kings: words.get_flag(KINGS.name),
+        cells: cells(words)?,
+    })
+}
+
+pub(crate) const BUDGET: Word = Word {
+    name: "budget",
+    kind: Kind::Text {
+        value: "B",
+        default: Some("100000"),
+    },
+    help: "How many positions to keep before giving up, to 4M or max",
+};
+
+fn budget(words: &ArgMatches<'_>) -> Result<u32, WordsFault> {
+    match words.get_str(BUDGET.name) {
+        Some("max") => Ok(MOST_BUDGET),
+        Some(text) => read_count(text.as_bytes()).ok_or(WordsFault::NoBudget),
+        None => Err(WordsFault::Missing),
+    }
+}
+
+pub(crate) const RULE: Word = Word {
+    name: "rule",
+    kind: Kind::Number {
+        value: "R",
+        range: (0, GREATEST_RULE),
+        default: "2",
+    },
+    help: "Cards that go home at once: none (0), safe ones (1), all (2)",
+};
+
+fn rule(words: &ArgMatches<'_>) -> Option<HomeRule> {
+    HomeRule::new(words.get_one::<u8>(RULE.name)?)
+}
+
+pub(crate) const WITHIN: Word = Word {
+    name: "within",
+    kind: Kind::Number {
+        value: "W",
+        range: (1, MOST_WEIGHT),
+        default: "1",
+    },
+    help: "At most W times the fewest moves, 1 to 10; found far sooner",
+};
+
+fn weight(words: &ArgMatches<'_>) -> Option<Weight> {
+    Weight::new(words.get_one::<u8>(WITHIN.name)?)
+}
+
+pub(crate) const BOUND: Word = Word {
+    name: "bound",
+    kind: Kind::Name(&BOUND_NAMES),
+    help: "How to look ahead: plain, or clearing, which answers far more",
+};
+
+fn bound(words: &ArgMatches<'_>) -> Option<BoundKind> {
+    bound_of_name(words.get_str(BOUND.name)?)
+}
+
+/// How the words ask to search.
+pub(crate) fn search(words: &ArgMatches<'_>) -> Result<SearchWords, WordsFault> {
+    let budget = budget(words)?;
+    match (rule(words), weight(words), bound(words)) {
+        (Some(rule), Some(weight), Some(bound)) => Ok(SearchWords {
+            rule,
+            weight,
+            bound,
+            budget,
+        }),
+        _ => Err(WordsFault::Missing),
+    }
+}
+
+const BOARD: &str = "BOARD";
+
+const BOARD_HELP: &str = "A file, - for standard input, or the number of a deal";
+
+/// `[BOARD]`.
+pub(crate) const OPTIONAL_BOARD: Word = Word {
+    name: BOARD,
+    kind: Kind::Optional,
+    help: BOARD_HELP,
+};
+
+/// `BOARD`.
+pub(crate) const NEEDED_BOARD: Word = Word {
+    name: BOARD,
+    kind: Kind::Needed,
+    help: BOARD_HELP,
+};
+
+/// `--deal N`, in place of `[BOARD]`.
+pub(crate) const DEAL: Word = Word {
+    name: "deal",
+    kind: Kind::DealInPlaceOf(BOARD),
+    help: "The numbered deal in place of BOARD, 1 to 1000000",
+};
+
+/// The board that `--deal N` or `[BOARD]` names: standard input where neither is there.
+pub(crate) fn optional_board<'a>(words: &ArgMatches<'a>) -> BoardWord<'a> {
+    match words.get_one::<u32>(DEAL.name) {
+        Some(number) => BoardWord::Deal(number),
+        None => needed_board(words).unwrap_or(BoardWord::Input),
+    }
+}
+
+/// The board that `BOARD` names.
+pub(crate) fn needed_board<'a>(words: &ArgMatches<'a>) -> Option<BoardWord<'a>> {
+    match words.get_str(BOARD)? {
+        "-" => Some(BoardWord::Input),
+        word => Some(BoardWord::Named(word)),
+    }
+}
+
+pub(crate) const MOVES: Word = Word {
+    name: "MOVES",
+    kind: Kind::Needed,
+    help: "A file of moves, or - for standard input: two letters each, or what `solve` prints",
+};
+
+/// The list of moves.
+pub(crate) fn moves<'a>(words: &ArgMatches<'a>) -> Option<MovesWord<'a>> {
+    match words.get_str(MOVES.name)? {
+        "-" => Some(MovesWord::Input),
+        path => Some(MovesWord::File(path)),
+    }
+}

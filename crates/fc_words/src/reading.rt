@@ -1,0 +1,63 @@
+ghost use Rattle.std.specs.Prelude.{IfOk};
+ghost use Rattle.fc_words.specs.Sound.{IsSound};
+
+use crate::commands::Command;
+use crate::faults::WordsFault;
+use crate::subcommands::{batch, check, deal, replay, show, solve};
+use crate::table;
+use crate::tasks::Task;
+use clap::ArgMatches;
+use std::alloc::Global;
+
+/// What a command line asks for; its first word is the program's name.
+///
+/// # Errors
+/// Words that the table of words doesn't let through, and help and the version, which come in the same way; a budget that is
+/// no number; a board and moves that are both to be read from standard input; or want of memory.
+pub fn read<'a>(alloc: Global, words: &'a [String]) -> Result<Command<'a>, WordsFault>
+    ensures sound { IfOk result IsSound }
+{
+    let matches = match table::command(alloc)?.try_get_matches_from(words) {
+        Ok(matches) => matches,
+        Err(error) => return Err(WordsFault::from(error)),
+    };
+    match matches.subcommand() {
+        Some((name, words)) => match Task::of_name(name) {
+            Some(task) => read_task(task, words),
+            None => Err(WordsFault::Missing),
+        },
+        None => Err(WordsFault::Missing),
+    }
+}
+
+// What the words of a task's subcommand ask for.
+fn read_task<'a>(task: Task, words: &ArgMatches<'a>) -> Result<Command<'a>, WordsFault>
+    ensures sound { IfOk result IsSound }
+{
+    match task {
+        Task::Deal => match deal(words) {
+            Some(words) => Ok(Command::Deal(words)),
+            None => Err(WordsFault::Missing),
+        },
+        Task::Show => match show(words) {
+            Some(words) => Ok(Command::Show(words)),
+            None => Err(WordsFault::Missing),
+        },
+        Task::Solve => match solve(words) {
+            Ok(words) => Ok(Command::Solve(words)),
+            Err(fault) => Err(fault),
+        },
+        Task::Check => match check(words) {
+            Some(words) => Ok(Command::Check(words)),
+            None => Err(WordsFault::Missing),
+        },
+        Task::Replay => match replay(words) {
+            Ok(words) => Ok(Command::Replay(words)),
+            Err(fault) => Err(fault),
+        },
+        Task::Batch => match batch(words) {
+            Ok(words) => Ok(Command::Batch(words)),
+            Err(fault) => Err(fault),
+        },
+    }
+}

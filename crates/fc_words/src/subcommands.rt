@@ -1,0 +1,282 @@
+//! Each subcommand: its words and its help in one item, and how what it asks for is read in the function below.
+
+ghost use Rattle.std.specs.Prelude.{◌≤◌, IfOk, IfSome};
+ghost use Rattle.fc_words.specs.Sound.{HasOneInput};
+ghost use Rattle.fc_words.specs.declared.options.TheConstants.{MOST_CELLS};
+
+use crate::commands::{
+    BatchWords, BoardWord, CheckWords, DealWords, MovesWord, ReplayWords, ShowWords, SolveWords,
+};
+use crate::faults::WordsFault;
+use crate::options::{
+    BOUND, BUDGET, CELLS, DEAL, GAME, KINGS, Kind, MOVES, NEEDED_BOARD, OPTIONAL_BOARD, RULE,
+    WITHIN, Word, game, moves, needed_board, optional_board, search,
+};
+use crate::tasks::Task;
+use clap::ArgMatches;
+
+/// A subcommand's words, and its help above them and below.
+#[derive(Clone, Copy)]
+pub(crate) struct Subcommand {
+    pub(crate) about: &'static str,
+    pub(crate) after_help: &'static str,
+    pub(crate) words: &'static [Word],
+}
+
+/// The subcommand of a task.
+pub(crate) fn subcommand_of(task: Task) -> &'static Subcommand {
+    match task {
+        Task::Deal => &DEALING,
+        Task::Show => &SHOWING,
+        Task::Solve => &SOLVING,
+        Task::Check => &CHECKING,
+        Task::Replay => &REPLAYING,
+        Task::Batch => &BATCHING,
+    }
+}
+
+// `deal N`.
+static DEALING: Subcommand = Subcommand {
+    about: "Prints a numbered deal: eight columns, each from its deepest card on",
+    after_help: "Example: fc_solve deal 617",
+    words: &[NUMBER],
+};
+
+const NUMBER: Word = Word {
+    name: "N",
+    kind: Kind::DealNumber,
+    help: "The number of the deal, 1 to 1000000",
+};
+
+/// What `deal` asks for.
+pub(crate) fn deal(words: &ArgMatches<'_>) -> Option<DealWords> {
+    Some(DealWords {
+        number: words.get_one::<u32>(NUMBER.name)?,
+    })
+}
+
+// `show [--plain] [GAME] [--deal N] [BOARD]`.
+static SHOWING: Subcommand = Subcommand {
+    about: "Draws a board as it is read, its columns downward, to see that it is the one you mean",
+    after_help: "Example: fc_solve show 617",
+    words: &[PLAIN, GAME, KINGS, CELLS, DEAL, OPTIONAL_BOARD],
+};
+
+const PLAIN: Word = Word {
+    name: "plain",
+    kind: Kind::Flag,
+    help: "Prints the board's text, which every command reads",
+};
+
+/// What `show` asks for.
+pub(crate) fn show<'a>(words: &ArgMatches<'a>) -> Option<ShowWords<'a>>
+    ensures cells { IfSome result (λ show. show.game.cells ≤ MOST_CELLS) }
+{
+    Some(ShowWords {
+        game: game(words)?,
+        board: optional_board(words),
+        is_plain: words.get_flag(PLAIN.name),
+    })
+}
+
+// `solve [--budget B] [--cert FILE] [--within W] [--bound NAME] [--boards] [--stats] [--quiet] [GAME] [--rule R] [--deal N]
+// [BOARD]`.
+static SOLVING: Subcommand = Subcommand {
+    about: "Prints a shortest solution, or that the board can't be won, or that it gave up",
+    after_help: "Moves are two letters, from where to where: columns 1 to 8, cells a to d, home h. Each takes
+one card. `show` draws the board as it is read.
+
+Status: 0 a solution, 1 can't be won, 2 gave up, 3 something asked or read isn't right,
+4 want of memory, 5 reading or writing failed.
+
+Examples:
+  fc_solve solve 941                            a shortest solution of deal 941
+  fc_solve solve --within 2 --bound clearing 1  one of deal 1, at most twice as long
+  fc_solve solve --game bakers --cells 3 boards/one-king.txt",
+    words: &[
+        BUDGET,
+        CERT_OPTION,
+        WITHIN,
+        BOUND,
+        BOARDS,
+        STATS,
+        QUIET,
+        GAME,
+        KINGS,
+        CELLS,
+        RULE,
+        DEAL,
+        OPTIONAL_BOARD,
+    ],
+};
+
+const CERT_OPTION: Word = Word {
+    name: "cert",
+    kind: Kind::Text {
+        value: "FILE",
+        default: None,
+    },
+    help: "Writes a proof of the answer to FILE, for `check`",
+};
+
+const BOARDS: Word = Word {
+    name: "boards",
+    kind: Kind::Flag,
+    help: "Numbers the moves, and draws the board after each",
+};
+
+const STATS: Word = Word {
+    name: "stats",
+    kind: Kind::Flag,
+    help: "Ends with a line of numbers of the search, on standard error",
+};
+
+const QUIET: Word = Word {
+    name: "quiet",
+    kind: Kind::Flag,
+    help: "Doesn't say on a terminal how far the search is",
+};
+
+/// What `solve` asks for.
+pub(crate) fn solve<'a>(words: &ArgMatches<'a>) -> Result<SolveWords<'a>, WordsFault>
+    ensures cells { IfOk result (λ solve. solve.game.cells ≤ MOST_CELLS) }
+{
+    let search = match search(words) {
+        Ok(search) => search,
+        Err(fault) => return Err(fault),
+    };
+    let Some(game) = game(words) else {
+        return Err(WordsFault::Missing);
+    };
+    Ok(SolveWords {
+        game,
+        board: optional_board(words),
+        search,
+        cert: words.get_str(CERT_OPTION.name),
+        has_boards: words.get_flag(BOARDS.name),
+        has_stats: words.get_flag(STATS.name),
+        is_quiet: words.get_flag(QUIET.name),
+    })
+}
+
+// `check [GAME] BOARD CERT`.
+static CHECKING: Subcommand = Subcommand {
+    about: "Says what a certificate proves of a board, or why it proves nothing; it searches nothing",
+    after_help: "Status: 0 accepted, 3 refused, 4 want of memory, 5 reading or writing failed.
+
+Example: fc_solve check boards/locked.txt boards/locked.cert",
+    words: &[GAME, KINGS, CELLS, NEEDED_BOARD, CERT],
+};
+
+const CERT: Word = Word {
+    name: "CERT",
+    kind: Kind::Needed,
+    help: "The file of the certificate, as `solve --cert` writes it",
+};
+
+/// What `check` asks for.
+pub(crate) fn check<'a>(words: &ArgMatches<'a>) -> Option<CheckWords<'a>>
+    ensures cells { IfSome result (λ check. check.game.cells ≤ MOST_CELLS) }
+{
+    Some(CheckWords {
+        game: game(words)?,
+        board: needed_board(words)?,
+        cert: words.get_str(CERT.name)?,
+    })
+}
+
+// `replay [--numbered] [--sequences] [GAME] BOARD MOVES`.
+static REPLAYING: Subcommand = Subcommand {
+    about: "Prints the board after each move, up to the first that isn't allowed",
+    after_help: "It says on standard error whether the board is won at the end, or why a move isn't allowed.
+
+Examples:
+  fc_solve replay boards/three-spades.txt moves.txt
+  fc_solve 941 | fc_solve replay 941 -
+  fc-solve -m -sn board.txt | fc_solve replay --sequences board.txt -",
+    words: &[NUMBERED, SEQUENCES, GAME, KINGS, CELLS, NEEDED_BOARD, MOVES],
+};
+
+const NUMBERED: Word = Word {
+    name: "numbered",
+    kind: Kind::Flag,
+    help: "Prints the number and the move above each board",
+};
+
+const SEQUENCES: Word = Word {
+    name: "sequences",
+    kind: Kind::Flag,
+    help: "Expands entries that move several cards, as other solvers print them",
+};
+
+/// What `replay` asks for.
+pub(crate) fn replay<'a>(words: &ArgMatches<'a>) -> Result<ReplayWords<'a>, WordsFault>
+    ensures cells { IfOk result (λ replay. replay.game.cells ≤ MOST_CELLS) }
+    ensures one_input { IfOk result HasOneInput }
+{
+    let (Some(game), Some(board), Some(moves)) = (game(words), needed_board(words), moves(words))
+    else {
+        return Err(WordsFault::Missing);
+    };
+    if let (BoardWord::Input, MovesWord::Input) = (board, moves) {
+        return Err(WordsFault::OneInput);
+    }
+    Ok(ReplayWords {
+        game,
+        board,
+        moves,
+        is_numbered: words.get_flag(NUMBERED.name),
+        has_sequences: words.get_flag(SEQUENCES.name),
+    })
+}
+
+// `batch FROM TO [--table] [--budget B] [--within W] [--bound NAME] [GAME] [--rule R]`.
+static BATCHING: Subcommand = Subcommand {
+    about: "Solves up to 32 numbered deals side by side, and prints a line for each, without moves",
+    after_help: "Status: the greatest of the lines': 0 a solution, 1 can't be won, 2 gave up, 4 want of memory;
+and 3 for what was asked and isn't right, 5 where writing failed.
+
+Example: fc_solve batch 11982 11982",
+    words: &[
+        FROM, TO, TABLE, BUDGET, WITHIN, BOUND, GAME, KINGS, CELLS, RULE,
+    ],
+};
+
+const FROM: Word = Word {
+    name: "FROM",
+    kind: Kind::DealNumber,
+    help: "The number of the first deal, 1 to 1000000",
+};
+
+const TO: Word = Word {
+    name: "TO",
+    kind: Kind::DealNumber,
+    help: "The number of the last deal",
+};
+
+const TABLE: Word = Word {
+    name: "table",
+    kind: Kind::Flag,
+    help: "Prints a table parted by tabs, with numbers of each search",
+};
+
+/// What `batch` asks for.
+pub(crate) fn batch(words: &ArgMatches<'_>) -> Result<BatchWords, WordsFault>
+    ensures cells { IfOk result (λ batch. batch.game.cells ≤ MOST_CELLS) }
+{
+    let search = search(words)?;
+    let (Some(from), Some(to), Some(game)) = (
+        words.get_one::<u32>(FROM.name),
+        words.get_one::<u32>(TO.name),
+        game(words),
+    ) else {
+        return Err(WordsFault::Missing);
+    };
+    Ok(BatchWords {
+        game,
+        from,
+        to,
+        search,
+        is_table: words.get_flag(TABLE.name),
+    })
+}
