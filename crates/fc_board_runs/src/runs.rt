@@ -28,10 +28,9 @@ pub const LONGEST_MOVES: usize = 1_048_576;
 /// A source that has failed, or a text that spells no board of such a game: one of more than 4,096 bytes does not.
 pub fn read_position<S: Source>(board: &mut S, cells: u8) -> Result<Position, ProgramFault>
     requires game { cells ≤ 4 }
-    ensures read { IfOk result (GivesBoard cells
-        (change S.told S.has_failed board.old board.new)) }
-    ensures fault { IfErr result (IsReadFault cells
-        (change S.told S.has_failed board.old board.new)) }
+    ensures read { IfOk result (GivesBoard cells (change S.told S.has_failed board.old board.new)) }
+    ensures fits { IfOk result (Fits cells) }
+    ensures fault { IfErr result (IsReadFault cells (change S.told S.has_failed board.old board.new)) }
     ensures taken { GivesAtMost (S.told board.old) (S.told board.new) (LONGEST_BOARD + 1) }
 {
     let mut room = [0; LONGEST_BOARD + 1];

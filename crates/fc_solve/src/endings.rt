@@ -30,7 +30,7 @@ impl From<ProgramFault> for Ending {
 impl From<AllocError> for Ending {
     ghost use Rattle.std.specs.Prelude.{◌≡◌};
     ghost use Rattle.fc_solve.specs.declared.endings.Ending.TheVariants.{Fault};
-    ghost use Rattle.fc_runs.specs.declared.faults.ProgramFault.TheVariants.{Memory};
+    ghost use Rattle.fc_board_runs.specs.declared.faults.ProgramFault.TheVariants.{Memory};
 
     ghost from_gives = { λ _ ending. ending ≡ Fault Memory };
 

@@ -1,5 +1,6 @@
 //! An answer with the board after each of its moves.
 ghost use Rattle.fc_position.specs.Position.{Fits};
+ghost use Rattle.fc_moves.specs.GameRules.{IsPositionOf};
 
 use crate::watching::Teller;
 use fc_io::{Sink, ToArray, ToWriter, write_all};
@@ -19,7 +20,7 @@ pub fn solve_in_pages<G: Game + Drop>(
     cert: Option<&mut ToWriter<File>>,
     teller: &mut Teller<'_>,
 ) -> Result<u8, ProgramFault>
-    requires fits { Fits question.now.game.cells start.now }
+    requires position { IsPositionOf question.now.game start.now }
 {
     let mut answer = ToArray::<LONGEST_ANSWER>::new();
     let status = run_solve_by(rt.alloc(), question, start, &mut answer, cert, teller)?;

@@ -1,5 +1,6 @@
 //! `replay`: the moves of a list are played on a board.
 ghost use Rattle.fc_position.specs.Position.{Fits};
+ghost use Rattle.fc_moves.specs.GameRules.{IsPositionOf};
 
 use crate::boards::{find_board, read_start};
 use crate::endings::{Ending, tell};
@@ -70,7 +71,7 @@ fn replay_sequences<G: Game>(
     text: &[u8],
     page: Page,
 ) -> Result<u8, Ending>
-    requires fits { Fits (G.game game.now).cells start.now }
+    requires position { IsPositionOf (G.game game.now) start.now }
 {
     let list = without_rulers(text);
     let mut out = ToWriter::new(rt.stdout());

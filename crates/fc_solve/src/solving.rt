@@ -1,5 +1,6 @@
 //! `solve`: a board is solved, and it is told how far the search is.
 ghost use Rattle.fc_position.specs.Position.{Fits};
+ghost use Rattle.fc_moves.specs.GameRules.{IsPositionOf};
 
 use crate::boards::{create, find_board, read_start};
 use crate::endings::{Ending, of_run};
@@ -46,7 +47,7 @@ fn search_from<G: Game + Drop>(
     cert: Option<ToWriter<File>>,
     line: &Line<'_>,
 ) -> Result<u8, Ending>
-    requires fits { Fits question.now.game.cells start.now }
+    requires position { IsPositionOf question.now.game start.now }
 {
     let mut cert = cert;
     let mut teller = Teller::new(line, rt.stderr().is_terminal() && !words.is_quiet);
