@@ -3,7 +3,6 @@
 ghost use Rattle.std.specs.Prelude.{◌≤◌, length};
 
 use crate::certificates::tell_peak;
-use fc_bound::BoundKind;
 use fc_cert::{LONGEST_CERTIFICATE, write_answer};
 use fc_checker::{CheckFault, Claim, check};
 use fc_deal::deal;
@@ -33,15 +32,7 @@ pub fn make_certificate(
         return println!(rt; "no rule");
     }
     fs::write(rt, board, print_board(&position, 4).as_str())?;
-    let Ok(answer) = solve(
-        rt.alloc(),
-        &game,
-        rule,
-        1,
-        BoundKind::Plain,
-        &position,
-        budget,
-    ) else {
+    let Ok(answer) = solve(rt.alloc(), &game, rule, &position, budget) else {
         return println!(rt; "no answer");
     };
     let mut bytes = Vec::new(rt.alloc());

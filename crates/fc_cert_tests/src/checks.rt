@@ -4,7 +4,6 @@ ghost use Rattle.std.specs.Prelude.{◌≤◌, length};
 
 use crate::contents::DAMAGED;
 use crate::given::{LOCKED as LOCKED_BYTES, TWO_KINGS as TWO_KINGS_BYTES, board, free_cell, sure};
-use fc_bound::BoundKind;
 use fc_cert::{CertFault, write_answer};
 use fc_checker::{CheckFault, Claim, check};
 use fc_io::ToArray;
@@ -371,10 +370,7 @@ fn check_written<G: Game + Drop>(
 ) {
     assert!(rt; rule <= 2, "a rule");
     let start = board(rt, game, text);
-    let answer = sure(
-        rt,
-        solve(alloc, game, rule, 1, BoundKind::Plain, &start, 1000),
-    );
+    let answer = sure(rt, solve(alloc, game, rule, &start, 1000));
     let mut out = ToArray::<500>::new();
     assert!(rt; write_answer(game, &answer, &mut out).is_ok(), "written");
     assert!(rt;
@@ -388,10 +384,7 @@ fn check_written<G: Game + Drop>(
 fn a_game_of_ones_own_is_certified(rt: HostRuntime) {
     let alloc = rt.alloc();
     let start = board(&rt, &AnySuit, TWO_KINGS);
-    let answer = sure(
-        &rt,
-        solve(alloc, &AnySuit, 2, 1, BoundKind::Plain, &start, 1000),
-    );
+    let answer = sure(&rt, solve(alloc, &AnySuit, 2, &start, 1000));
     let mut out = ToArray::<500>::new();
     assert!(rt;
         write_answer(&AnySuit, &answer, &mut out).is_ok(),

@@ -2,11 +2,10 @@
 
 use crate::checks::{CASES, Case};
 use crate::given::{LOCKED as LOCKED_BYTES, board, free_cell};
-use fc_bound::BoundKind;
 use fc_checker::{Claim, check};
 use fc_io::testing::Failing;
 use fc_io::{FromSlice, ToArray};
-use fc_runs::{Input, Output, ProgramFault, run_check, run_solve};
+use fc_runs::{Input, Output, ProgramFault, run_check, run_check_of, run_solve};
 use fc_tests::boards::{DEAL_ONE, LOCKED, ONE_KING, TWO_KINGS};
 use fc_text::BoardFault;
 use std::alloc::Global;
@@ -38,19 +37,30 @@ fn printed(claim: Claim) -> &'static [u8] {
     }
 }
 
-// Checking the case's bytes ends as the checker tells of them.
+// A run that checked the case's bytes ended, and wrote, as the checker tells of them.
+fn check_end(rt: &impl Abort, case: &Case, ended: Result<u8, ProgramFault>, text: &[u8]) {
+    match case.told {
+        Ok(claim) => assert!(rt; ended == Ok(0) && text == printed(claim), "accepted"),
+        Err(fault) => {
+            let wanted = Err(ProgramFault::Cert(fault));
+            assert!(rt; ended == wanted && text.is_empty(), "refused");
+        }
+    }
+}
+
+// Checking the case's bytes ends so, whether the board is read or given.
 fn check_case(rt: &impl Abort, alloc: Global, case: &Case) {
+    let game = free_cell(rt, 4);
     let mut source = FromSlice::new(case.board.as_bytes());
     let mut cert = FromSlice::new(case.bytes);
     let mut out = ToArray::<40>::new();
-    let result = run_check(alloc, &free_cell(rt, 4), &mut source, &mut cert, &mut out);
-    match case.told {
-        Ok(claim) => assert!(rt; result == Ok(0) && out.held() == printed(claim), "accepted"),
-        Err(fault) => {
-            let wanted = Err(ProgramFault::Cert(fault));
-            assert!(rt; result == wanted && out.held().is_empty(), "refused");
-        }
-    }
+    let result = run_check(alloc, &game, &mut source, &mut cert, &mut out);
+    check_end(rt, case, result, out.held());
+    let start = board(rt, &game, case.board);
+    let mut cert = FromSlice::new(case.bytes);
+    let mut out = ToArray::<40>::new();
+    let result = run_check_of(alloc, &game, &start, &mut cert, &mut out);
+    check_end(rt, case, result, out.held());
 }
 
 #[test]
@@ -144,8 +154,6 @@ fn solved(rt: &impl Abort, alloc: Global, text: &str, budget: u32, calls: (u32, 
         alloc,
         &game,
         1,
-        1,
-        BoundKind::Plain,
         &mut source,
         budget,
         &mut out,

@@ -4,12 +4,11 @@ ghost use Rattle.std.specs.Prelude.{◌≤◌, length};
 
 use crate::given::{board, fault_of, free_cell, sure};
 use fc_answers::{MoveList, Verdict};
-use fc_bound::BoundKind;
 use fc_cert::{CertFault, Claim, write_answer};
 use fc_checker::{CheckFault, check};
 use fc_io::{FromSlice, Sink, ToArray};
 use fc_runs::run_check;
-use fc_search::solve;
+use fc_search::{BoundKind, Budget, HomeRule, Method, Question, Unheard, Weight, solve_by};
 use fc_tests::boards::{FREE_KING, LOCKED, ONE_KING, THREE_SPADES, TWO_KINGS};
 use std::alloc::Global;
 use std::process::Abort;
@@ -254,13 +253,23 @@ fn claim_of(verdict: &Verdict) -> Option<Claim> {
     }
 }
 
+// A search under the second home rule by so many times a bound of this kind, with a budget of 1000.
+fn method(rt: &impl Abort, weight: u8, bound: BoundKind) -> Method {
+    Method {
+        rule: HomeRule::FREE,
+        weight: Weight::new(weight).expect(rt, "a weight is 1 to 10"),
+        bound,
+        budget: Budget::new(1000).expect(rt, "a budget is 1 to 4,000,000"),
+    }
+}
+
 // What is written of the answer for a board is accepted as its claim; by another form than the second where the weight or the
 // bound is another than the first.
 fn check_written(rt: &impl Abort, alloc: Global, text: &str, weight: u8, bound: BoundKind) {
-    assert!(rt; weight >= 1 && weight <= 10, "a weight");
     let game = free_cell(rt, 4);
     let start = board(rt, &game, text);
-    let answer = sure(rt, solve(alloc, &game, 2, weight, bound, &start, 1000));
+    let question = Question::new(&game, method(rt, weight, bound));
+    let answer = sure(rt, solve_by(alloc, &question, &start, &mut Unheard));
     let mut out = ToArray::<800>::new();
     assert!(rt; write_answer(&game, &answer, &mut out).is_ok(), "written");
     let told = check(alloc, &game, &start, out.held());

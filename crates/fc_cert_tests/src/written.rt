@@ -5,7 +5,6 @@ ghost use Rattle.fc_answers.specs.Verdict.{CanBeWritten};
 
 use crate::given::{TWO_KINGS, board, certificate, free_cell, sure};
 use fc_answers::Answer;
-use fc_bound::BoundKind;
 use fc_cert::{CertFault, write_answer};
 use fc_io::testing::Failing;
 use fc_io::{FromSlice, Sink, ToArray};
@@ -78,10 +77,7 @@ fn answer_for<G: Game + Drop>(
 {
     assert!(rt; rule <= 2, "a rule");
     let start = board(rt, game, text);
-    sure(
-        rt,
-        solve(alloc, game, rule, 1, BoundKind::Plain, &start, budget),
-    )
+    sure(rt, solve(alloc, game, rule, &start, budget))
 }
 
 // What is written of the answer for the row's board is its certificate.
