@@ -1,10 +1,11 @@
 //! Batches of numbered deals: what they print, their statuses and their faults.
 
-use crate::given::free_cell;
-use fc_bound::BoundKind;
+use crate::given::{budget, free_cell, home_rule};
 use fc_io::ToArray;
 use fc_io::testing::Failing;
-use fc_runs::{MOST_DEALS, Output, ProgramFault, run_batch, run_table};
+use fc_moves::FreeCell;
+use fc_runs::{MOST_DEALS, Output, ProgramFault, run_batch, run_batch_by, run_table};
+use fc_search::{Budget, Question};
 use std::alloc::Global;
 use std::process::Abort;
 
@@ -34,22 +35,17 @@ const ROWS: [Row; 14] = [
     Row(968_000, 1_000_000, 0, Err(ProgramFault::Range), ""),
 ];
 
+// A shortest list of FreeCell by the last home rule, within a budget.
+fn question(rt: &impl Abort, most: Budget) -> Question<FreeCell> {
+    Question::shortest(&free_cell(rt, 4), home_rule(rt, 2), most)
+}
+
 // A batch of FreeCell by the last home rule ends as the row says.
 fn check_row(rt: &impl Abort, alloc: Global, row: &Row) {
     let mut out = ToArray::<100>::new();
     let game = free_cell(rt, 4);
     let Row(from, to, budget, wanted, printed) = *row;
-    let result = run_batch(
-        alloc,
-        &game,
-        2,
-        1,
-        BoundKind::Plain,
-        from,
-        to,
-        budget,
-        &mut out,
-    );
+    let result = run_batch(alloc, &game, 2, from, to, budget, &mut out);
     assert!(rt; result == wanted, "deals {from} to {to}: another end");
     assert!(rt;
         out.held() == printed.as_bytes(),
@@ -64,21 +60,41 @@ fn batches_are_told_or_refused(rt: HostRuntime) {
     }
 }
 
+// The budget of a row; a row that is refused for another reason has one in the place of what is none.
+fn budget_of(rt: &impl Abort, row: &Row) -> Option<Budget> {
+    match Budget::new(row.2) {
+        None if row.3 != Err(ProgramFault::Budget) => Some(budget(rt, 1)),
+        told => told,
+    }
+}
+
+// A batch of a question ends as the row says, where that has a budget.
+fn check_asked(rt: &impl Abort, alloc: Global, row: &Row) {
+    let Some(most) = budget_of(rt, row) else {
+        return;
+    };
+    let mut out = ToArray::<100>::new();
+    let Row(from, to, _, wanted, printed) = *row;
+    let result = run_batch_by(alloc, &question(rt, most), from, to, &mut out);
+    assert!(rt; result == wanted, "deals {from} to {to}: another end");
+    assert!(rt;
+        out.held() == printed.as_bytes(),
+        "deals {from} to {to}: another text"
+    );
+}
+
+#[test]
+fn batches_of_a_question_end_as_such(rt: HostRuntime) {
+    for row in &ROWS {
+        check_asked(&rt, rt.alloc(), row);
+    }
+}
+
 #[test]
 fn the_longest_batch_has_a_line_for_each_deal(rt: HostRuntime) {
     let mut out = ToArray::<500>::new();
     let game = free_cell(&rt, 4);
-    let result = run_batch(
-        rt.alloc(),
-        &game,
-        2,
-        1,
-        BoundKind::Plain,
-        1,
-        MOST_DEALS,
-        1,
-        &mut out,
-    );
+    let result = run_batch(rt.alloc(), &game, 2, 1, MOST_DEALS, 1, &mut out);
     let lines = out.held().split(|byte| *byte == b'\n').count();
     assert!(rt; result == Ok(2) && lines == 33);
 }
@@ -89,17 +105,7 @@ fn lines_are_cut_where_the_sink_fails(rt: HostRuntime) {
     let game = free_cell(&rt, 4);
     for count in 0..printed.len() {
         let mut out = Failing::new(ToArray::<100>::new(), count as u32);
-        let result = run_batch(
-            rt.alloc(),
-            &game,
-            2,
-            1,
-            BoundKind::Plain,
-            24,
-            25,
-            1,
-            &mut out,
-        );
+        let result = run_batch(rt.alloc(), &game, 2, 24, 25, 1, &mut out);
         let wanted = Err(ProgramFault::Write(Output::Answer));
         assert!(rt; result == wanted && out.device.held() == &printed[..count]);
     }
@@ -111,18 +117,8 @@ const NAMES: &[u8] = b"deal\tanswer\tmoves\tfloor\tclasses\tturns\tmost_open\n";
 #[test]
 fn a_table_has_a_row_for_each_deal(rt: HostRuntime) {
     let mut out = ToArray::<500>::new();
-    let game = free_cell(&rt, 4);
-    let result = run_table(
-        rt.alloc(),
-        &game,
-        2,
-        1,
-        BoundKind::Plain,
-        24,
-        26,
-        1,
-        &mut out,
-    );
+    let question = question(&rt, budget(&rt, 1));
+    let result = run_table(rt.alloc(), &question, 24, 26, &mut out);
     assert!(rt; result == Ok(2));
     let mut lines = out.held().split_inclusive(|byte| *byte == b'\n');
     assert!(rt; lines.next() == Some(NAMES));
@@ -136,11 +132,12 @@ fn a_table_has_a_row_for_each_deal(rt: HostRuntime) {
 #[test]
 fn tables_are_refused(rt: HostRuntime) {
     for row in &ROWS {
-        let Row(from, to, budget, wanted, _) = *row;
+        let Some(most) = budget_of(&rt, row) else {
+            continue;
+        };
+        let Row(from, to, _, wanted, _) = *row;
         let mut out = Failing::new(ToArray::<100>::new(), 3);
-        let game = free_cell(&rt, 4);
-        let plain = BoundKind::Plain;
-        let result = run_table(rt.alloc(), &game, 2, 1, plain, from, to, budget, &mut out);
+        let result = run_table(rt.alloc(), &question(&rt, most), from, to, &mut out);
         let (fault, written) = match wanted {
             Ok(_) => (ProgramFault::Write(Output::Answer), &NAMES[..3]),
             Err(fault) => (fault, &NAMES[..0]),

@@ -3,10 +3,9 @@
 use crate::given::{board, free_cell, sure};
 use fc_answers::Outcome;
 use fc_batch::Batch;
-use fc_bound::BoundKind;
 use fc_frontier::BucketFrontier;
 use fc_moves::FreeCell;
-use fc_search::{Answer, Search, SearchFault, Step, Verdict};
+use fc_search::{Search, SearchFault, Step, Verdict};
 use fc_tests::boards::{LOCKED, QUEEN_UNDER_KING, THREE_KINGS, TWO_KINGS};
 use std::alloc::Global;
 use std::process::Abort;
@@ -23,18 +22,8 @@ pub(crate) static OUTCOMES: [Outcome; 4] = [
 // A search of a board under the first home rule, with a budget of 100.
 fn search_of(rt: &impl Abort, alloc: Global, text: &str) -> Search<BucketFrontier, FreeCell> {
     let game = free_cell(rt, 4);
-    sure(
-        rt,
-        Search::new(
-            alloc,
-            &game,
-            1,
-            1,
-            BoundKind::Plain,
-            &board(rt, &game, text),
-            100,
-        ),
-    )
+    let start = board(rt, &game, text);
+    sure(rt, Search::new(alloc, &game, 1, &start, 100))
 }
 
 // A batch of searches of boards, by their places in the list.
@@ -47,18 +36,8 @@ fn batch_of(rt: &impl Abort, alloc: Global, boards: &[&str]) -> Batch<BucketFron
     batch
 }
 
-// Whether the answer tells this.
-pub(crate) fn answers(answer: &Answer, told: Outcome) -> bool {
-    match (answer, told) {
-        (Answer::Shortest(list, _), Outcome::Shortest(count)) => list.len() == count as usize,
-        (Answer::CannotWin(_), Outcome::CannotWin) => true,
-        (Answer::GaveUp(budget), Outcome::GaveUp(least)) => *budget == least,
-        _ => false,
-    }
-}
-
 // Whether the verdict tells this.
-fn tells(verdict: &Verdict, told: Outcome) -> bool {
+pub(crate) fn tells(verdict: &Verdict, told: Outcome) -> bool {
     match (verdict, told) {
         (Verdict::Shortest(list), Outcome::Shortest(count)) => list.len() == count as usize,
         (Verdict::CannotWin, Outcome::CannotWin) => true,
@@ -78,7 +57,8 @@ fn check_told(
     let verdict = sure(rt, search.verdict());
     assert!(rt; tells(&verdict, told), "a verdict of {number}");
     let answer = sure(rt, search.answer());
-    assert!(rt; answers(&answer, told), "an answer of {number}");
+    assert!(rt; tells(&answer.verdict, told), "an answer of {number}");
+    assert!(rt; answer.table.is_some() == !matches!(told, Outcome::GaveUp(_)));
 }
 
 // Nothing is told of the search with this number, which isn't done.

@@ -5,9 +5,9 @@ ghost use Rattle.fc_best_first.specs.Store.{Offers};
 ghost use Rattle.fc_best_first.specs.Turn.{AreChildren};
 ghost use Rattle.fc_search_tests.specs.Sums.{IsChildOf, number_exact, sums, sums_lawful};
 
-use crate::given::sure;
+use crate::given::{budget, sure};
 use fc_best_first::{
-    Book, Child, ExactKey, Mark, Offered, Search, SearchFault, Space, Status, Step,
+    Book, Budget, Child, ExactKey, Mark, Offered, Search, Space, Status, Step, Weight,
 };
 use fc_frontier::{BucketFrontier, Frontier, ListFrontier};
 use std::alloc::Global;
@@ -157,7 +157,8 @@ fn end_of<F: Frontier + Drop>(search: &Search<Sum, F, Sums>) -> End {
 // A search for the goal that has begun.
 fn begun<F: Frontier + Drop>(rt: &impl Abort, alloc: Global, row: &Row) -> Search<Sum, F, Sums> {
     let goal = row.goal;
-    sure(rt, Search::new(alloc, Sums { goal }, 1, row.budget))
+    let most = budget(rt, row.budget);
+    sure(rt, Search::new(alloc, Sums { goal }, Weight::ONE, most))
 }
 
 // Takes all turns of a search; how many of them answered `Running`.
@@ -181,7 +182,7 @@ fn stores<F: Frontier + Drop>(rt: &impl Abort, search: &Search<Sum, F, Sums>, ro
         first.value == 0 && mark.cost == 0 && mark.parent == 0,
         "the sum 0"
     );
-    assert!(rt; search.budget() == row.budget, "the budget");
+    assert!(rt; search.budget().get() == row.budget, "the budget");
     assert!(rt; search.space().goal == row.goal, "the goal");
 }
 
@@ -317,28 +318,29 @@ fn a_search_runs_to_its_end(rt: HostRuntime) {
     all_end(&rt, rt.alloc(), TWELVE.as_slice());
 }
 
-// Whether a search with this budget runs, or its fault.
-fn check_budget(rt: &impl Abort, alloc: Global, budget: u32, wanted: Result<bool, SearchFault>) {
+// Whether a search that may store so many sums runs; `None` where that is no budget.
+fn runs(rt: &impl Abort, alloc: Global, sums: u32) -> Option<bool> {
+    let most = Budget::new(sums)?;
     let space = Sums { goal: 1 };
-    let search: Result<Search<Sum, ListFrontier, Sums>, SearchFault> = Search::new(
-        alloc, space, 1, budget,
+    let search: Search<Sum, ListFrontier, Sums> = sure(
+        rt,
+        Search::new(alloc, space, Weight::ONE, most),
     );
-    let is_running = search.map(|s| matches!(s.status(), Status::Running));
-    assert!(rt; is_running == wanted, "at a budget of {budget}");
+    Some(matches!(search.status(), Status::Running))
 }
 
 #[test]
 fn a_budget_is_one_to_four_million(rt: HostRuntime) {
-    check_budget(&rt, rt.alloc(), 0, Err(SearchFault::Budget));
-    check_budget(&rt, rt.alloc(), 4_000_000, Ok(true));
-    check_budget(&rt, rt.alloc(), 4_000_001, Err(SearchFault::Budget));
+    assert!(rt; runs(&rt, rt.alloc(), 0).is_none());
+    assert!(rt; runs(&rt, rt.alloc(), 4_000_000) == Some(true));
+    assert!(rt; runs(&rt, rt.alloc(), 4_000_001).is_none());
 }
 
 // Adds a sum to a book that doesn't store it; what became of it.
 fn added<F: Frontier + Drop>(
     rt: &impl Abort,
     book: &mut Book<Sum, F>,
-    budget: u32,
+    budget: Budget,
     value: u32,
     mark: Mark,
     f: u32,
@@ -357,15 +359,16 @@ fn added<F: Frontier + Drop>(
 fn offer_two<F: Frontier + Drop>(rt: &impl Abort, book: &mut Book<Sum, F>)
     requires empty { book.old.stored ≡ [] }
 {
+    let one = budget(rt, 1);
     let dear = Mark { cost: 9, parent: 3 };
     let cheap = Mark { cost: 7, parent: 5 };
-    assert!(rt; matches!(added(rt, book, 1, 40, dear, 11), Offered::Added));
+    assert!(rt; matches!(added(rt, book, one, 40, dear, 11), Offered::Added));
     assert!(rt; book.len() == 1);
     assert!(rt; book.find(&Sum { value: 40 }) == Some((0, dear)));
     sure(rt, book.lower(0, cheap, 9));
     assert!(rt; book.len() == 1);
     assert!(rt; book.find(&Sum { value: 40 }) == Some((0, cheap)));
-    let last = added(rt, book, 1, 41, cheap, 9);
+    let last = added(rt, book, one, 41, cheap, 9);
     assert!(rt; matches!(last, Offered::Full(Sum { value: 41 })));
 }
 

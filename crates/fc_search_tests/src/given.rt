@@ -6,6 +6,7 @@ ghost use Rattle.fc_position.specs.Position.{Fits};
 
 use fc_moves::{BakersGame, FreeCell, Game, Move, allows, apply};
 use fc_position::Position;
+use fc_search::{BoundKind, Budget, HomeRule, Method, Weight};
 use fc_text::read_board;
 use std::process::Abort;
 
@@ -34,6 +35,30 @@ pub fn free_cell(rt: &impl Abort, cells: u8) -> FreeCell {
 /// Baker's Game with so many cells.
 pub fn bakers_game(rt: &impl Abort, cells: u8) -> BakersGame {
     BakersGame::new(cells).expect(rt, "at most four cells")
+}
+
+/// The home rule with this number.
+pub fn home_rule(rt: &impl Abort, number: u8) -> HomeRule
+    ensures value { result ≡ number }
+{
+    HomeRule::new(number).expect(rt, "a home rule is 0 to 2")
+}
+
+/// A budget of so many stored classes.
+pub fn budget(rt: &impl Abort, classes: u32) -> Budget
+    ensures value { result ≡ classes }
+{
+    Budget::new(classes).expect(rt, "a budget is 1 to 4,000,000")
+}
+
+/// A search under this home rule by so many times a bound of this kind, with a budget of so many classes.
+pub fn method(rt: &impl Abort, rule: u8, weight: u8, bound: BoundKind, classes: u32) -> Method {
+    Method {
+        rule: home_rule(rt, rule),
+        weight: Weight::new(weight).expect(rt, "a weight is 1 to 10"),
+        bound,
+        budget: budget(rt, classes),
+    }
 }
 
 /// Makes a move, which must be allowed.

@@ -1,12 +1,12 @@
 //! Searches that are heard while they run.
 
-use crate::given::{board, free_cell, sure};
-use fc_bound::BoundKind;
-use fc_io::{FromSlice, ToArray};
-use fc_runs::{ProgramFault, run_solve_heard};
-use fc_search::{Answer, SearchFault, Verdict};
+use crate::given::{board, budget, free_cell, home_rule, sure};
+use fc_io::ToArray;
+use fc_moves::FreeCell;
+use fc_runs::{ProgramFault, run_solve_by};
+use fc_search::{Listener, Progress, Question, Verdict, decide_by, solve_by};
 use fc_tests::boards::{LOCKED, TWO_KINGS};
-use fc_watch::{Listener, Progress, decide, solve};
+use std::process::Abort;
 
 /// Keeps what it heard last, and how often it heard anything.
 #[derive(Drop)]
@@ -32,16 +32,17 @@ fn nothing_heard() -> Ear {
     }
 }
 
+// A shortest list of FreeCell with four cells, under the second home rule and with a budget of 100.
+fn question(rt: &impl Abort) -> Question<FreeCell> {
+    Question::shortest(&free_cell(rt, 4), home_rule(rt, 2), budget(rt, 100))
+}
+
 #[test]
 fn short_searches_are_heard_at_their_end(rt: HostRuntime) {
-    let game = free_cell(&rt, 4);
-    let start = board(&rt, &game, TWO_KINGS);
-    let plain = BoundKind::Plain;
+    let question = question(&rt);
+    let start = board(&rt, question.game(), TWO_KINGS);
     let mut first = nothing_heard();
-    let told = sure(
-        &rt,
-        decide(rt.alloc(), &game, 2, 1, plain, &start, 100, &mut first),
-    );
+    let told = sure(&rt, decide_by(rt.alloc(), &question, &start, &mut first));
     assert!(rt; matches!(&told, Verdict::Shortest(moves) if moves.len() == 5));
     assert!(rt;
         first
@@ -49,32 +50,23 @@ fn short_searches_are_heard_at_their_end(rt: HostRuntime) {
             .is_some_and(|far| far.budget == 100 && far.at_least == 5)
     );
     let mut second = nothing_heard();
-    let told = sure(
-        &rt,
-        solve(rt.alloc(), &game, 2, 1, plain, &start, 100, &mut second),
-    );
-    assert!(rt; matches!(&told, Answer::Shortest(moves, _) if moves.len() == 5));
-    let mut third = nothing_heard();
-    let told = decide(rt.alloc(), &game, 2, 1, plain, &start, 0, &mut third);
-    assert!(rt; matches!(told, Err(SearchFault::Budget)));
-    assert!(rt; third.times == 0, "heard before it began");
+    let told = sure(&rt, solve_by(rt.alloc(), &question, &start, &mut second));
+    assert!(rt; matches!(&told.verdict, Verdict::Shortest(moves) if moves.len() == 5));
+    assert!(rt; first.times == 1 && second.times == 1);
+    assert!(rt; first.last == second.last);
 }
 
 #[test]
 fn a_run_is_heard(rt: HostRuntime) {
-    let mut start = FromSlice::new(LOCKED.as_bytes());
+    let question = question(&rt);
+    let start = board(&rt, question.game(), LOCKED);
     let mut out = ToArray::<100>::new();
     let mut listener = nothing_heard();
-    let game = free_cell(&rt, 4);
     let none: Option<&mut ToArray<1>> = None;
-    let status: Result<u8, ProgramFault> = run_solve_heard(
+    let status: Result<u8, ProgramFault> = run_solve_by(
         rt.alloc(),
-        &game,
-        2,
-        1,
-        BoundKind::Plain,
-        &mut start,
-        100,
+        &question,
+        &start,
         &mut out,
         none,
         &mut listener,

@@ -2,6 +2,8 @@
 #![tactic(auto)]
 
 #[cfg(test)]
+mod alike;
+#[cfg(test)]
 mod batch_runs;
 #[cfg(test)]
 mod batches;
@@ -12,9 +14,13 @@ mod bounds;
 #[cfg(test)]
 mod classes;
 #[cfg(test)]
+mod faults;
+#[cfg(test)]
 mod given;
 #[cfg(test)]
 mod heard;
+#[cfg(test)]
+mod limits;
 #[cfg(test)]
 mod lists;
 #[cfg(test)]
@@ -24,12 +30,18 @@ mod random;
 #[cfg(test)]
 mod refusals;
 #[cfg(test)]
+mod replays;
+#[cfg(test)]
 mod runs;
 #[cfg(test)]
 mod searches;
 #[cfg(test)]
+mod shown;
+#[cfg(test)]
 mod shows;
 #[cfg(test)]
 mod spaces;
+#[cfg(test)]
+mod turns;
 #[cfg(test)]
 mod weights;

@@ -3,10 +3,10 @@
 use crate::given::{board, free_cell, sure};
 use fc_cards::Place;
 use fc_io::testing::Failing;
-use fc_io::{FromSlice, ToArray};
-use fc_moves::Move;
+use fc_io::{FromSlice, Sink, Source, ToArray};
+use fc_moves::{Game, Move};
 use fc_replay::{Ended, Page, ReplayFault};
-use fc_runs::{Input, Output, ProgramFault, run_replay_sequences};
+use fc_runs::{Input, Output, ProgramFault, read_position, run_replay_sequences};
 use fc_sequences::{Pair, carry, expand, may_carry, read_pair};
 use fc_tests::boards::TWO_KINGS;
 use fc_text::BoardFault;
@@ -112,6 +112,19 @@ fn numbers_of_cards_follow_from_the_list(rt: HostRuntime) {
     assert!(rt; moves.len() == 7);
 }
 
+// Reads a board of FreeCell with four cells and then a list, and plays it.
+fn read_and_play<S: Source, M: Source, K: Sink>(
+    rt: &impl Abort,
+    alloc: Global,
+    board: &mut S,
+    moves: &mut M,
+    out: &mut K,
+) -> Result<Ended, ProgramFault> {
+    let game = free_cell(rt, 4);
+    let start = read_position(board, game.cells())?;
+    run_replay_sequences(alloc, &game, &start, moves, Page::Board, out)
+}
+
 // A list that is played on a board ends so.
 fn plays(
     rt: &impl Abort,
@@ -123,8 +136,7 @@ fn plays(
     let mut start = FromSlice::new(text.as_bytes());
     let mut moves = FromSlice::new(list.as_bytes());
     let mut out = ToArray::<2000>::new();
-    let game = free_cell(rt, 4);
-    let result = run_replay_sequences(alloc, &game, &mut start, &mut moves, Page::Board, &mut out);
+    let result = read_and_play(rt, alloc, &mut start, &mut moves, &mut out);
     assert!(rt; result == wanted, "another end");
     assert!(rt;
         result.is_ok() || out.held().is_empty(),
@@ -193,15 +205,7 @@ fn lists_over_failing_devices(rt: HostRuntime) {
         let mut start = Failing::new(FromSlice::new(TWO_KINGS.as_bytes()), board_calls);
         let mut moves = Failing::new(FromSlice::new(b"1a 1h"), list_calls);
         let mut out = Failing::new(ToArray::<400>::new(), sink_calls);
-        let game = free_cell(&rt, 4);
-        let result = run_replay_sequences(
-            rt.alloc(),
-            &game,
-            &mut start,
-            &mut moves,
-            Page::Board,
-            &mut out,
-        );
+        let result = read_and_play(&rt, rt.alloc(), &mut start, &mut moves, &mut out);
         assert!(rt; result == Err(fault), "another fault");
         assert!(rt; sink_calls != 3 || out.device.held() == b"Fou".as_slice());
     }

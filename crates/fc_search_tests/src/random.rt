@@ -1,14 +1,13 @@
 //! The program's search against the plain one, on random small boards.
 
-use crate::given::{bakers_game, free_cell, sure};
+use crate::given::{bakers_game, free_cell, method, sure};
 use crate::plain::{self, Found};
 use arrayvec::ArrayVec;
-use fc_bound::BoundKind;
 use fc_cards::{Card, Suit};
 use fc_frontier::{BucketFrontier, Frontier, ListFrontier};
 use fc_moves::{Game, Kings};
 use fc_position::Position;
-use fc_search::{Answer, Search};
+use fc_search::{Answer, BoundKind, Question, Search, Verdict};
 use fc_tests::queues::OldestFirst;
 use std::alloc::Global;
 use std::process::Abort;
@@ -99,9 +98,9 @@ pub fn random_board_of(rt: &impl Abort, numbers: &mut Numbers, most: u32, cells:
 
 // Whether the answers agree, where the plain search had room enough.
 fn agree(answer: &Answer, found: Found) -> bool {
-    match (answer, found) {
-        (Answer::Shortest(list, _), Found::Shortest(moves)) => list.len() == moves,
-        (Answer::CannotWin(_), Found::CannotWin) => true,
+    match (&answer.verdict, found) {
+        (Verdict::Shortest(list), Found::Shortest(moves)) => list.len() == moves,
+        (Verdict::CannotWin, Found::CannotWin) => true,
         (_, Found::GaveUp) => true,
         _ => false,
     }
@@ -116,8 +115,9 @@ fn answer_of<F: Frontier + Drop, G: Game + Drop>(
     bound: BoundKind,
     board: &Position,
 ) -> Answer {
-    assert!(rt; rule <= 2 && board.fits(game.cells()));
-    let mut search: Search<F, G> = sure(rt, Search::new(alloc, game, rule, 1, bound, board, 4000));
+    assert!(rt; board.fits(game.cells()));
+    let question = Question::new(game, method(rt, rule, 1, bound, 4000));
+    let mut search: Search<F, G> = sure(rt, Search::new_by(alloc, &question, board));
     sure(rt, search.run());
     sure(rt, search.answer())
 }

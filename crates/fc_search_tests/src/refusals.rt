@@ -1,10 +1,9 @@
 //! A batch in which a growth may be refused: the search that it stops stops alone. A case of the gate runs this once for
 //! each growth, that one refused; here none is.
 
-use crate::batches::{BOARDS, OUTCOMES, answers};
+use crate::batches::{BOARDS, OUTCOMES, tells};
 use crate::given::{board, free_cell, sure};
 use fc_batch::Batch;
-use fc_bound::BoundKind;
 use fc_frontier::BucketFrontier;
 use fc_moves::FreeCell;
 use fc_search::{Answer, Search, SearchFault, Step};
@@ -17,14 +16,11 @@ type Searches = Batch<BucketFrontier, FreeCell>;
 fn add(rt: &impl Abort, alloc: Global, batch: &mut Searches, text: &str, wanted: usize) {
     let game = free_cell(rt, 4);
     let start = board(rt, &game, text);
-    let search = match Search::new(alloc, &game, 1, 1, BoundKind::Plain, &start, 100) {
+    let search = match Search::new(alloc, &game, 1, &start, 100) {
         Ok(search) => search,
         Err(fault) => {
             assert!(rt; fault == SearchFault::Memory, "another fault");
-            sure(
-                rt,
-                Search::new(alloc, &game, 1, 1, BoundKind::Plain, &start, 100),
-            )
+            sure(rt, Search::new(alloc, &game, 1, &start, 100))
         }
     };
     let number = match batch.add(search) {
@@ -87,7 +83,7 @@ fn a_search_is_stopped_alone(rt: HostRuntime) {
     for number in [2, 0, 1] {
         if run(&rt, &mut batch, number) {
             let told = answer(&rt, &batch, number);
-            assert!(rt; answers(&told, OUTCOMES[number]), "an answer");
+            assert!(rt; tells(&told.verdict, OUTCOMES[number]), "an answer");
         } else {
             stopped = stopped.saturating_add(1);
             assert!(rt; batch.take(number).is_some(), "a stopped search");

@@ -1,18 +1,13 @@
-//! Runs of the program: what they print, their statuses and their faults, over devices that fail too.
+//! Runs of the program that solve and deal: what they print, their statuses and their faults, over devices that fail too.
 
 use crate::given::{bakers_game, board, free_cell, make, sure};
-use fc_bound::BoundKind;
-use fc_cards::Card;
-use fc_cert::CertFault;
-use fc_checker::CheckFault;
 use fc_io::testing::Failing;
 use fc_io::{FromReader, FromSlice, ToArray};
 use fc_moves::{Game, Kings, read_move};
 use fc_position::Position;
-use fc_replay::ReplayFault;
-use fc_runs::{Input, Output, ProgramFault, run_deal, run_replay, run_solve};
+use fc_runs::{Input, Output, ProgramFault, run_deal, run_solve};
 use fc_tests::boards::{
-    ALL_HOME, DEAL_ONE, LOCKED, ONE_KING, QUEEN_UNDER_KING, Rules, THREE_SPADES, TWO_KINGS,
+    ALL_HOME, DEAL_ONE, LOCKED, ONE_KING, QUEEN_UNDER_KING, Rules, THREE_SPADES,
 };
 use fc_text::BoardFault;
 use std::alloc::Global;
@@ -68,17 +63,7 @@ fn ends<G: Game + Drop>(rt: &impl Abort, alloc: Global, game: &G, row: &Row) {
     let mut source = FromSlice::new(row.board.as_bytes());
     let mut out = ToArray::<200>::new();
     let none: Option<&mut ToArray<1>> = None;
-    let result = run_solve(
-        alloc,
-        game,
-        1,
-        1,
-        BoundKind::Plain,
-        &mut source,
-        row.budget,
-        &mut out,
-        none,
-    );
+    let result = run_solve(alloc, game, 1, &mut source, row.budget, &mut out, none);
     assert!(rt; result == row.wanted, "another answer");
     check_printed(rt, game, row, out.held());
 }
@@ -289,17 +274,7 @@ fn ends_over(
     let mut out = Failing::new(ToArray::<200>::new(), calls.1);
     let none: Option<&mut ToArray<1>> = None;
     let game = free_cell(rt, 4);
-    let result = run_solve(
-        alloc,
-        &game,
-        1,
-        1,
-        BoundKind::Plain,
-        &mut source,
-        100,
-        &mut out,
-        none,
-    );
+    let result = run_solve(alloc, &game, 1, &mut source, 100, &mut out, none);
     assert!(rt; result == wanted, "another answer");
     assert!(rt; out.device.held() == printed, "another text");
 }
@@ -331,17 +306,7 @@ fn stops_a_reader_that_never_ends(rt: HostRuntime) {
     let mut out = ToArray::<200>::new();
     let none: Option<&mut ToArray<1>> = None;
     let game = free_cell(&rt, 4);
-    let result = run_solve(
-        rt.alloc(),
-        &game,
-        1,
-        1,
-        BoundKind::Plain,
-        &mut source,
-        100,
-        &mut out,
-        none,
-    );
+    let result = run_solve(rt.alloc(), &game, 1, &mut source, 100, &mut out, none);
     let wanted = Err(ProgramFault::Board(BoardFault::TooLong));
     assert!(rt; result == wanted && out.held() == b"".as_slice());
 }
@@ -363,259 +328,4 @@ fn deals(rt: HostRuntime) {
     let result = run_deal(1, &mut short);
     let wanted = Err(ProgramFault::Write(Output::Answer));
     assert!(rt; result == wanted && short.held() == b"JD KD 2S 4".as_slice());
-}
-
-const FAULTS: [(ProgramFault, &str, u8); 23] = [
-    (
-        ProgramFault::Number(0),
-        "deal number 0 is outside 1 to 1000000",
-        3,
-    ),
-    (ProgramFault::Range, "a batch is 1 to 32 deals", 3),
-    (
-        ProgramFault::Budget,
-        "the budget is outside 1 to 4000000",
-        3,
-    ),
-    (
-        ProgramFault::Board(BoardFault::TooLong),
-        "board: too long",
-        3,
-    ),
-    (
-        ProgramFault::Board(BoardFault::BadCard(2)),
-        "board: line 2: not a card",
-        3,
-    ),
-    (
-        ProgramFault::Board(BoardFault::BadFoundation(1)),
-        "board: line 1: not a foundation",
-        3,
-    ),
-    (
-        ProgramFault::Board(BoardFault::TooManyCells(1)),
-        "board: line 1: too many cells",
-        3,
-    ),
-    (
-        ProgramFault::Board(BoardFault::TooManyColumns(9)),
-        "board: line 9: too many columns",
-        3,
-    ),
-    (
-        ProgramFault::Board(BoardFault::RepeatedLine(2)),
-        "board: line 2: repeated",
-        3,
-    ),
-    (ProgramFault::TooLong(Input::Moves), "moves: too long", 3),
-    (
-        ProgramFault::Moves(ReplayFault::BadMove(1)),
-        "step 1: not a move",
-        3,
-    ),
-    (
-        ProgramFault::Moves(ReplayFault::NotAllowed(3)),
-        "step 3: not allowed",
-        3,
-    ),
-    (
-        ProgramFault::TooLong(Input::Cert),
-        "certificate: too long",
-        3,
-    ),
-    (
-        ProgramFault::Cert(CheckFault::Form(CertFault::Order(1))),
-        "certificate refused: Order(1)",
-        3,
-    ),
-    (
-        ProgramFault::Cert(CheckFault::Form(CertFault::Short)),
-        "certificate refused: Short",
-        3,
-    ),
-    (
-        ProgramFault::Cert(CheckFault::NotAllowed(5)),
-        "certificate refused: NotAllowed(5)",
-        3,
-    ),
-    (
-        ProgramFault::Cert(CheckFault::OtherGame),
-        "certificate refused: OtherGame",
-        3,
-    ),
-    (
-        ProgramFault::Read(Input::Cert),
-        "cannot read the certificate",
-        5,
-    ),
-    (
-        ProgramFault::Write(Output::Cert),
-        "cannot write the certificate",
-        5,
-    ),
-    (ProgramFault::Read(Input::Moves), "cannot read the moves", 5),
-    (ProgramFault::Read(Input::Board), "cannot read the board", 5),
-    (
-        ProgramFault::Write(Output::Answer),
-        "cannot write the answer",
-        5,
-    ),
-    (ProgramFault::Memory, "want of memory", 4),
-];
-
-// A fault's text and its status are these.
-fn tells(rt: &impl Abort, alloc: Global, fault: ProgramFault, text: &str, status: u8) {
-    let told = sure(rt, format!(in alloc; "{fault}"));
-    assert!(rt; told.as_str() == text && fault.status() == status, "{text}");
-}
-
-#[test]
-fn tells_faults(rt: HostRuntime) {
-    for (fault, text, status) in FAULTS {
-        tells(&rt, rt.alloc(), fault, text, status);
-    }
-    let card = Card::read(b"JD").expect(&rt, "a card");
-    let twice = ProgramFault::Board(BoardFault::RepeatedCard(card));
-    tells(&rt, rt.alloc(), twice, "board: card JD stands twice", 3);
-    let missing = ProgramFault::Board(BoardFault::MissingCard(card));
-    tells(&rt, rt.alloc(), missing, "board: card JD is missing", 3);
-}
-
-// The boards of two kings after `1a` and then `1h`.
-const TWO_BOARDS: &[u8] = b"Foundations: H-J C-K D-K S-J
-Freecells: KH - - -
-: QS
-: QH KS
-:
-:
-:
-:
-:
-:
-Foundations: H-J C-K D-K S-Q
-Freecells: KH - - -
-:
-: QH KS
-:
-:
-:
-:
-:
-:
-";
-
-// After how many calls the board, the moves and the sink fail.
-#[derive(Clone, Copy)]
-struct Calls {
-    board: u32,
-    moves: u32,
-    sink: u32,
-}
-
-// Replays moves of two kings over devices that move one byte a call and fail after so many calls: the run ends so, with
-// this written.
-fn replays_over(
-    rt: &impl Abort,
-    alloc: Global,
-    moves: &[u8],
-    calls: Calls,
-    wanted: &Result<u8, ProgramFault>,
-    printed: &[u8],
-) {
-    let mut board = Failing::new(FromSlice::new(TWO_KINGS.as_bytes()), calls.board);
-    let mut list = Failing::new(FromSlice::new(moves), calls.moves);
-    let mut out = Failing::new(ToArray::<400>::new(), calls.sink);
-    let result = run_replay(alloc, &free_cell(rt, 4), &mut board, &mut list, &mut out);
-    assert!(rt; result == *wanted, "another end");
-    assert!(rt; out.device.held() == printed, "another text");
-}
-
-// The same over devices that move as many bytes as they can and don't fail.
-fn replays(
-    rt: &impl Abort,
-    alloc: Global,
-    moves: &[u8],
-    wanted: &Result<u8, ProgramFault>,
-    printed: &[u8],
-) {
-    let mut board = FromSlice::new(TWO_KINGS.as_bytes());
-    let mut list = FromSlice::new(moves);
-    let mut out = ToArray::<400>::new();
-    let result = run_replay(alloc, &free_cell(rt, 4), &mut board, &mut list, &mut out);
-    assert!(rt; result == *wanted, "another end");
-    assert!(rt; out.held() == printed, "another text");
-}
-
-// So many calls that no device fails.
-const ENOUGH: Calls = Calls {
-    board: 1000,
-    moves: 1000,
-    sink: 1000,
-};
-
-// Replaying moves of two kings ends so, over either kind of devices.
-fn check_replay(
-    rt: &impl Abort,
-    alloc: Global,
-    moves: &[u8],
-    wanted: &Result<u8, ProgramFault>,
-    printed: &[u8],
-) {
-    replays_over(rt, alloc, moves, ENOUGH, wanted, printed);
-    replays(rt, alloc, moves, wanted, printed);
-}
-
-#[test]
-fn replays_moves(rt: HostRuntime) {
-    check_replay(&rt, rt.alloc(), b"1a 1H\r\n", &Ok(0), TWO_BOARDS);
-    let refused = Err(ProgramFault::Moves(ReplayFault::NotAllowed(3)));
-    check_replay(&rt, rt.alloc(), b"1a 1h 1h", &refused, TWO_BOARDS);
-    let bad = Err(ProgramFault::Moves(ReplayFault::BadMove(1)));
-    check_replay(&rt, rt.alloc(), b"9h", &bad, b"");
-}
-
-// A replay of two moves whose devices fail after so many calls ends by this fault, with this written.
-fn check_failing(
-    rt: &impl Abort,
-    alloc: Global,
-    calls: Calls,
-    fault: ProgramFault,
-    printed: &[u8],
-) {
-    replays_over(rt, alloc, b"1a 1h", calls, &Err(fault), printed);
-}
-
-#[test]
-fn replays_over_failing_devices(rt: HostRuntime) {
-    for board in 0..=TWO_KINGS.len() as u32 {
-        let calls = Calls { board, ..ENOUGH };
-        let fault = ProgramFault::Read(Input::Board);
-        check_failing(&rt, rt.alloc(), calls, fault, b"");
-    }
-    for moves in 0..6 {
-        let calls = Calls { moves, ..ENOUGH };
-        let fault = ProgramFault::Read(Input::Moves);
-        check_failing(&rt, rt.alloc(), calls, fault, b"");
-    }
-    for count in 0..TWO_BOARDS.len() {
-        let sink = count as u32;
-        let calls = Calls { sink, ..ENOUGH };
-        let fault = ProgramFault::Write(Output::Answer);
-        check_failing(&rt, rt.alloc(), calls, fault, &TWO_BOARDS[..count]);
-    }
-}
-
-#[test]
-fn stops_moves_that_never_end(rt: HostRuntime) {
-    let mut board = FromSlice::new(TWO_KINGS.as_bytes());
-    let mut moves = FromReader::new(io::repeat(b' '));
-    let mut out = ToArray::<400>::new();
-    let result = run_replay(
-        rt.alloc(),
-        &free_cell(&rt, 4),
-        &mut board,
-        &mut moves,
-        &mut out,
-    );
-    assert!(rt; result == Err(ProgramFault::TooLong(Input::Moves)));
 }

@@ -1,13 +1,13 @@
-//! Answers of searches: their moves, made one after the other, and their tables.
+//! Answers of searches: what they tell of boards, under each home rule.
 
-use crate::given::{bakers_game, board, free_cell, make, sure};
-use fc_bound::BoundKind;
+use crate::given::{bakers_game, board, budget, free_cell, home_rule, sure};
+use crate::shown::{Shown, check_table, check_wins, shows};
 use fc_cards::Place;
-use fc_frontier::{BucketFrontier, Frontier, ListFrontier};
-use fc_moves::{FreeCell, Game, Kings, Move};
+use fc_frontier::ListFrontier;
+use fc_moves::{FreeCell, Game, Kings};
 use fc_position::Position;
 use fc_search::{
-    Answer, MOST_BUDGET, MoveList, Search, SearchFault, Step, Table, Verdict, decide, solve,
+    Answer, MOST_BUDGET, Question, Search, SearchFault, Unheard, Verdict, decide_by, solve,
 };
 use fc_tests::boards::{
     ALL_HOME, CLASSES_495, FREE_KING, LOCKED, ONE_COLUMN, ONE_KING, QUEEN_UNDER_KING, Rules,
@@ -24,16 +24,6 @@ enum Told {
     GaveUp(u32),
 }
 
-// What else is seen of an answer: its moves all go home from this place; its table has this key alone, at no cost; or its
-// table has no cost.
-#[derive(Clone, Copy)]
-enum Shown {
-    Nothing,
-    SendsHome(Place),
-    ListsAlone(&'static [u8]),
-    IsFree,
-}
-
 // A board and a game, the first and the last of the home rules, a budget, and the answer.
 struct Row {
     board: &'static str,
@@ -44,78 +34,20 @@ struct Row {
     shown: Shown,
 }
 
-/// The moves are allowed, one after the other, and win.
-pub fn check_wins<G: Game>(rt: &impl Abort, game: &G, start: &Position, list: &MoveList) {
-    let mut position = start.copy();
-    for m in list.as_slice() {
-        make(rt, game, &mut position, *m);
-    }
-    assert!(rt; position.is_won(), "moves that don't win");
-    assert!(rt; list.is_empty() == (list.len() == 0));
-}
-
-// The table is of this rule, and each key less than the next one.
-fn check_table(rt: &impl Abort, table: &Table, rule: u8) {
-    for i in 1..table.len() {
-        assert!(rt; table.key(i - 1) < table.key(i), "keys that don't rise");
-    }
-    assert!(rt; table.rule() == rule, "another rule");
-    assert!(rt; table.is_empty() == (table.len() == 0));
-}
-
-// Whether the table has one row: this key, at no cost.
-fn lists_alone(table: &Table, key: &[u8]) -> bool {
-    table.len() == 1 && table.key(0).as_slice() == key && table.cost(0) == 0
-}
-
-// Whether no class of the table has a cost.
-fn is_free(table: &Table) -> bool {
-    for i in 0..table.len() {
-        if table.cost(i) != 0 {
-            return false;
-        }
-    }
-    true
-}
-
-// Whether the moves all go home from this place.
-fn sends_home(list: &MoveList, from: Place) -> bool {
-    let to = Place::Home;
-    for i in 0..list.len() {
-        if list.get(i) != (Move { from, to }) {
-            return false;
-        }
-    }
-    true
-}
-
-// Whether this is seen of an answer.
-fn shows(answer: &Answer, shown: Shown) -> bool {
-    match (shown, answer) {
-        (Shown::Nothing, _) => true,
-        (Shown::SendsHome(place), Answer::Shortest(list, _)) => sends_home(list, place),
-        (Shown::ListsAlone(key), Answer::Shortest(_, table) | Answer::CannotWin(table)) => {
-            lists_alone(table, key)
-        }
-        (Shown::IsFree, Answer::CannotWin(table)) => is_free(table),
-        _ => false,
-    }
-}
-
 // What an answer told, whose moves win and whose table is of the rule and in order.
 fn report<G: Game>(rt: &impl Abort, game: &G, rule: u8, start: &Position, answer: &Answer) -> Told {
-    match answer {
-        Answer::Shortest(list, table) => {
+    match (&answer.verdict, &answer.table) {
+        (Verdict::Shortest(list), Some(table)) => {
             check_wins(rt, game, start, list);
             check_table(rt, table, rule);
             Told::Shortest(list.len(), table.len())
         }
-        Answer::CannotWin(table) => {
+        (Verdict::CannotWin, Some(table)) => {
             check_table(rt, table, rule);
             Told::CannotWin(table.len())
         }
-        Answer::GaveUp(budget) => Told::GaveUp(*budget),
-        Answer::Won(_, _, _) => rt.panic("a search by weight 1 finds a shortest list"),
+        (Verdict::GaveUp(budget), None) => Told::GaveUp(*budget),
+        _ => rt.panic("another answer than a search by weight 1 gives"),
     }
 }
 
@@ -129,21 +61,16 @@ fn is_verdict_of(verdict: &Verdict, told: Told) -> bool {
     }
 }
 
-// The answer for the row's board is the row's, by a rule, and so is the verdict.
+// The answer for the row's board is the row's, by a rule, and so is the verdict of that question.
 fn answers_by<G: Game + Drop>(rt: &impl Abort, alloc: Global, game: &G, rule: u8, row: &Row) {
     assert!(rt; rule <= 2, "a rule");
     let start = board(rt, game, row.board);
-    let answer = sure(
-        rt,
-        solve(alloc, game, rule, 1, BoundKind::Plain, &start, row.budget),
-    );
+    let answer = sure(rt, solve(alloc, game, rule, &start, row.budget));
     let told = report(rt, game, rule, &start, &answer);
     assert!(rt; told == row.told, "rule {rule}");
     assert!(rt; shows(&answer, row.shown), "rule {rule}");
-    let verdict = sure(
-        rt,
-        decide(alloc, game, rule, 1, BoundKind::Plain, &start, row.budget),
-    );
+    let question = Question::shortest(game, home_rule(rt, rule), budget(rt, row.budget));
+    let verdict = sure(rt, decide_by(alloc, &question, &start, &mut Unheard));
     assert!(rt; is_verdict_of(&verdict, row.told), "rule {rule}");
 }
 
@@ -412,32 +339,16 @@ static GREATEST: [Row; 1] = [Row {
     shown: Shown::Nothing,
 }];
 
-// A search with this queue that has begun.
-fn begun<F: Frontier + Drop>(
-    rt: &impl Abort,
-    alloc: Global,
-    text: &str,
-    budget: u32,
-) -> Result<Search<F, FreeCell>, SearchFault> {
-    let game = free_cell(rt, 4);
-    Search::new(
-        alloc,
-        &game,
-        1,
-        1,
-        BoundKind::Plain,
-        &board(rt, &game, text),
-        budget,
-    )
-}
-
 // A budget is out of range.
 fn check_budget(rt: &impl Abort, alloc: Global, budget: u32) {
     let game = free_cell(rt, 4);
     let start = board(rt, &game, QUEEN_UNDER_KING);
-    let fault = solve(alloc, &game, 1, 1, BoundKind::Plain, &start, budget).err();
+    let fault = solve(alloc, &game, 1, &start, budget).err();
     assert!(rt; fault == Some(SearchFault::Budget), "a budget of {budget}");
-    let fault = begun::<ListFrontier>(rt, alloc, QUEEN_UNDER_KING, budget).err();
+    let search: Result<Search<ListFrontier, FreeCell>, SearchFault> = Search::new(
+        alloc, &game, 1, &start, budget,
+    );
+    let fault = search.err();
     assert!(rt; fault == Some(SearchFault::Budget), "a budget of {budget}");
 }
 
@@ -447,44 +358,4 @@ fn budgets_out_of_range(rt: HostRuntime) {
     check_budget(&rt, rt.alloc(), 0);
     check_budget(&rt, rt.alloc(), MOST_BUDGET + 1);
     all_answer(&rt, rt.alloc(), GREATEST.as_slice());
-}
-
-// There is no answer while a search isn't done.
-fn check_unanswered<F: Frontier + Drop>(rt: &impl Abort, search: &Search<F, FreeCell>) {
-    let fault = search.answer().err();
-    assert!(rt;
-        fault == Some(SearchFault::NotDone),
-        "an answer before the end"
-    );
-}
-
-// Takes turns until the search is done, and no answer comes before; how many of them answered `Running`.
-fn take_turns<F: Frontier + Drop>(rt: &impl Abort, search: &mut Search<F, FreeCell>) -> u32 {
-    for turn in 0..1000u32 {
-        check_unanswered(rt, search);
-        if sure(rt, search.turn()) == Step::Done {
-            return turn;
-        }
-    }
-    rt.panic("a search that doesn't end")
-}
-
-// A search of four cards answers `Running` twice or more, and once it is done stays so.
-fn four_cards_by_turns<F: Frontier + Drop>(rt: &impl Abort, alloc: Global) {
-    let mut search: Search<F, FreeCell> = sure(rt, begun(rt, alloc, TWO_KINGS, 100));
-    let turns = take_turns(rt, &mut search);
-    assert!(rt; turns > 1, "turns that answered Running");
-    let verdict = sure(rt, search.verdict());
-    assert!(rt;
-        matches!(&verdict, Verdict::Shortest(list) if list.len() == 5),
-        "five moves"
-    );
-    assert!(rt; search.turn() == Ok(Step::Done), "one more");
-    assert!(rt; search.run() == Ok(()), "all");
-}
-
-#[test]
-fn turn_by_turn(rt: HostRuntime) {
-    four_cards_by_turns::<ListFrontier>(&rt, rt.alloc());
-    four_cards_by_turns::<BucketFrontier>(&rt, rt.alloc());
 }

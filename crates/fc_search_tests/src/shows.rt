@@ -2,8 +2,9 @@
 
 use crate::given::free_cell;
 use fc_io::testing::Failing;
-use fc_io::{FromSlice, ToArray};
-use fc_runs::{Input, Look, Output, ProgramFault, run_show};
+use fc_io::{FromSlice, Sink, Source, ToArray};
+use fc_moves::Game;
+use fc_runs::{Input, Look, Output, ProgramFault, read_position, run_show};
 use fc_tests::boards::{ONE_KING, TWO_KINGS};
 use fc_text::BoardFault;
 use std::process::Abort;
@@ -48,6 +49,17 @@ const ENOUGH: Calls = Calls {
     sink: 1000,
 };
 
+// Reads a board of a game and shows it.
+fn read_and_show<G: Game, S: Source, K: Sink>(
+    game: &G,
+    look: Look,
+    board: &mut S,
+    out: &mut K,
+) -> Result<u8, ProgramFault> {
+    let start = read_position(board, game.cells())?;
+    run_show(game, look, &start, out)
+}
+
 // Showing a board of a game with so many cells over devices that move one byte a call and fail after so many: the run
 // ends so, with this written.
 fn shows(
@@ -61,7 +73,7 @@ fn shows(
 ) {
     let mut board = Failing::new(FromSlice::new(text.as_bytes()), calls.board);
     let mut out = Failing::new(ToArray::<400>::new(), calls.sink);
-    let result = run_show(&free_cell(rt, cells), look, &mut board, &mut out);
+    let result = read_and_show(&free_cell(rt, cells), look, &mut board, &mut out);
     assert!(rt; result == *wanted, "another end");
     assert!(rt; out.device.held() == printed.as_bytes(), "another text");
 }

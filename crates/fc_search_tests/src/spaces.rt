@@ -1,15 +1,12 @@
 //! Searches of a game's positions by the core of the search, with either queue.
 
-ghost use Rattle.std.specs.Prelude.{◌≤◌};
-
-use crate::given::{bakers_game, board, free_cell, sure};
+use crate::given::{bakers_game, board, budget, free_cell, home_rule, sure};
 use fc_best_first::{Search, Status};
-use fc_bound::BoundKind;
 use fc_classes::ClassKey;
 use fc_frontier::{BucketFrontier, Frontier, ListFrontier};
 use fc_moves::{FreeCell, Game, Kings};
 use fc_position::Position;
-use fc_search::Positions;
+use fc_search::{Method, Positions, Weight};
 use fc_tests::boards::{
     ALL_HOME, CLASSES_495, FREE_KING, LOCKED, ONE_COLUMN, QUEEN_UNDER_KING, Rules, THIRTY_MOVES,
     THREE_KINGS, THREE_SPADES, TWO_KINGS, TWO_KINGS_TURNED,
@@ -42,13 +39,12 @@ fn begun<F: Frontier + Drop, G: Game + Drop>(
     game: G,
     rule: u8,
     text: &str,
-    budget: u32,
-) -> Search<ClassKey, F, Positions<G>>
-    requires rule { rule ≤ 2 }
-{
+    classes: u32,
+) -> Search<ClassKey, F, Positions<G>> {
     let start = board(rt, &game, text);
-    let space = Positions::new(game, rule, BoundKind::Plain, start);
-    sure(rt, Search::new(alloc, space, 1, budget))
+    let most = budget(rt, classes);
+    let space = Positions::new(game, Method::shortest(home_rule(rt, rule), most), start);
+    sure(rt, Search::new(alloc, space, Weight::ONE, most))
 }
 
 // How a search ended.
@@ -72,7 +68,6 @@ fn ends_by<F: Frontier + Drop, G: Game + Drop>(
     rule: u8,
     row: &Row,
 ) {
-    assert!(rt; rule <= 2, "a rule");
     let copy = game.copy();
     let mut search: Search<ClassKey, F, Positions<G>> = begun(
         rt, alloc, copy, rule, row.board, row.budget,
@@ -312,7 +307,8 @@ fn check_start(
     search: &Search<ClassKey, ListFrontier, Positions<FreeCell>>,
     start: &Position,
 ) {
-    assert!(rt; search.space().start.equals(start) && search.space().rule == 1);
+    let space = search.space();
+    assert!(rt; space.start.equals(start) && space.rules.rule.get() == 1);
     let (key, mark) = search.entry(0).expect(rt, "the start");
     assert!(rt; *key == ClassKey::of(start) && mark.cost == 0);
 }

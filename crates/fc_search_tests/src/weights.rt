@@ -1,19 +1,18 @@
 //! Searches by a weight against the plain search, on random small boards.
 
-ghost use Rattle.std.specs.Prelude.{◌≤◌};
-ghost use Rattle.fc_best_first.specs.Search.{IsWeight};
+ghost use Rattle.fc_methods.specs.Method.{Asked};
 ghost use Rattle.fc_position.specs.Position.{Fits};
 
-use crate::given::{bakers_game, free_cell, sure};
+use crate::given::{bakers_game, free_cell, method, sure};
 use crate::plain::{self, Found};
 use crate::random::{Numbers, random_board};
-use crate::searches::check_wins;
-use fc_bound::BoundKind::{self, Clearing, Plain};
+use crate::shown::check_wins;
+use fc_bound::BoundKind::{Clearing, Plain};
 use fc_frontier::{BucketFrontier, Frontier, ListFrontier};
-use fc_home::{GREATEST_RULE, settle};
+use fc_home::settle;
 use fc_moves::{Game, Kings};
 use fc_position::Position;
-use fc_search::{MOST_WEIGHT, Search, Step, Verdict, decide};
+use fc_search::{Method, Question, Search, Step, Unheard, Verdict, decide_by};
 use std::alloc::Global;
 use std::process::Abort;
 
@@ -25,7 +24,7 @@ fn agrees(verdict: &Verdict, weight: u8, found: Found) -> bool {
     match (verdict, found) {
         (_, Found::GaveUp) => true,
         (Verdict::Shortest(list), Found::Shortest(moves)) => list.len() == moves,
-        (Verdict::Won(list, floor), Found::Shortest(moves)) => {
+        (Verdict::Won { moves: list, floor }, Found::Shortest(moves)) => {
             *floor as usize <= moves
                 && moves <= list.len()
                 && list.len() <= moves.saturating_mul(weight as usize)
@@ -42,9 +41,9 @@ fn check_list<G: Game>(rt: &impl Abort, game: &G, board: &Position, weight: u8, 
             assert!(rt; weight == 1, "said to be shortest by weight {weight}");
             check_wins(rt, game, board, list);
         }
-        Verdict::Won(list, _) => {
+        Verdict::Won { moves, .. } => {
             assert!(rt; weight > 1, "not said to be shortest by weight 1");
-            check_wins(rt, game, board, list);
+            check_wins(rt, game, board, moves);
         }
         _ => {}
     }
@@ -52,20 +51,11 @@ fn check_list<G: Game>(rt: &impl Abort, game: &G, board: &Position, weight: u8, 
 
 // What a search says before its first turn: the home moves at its beginning, which count once, over the weight, rounded up,
 // and the bound of the board after them.
-fn least_at_first<G: Game>(
-    game: &G,
-    rule: u8,
-    weight: u8,
-    bound: BoundKind,
-    board: &Position,
-) -> u32
-    requires rule { rule ≤ GREATEST_RULE }
-    requires weight { IsWeight weight }
-{
+fn least_at_first<G: Game>(game: &G, method: Method, board: &Position) -> u32 {
     let mut position = board.copy();
-    let settling = settle(game, &mut position, rule);
-    let moves = (settling.len() as u32).div_ceil(u32::from(weight));
-    moves.saturating_add(u32::from(bound.guide(&position)))
+    let settling = settle(game, &mut position, method.rule.get());
+    let moves = (settling.len() as u32).div_ceil(u32::from(method.weight.get()));
+    moves.saturating_add(u32::from(method.bound.guide(&position)))
 }
 
 // Takes all turns of a search, which never says that more moves are needed than were found.
@@ -87,34 +77,40 @@ fn take_turns<F: Frontier + Drop, G: Game + Drop>(
     assert!(rt; search.at_least() as usize <= most, "more than the least");
 }
 
-// A search of a board by a weight agrees with what was found, from its first turn to its end.
+// What a search of a board says at its end is right: its list wins, and it agrees with what was found.
+fn check_verdict<G: Game>(
+    rt: &impl Abort,
+    game: &G,
+    board: &Position,
+    weight: u8,
+    verdict: &Verdict,
+    found: Found,
+) {
+    check_list(rt, game, board, weight, verdict);
+    assert!(rt;
+        agrees(verdict, weight, found),
+        "another answer by weight {weight}"
+    );
+}
+
+// A search of a board agrees with what was found, from its first turn to its end.
 fn compare_turns<F: Frontier + Drop, G: Game + Drop>(
     rt: &impl Abort,
     alloc: Global,
-    game: &G,
-    rule: u8,
-    weight: u8,
-    bound: BoundKind,
+    question: &Question<G>,
     board: &Position,
     found: Found,
 )
-    requires rule { rule ≤ GREATEST_RULE }
-    requires weight { IsWeight weight }
-    requires fits { Fits (G.game game.now).cells board.now }
+    requires fits { Fits question.now.game.cells board.now }
 {
-    let mut search: Search<F, G> = sure(
-        rt,
-        Search::new(alloc, game, rule, weight, bound, board, 4000),
-    );
-    let least = least_at_first(game, rule, weight, bound, board);
+    let game = question.game();
+    let weight = question.method().weight.get();
+    let mut search: Search<F, G> = sure(rt, Search::new_by(alloc, question, board));
+    let least = least_at_first(game, question.method(), board);
     assert!(rt; search.at_least() == least, "another least at first");
     take_turns(rt, &mut search, found);
     let verdict = sure(rt, search.verdict());
-    check_list(rt, game, board, weight, &verdict);
-    assert!(rt;
-        agrees(&verdict, weight, found),
-        "another answer by weight {weight}"
-    );
+    check_verdict(rt, game, board, weight, &verdict, found);
     if let Verdict::Shortest(list) = &verdict {
         assert!(rt;
             search.at_least() as usize == list.len(),
@@ -131,19 +127,16 @@ fn compare_board<G: Game + Drop>(
     rule: u8,
     board: &Position,
 ) {
-    assert!(rt; rule <= GREATEST_RULE && board.fits(game.cells()));
+    assert!(rt; board.fits(game.cells()));
     let found = plain::search(rt, alloc, game, board, 300);
     for weight in WEIGHTS {
-        assert!(rt; 1 <= weight && weight <= MOST_WEIGHT);
-        compare_turns::<ListFrontier, G>(rt, alloc, game, rule, weight, Plain, board, found);
-        compare_turns::<BucketFrontier, G>(rt, alloc, game, rule, weight, Clearing, board, found);
-        for bound in [Plain, Clearing] {
-            let verdict = sure(rt, decide(alloc, game, rule, weight, bound, board, 4000));
-            check_list(rt, game, board, weight, &verdict);
-            assert!(rt;
-                agrees(&verdict, weight, found),
-                "another verdict by weight {weight}"
-            );
+        let plainly = Question::new(game, method(rt, rule, weight, Plain, 4000));
+        let clearing = Question::new(game, method(rt, rule, weight, Clearing, 4000));
+        compare_turns::<ListFrontier, G>(rt, alloc, &plainly, board, found);
+        compare_turns::<BucketFrontier, G>(rt, alloc, &clearing, board, found);
+        for question in [&plainly, &clearing] {
+            let verdict = sure(rt, decide_by(alloc, question, board, &mut Unheard));
+            check_verdict(rt, game, board, weight, &verdict, found);
         }
     }
 }

@@ -1,0 +1,150 @@
+//! Runs of the program that replay moves, over devices that fail too.
+
+use crate::given::free_cell;
+use fc_io::testing::Failing;
+use fc_io::{FromReader, FromSlice, ToArray};
+use fc_replay::ReplayFault;
+use fc_runs::{Input, Output, ProgramFault, run_replay};
+use fc_tests::boards::TWO_KINGS;
+use std::alloc::Global;
+use std::io;
+use std::process::Abort;
+
+// The boards of two kings after `1a` and then `1h`.
+const TWO_BOARDS: &[u8] = b"Foundations: H-J C-K D-K S-J
+Freecells: KH - - -
+: QS
+: QH KS
+:
+:
+:
+:
+:
+:
+Foundations: H-J C-K D-K S-Q
+Freecells: KH - - -
+:
+: QH KS
+:
+:
+:
+:
+:
+:
+";
+
+// After how many calls the board, the moves and the sink fail.
+#[derive(Clone, Copy)]
+struct Calls {
+    board: u32,
+    moves: u32,
+    sink: u32,
+}
+
+// Replays moves of two kings over devices that move one byte a call and fail after so many calls: the run ends so, with
+// this written.
+fn replays_over(
+    rt: &impl Abort,
+    alloc: Global,
+    moves: &[u8],
+    calls: Calls,
+    wanted: &Result<u8, ProgramFault>,
+    printed: &[u8],
+) {
+    let mut board = Failing::new(FromSlice::new(TWO_KINGS.as_bytes()), calls.board);
+    let mut list = Failing::new(FromSlice::new(moves), calls.moves);
+    let mut out = Failing::new(ToArray::<400>::new(), calls.sink);
+    let result = run_replay(alloc, &free_cell(rt, 4), &mut board, &mut list, &mut out);
+    assert!(rt; result == *wanted, "another end");
+    assert!(rt; out.device.held() == printed, "another text");
+}
+
+// The same over devices that move as many bytes as they can and don't fail.
+fn replays(
+    rt: &impl Abort,
+    alloc: Global,
+    moves: &[u8],
+    wanted: &Result<u8, ProgramFault>,
+    printed: &[u8],
+) {
+    let mut board = FromSlice::new(TWO_KINGS.as_bytes());
+    let mut list = FromSlice::new(moves);
+    let mut out = ToArray::<400>::new();
+    let result = run_replay(alloc, &free_cell(rt, 4), &mut board, &mut list, &mut out);
+    assert!(rt; result == *wanted, "another end");
+    assert!(rt; out.held() == printed, "another text");
+}
+
+// So many calls that no device fails.
+const ENOUGH: Calls = Calls {
+    board: 1000,
+    moves: 1000,
+    sink: 1000,
+};
+
+// Replaying moves of two kings ends so, over either kind of devices.
+fn check_replay(
+    rt: &impl Abort,
+    alloc: Global,
+    moves: &[u8],
+    wanted: &Result<u8, ProgramFault>,
+    printed: &[u8],
+) {
+    replays_over(rt, alloc, moves, ENOUGH, wanted, printed);
+    replays(rt, alloc, moves, wanted, printed);
+}
+
+#[test]
+fn replays_moves(rt: HostRuntime) {
+    check_replay(&rt, rt.alloc(), b"1a 1H\r\n", &Ok(0), TWO_BOARDS);
+    let refused = Err(ProgramFault::Moves(ReplayFault::NotAllowed(3)));
+    check_replay(&rt, rt.alloc(), b"1a 1h 1h", &refused, TWO_BOARDS);
+    let bad = Err(ProgramFault::Moves(ReplayFault::BadMove(1)));
+    check_replay(&rt, rt.alloc(), b"9h", &bad, b"");
+}
+
+// A replay of two moves whose devices fail after so many calls ends by this fault, with this written.
+fn check_failing(
+    rt: &impl Abort,
+    alloc: Global,
+    calls: Calls,
+    fault: ProgramFault,
+    printed: &[u8],
+) {
+    replays_over(rt, alloc, b"1a 1h", calls, &Err(fault), printed);
+}
+
+#[test]
+fn replays_over_failing_devices(rt: HostRuntime) {
+    for board in 0..=TWO_KINGS.len() as u32 {
+        let calls = Calls { board, ..ENOUGH };
+        let fault = ProgramFault::Read(Input::Board);
+        check_failing(&rt, rt.alloc(), calls, fault, b"");
+    }
+    for moves in 0..6 {
+        let calls = Calls { moves, ..ENOUGH };
+        let fault = ProgramFault::Read(Input::Moves);
+        check_failing(&rt, rt.alloc(), calls, fault, b"");
+    }
+    for count in 0..TWO_BOARDS.len() {
+        let sink = count as u32;
+        let calls = Calls { sink, ..ENOUGH };
+        let fault = ProgramFault::Write(Output::Answer);
+        check_failing(&rt, rt.alloc(), calls, fault, &TWO_BOARDS[..count]);
+    }
+}
+
+#[test]
+fn stops_moves_that_never_end(rt: HostRuntime) {
+    let mut board = FromSlice::new(TWO_KINGS.as_bytes());
+    let mut moves = FromReader::new(io::repeat(b' '));
+    let mut out = ToArray::<400>::new();
+    let result = run_replay(
+        rt.alloc(),
+        &free_cell(&rt, 4),
+        &mut board,
+        &mut moves,
+        &mut out,
+    );
+    assert!(rt; result == Err(ProgramFault::TooLong(Input::Moves)));
+}
