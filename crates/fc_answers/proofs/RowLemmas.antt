@@ -8,11 +8,12 @@ use Rattle.std.proofs.lemmas.List.{length-map, get_or-map}
 use Rattle.std.proofs.lemmas.List.Elements.{Contains-append_right}
 use Rattle.std.proofs.lemmas.List.Kept.{AllPairs-filter}
 use Rattle.std.proofs.lemmas.List.Sums.{length-filter, count_by-le-length}
-use Rattle.fc_moves.specs.GameLaws.{Contains-filter, Contains-from_filter}
+use Rattle.fc_moves.specs.inner.GameLaws.{Contains-filter, Contains-from_filter}
 use Rattle.fc_position.specs.Board.{Board}
 use Rattle.fc_canonical.specs.Spelled.{spelled}
 use Rattle.fc_answers.specs.declared.tables.Row.{Row}
-use Rattle.fc_answers.specs.Table.{HaveKeysOnce, pairs_of, inside, at_no_cost}
+use Rattle.fc_answers.specs.Table.{HaveKeysOnce, pairs_of}
+use Rattle.fc_answers.specs.inner.Table.{at_no_cost, inside}
 
 -- the pair of the row with this number
 pub pair_there : (rows : List Row) (i : ℕ) (row : Row) → row ≡ get_or rows i row → i < length (pairs_of rows)

@@ -1,10 +1,8 @@
 -- Tables of answers: rows of a key's bytes and a cost.
-use Rattle.std.specs.Prelude.{◌≢◌, ℕ, ◌+◌, ◌<◌, ◌≤◌, List, length, AllPairs, Contains, slice_index_or, map, nat_lt}
-use Rattle.std.specs.List.{filter}
-use Rattle.fc_position.specs.Board.{Board}
+use Rattle.std.specs.Prelude.{◌≢◌, ℕ, ◌+◌, ◌<◌, ◌≤◌, List, length, AllPairs, Contains, slice_index_or, map}
 use Rattle.fc_moves.specs.GameRules.{GameRules}
 use Rattle.fc_canonical.specs.KeyOrder.{IsBefore}
-use Rattle.fc_canonical.specs.Spelled.{IsKeyIn, spelled}
+use Rattle.fc_canonical.specs.Spelled.{IsKeyIn}
 use Rattle.fc_home.specs.declared.settling.TheConstants.{GREATEST_RULE}
 use Rattle.fc_bound.specs.declared.kinds.BoundKind.{BoundKind}
 use Rattle.fc_answers.specs.declared.tables.TheConstants.{MOST_CLASSES}
@@ -35,14 +33,6 @@ pub record IsTable (g : GameRules) (table : Listing) : Type 0 where
 -- no two rows have one key
 abbrev pub HaveKeysOnce : List (List ℕ × ℕ) → Type 0
 HaveKeysOnce rows = AllPairs (λ x y. x.0 ≢ y.0) rows
-
--- the rows whose cost and bound are below n, by a lower bound
-abbrev pub inside : (Board → ℕ) → ℕ → List (List ℕ × ℕ) → List (List ℕ × ℕ)
-inside low n rows = filter (λ e. nat_lt (e.1 + low (spelled e.0)) n) rows
-
--- the same keys, each at no cost
-abbrev pub at_no_cost : List (List ℕ × ℕ) → List (List ℕ × ℕ)
-at_no_cost rows = map (λ e. (e.0, 0)) rows
 
 -- the rows of a table as pairs of a key's bytes and a cost
 abbrev pub pairs_of : List Row → List (List ℕ × ℕ)

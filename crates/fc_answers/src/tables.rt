@@ -4,7 +4,7 @@ ghost use Rattle.fc_answers.specs.Table.{HaveKeysOnce, IsRising, pairs_of};
 
 use fc_bound::BoundKind;
 use fc_canonical::Key;
-use fc_home::GREATEST_RULE;
+use fc_home::{GREATEST_RULE, HomeRule};
 use std::marker::Model;
 
 /// The most classes that a table lists.
@@ -40,19 +40,23 @@ impl Model for Table {
 }
 
 impl Table {
-    /// The table of these rows, in order, under a home rule of at most 2 and a kind of bound. No two rows may have one key.
-    pub fn sorted(rule: u8, bound: BoundKind, rows: Vec<Row>) -> Self
-        requires known { rule ≤ GREATEST_RULE }
+    /// The table of these rows, in order, under a home rule and a kind of bound. No two rows may have one key.
+    pub fn sorted(rule: HomeRule, bound: BoundKind, rows: Vec<Row>) -> Self
         requires few { length rows.items ≤ MOST_CLASSES }
         requires once { HaveKeysOnce (pairs_of rows.items) }
         ensures rule { result.rule ≡ rule }
+        ensures known { result.rule ≤ GREATEST_RULE }
         ensures bound { result.bound ≡ bound }
         ensures rows { IsPermutation (pairs_of rows.items) result.rows }
         ensures rising { IsRising result.rows }
     {
         let mut rows = rows;
         rows.sort_unstable();
-        Table { rule, bound, rows }
+        Table {
+            rule: rule.get(),
+            bound,
+            rows,
+        }
     }
 
     /// The home rule that the classes were searched by, 0 to 2.

@@ -12,11 +12,11 @@ use Rattle.fc_best_first.specs.declared.searches.Step.{Step}
 use Rattle.fc_best_first.specs.declared.searches.Step.TheVariants.{Running, Done}
 use Rattle.fc_best_first.specs.declared.turns.Status.{Status}
 use Rattle.fc_best_first.specs.declared.turns.Status.TheVariants as status
-use Rattle.fc_best_first.specs.Graph.{Graph}
+use Rattle.fc_best_first.specs.Graph.{Task}
 use Rattle.fc_best_first.specs.Search.{Turns}
 use Rattle.fc_best_first.specs.Store.{Store}
 use Rattle.fc_best_first.specs.Turn.{work_left as left_of}
-use Rattle.fc_search.specs.Problem.{Problem, classes_of}
+use Rattle.fc_search.specs.Problem.{Problem, task_of_problem}
 use Rattle.fc_search.specs.Search.{State}
 use Rattle.fc_batch.specs.Batch.{Batch, Stays, TurnsAt, TurnFor, TurnsFor, HasTurn, NumbersWereGiven, found, search_at, running, while_running, work_of, work_left}
 
@@ -105,33 +105,33 @@ few (Ok Running) = omega arith
 few (Ok Done) = omega arith
 few (Err fault) = omega arith
 
-by_status : (g : Graph (List ℕ)) (weight budget : ℕ) (old new : Store (List ℕ)) (before after : Status (List ℕ))
-    (reply : Result Step SearchFault) → Turns g weight budget before old new after reply → (reply ≡ Ok Running → left_of budget new < left_of budget old)
-    → while_running after (left_of budget new) + running reply ≤ while_running before (left_of budget old)
-by_status g weight budget old new status.Running status.Running reply turn falls =
+by_status : (task : Task (List ℕ)) (old new : Store (List ℕ)) (before after : Status (List ℕ))
+    (reply : Result Step SearchFault) → Turns task before old new after reply → (reply ≡ Ok Running → left_of task.budget new < left_of task.budget old)
+    → while_running after (left_of task.budget new) + running reply ≤ while_running before (left_of task.budget old)
+by_status task old new status.Running status.Running reply turn falls =
     ⊎_elim
     (λ (takes, told). let less = falls told in let one : running reply ≡ 1 = ap running told in omega (arith, less, one))
     (λ (stopped, told). absurd cc)
     turn
-by_status g weight budget old new status.Running (status.Won n) reply turn falls = omega (arith, few reply)
-by_status g weight budget old new status.Running status.CannotWin reply turn falls = omega (arith, few reply)
-by_status g weight budget old new status.Running (status.GaveUp y n) reply turn falls = omega (arith, few reply)
-by_status g weight budget old new status.Running status.Stopped reply turn falls = omega (arith, few reply)
-by_status g weight budget old new (status.Won n) after reply (same, stays, told) falls =
+by_status task old new status.Running (status.Won n) reply turn falls = omega (arith, few reply)
+by_status task old new status.Running status.CannotWin reply turn falls = omega (arith, few reply)
+by_status task old new status.Running (status.GaveUp y n) reply turn falls = omega (arith, few reply)
+by_status task old new status.Running status.Stopped reply turn falls = omega (arith, few reply)
+by_status task old new (status.Won n) after reply (same, stays, told) falls =
     let none : running reply ≡ 0 = ap running told in
-    let nothing : while_running after (left_of budget new) ≡ 0 = ap (λ s. while_running s (left_of budget new)) stays in
+    let nothing : while_running after (left_of task.budget new) ≡ 0 = ap (λ s. while_running s (left_of task.budget new)) stays in
     omega (arith, none, nothing)
-by_status g weight budget old new status.CannotWin after reply (same, stays, told) falls =
+by_status task old new status.CannotWin after reply (same, stays, told) falls =
     let none : running reply ≡ 0 = ap running told in
-    let nothing : while_running after (left_of budget new) ≡ 0 = ap (λ s. while_running s (left_of budget new)) stays in
+    let nothing : while_running after (left_of task.budget new) ≡ 0 = ap (λ s. while_running s (left_of task.budget new)) stays in
     omega (arith, none, nothing)
-by_status g weight budget old new (status.GaveUp y n) after reply (same, stays, told) falls =
+by_status task old new (status.GaveUp y n) after reply (same, stays, told) falls =
     let none : running reply ≡ 0 = ap running told in
-    let nothing : while_running after (left_of budget new) ≡ 0 = ap (λ s. while_running s (left_of budget new)) stays in
+    let nothing : while_running after (left_of task.budget new) ≡ 0 = ap (λ s. while_running s (left_of task.budget new)) stays in
     omega (arith, none, nothing)
-by_status g weight budget old new status.Stopped after reply (same, stays, told) falls =
+by_status task old new status.Stopped after reply (same, stays, told) falls =
     let none : running reply ≡ 0 = ap running told in
-    let nothing : while_running after (left_of budget new) ≡ 0 = ap (λ s. while_running s (left_of budget new)) stays in
+    let nothing : while_running after (left_of task.budget new) ≡ 0 = ap (λ s. while_running s (left_of task.budget new)) stays in
     omega (arith, none, nothing)
 
 -- a turn leaves its search less to do, where it runs on, and never more
@@ -139,7 +139,7 @@ turn_falls : (before after : State) (reply : Result Step SearchFault) → HasTur
     → (reply ≡ Ok Running → left_of before.problem.method.budget after.store < left_of before.problem.method.budget before.store)
     → work_of after + running reply ≤ work_of before
 turn_falls before after reply turn falls =
-    let less = by_status (classes_of before.problem) before.problem.method.weight before.problem.method.budget before.store after.store before.status after.status reply
+    let less = by_status (task_of_problem before.problem) before.store after.store before.status after.status reply
     turn.turned falls in
     let same = ap (λ (p : Problem). while_running after.status (left_of p.method.budget after.store)) turn.problem in
     omega (arith, less, same)

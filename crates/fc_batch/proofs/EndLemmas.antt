@@ -7,18 +7,18 @@ use Rattle.fc_best_first.specs.declared.searches.SearchFault.TheVariants.{NoSuch
 use Rattle.fc_best_first.specs.declared.searches.Step.{Step}
 use Rattle.fc_best_first.specs.declared.turns.Status.{Status}
 use Rattle.fc_best_first.specs.declared.turns.Status.TheVariants.{Running, Won, CannotWin, GaveUp, Stopped}
-use Rattle.fc_best_first.specs.Graph.{Graph}
+use Rattle.fc_best_first.specs.Graph.{Task}
 use Rattle.fc_best_first.specs.Search.{Turns, reply_of}
 use Rattle.fc_best_first.specs.Store.{Store}
-use Rattle.fc_search.specs.Problem.{classes_of}
+use Rattle.fc_search.specs.Problem.{task_of_problem}
 use Rattle.fc_search.specs.Search.{State}
 use Rattle.fc_batch.specs.Batch.{Batch, Stays, TurnsAt, TurnsFor, HasTurns, search_at, running}
 use Rattle.fc_batch.specs.Laws.{QuietTurnsEnd}
 use Rattle.fc_batch.proofs.LawLemmas.{numbers_stay, turn_alone}
 
-module _ (g : Graph (List ℕ)) (weight budget : ℕ) (old new : Store (List ℕ)) where
+module _ (task : Task (List ℕ)) (old new : Store (List ℕ)) where
   -- a turn with another reply leaves its search ended
-  ended : (before after : Status (List ℕ)) (reply : Result Step SearchFault) → Turns g weight budget before old new after reply
+  ended : (before after : Status (List ℕ)) (reply : Result Step SearchFault) → Turns task before old new after reply
       → running reply ≡ 0 → after ≡ Running → ⊥
   ended Running after reply turn none runs =
       ⊎_elim
@@ -33,7 +33,7 @@ module _ (g : Graph (List ℕ)) (weight budget : ℕ) (old new : Store (List ℕ
   ended Stopped after reply (same, stays, told) none runs = cc
 
   -- and any turn one that had ended
-  kept : (before after : Status (List ℕ)) (reply : Result Step SearchFault) → Turns g weight budget before old new after reply
+  kept : (before after : Status (List ℕ)) (reply : Result Step SearchFault) → Turns task before old new after reply
       → (before ≡ Running → ⊥) → after ≡ Running → ⊥
   kept Running after reply turn other runs = other refl
   kept (Won n) after reply (same, stays, told) other runs = cc
@@ -47,7 +47,7 @@ all_kept : (turns : ℕ) (before after : State) → HasTurns turns before after 
 all_kept zero before after same other = subst (λ s. s.status ≡ Running → ⊥) (sym same) other
 all_kept (suc turns) before after (mid, reply, turn, rest) other =
     all_kept turns mid after rest
-    (kept (classes_of before.problem) before.problem.method.weight before.problem.method.budget before.store mid.store before.status mid.status reply turn.turned other)
+    (kept (task_of_problem before.problem) before.store mid.store before.status mid.status reply turn.turned other)
 
 -- a search that had a turn with another reply has ended, whatever turns follow
 ends_at : (j : ℕ) (o : Option State) (old mid new : Batch) (reply : Result Step SearchFault) (list : List ℕ) (count : ℕ)
@@ -60,7 +60,7 @@ ends_at j (Some before) old mid new reply list count turn there none rest s at r
     let on = turn_alone list mid new count rest j turn.after turn.there in
     let same : on.0 ≡ s = same_Some on.0 s (sym on.1 ∙ at) in
     let own = turn.turn in
-    let end = ended (classes_of before.problem) before.problem.method.weight before.problem.method.budget before.store turn.after.store before.status turn.after.status reply
+    let end = ended (task_of_problem before.problem) before.store turn.after.store before.status turn.after.status reply
     own.turned none in
     subst (λ v. v.status ≡ Running → ⊥) same (all_kept _ turn.after on.0 on.2 end) runs
 

@@ -8,7 +8,7 @@ use Rattle.fc_best_first.specs.declared.turns.Status.{Status}
 use Rattle.fc_best_first.specs.declared.turns.Status.TheVariants.{Running as runs}
 use Rattle.fc_best_first.specs.Search.{FloorAfter, Turns}
 use Rattle.fc_best_first.specs.Turn.{work_left as left_of}
-use Rattle.fc_search.specs.Problem.{classes_of}
+use Rattle.fc_search.specs.Problem.{task_of_problem}
 use Rattle.fc_search.specs.Search.{State}
 
 -- a batch, to its callers: the searches that it holds, each with its number, and how many were ever added, which is the
@@ -42,7 +42,7 @@ OthersStay i old new = (j : ℕ) → j ≢ i → search_at new j ≡ search_at o
 -- a search has one turn, with this reply
 pub record HasTurn (old new : State) (reply : Result Step SearchFault) : Type 0 where
   pub problem : new.problem ≡ old.problem
-  pub turned : Turns (classes_of old.problem) old.problem.method.weight old.problem.method.budget old.status old.store new.store new.status reply
+  pub turned : Turns (task_of_problem old.problem) old.status old.store new.store new.status reply
   pub floor : FloorAfter old.status old.store.waiting old.floor new.floor
 
 -- so many turns of a search, one after the other

@@ -7,12 +7,12 @@ use Rattle.std.proofs.lemmas.List.Elements.{Contains-append_right}
 use Rattle.std.proofs.lemmas.List.Sorted.{Contains-permutation, IsPermutation-sym}
 use Rattle.fc_best_first.specs.declared.books.Mark.{Mark}
 use Rattle.fc_best_first.specs.Graph.{Graph}
-use Rattle.fc_best_first.specs.Store.{Store, Stands}
-use Rattle.fc_best_first.specs.Kept.{IsExpanded, IsSettled, IsSound}
+use Rattle.fc_best_first.specs.Store.{Store, IsStored}
+use Rattle.fc_best_first.specs.Kept.{IsExpanded, IsOpenOrExpanded, IsSound}
 use Rattle.fc_best_first.specs.Laws.{OpenFloorsHold}
 use Rattle.fc_best_first.specs.Shown.{IsLeastOpen, IsOpen}
 use Rattle.fc_best_first.proofs.KeptLemmas.{front_cases, front_there, same_entry, stands_within}
-use Rattle.fc_best_first.proofs.SearchLemmas.{closed_inside}
+use Rattle.fc_best_first.proofs.ClosedLemmas.{closed_inside}
 
 module _ {K : Type 0} (g : Graph K) (weight : ℕ) (s : Store K) (most : ℕ) where
   -- a floor of the open keys, but of those of the pairs that are left
@@ -66,7 +66,7 @@ module _ {K : Type 0} (g : Graph K) (weight : ℕ) (s : Store K) (most : ℕ) wh
         (subst (λ ps. Contains ps (mark.cost + weight * g.bound x, number)) taken left)))
         (h.least number x mark is)
 
-    module _ (x : K) (m : Mark) (at : Stands s i x m) where
+    module _ (x : K) (m : Mark) (at : IsStored s i x m) where
       -- a pair whose f isn't its key's present one is passed over
       pub least_stale : (m.cost + weight * g.bound x ≡ f → ⊥) → IsLeastBut floor rest
       least_stale stale = record {
@@ -76,7 +76,7 @@ module _ {K : Type 0} (g : Graph K) (weight : ℕ) (s : Store K) (most : ℕ) wh
             (λ le. inl le)
             (λ later. ⊎_elim
             (λ here. absurd (stale (
-            let both = same_entry s i x y m mark at (subst (λ k. Stands s k y mark) (sym here.1) is.stands) in
+            let both = same_entry s i x y m mark at (subst (λ k. IsStored s k y mark) (sym here.1) is.stands) in
             subst (λ v. m.cost + weight * g.bound v ≡ f) (sym both.0)
             (subst (λ n. n.cost + weight * g.bound y ≡ f) (sym both.1) (sym here.0)))))
             (λ behind. inr behind)
@@ -101,7 +101,7 @@ module _ {K : Type 0} (g : Graph K) (weight : ℕ) (s : Store K) (most : ℕ) wh
               (λ le. inl (omega (arith, le, low)))
               (λ later. ⊎_elim
               (λ here.
-              let both = same_entry s i x y m mark at (subst (λ k. Stands s k y mark) (sym here.1) is.stands) in
+              let both = same_entry s i x y m mark at (subst (λ k. IsStored s k y mark) (sym here.1) is.stands) in
               inl (subst (λ v. new ≤ mark.cost + g.bound v) both.0 (subst (λ n. new ≤ n.cost + g.bound x) both.1 own)))
               (λ behind. inr behind)
               later)
@@ -130,13 +130,13 @@ module _ {K : Type 0} (g : Graph K) (weight : ℕ) (s : Store K) (most : ℕ) wh
 
 module _ {K : Type 0} (g : Graph K) where
   -- what is expanded where every pair that is open tells no less
-  below_expanded : (weight : ℕ) (s : Store K) (number : ℕ) (x : K) (mark : Mark) (floor : ℕ) → Stands s number x mark
-      → ((i : ℕ) (y : K) (m : Mark) → (i ≡ number → ⊥) → Stands s i y m → IsSettled g weight s i y m)
+  below_expanded : (weight : ℕ) (s : Store K) (number : ℕ) (x : K) (mark : Mark) (floor : ℕ) → IsStored s number x mark
+      → ((i : ℕ) (y : K) (m : Mark) → (i ≡ number → ⊥) → IsStored s i y m → IsOpenOrExpanded g weight s i y m)
       → IsLeastOpen g weight s mark.cost floor
-      → (i : ℕ) (y : K) (m : Mark) → Stands s i y m → m.cost + g.bound y < floor → IsExpanded g s y m.cost
+      → (i : ℕ) (y : K) (m : Mark) → IsStored s i y m → m.cost + g.bound y < floor → IsExpanded g s y m.cost
   below_expanded weight s number x mark floor at settled least i y m there lt = ⊎_elim
       (λ same.
-      let both = same_entry s number x y mark m at (subst (λ k. Stands s k y m) same there) in
+      let both = same_entry s number x y mark m at (subst (λ k. IsStored s k y m) same there) in
       let cost = ap (λ n. n.cost) both.1 in
       absurd (omega (arith, cost, lt, least.within)))
       (λ other. ⊎_elim

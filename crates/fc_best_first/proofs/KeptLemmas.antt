@@ -9,9 +9,9 @@ use Rattle.fc_frontier.specs.Queue.{Adds, IsLeast}
 use Rattle.fc_best_first.specs.declared.books.Mark.{Mark}
 use Rattle.fc_best_first.specs.declared.books.Offered.TheVariants.{Lowered, Added}
 use Rattle.fc_best_first.specs.Graph.{Graph, Reached}
-use Rattle.fc_best_first.specs.Store.{Store, Stands, IsNew, Offers}
+use Rattle.fc_best_first.specs.Store.{Store, Candidate, IsStored, IsNew, Offers}
 use Rattle.fc_best_first.specs.Turn.{TakesFloor}
-use Rattle.fc_best_first.specs.Kept.{HasAt, IsExpanded, IsSettled, IsNeeded, Comes, IsSound}
+use Rattle.fc_best_first.specs.Kept.{HasAt, IsExpanded, IsOpenOrExpanded, IsNeeded, Comes, IsSound}
 use Rattle.fc_best_first.proofs.StoreLemmas.{set_here, set_elsewhere, push_here, push_elsewhere}
 
 -- pairs that are put in and taken out
@@ -43,16 +43,16 @@ least_below f i d j ps least (k, lt, e) =
     subst (λ p. f ≤ p.0) e (least k (d, j) lt)
 
 module _ {K : Type 0} where
-  pub same_entry : (s : Store K) (i : ℕ) (x y : K) (m n : Mark) → Stands s i x m → Stands s i y n → (x ≡ y) × (m ≡ n)
+  pub same_entry : (s : Store K) (i : ℕ) (x y : K) (m n : Mark) → IsStored s i x m → IsStored s i y n → (x ≡ y) × (m ≡ n)
   same_entry s i x y m n a b = some_pair_parts x y m n (sym a ∙ b)
 
-  pub stands_within : (s : Store K) (i : ℕ) (x : K) (m : Mark) → Stands s i x m → i < length s.stored
+  pub stands_within : (s : Store K) (i : ℕ) (x : K) (m : Mark) → IsStored s i x m → i < length s.stored
   stands_within s i x m at = slice_get_within s.stored i (x, m) at
 
 module _ {K : Type 0} (g : Graph K) (weight budget : ℕ) where
   -- a pair that is taken is of a stored key
   pub taken_stands : (old : Store K) (f i : ℕ) (rest : List (ℕ × ℕ)) → IsSound g weight budget old → Adds rest old.waiting (f, i)
-      → (x : K) × (m : Mark) × Stands old i x m × (m.cost + weight * g.bound x ≤ f)
+      → (x : K) × (m : Mark) × IsStored old i x m × (m.cost + weight * g.bound x ≤ f)
   taken_stands old f i rest sound taken = sound.pairs f i (added_there rest old.waiting (f, i) taken)
 
   pub taken_within : (old new : Store K) (f i : ℕ) → IsSound g weight budget old → Adds new.waiting old.waiting (f, i)
@@ -63,15 +63,15 @@ module _ {K : Type 0} (g : Graph K) (weight budget : ℕ) where
       let size = ap length kept in
       omega (arith, lt, size)
 
-  stands_back : (old new : Store K) (i : ℕ) (x : K) (m : Mark) → new.stored ≡ old.stored → Stands new i x m → Stands old i x m
+  stands_back : (old new : Store K) (i : ℕ) (x : K) (m : Mark) → new.stored ≡ old.stored → IsStored new i x m → IsStored old i x m
   stands_back old new i x m kept at = subst (λ es. slice_get es i ≡ Some (x, m)) kept at
 
   pub entry_reached : (old new : Store K) (i : ℕ) (x : K) (m : Mark) → IsSound g weight budget old → new.stored ≡ old.stored
-      → Stands new i x m → (d : ℕ) × Reached g x d
+      → IsStored new i x m → (d : ℕ) × Reached g x d
   entry_reached old new i x m sound kept at = (m.cost, sound.reached i x m (stands_back old new i x m kept at))
 
   pub entry_low : (old new : Store K) (i : ℕ) (x : K) (m : Mark) → IsSound g weight budget old → budget ≤ 4000000
-      → new.stored ≡ old.stored → Stands new i x m → m.cost ≤ 212000000
+      → new.stored ≡ old.stored → IsStored new i x m → m.cost ≤ 212000000
   entry_low old new i x m sound most kept at =
       let there = stands_back old new i x m kept at in
       let low = sound.low i x m there in
@@ -82,43 +82,43 @@ module _ {K : Type 0} (g : Graph K) (weight budget : ℕ) where
 module _ {K : Type 0} where
   -- a key is stored under the number with this mark and open at f, as it was not or at more before; all others stay
   pub record Puts (old new : Store K) (y : K) (e : Mark) (f i : ℕ) : Type 0 where
-    pub here : Stands new i y e
-    pub back : (j : ℕ) (x : K) (m : Mark) → (j ≡ i → ⊥) → Stands new j x m → Stands old j x m
-    pub on : (j : ℕ) (x : K) (m : Mark) → (j ≡ i → ⊥) → Stands old j x m → Stands new j x m
+    pub here : IsStored new i y e
+    pub back : (j : ℕ) (x : K) (m : Mark) → (j ≡ i → ⊥) → IsStored new j x m → IsStored old j x m
+    pub on : (j : ℕ) (x : K) (m : Mark) → (j ≡ i → ⊥) → IsStored old j x m → IsStored new j x m
     pub opened : Adds old.waiting new.waiting (f, i)
-    pub was : (IsNew old y × (i ≡ length old.stored)) ⊎ ((m : Mark) × Stands old i y m × (e.cost < m.cost))
+    pub was : (IsNew old y × (i ≡ length old.stored)) ⊎ ((m : Mark) × IsStored old i y m × (e.cost < m.cost))
 
-  pub puts_lowered : (budget : ℕ) (old new : Store K) (y : K) (e : Mark) (f : ℕ)
-      → (h : Offers budget old new y e f Lowered) → Puts old new y e f h.0
-  puts_lowered budget old new y e f (i, m, at, (lt, stored, opened)) = record {
-    here = subst (λ es. slice_get es i ≡ Some (y, e)) (sym stored) (set_here old.stored i y m e at);
-    back = λ j x n ne there. sym (set_elsewhere old.stored i j e ne) ∙ ap (λ es. slice_get es j) (sym stored) ∙ there;
-    on = λ j x n ne there. ap (λ es. slice_get es j) stored ∙ set_elsewhere old.stored i j e ne ∙ there;
+  pub puts_lowered : (budget : ℕ) (old new : Store K) (offer : Candidate K)
+      → (h : Offers budget old new offer Lowered) → Puts old new offer.key offer.mark offer.f h.0
+  puts_lowered budget old new offer (i, m, at, (lt, stored, opened)) = record {
+    here = subst (λ es. slice_get es i ≡ Some (offer.key, offer.mark)) (sym stored) (set_here old.stored i offer.key m offer.mark at);
+    back = λ j x n ne there. sym (set_elsewhere old.stored i j offer.mark ne) ∙ ap (λ es. slice_get es j) (sym stored) ∙ there;
+    on = λ j x n ne there. ap (λ es. slice_get es j) stored ∙ set_elsewhere old.stored i j offer.mark ne ∙ there;
     opened = opened;
     was = inr (m, at, lt);
   }
 
-  pub puts_added : (budget : ℕ) (old new : Store K) (y : K) (e : Mark) (f : ℕ) → Offers budget old new y e f Added
-      → Puts old new y e f (length old.stored)
-  puts_added budget old new y e f (fresh, lt, stored, opened) = record {
-    here = ap (λ es. slice_get es (length old.stored)) stored ∙ push_here old.stored (y, e);
-    back = λ j x n ne there. sym (push_elsewhere old.stored (y, e) j ne) ∙ ap (λ es. slice_get es j) (sym stored) ∙ there;
-    on = λ j x n ne there. ap (λ es. slice_get es j) stored ∙ push_elsewhere old.stored (y, e) j ne ∙ there;
+  pub puts_added : (budget : ℕ) (old new : Store K) (offer : Candidate K) → Offers budget old new offer Added
+      → Puts old new offer.key offer.mark offer.f (length old.stored)
+  puts_added budget old new offer (fresh, lt, stored, opened) = record {
+    here = ap (λ es. slice_get es (length old.stored)) stored ∙ push_here old.stored (offer.key, offer.mark);
+    back = λ j x n ne there. sym (push_elsewhere old.stored (offer.key, offer.mark) j ne) ∙ ap (λ es. slice_get es j) (sym stored) ∙ there;
+    on = λ j x n ne there. ap (λ es. slice_get es j) stored ∙ push_elsewhere old.stored (offer.key, offer.mark) j ne ∙ there;
     opened = opened;
     was = inl (fresh, refl);
   }
 
   module _ (old new : Store K) (y : K) (e : Mark) (f i : ℕ) (puts : Puts old new y e f i) where
     -- a stored key still stands under its number, at no more
-    pub still : (j : ℕ) (x : K) (m : Mark) → Stands old j x m → (n : Mark) × Stands new j x n × (n.cost ≤ m.cost)
+    pub still : (j : ℕ) (x : K) (m : Mark) → IsStored old j x m → (n : Mark) × IsStored new j x n × (n.cost ≤ m.cost)
     still j x m at =
         ⊎_elim
         (λ same. ⊎_elim
         (λ fresh. absurd (let lt = stands_within old j x m at in omega (arith, lt, same, fresh.1)))
         (λ lower.
-        let there : Stands old i x m = subst (λ k. Stands old k x m) same at in
+        let there : IsStored old i x m = subst (λ k. IsStored old k x m) same at in
         let both = same_entry old i x y m lower.0 there lower.1 in
-        let here : Stands new j x e = subst (λ k. Stands new k x e) (sym same) (subst (λ v. Stands new i v e) (sym both.0) puts.here) in
+        let here : IsStored new j x e = subst (λ k. IsStored new k x e) (sym same) (subst (λ v. IsStored new i v e) (sym both.0) puts.here) in
         let less : e.cost ≤ m.cost = (let q = ap (λ n. n.cost) both.1 in omega (arith, q, lower.2)) in
         (e, here, less))
         puts.was)
@@ -135,21 +135,21 @@ module _ {K : Type 0} where
     still_expanded g x d h = (h.0, λ c z edge. still_has z (d + c) (h.1 c z edge))
 
     -- the key that is put in stood nowhere else
-    pub own_number : (j : ℕ) (m : Mark) → Stands old j y m
-        → ((i j : ℕ) (x : K) (m n : Mark) → Stands old i x m → Stands old j x n → i ≡ j) → j ≡ i
+    pub own_number : (j : ℕ) (m : Mark) → IsStored old j y m
+        → ((i j : ℕ) (x : K) (m n : Mark) → IsStored old i x m → IsStored old j x n → i ≡ j) → j ≡ i
     own_number j m at once =
         ⊎_elim (λ fresh. absurd (fresh.0 j m at)) (λ lower. once j i y m lower.0 at lower.1) puts.was
 
-    at_here : (j : ℕ) (x : K) (m : Mark) → j ≡ i → Stands new j x m → (x ≡ y) × (m ≡ e)
-    at_here j x m same at = same_entry new i x y m e (subst (λ k. Stands new k x m) same at) puts.here
+    at_here : (j : ℕ) (x : K) (m : Mark) → j ≡ i → IsStored new j x m → (x ≡ y) × (m ≡ e)
+    at_here j x m same at = same_entry new i x y m e (subst (λ k. IsStored new k x m) same at) puts.here
 
     -- a number at which the key is put in at no less is another one
-    pub other_number : (j : ℕ) (x : K) (m : Mark) → Stands old j x m → m.cost ≤ e.cost → j ≡ i → ⊥
+    pub other_number : (j : ℕ) (x : K) (m : Mark) → IsStored old j x m → m.cost ≤ e.cost → j ≡ i → ⊥
     other_number j x m at le same =
         ⊎_elim
         (λ fresh. let lt = stands_within old j x m at in omega (arith, lt, same, fresh.1))
         (λ lower.
-        let both = same_entry old i x y m lower.0 (subst (λ k. Stands old k x m) same at) lower.1 in
+        let both = same_entry old i x y m lower.0 (subst (λ k. IsStored old k x m) same at) lower.1 in
         let q = ap (λ n. n.cost) both.1 in
         omega (arith, q, lower.2, le))
         puts.was
@@ -166,24 +166,24 @@ module _ {K : Type 0} where
     module _ (g : Graph K) (weight budget : ℕ) (sound : IsSound g weight budget old) (room : length new.stored ≤ budget)
         (reached : Reached g y e.cost) (low : e.cost ≤ 53 * i + 53) (comes : Comes g old i y e) (needed : IsNeeded g weight y)
         (high : e.cost + weight * g.bound y ≤ f) where
-      once : (j k : ℕ) (x : K) (m n : Mark) → Stands new j x m → Stands new k x n → j ≡ k
+      once : (j k : ℕ) (x : K) (m n : Mark) → IsStored new j x m → IsStored new k x n → j ≡ k
       once j k x m n a b =
           ⊎_elim
           (λ here. let q = (at_here j x m here a).0 in
           ⊎_elim (λ there. here ∙ sym there)
-          (λ ne. here ∙ sym (own_number k n (subst (λ v. Stands old k v n) q (puts.back k x n ne b)) sound.once))
+          (λ ne. here ∙ sym (own_number k n (subst (λ v. IsStored old k v n) q (puts.back k x n ne b)) sound.once))
           (cases_eq k i))
           (λ ne.
           ⊎_elim
           (λ there. let q = (at_here k x n there b).0 in
-          own_number j m (subst (λ v. Stands old j v m) q (puts.back j x m ne a)) sound.once ∙ sym there)
+          own_number j m (subst (λ v. IsStored old j v m) q (puts.back j x m ne a)) sound.once ∙ sym there)
           (λ other. sound.once j k x m n (puts.back j x m ne a) (puts.back k x n other b))
           (cases_eq k i))
           (cases_eq j i)
 
       -- what holds of the key that is put in and of each other holds of each
-      each : (P : ℕ → K → Mark → Type 0) → P i y e → ((j : ℕ) (x : K) (m : Mark) → Stands old j x m → P j x m)
-          → (j : ℕ) (x : K) (m : Mark) → Stands new j x m → P j x m
+      each : (P : ℕ → K → Mark → Type 0) → P i y e → ((j : ℕ) (x : K) (m : Mark) → IsStored old j x m → P j x m)
+          → (j : ℕ) (x : K) (m : Mark) → IsStored new j x m → P j x m
       each P here rest j x m at =
           ⊎_elim
           (λ same. let both = at_here j x m same at in
@@ -202,7 +202,7 @@ module _ {K : Type 0} where
         starts = λ x d start. still_has x d (sound.starts x d start);
         pairs = λ h j there. ⊎_elim
             (λ same.
-            let here : Stands new j y e = subst (λ k. Stands new k y e) (ap (λ p. p.1) same) puts.here in
+            let here : IsStored new j y e = subst (λ k. IsStored new k y e) (ap (λ p. p.1) same) puts.here in
             let le : e.cost + weight * g.bound y ≤ h = subst (λ k. e.cost + weight * g.bound y ≤ k) (ap (λ p. p.0) same) high in
             (y, e, here, le))
             (λ before.
@@ -214,8 +214,8 @@ module _ {K : Type 0} where
       }
 
       pub still_settled : (exact : f ≡ e.cost + weight * g.bound y) (busy : ℕ)
-          → ((j : ℕ) (x : K) (m : Mark) → (j ≡ busy → ⊥) → Stands old j x m → IsSettled g weight old j x m)
-          → (j : ℕ) (x : K) (m : Mark) → (j ≡ busy → ⊥) → Stands new j x m → IsSettled g weight new j x m
+          → ((j : ℕ) (x : K) (m : Mark) → (j ≡ busy → ⊥) → IsStored old j x m → IsOpenOrExpanded g weight old j x m)
+          → (j : ℕ) (x : K) (m : Mark) → (j ≡ busy → ⊥) → IsStored new j x m → IsOpenOrExpanded g weight new j x m
       still_settled exact busy settled j x m ne at =
           ⊎_elim
           (λ same. let both = at_here j x m same at in

@@ -1,3 +1,6 @@
+pub mod BeginLemmas
+pub mod ClosedLemmas
+pub mod ExpandLemmas
 pub mod FloorLemmas
 pub mod KeptLemmas
 pub mod RunLemmas

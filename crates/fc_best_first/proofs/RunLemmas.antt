@@ -1,32 +1,32 @@
 -- Lemmas on turns that are made one after the other.
-use Rattle.std.proofs.Common.{◌≡◌, ℕ, suc, Result, Ok, refl, sym, subst, inl, inr}
+use Rattle.std.proofs.Common.{◌≡◌, suc, Result, Ok, refl, sym, subst, inl, inr}
 use Rattle.fc_best_first.specs.declared.turns.Status.{Status}
 use Rattle.fc_best_first.specs.declared.turns.Status.TheVariants.{Running, Won, CannotWin, GaveUp, Stopped}
 use Rattle.fc_best_first.specs.declared.searches.Step.{Step}
 use Rattle.fc_best_first.specs.declared.searches.Step.TheVariants.{Running as running, Done}
 use Rattle.fc_best_first.specs.declared.searches.SearchFault.{SearchFault}
-use Rattle.fc_best_first.specs.Graph.{Graph}
+use Rattle.fc_best_first.specs.Graph.{Graph, Task}
 use Rattle.fc_best_first.specs.Store.{Store}
-use Rattle.fc_best_first.specs.Turn.{Takes}
-use Rattle.fc_best_first.specs.Search.{Turns, Runs, reply_of}
+use Rattle.fc_best_first.specs.Turn.{Advances}
+use Rattle.fc_best_first.specs.Search.{Progress, Turns, Runs, reply_of, task_of}
 
-module _ {K : Type 0} (g : Graph K) (weight budget : ℕ) where
+module _ {K : Type 0} (task : Task K) where
   pub runs_on : (before between after : Status K) (old mid new : Store K) (reply : Result Step SearchFault)
-      → Turns g weight budget before old mid between reply → Runs g weight budget between mid new after → Runs g weight budget before old new after
+      → Turns task before old mid between reply → Runs task between mid new after → Runs task before old new after
   runs_on before between after old mid new reply t r = (suc r.0, (mid, between, reply, t, r.1))
 
-  pub runs_none : (before : Status K) (old : Store K) → Runs g weight budget before old old before
+  pub runs_none : (before : Status K) (old : Store K) → Runs task before old old before
   runs_none before old = (0, (refl, refl))
 
   -- a turn that took a pair replies by the status that it leaves
   pub taken_turns : (before after : Status K) (old new : Store K) (step : Step) → before ≡ Running
-      → Takes g weight budget old new after → Ok step ≡ reply_of after
-      → Turns g weight budget before old new after (Ok step)
+      → Advances task old new after → Ok step ≡ reply_of after
+      → Turns task before old new after (Ok step)
   taken_turns before after old new step is takes replies =
-      subst (λ s. Turns g weight budget s old new after (Ok step)) (sym is) (inl (takes, replies))
+      subst (λ s. Turns task s old new after (Ok step)) (sym is) (inl (takes, replies))
 
   -- one that doesn't leave the search running says that it is done
-  pub done_replies : (after : Status K) (old new : Store K) → (after ≡ Running → ⊥) → Takes g weight budget old new after
+  pub done_replies : (after : Status K) (old new : Store K) → (after ≡ Running → ⊥) → Advances task old new after
       → Ok Done ≡ reply_of after
   done_replies Running old new other takes = absurd (other refl)
   done_replies (Won number) old new other takes = refl
@@ -42,7 +42,7 @@ module _ {K : Type 0} (g : Graph K) (weight budget : ℕ) where
   running_replies Stopped h = absurd (cc)
 
   -- where there is more to do, the search runs as before
-  pub running_stays : (before after : Status K) (old new : Store K) → Turns g weight budget before old new after (Ok running)
+  pub running_stays : (before after : Status K) (old new : Store K) → Turns task before old new after (Ok running)
       → after ≡ before
   running_stays Running after old new (inl t) = running_replies after t.1
   running_stays Running after old new (inr t) = absurd (let h = t.1 in cc)
@@ -52,10 +52,10 @@ module _ {K : Type 0} (g : Graph K) (weight budget : ℕ) where
   running_stays Stopped after old new t = t.1
 
 -- a turn of a search that is still of the space, the weight and the budget with which it began
-pub turns_along : {K S : Type 0} (graph : S → Graph K) (now first : S) (weight heavy budget most : ℕ) (before after : Status K)
-    (old new : Store K) (reply : Result Step SearchFault) → now ≡ first → weight ≡ heavy → budget ≡ most
-    → Turns (graph now) weight budget before old new after reply → Turns (graph first) heavy most before old new after reply
-turns_along graph now first weight heavy budget most before after old new reply e w f t =
-    subst (λ s. Turns (graph s) heavy most before old new after reply) e
-    (subst (λ v. Turns (graph now) v most before old new after reply) w
-    (subst (λ b. Turns (graph now) weight b before old new after reply) f t))
+pub turns_along : {K S : Type 0} (graph : S → Graph K) (now first : Progress S K) (before after : Status K) (old new : Store K)
+    (reply : Result Step SearchFault) → now.space ≡ first.space → now.weight ≡ first.weight → now.budget ≡ first.budget
+    → Turns (task_of graph now) before old new after reply → Turns (task_of graph first) before old new after reply
+turns_along graph now first before after old new reply e w f t =
+    subst (λ s. Turns (record { graph = graph s; weight = first.weight; budget = first.budget }) before old new after reply) e
+    (subst (λ v. Turns (record { graph = graph now.space; weight = v; budget = first.budget }) before old new after reply) w
+    (subst (λ b. Turns (record { graph = graph now.space; weight = now.weight; budget = b }) before old new after reply) f t))

@@ -7,7 +7,7 @@ use Rattle.std.proofs.lemmas.Option.{none-some, cond_some, slice_get_within, som
 use Rattle.indexmap.specs.IndexMap.{set_value_at}
 use Rattle.fc_frontier.specs.Queue.{Adds}
 use Rattle.fc_best_first.specs.declared.books.Mark.{Mark}
-use Rattle.fc_best_first.specs.Store.{Store, Stands}
+use Rattle.fc_best_first.specs.Store.{Store, IsStored}
 
 module _ {K X : Type 0} where
   -- a key that passes the test stands under the number
@@ -100,7 +100,7 @@ module _ {K : Type 0} where
   -- the entry that a look-up finds is of the key that was sought
   pub found_stands : (eq : K → K → Bool) → ((x y : K) → eq x y ≡ true → x ≡ y) → (es : List (K × Mark)) (s : Store K)
       → es ≡ s.stored → (x y : K) (m : Mark) (i : ℕ) → Some i ≡ position (eq x) (keys_of es) → slice_get es i ≡ Some (y, m)
-      → Stands s i x m
+      → IsStored s i x m
   found_stands eq exact es s same x y m i at entry =
       let seen = found_passes (eq x) es i at (slice_get_within es i (y, m) entry) in
       let both = some_pair_parts seen.0 y seen.1 m (sym seen.2 ∙ entry) in

@@ -9,7 +9,7 @@ use Rattle.indexmap.specs.Layout.{set_value_at, length-set_value_at}
 use Rattle.fc_frontier.specs.Queue.{Adds}
 use Rattle.fc_best_first.specs.declared.books.Mark.{Mark}
 use Rattle.fc_best_first.specs.declared.books.Offered.TheVariants.{Lowered, Added}
-use Rattle.fc_best_first.specs.Store.{Store, Offers}
+use Rattle.fc_best_first.specs.Store.{Store, Candidate, Offers}
 use Rattle.fc_best_first.specs.Turn.{work_left}
 
 added_one : (old new : List (ℕ × ℕ)) (p : ℕ × ℕ) → Adds old new p → length new ≡ suc (length old)
@@ -44,36 +44,36 @@ module _ {K : Type 0} where
         sum_set es i x m w at,
       )
 
-  pub lowered_work : (budget : ℕ) (old new : Store K) (x : K) (m : Mark) (f : ℕ) → Offers budget old new x m f Lowered
+  pub lowered_work : (budget : ℕ) (old new : Store K) (offer : Candidate K) → Offers budget old new offer Lowered
       → work_left budget new ≤ work_left budget old
-  lowered_work budget old new x m f (i, was, at, (lt, stored, opened)) =
-      let size : length new.stored ≡ length old.stored = ap length stored ∙ length-set_value_at old.stored i m in
-      let sum : sum_by (λ e. e.1.cost) new.stored + was.cost ≡ sum_by (λ e. e.1.cost) old.stored + m.cost =
-      ap (λ es. sum_by (λ (e : K × Mark). e.1.cost) es + was.cost) stored ∙ sum_set old.stored i x was m at in
+  lowered_work budget old new offer (i, was, at, (lt, stored, opened)) =
+      let size : length new.stored ≡ length old.stored = ap length stored ∙ length-set_value_at old.stored i offer.mark in
+      let sum : sum_by (λ e. e.1.cost) new.stored + was.cost ≡ sum_by (λ e. e.1.cost) old.stored + offer.mark.cost =
+      ap (λ es. sum_by (λ (e : K × Mark). e.1.cost) es + was.cost) stored ∙ sum_set old.stored i offer.key was offer.mark at in
       subst (λ n. 2 * (sum_by (λ e. e.1.cost) new.stored + (budget - n) * (53 * budget + 54)) + length new.waiting ≤ work_left budget old)
       (sym size)
-      (lowered_falls (sum_by (λ e. e.1.cost) old.stored) (sum_by (λ e. e.1.cost) new.stored) m.cost was.cost
+      (lowered_falls (sum_by (λ e. e.1.cost) old.stored) (sum_by (λ e. e.1.cost) new.stored) offer.mark.cost was.cost
       (length old.waiting) (length new.waiting) ((budget - length old.stored) * (53 * budget + 54)) sum lt
-      (added_one old.waiting new.waiting (f, i) opened))
+      (added_one old.waiting new.waiting (offer.f, i) opened))
 
-  pub added_work : (budget : ℕ) (old new : Store K) (x : K) (m : Mark) (f : ℕ) → Offers budget old new x m f Added
-      → m.cost ≤ 53 * length old.stored + 53 → work_left budget new ≤ work_left budget old
-  added_work budget old new x m f (fresh, lt, stored, opened) low =
+  pub added_work : (budget : ℕ) (old new : Store K) (offer : Candidate K) → Offers budget old new offer Added
+      → offer.mark.cost ≤ 53 * length old.stored + 53 → work_left budget new ≤ work_left budget old
+  added_work budget old new offer (fresh, lt, stored, opened) low =
       let n = length old.stored in
       let left : ℕ = budget - suc n in
       let now : budget - length new.stored ≡ left =
-      (let size = ap length stored ∙ length_push old.stored (x, m) in omega (arith, size)) in
+      (let size = ap length stored ∙ length_push old.stored (offer.key, offer.mark) in omega (arith, size)) in
       let before : budget - n ≡ suc left = omega (arith, lt) in
       let all : left + suc n ≡ budget = omega (arith, lt) in
-      let sum : sum_by (λ e. e.1.cost) new.stored ≡ sum_by (λ e. e.1.cost) old.stored + m.cost =
-      ap (sum_by (λ (e : K × Mark). e.1.cost)) stored ∙ sum_by_push (λ (e : K × Mark). e.1.cost) old.stored (x, m) in
+      let sum : sum_by (λ e. e.1.cost) new.stored ≡ sum_by (λ e. e.1.cost) old.stored + offer.mark.cost =
+      ap (sum_by (λ (e : K × Mark). e.1.cost)) stored ∙ sum_by_push (λ (e : K × Mark). e.1.cost) old.stored (offer.key, offer.mark) in
       subst (λ k. k ≤ work_left budget old)
       (ap (λ k. 2 * (k + left * (53 * budget + 54)) + length new.waiting) (sym sum)
       ∙ ap (λ k. 2 * (sum_by (λ (e : K × Mark). e.1.cost) new.stored + k * (53 * budget + 54)) + length new.waiting) (sym now))
-      (subst (λ k. 2 * (sum_by (λ e. e.1.cost) old.stored + m.cost + left * (53 * budget + 54)) + length new.waiting
+      (subst (λ k. 2 * (sum_by (λ e. e.1.cost) old.stored + offer.mark.cost + left * (53 * budget + 54)) + length new.waiting
       ≤ 2 * (sum_by (λ e. e.1.cost) old.stored + k * (53 * budget + 54)) + length old.waiting) (sym before)
-      (added_falls (sum_by (λ e. e.1.cost) old.stored) m.cost n left budget (length old.waiting) (length new.waiting) all low
-      (added_one old.waiting new.waiting (f, n) opened)))
+      (added_falls (sum_by (λ e. e.1.cost) old.stored) offer.mark.cost n left budget (length old.waiting) (length new.waiting) all low
+      (added_one old.waiting new.waiting (offer.f, n) opened)))
 
   -- a pair that is taken leaves less
   pub taken_work : (budget : ℕ) (old new : Store K) (p : ℕ × ℕ) → new.stored ≡ old.stored → Adds new.waiting old.waiting p

@@ -11,6 +11,12 @@ pub record Graph (K : Type 0) : Type 1 where
   pub won : K → Type 0
   pub wins : ℕ → Type 0
 
+-- what a search is asked: a question, how often its bounds count, and how many keys may be stored
+pub record Task (K : Type 0) : Type 1 where
+  pub graph : Graph K
+  pub weight : ℕ
+  pub budget : ℕ
+
 module _ {K : Type 0} where
   -- so many edges lead to the key from a start, at this cost in all
   abbrev pub ReachedBy : ℕ → Graph K → K → ℕ → Type 0

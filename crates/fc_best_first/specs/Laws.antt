@@ -2,7 +2,7 @@
 use Rattle.std.specs.Prelude.{ℕ, ◌+◌, ◌<◌, ◌≤◌}
 use Rattle.fc_best_first.specs.declared.books.Mark.{Mark}
 use Rattle.fc_best_first.specs.Graph.{Graph, IsLawful}
-use Rattle.fc_best_first.specs.Store.{Store, Stands}
+use Rattle.fc_best_first.specs.Store.{Store, IsStored}
 use Rattle.fc_best_first.specs.Kept.{IsExpanded}
 use Rattle.fc_best_first.specs.Shown.{IsFound, IsLeastOpen}
 
@@ -11,6 +11,6 @@ module _ {K : Type 0} where
   -- expanded; and no answer is below that floor
   abbrev pub OpenFloorsHold : Graph K → Type 0
   OpenFloorsHold g = IsLawful g → (weight budget : ℕ) (s : Store K) (number : ℕ) (x : K) (mark : Mark) (floor : ℕ)
-      → IsFound g weight budget s number → Stands s number x mark → IsLeastOpen g weight s mark.cost floor
-      → ((i : ℕ) (y : K) (m : Mark) → Stands s i y m → m.cost + g.bound y < floor → IsExpanded g s y m.cost)
+      → IsFound g weight budget s number → IsStored s number x mark → IsLeastOpen g weight s mark.cost floor
+      → ((i : ℕ) (y : K) (m : Mark) → IsStored s i y m → m.cost + g.bound y < floor → IsExpanded g s y m.cost)
       × ((n : ℕ) → g.wins n → floor ≤ n)

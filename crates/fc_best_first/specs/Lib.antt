@@ -6,3 +6,4 @@ pub mod Kept
 pub mod Laws
 pub mod Shown
 pub mod Search
+pub mod inner

@@ -7,9 +7,9 @@ use Rattle.fc_best_first.specs.declared.searches.Step.{Step}
 use Rattle.fc_best_first.specs.declared.searches.Step.TheVariants.{Running as running, Done}
 use Rattle.fc_best_first.specs.declared.searches.SearchFault.{SearchFault}
 use Rattle.fc_best_first.specs.declared.searches.SearchFault.TheVariants as fault
-use Rattle.fc_best_first.specs.Graph.{Graph}
+use Rattle.fc_best_first.specs.Graph.{Graph, Task}
 use Rattle.fc_best_first.specs.Store.{Store}
-use Rattle.fc_best_first.specs.Turn.{Takes, TakesFloor}
+use Rattle.fc_best_first.specs.Turn.{Advances, TakesFloor}
 
 -- a search: the space that it is of, its weight and budget, what it stores and has open, where it stands, and the greatest f
 -- that was taken
@@ -20,6 +20,11 @@ pub record Progress (S : Type 0) (K : Type 0) : Type 0 where
   pub store : Store K
   pub status : Status K
   pub floor : ℕ
+
+module _ {S K : Type 0} where
+  -- what a search is asked, its question by its space
+  abbrev pub task_of : (S → Graph K) → Progress S K → Task K
+  task_of graph s = record { graph = graph s.space; weight = s.weight; budget = s.budget }
 
 module _ {K : Type 0} where
   -- the key that starts is stored under 0, as its own parent, and open at its cost plus weighed bound
@@ -35,10 +40,10 @@ module _ {K : Type 0} where
 
   -- one turn of a search, by its status: a running one takes a pair, or a growth was refused and it is stopped; one that
   -- is done or stopped stays as it is
-  abbrev pub Turns : Graph K → ℕ → ℕ → Status K → Store K → Store K → Status K → Result Step SearchFault → Type 0
-  Turns g weight budget Running old new after reply =
-      (Takes g weight budget old new after × (reply ≡ reply_of after)) ⊎ ((after ≡ Stopped) × (reply ≡ Err fault.Memory))
-  Turns g weight budget before old new after reply = (new ≡ old) × (after ≡ before) × (reply ≡ reply_of before)
+  abbrev pub Turns : Task K → Status K → Store K → Store K → Status K → Result Step SearchFault → Type 0
+  Turns task Running old new after reply =
+      (Advances task old new after × (reply ≡ reply_of after)) ⊎ ((after ≡ Stopped) × (reply ≡ Err fault.Memory))
+  Turns task before old new after reply = (new ≡ old) × (after ≡ before) × (reply ≡ reply_of before)
 
   -- the floor that a turn leaves, also where a growth was refused: that of a turn of a running search, else the same
   abbrev pub FloorAfter : Status K → List (ℕ × ℕ) → ℕ → ℕ → Type 0
@@ -46,11 +51,11 @@ module _ {K : Type 0} where
   FloorAfter _ waiting old new = new ≡ old
 
   -- so many turns, one after the other
-  abbrev pub TurnsOn : ℕ → Graph K → ℕ → ℕ → Status K → Store K → Store K → Status K → Type 0
-  TurnsOn zero g weight budget before old new after = (new ≡ old) × (after ≡ before)
-  TurnsOn (suc turns) g weight budget before old new after = (mid : Store K) × (between : Status K) × (reply : Result Step SearchFault)
-      × Turns g weight budget before old mid between reply × TurnsOn turns g weight budget between mid new after
+  abbrev pub TurnsOn : ℕ → Task K → Status K → Store K → Store K → Status K → Type 0
+  TurnsOn zero task before old new after = (new ≡ old) × (after ≡ before)
+  TurnsOn (suc turns) task before old new after = (mid : Store K) × (between : Status K) × (reply : Result Step SearchFault)
+      × Turns task before old mid between reply × TurnsOn turns task between mid new after
 
   -- some number of turns
-  abbrev pub Runs : Graph K → ℕ → ℕ → Status K → Store K → Store K → Status K → Type 0
-  Runs g weight budget before old new after = (turns : ℕ) × TurnsOn turns g weight budget before old new after
+  abbrev pub Runs : Task K → Status K → Store K → Store K → Status K → Type 0
+  Runs task before old new after = (turns : ℕ) × TurnsOn turns task before old new after

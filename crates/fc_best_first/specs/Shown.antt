@@ -4,8 +4,8 @@ use Rattle.fc_best_first.specs.declared.books.Mark.{Mark}
 use Rattle.fc_best_first.specs.declared.turns.Status.{Status}
 use Rattle.fc_best_first.specs.declared.turns.Status.TheVariants.{Running, Won, CannotWin, GaveUp, Stopped}
 use Rattle.fc_best_first.specs.Graph.{Graph, Reached}
-use Rattle.fc_best_first.specs.Store.{Store, Stands, IsNew}
-use Rattle.fc_best_first.specs.Kept.{IsSound, IsKept, IsExpanded, IsSettled, IsNeeded}
+use Rattle.fc_best_first.specs.Store.{Store, IsStored, IsNew}
+use Rattle.fc_best_first.specs.Kept.{IsSound, IsKept, IsExpanded, IsOpenOrExpanded, IsNeeded}
 
 module _ {K : Type 0} where
   -- no answer, times the weight, is below it
@@ -16,19 +16,19 @@ module _ {K : Type 0} where
   -- other key is open or expanded
   abbrev pub IsFound : Graph K → ℕ → ℕ → Store K → ℕ → Type 0
   IsFound g weight budget s number = IsSound g weight budget s
-      × ((x : K) × (mark : Mark) × Stands s number x mark × g.won x
-      × ((i : ℕ) (y : K) (m : Mark) → Stands s i y m → m.cost + weight * g.bound y < mark.cost → IsExpanded g s y m.cost)
-      × ((i : ℕ) (y : K) (m : Mark) → (i ≡ number → ⊥) → Stands s i y m → IsSettled g weight s i y m))
+      × ((x : K) × (mark : Mark) × IsStored s number x mark × g.won x
+      × ((i : ℕ) (y : K) (m : Mark) → IsStored s i y m → m.cost + weight * g.bound y < mark.cost → IsExpanded g s y m.cost)
+      × ((i : ℕ) (y : K) (m : Mark) → (i ≡ number → ⊥) → IsStored s i y m → IsOpenOrExpanded g weight s i y m))
 
   -- each stored key is expanded
   abbrev pub IsExhausted : Graph K → ℕ → ℕ → Store K → Type 0
   IsExhausted g weight budget s = IsSound g weight budget s
-      × ((i : ℕ) (y : K) (m : Mark) → Stands s i y m → IsExpanded g s y m.cost)
+      × ((i : ℕ) (y : K) (m : Mark) → IsStored s i y m → IsExpanded g s y m.cost)
 
   -- as many keys as the budget are stored, and one more came by needed work from the key with this number
   abbrev pub IsGivenUp : Graph K → ℕ → ℕ → Store K → K → ℕ → Type 0
   IsGivenUp g weight budget s y number = IsSound g weight budget s × (budget ≤ length s.stored) × IsNew s y × IsNeeded g weight y
-      × ((x : K) × (mark : Mark) × (c : ℕ) × Stands s number x mark × g.edge x c y)
+      × ((x : K) × (mark : Mark) × (c : ℕ) × IsStored s number x mark × g.edge x c y)
 
   -- what a search holds by its status
   abbrev pub Holds : Graph K → ℕ → ℕ → Store K → Status K → Type 0
@@ -48,7 +48,7 @@ module _ {K : Type 0} where
   -- there is no answer; or one key more than the budget came by needed work
   abbrev pub Shows : Graph K → ℕ → ℕ → Store K → Status K → Type 0
   Shows g weight budget s Running = Unit {0}
-  Shows g weight budget s (Won number) = (x : K) × (mark : Mark) × Stands s number x mark × g.won x × Reached g x mark.cost
+  Shows g weight budget s (Won number) = (x : K) × (mark : Mark) × IsStored s number x mark × g.won x × Reached g x mark.cost
       × g.wins mark.cost × ((n : ℕ) → g.wins n → mark.cost ≤ weight * n)
   Shows g weight budget s CannotWin = (n : ℕ) → g.wins n → ⊥
   Shows g weight budget s (GaveUp y number) = (keys : List K) × AreNeeded g weight (budget + 1) keys
@@ -56,7 +56,7 @@ module _ {K : Type 0} where
 
   -- the key with this number and mark is open: a pair of it at its cost plus weighed bound waits
   pub record IsOpen (g : Graph K) (weight : ℕ) (s : Store K) (number : ℕ) (x : K) (mark : Mark) : Type 0 where
-    pub stands : Stands s number x mark
+    pub stands : IsStored s number x mark
     pub waits : Contains s.waiting (mark.cost + weight * g.bound x, number)
 
   -- the least cost plus bound of the open keys, at most a number

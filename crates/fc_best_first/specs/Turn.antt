@@ -7,8 +7,8 @@ use Rattle.fc_best_first.specs.declared.spaces.Child.{Child}
 use Rattle.fc_best_first.specs.declared.turns.Status.{Status}
 use Rattle.fc_best_first.specs.declared.turns.Status.TheVariants.{Running, Won, CannotWin, GaveUp, Stopped}
 use Rattle.fc_best_first.specs.declared.turns.TheConstants.{MOST_COST}
-use Rattle.fc_best_first.specs.Graph.{Graph, Reached}
-use Rattle.fc_best_first.specs.Store.{Store, Offers, IsTaken}
+use Rattle.fc_best_first.specs.Graph.{Graph, Task}
+use Rattle.fc_best_first.specs.Store.{Store, Candidate, Offers, IsTaken}
 
 -- the floor that a turn of a running search leaves, the greatest f that was taken: the same where no pair is open, else the
 -- greater of it and the least f of the open pairs
@@ -27,50 +27,48 @@ module _ {K : Type 0} where
     pub whole : (c : ℕ) (y : K) → g.edge x c y
         → (child : Child K) × Contains children child × (child.key ≡ y) × (child.cost ≤ c)
 
-  -- each of the children is a key that can be reached, and its bound is that of its key, where it is told
-  abbrev pub AreReached : Graph K → List (Child K) → Type 0
-  AreReached g children = (child : Child K) → Contains children child → ((d : ℕ) × Reached g child.key d) × TellsBound g child
+  -- a child as it is offered: its mark, by the mark of a child that would cost nothing, and its cost plus its weighed bound
+  abbrev pub candidate_of : Task K → Mark → Child K → Candidate K
+  candidate_of task origin child = record {
+    key = child.key;
+    mark = record { cost = origin.cost + child.cost; parent = origin.parent };
+    f = origin.cost + child.cost + task.weight * task.graph.bound child.key;
+  }
 
-  -- the mark of a child of the key that is stored under this number at this cost
-  abbrev pub mark_of : ℕ → ℕ → Child K → Mark
-  mark_of number cost child = record { cost = cost + child.cost; parent = number }
-
-  -- the children are offered one after the other, each to be open at its cost plus its weighed bound; the first that finds
-  -- no place ends it
-  abbrev pub Expands : Graph K → ℕ → ℕ → ℕ → ℕ → List (Child K) → Store K → Store K → Option K → Type 0
-  Expands g weight budget number cost [] old new left_out = (new ≡ old) × (left_out ≡ None)
-  Expands g weight budget number cost (child ∷ children) old new left_out =
-      (Offers budget old new child.key (mark_of number cost child) (cost + child.cost + weight * g.bound child.key) (Full child.key)
-      × (left_out ≡ Some child.key))
+  -- the children are offered one after the other, by the mark of a child that would cost nothing; the first that finds no
+  -- place ends it
+  abbrev pub Expands : Task K → Mark → List (Child K) → Store K → Store K → Option K → Type 0
+  Expands task origin [] old new left_out = (new ≡ old) × (left_out ≡ None)
+  Expands task origin (child ∷ children) old new left_out =
+      (Offers task.budget old new (candidate_of task origin child) (Full child.key) × (left_out ≡ Some child.key))
       ⊎ ((mid : Store K)
-      × (Offers budget old mid child.key (mark_of number cost child) (cost + child.cost + weight * g.bound child.key) Known
-      ⊎ (Offers budget old mid child.key (mark_of number cost child) (cost + child.cost + weight * g.bound child.key) Lowered
-      ⊎ Offers budget old mid child.key (mark_of number cost child) (cost + child.cost + weight * g.bound child.key) Added))
-      × Expands g weight budget number cost children mid new left_out)
+      × (Offers task.budget old mid (candidate_of task origin child) Known
+      ⊎ (Offers task.budget old mid (candidate_of task origin child) Lowered
+      ⊎ Offers task.budget old mid (candidate_of task origin child) Added))
+      × Expands task origin children mid new left_out)
 
   -- a key that isn't won, taken at its cost plus weighed bound, is expanded
-  abbrev pub ExpandsTaken : Graph K → ℕ → ℕ → Store K → Store K → ℕ → Option K → Type 0
-  ExpandsTaken g weight budget old new number left_out =
+  abbrev pub ExpandsTaken : Task K → Store K → Store K → ℕ → Option K → Type 0
+  ExpandsTaken task old new number left_out =
       (f : ℕ) × (x : K) × (mark : Mark) × (mid : Store K) × IsTaken old mid f number x mark
-      × (g.won x → ⊥) × (f ≤ mark.cost + weight * g.bound x)
-      × ((children : List (Child K)) × AreChildren g x children
-      × Expands g weight budget number mark.cost children mid new left_out)
+      × (task.graph.won x → ⊥) × (f ≤ mark.cost + task.weight * task.graph.bound x)
+      × ((children : List (Child K)) × AreChildren task.graph x children
+      × Expands task (record { cost = mark.cost; parent = number }) children mid new left_out)
 
   -- a key that isn't won was met at a smaller cost since the pair was opened: the pair is dropped
-  abbrev pub DropsTaken : Graph K → ℕ → Store K → Store K → Type 0
-  DropsTaken g weight old new =
+  abbrev pub DropsTaken : Task K → Store K → Store K → Type 0
+  DropsTaken task old new =
       (f : ℕ) × (number : ℕ) × (x : K) × (mark : Mark) × IsTaken old new f number x mark
-      × (g.won x → ⊥) × (mark.cost + weight * g.bound x < f)
+      × (task.graph.won x → ⊥) × (mark.cost + task.weight * task.graph.bound x < f)
 
   -- one turn of a running search, and the status that it leaves
-  abbrev pub Takes : Graph K → ℕ → ℕ → Store K → Store K → Status K → Type 0
-  Takes g weight budget old new Running =
-      DropsTaken g weight old new ⊎ ((number : ℕ) × ExpandsTaken g weight budget old new number None)
-  Takes g weight budget old new (Won number) =
-      (f : ℕ) × (x : K) × (mark : Mark) × IsTaken old new f number x mark × g.won x
-  Takes g weight budget old new CannotWin = (old.waiting ≡ []) × (new ≡ old)
-  Takes g weight budget old new (GaveUp x number) = ExpandsTaken g weight budget old new number (Some x)
-  Takes g weight budget old new Stopped = ⊥
+  abbrev pub Advances : Task K → Store K → Store K → Status K → Type 0
+  Advances task old new Running = DropsTaken task old new ⊎ ((number : ℕ) × ExpandsTaken task old new number None)
+  Advances task old new (Won number) =
+      (f : ℕ) × (x : K) × (mark : Mark) × IsTaken old new f number x mark × task.graph.won x
+  Advances task old new CannotWin = (old.waiting ≡ []) × (new ≡ old)
+  Advances task old new (GaveUp x number) = ExpandsTaken task old new number (Some x)
+  Advances task old new Stopped = ⊥
 
   -- how much a search may still do: it falls with each turn that leaves the search running
   abbrev pub work_left : ℕ → Store K → ℕ

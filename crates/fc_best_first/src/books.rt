@@ -2,7 +2,7 @@ ghost use Rattle.std.specs.Prelude.{◌≡◌, ◌^◌, ◌<◌, ◌≤◌, ℕ,
 ghost use Rattle.std.specs.List.Sorted.{IsPermutation};
 ghost use Rattle.indexmap.specs.IndexMap.{set_value_at};
 ghost use Rattle.fc_frontier.specs.Queue.{Adds, IsLeast};
-ghost use Rattle.fc_best_first.specs.Store.{Store, Stands, IsNew, Offers};
+ghost use Rattle.fc_best_first.specs.Store.{Store, IsStored, IsNew, Offers};
 
 use crate::keys::ExactKey;
 use crate::limits::Budget;
@@ -88,7 +88,7 @@ impl<K: ExactKey, F: Frontier + Drop> Book<K, F> {
 
     /// The key that is stored under a number, and its mark; `None` for a number that no key has.
     pub fn entry(&self, number: u32) -> Option<(&K, Mark)>
-        ensures value { MatchOption result (length self.now.stored ≤ number) (λ e. Stands self.now number e.0.now e.1) }
+        ensures value { MatchOption result (length self.now.stored ≤ number) (λ e. IsStored self.now number e.0.now e.1) }
     {
         let (key, mark) = self.table.get_index(number as usize)?;
         Some((key, *mark))
@@ -97,7 +97,7 @@ impl<K: ExactKey, F: Frontier + Drop> Book<K, F> {
     /// The key that is stored under a number that has one, and its mark.
     pub fn at(&self, number: u32) -> (&K, Mark)
         requires within { number < length self.now.stored }
-        ensures stands { Stands self.now number result.0.now result.1 }
+        ensures stands { IsStored self.now number result.0.now result.1 }
     {
         self.entry(number).unwrap()
     }
@@ -105,7 +105,7 @@ impl<K: ExactKey, F: Frontier + Drop> Book<K, F> {
     /// The number under which a key is stored, and its mark; `None` for a key that isn't.
     pub fn find(&self, key: &K) -> Option<(u32, Mark)>
         requires room { length self.now.stored ≤ 2 ^ 32 }
-        ensures value { MatchOption result (IsNew self.now key.now) (λ e. Stands self.now e.0 key.now e.1) }
+        ensures value { MatchOption result (IsNew self.now key.now) (λ e. IsStored self.now e.0 key.now e.1) }
     {
         let (number, _, mark) = self.table.get_full(key)?;
         Some((number as u32, *mark))
@@ -127,7 +127,7 @@ impl<K: ExactKey, F: Frontier + Drop> Book<K, F> {
     /// the book.
     pub fn add(&mut self, budget: Budget, key: K, mark: Mark, f: u32) -> Result<Offered<K>, Full>
         requires new { IsNew self.old key }
-        ensures offers { IfOk result (λ offered. Offers budget self.old self.new key mark f offered) }
+        ensures offers { IfOk result (λ offered. Offers budget self.old self.new (record { key = key; mark = mark; f = f }) offered) }
     {
         let number = self.table.len();
         let most = budget.get() as usize;

@@ -1,10 +1,10 @@
 ghost use Rattle.std.specs.Prelude.{◌≡◌, ◌<◌, ◌≤◌, ◌↔◌, ◌⊎◌, length, IfOk, IfErr, OnOk, OnErr, MatchOption, []};
 ghost use Rattle.fc_frontier.specs.Queue.{Adds};
 ghost use Rattle.fc_best_first.specs.Limits.{IsBudget, IsWeight};
-ghost use Rattle.fc_best_first.specs.Search.{Begins, FloorAfter, Turns, Runs, reply_of};
+ghost use Rattle.fc_best_first.specs.Search.{Begins, FloorAfter, Turns, Runs, reply_of, task_of};
 ghost use Rattle.fc_best_first.specs.Kept.{IsSound};
 ghost use Rattle.fc_best_first.specs.Shown.{Holds, IsFloor, IsLeastOpen, Shows};
-ghost use Rattle.fc_best_first.specs.Store.{Stands};
+ghost use Rattle.fc_best_first.specs.Store.{IsStored};
 ghost use Rattle.fc_best_first.specs.Turn.{work_left};
 
 use crate::books::{Book, Mark};
@@ -169,7 +169,7 @@ impl<K: ExactKey, F: Frontier + Drop, S: Space<K> + Drop> Search<K, F, S> {
 
     /// The key that is stored under a number, and its mark; `None` for a number that no key has.
     pub fn entry(&self, number: u32) -> Option<(&K, Mark)>
-        ensures value { MatchOption result (length self.now.store.stored ≤ number) (λ e. Stands self.now.store number e.0.now e.1) }
+        ensures value { MatchOption result (length self.now.store.stored ≤ number) (λ e. IsStored self.now.store number e.0.now e.1) }
     {
         self.book.entry(number)
     }
@@ -181,7 +181,7 @@ impl<K: ExactKey, F: Frontier + Drop, S: Space<K> + Drop> Search<K, F, S> {
         ensures space { self.new.space ≡ self.old.space }
         ensures weight { self.new.weight ≡ self.old.weight }
         ensures budget { self.new.budget ≡ self.old.budget }
-        ensures turns { Turns (S.graph self.old.space) self.old.weight self.old.budget self.old.status self.old.store self.new.store self.new.status result }
+        ensures turns { Turns (task_of S.graph self.old) self.old.status self.old.store self.new.store self.new.status result }
         ensures floor { FloorAfter self.old.status self.old.store.waiting self.old.floor self.new.floor }
         ensures rises { self.old.floor ≤ self.new.floor }
         ensures falls { result ≡ Ok Step.Running → work_left self.old.budget self.new.store < work_left self.old.budget self.old.store }
@@ -223,7 +223,7 @@ impl<K: ExactKey, F: Frontier + Drop, S: Space<K> + Drop> Search<K, F, S> {
         ensures space { self.new.space ≡ self.old.space }
         ensures weight { self.new.weight ≡ self.old.weight }
         ensures budget { self.new.budget ≡ self.old.budget }
-        ensures runs { Runs (S.graph self.old.space) self.old.weight self.old.budget self.old.status self.old.store self.new.store self.new.status }
+        ensures runs { Runs (task_of S.graph self.old) self.old.status self.old.store self.new.store self.new.status }
         ensures done { OnOk result (reply_of self.new.status ≡ Ok Step.Done) }
         ensures stopped { OnErr result (self.new.status ≡ Status.Stopped) }
         ensures fault { IfErr result (λ f. ((f ≡ SearchFault.Memory) × (self.old.status ≡ Status.Running)) ⊎ ((f ≡ SearchFault.Stopped) × (self.old.status ≡ Status.Stopped))) }

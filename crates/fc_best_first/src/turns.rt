@@ -1,7 +1,8 @@
 ghost use Rattle.std.specs.Prelude.{◌≡◌, ◌+◌, ◌*◌, ◌<◌, ◌≤◌, ℕ, List, length, Option, IfOk, IfSome, MatchOption};
 ghost use Rattle.fc_best_first.specs.Graph.{IsLawful, Reached};
 ghost use Rattle.fc_best_first.specs.Store.{Offers};
-ghost use Rattle.fc_best_first.specs.Turn.{AreReached, Expands, Takes, TakesFloor, TellsBound};
+ghost use Rattle.fc_best_first.specs.Turn.{Advances, Expands, TakesFloor, TellsBound};
+ghost use Rattle.fc_best_first.specs.inner.Turn.{AreReached};
 ghost use Rattle.fc_best_first.specs.Kept.{IsKept};
 
 use crate::books::{Book, Mark, Offered};
@@ -68,7 +69,7 @@ fn offer<K: ExactKey, F: Frontier + Drop, S: Space<K>>(
     requires bound { TellsBound (S.graph space.now) child }
     requires room { length book.old.stored ≤ budget }
     requires low { mark.cost ≤ MOST_COST * MOST_BUDGET + 255 }
-    ensures offers { IfOk result (λ offered. Offers budget book.old book.new child.key mark (mark.cost + weight * (S.graph space.now).bound child.key) offered) }
+    ensures offers { IfOk result (λ offered. Offers budget book.old book.new (record { key = child.key; mark = mark; f = mark.cost + weight * (S.graph space.now).bound child.key }) offered) }
 {
     let Child { key, bound, .. } = child;
     let Some((number, was)) = book.find(&key) else {
@@ -96,7 +97,7 @@ fn expand<K: ExactKey, F: Frontier + Drop, S: Space<K>>(
     requires room { length book.old.stored ≤ budget }
     requires low { origin.cost ≤ MOST_COST * MOST_BUDGET }
     requires reached { (children : List (Child K)) → S.rest walk.old children → AreReached (S.graph space.now) children }
-    ensures expands { IfOk result (λ left_out. (children : List (Child K)) × S.rest walk.old children × Expands (S.graph space.now) weight budget origin.parent origin.cost children book.old book.new left_out) }
+    ensures expands { IfOk result (λ left_out. (children : List (Child K)) × S.rest walk.old children × Expands (record { graph = S.graph space.now; weight = weight; budget = budget }) origin children book.old book.new left_out) }
 {
     while let Some(child) = space.next(walk) {
         let mark = Mark {
@@ -121,7 +122,7 @@ pub(crate) fn advance<K: ExactKey, F: Frontier + Drop, S: Space<K>>(
     floor: &mut u32,
 ) -> Result<Status<K>, Full>
     requires kept { IsKept (S.graph space.now) weight budget book.old }
-    ensures takes { IfOk result (λ status. Takes (S.graph space.now) weight budget book.old book.new status) }
+    ensures takes { IfOk result (λ status. Advances (record { graph = S.graph space.now; weight = weight; budget = budget }) book.old book.new status) }
     ensures floor { TakesFloor book.old.waiting floor.old floor.new }
 {
     // Its range, by which no cost of a stored key is past a number's room.

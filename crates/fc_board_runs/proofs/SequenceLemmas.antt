@@ -21,7 +21,7 @@ use Rattle.fc_board_runs.specs.declared.faults.ProgramFault.{ProgramFault}
 use Rattle.fc_board_runs.specs.declared.faults.ProgramFault.TheVariants.{Number, Range, Budget, Board as bad_board, TooLong, Moves, TooManyWays, Cert, Read, Write, Memory}
 use Rattle.fc_replay.specs.declared.faults.ReplayFault.TheVariants.{BadMove, NotAllowed, Write as unwritten_page}
 use Rattle.fc_board_runs.specs.Devices.{Device, GivesWhole}
-use Rattle.fc_board_runs.specs.Fault.{list_fault}
+use Rattle.fc_board_runs.specs.inner.Fault.{list_fault}
 use Rattle.fc_board_runs.specs.Sequences.{IsExpanded, IsFirstNoPair, IsLeft, IsListFaultAs, IsUnplayed, SpellPairs}
 
 -- one more token that spells an entry

@@ -2,16 +2,12 @@
 use Rattle.std.specs.Prelude.{ℕ, List, codes}
 use Rattle.fc_io.specs.declared.transfers.ReadFault.{ReadFault}
 use Rattle.fc_io.specs.declared.transfers.ReadFault.TheVariants.{Failed, TooLong as too_many, Memory as refused}
-use Rattle.fc_replay.specs.declared.faults.ReplayFault.{ReplayFault}
-use Rattle.fc_replay.specs.declared.faults.ReplayFault.TheVariants.{BadMove, NotAllowed, Write as unwritten}
-use Rattle.fc_sequences.specs.declared.lists.ListFault.{ListFault}
-use Rattle.fc_sequences.specs.declared.lists.ListFault.TheVariants.{Refused, TooMany, Memory as no_room}
 use Rattle.fc_board_runs.specs.declared.faults.Input.{Input}
-use Rattle.fc_board_runs.specs.declared.faults.Input.TheVariants.{Board as of_board, Moves as of_moves, Cert as of_certificate}
 use Rattle.fc_board_runs.specs.declared.faults.Output.{Output}
-use Rattle.fc_board_runs.specs.declared.faults.Output.TheVariants.{Answer as of_answer, Cert as certificate_out}
 use Rattle.fc_board_runs.specs.declared.faults.ProgramFault.{ProgramFault}
 use Rattle.fc_board_runs.specs.declared.faults.ProgramFault.TheVariants.{Number, Range, Budget, Board, TooLong, Moves, TooManyWays, Cert, Read, Write, Memory}
+use Rattle.fc_board_runs.specs.declared.faults.Input.TheVariants.{Board as of_board, Moves as of_moves, Cert as of_certificate}
+use Rattle.fc_board_runs.specs.declared.faults.Output.TheVariants.{Answer as of_answer, Cert as certificate_out}
 
 -- 3 for what was asked, 4 for want of memory, 5 for a device
 abbrev pub fault_status : ProgramFault → ℕ
@@ -32,18 +28,6 @@ abbrev pub read_fault : Input → ReadFault → ProgramFault
 read_fault input Failed = Read input
 read_fault input too_many = TooLong input
 read_fault input refused = Memory
-
--- why moves weren't replayed to their end, as a fault of the program
-abbrev pub replay_fault : ReplayFault → ProgramFault
-replay_fault (BadMove step) = Moves (BadMove step)
-replay_fault (NotAllowed step) = Moves (NotAllowed step)
-replay_fault unwritten = Write of_answer
-
--- why a list of entries wasn't expanded, as a fault of the program
-abbrev pub list_fault : ListFault → ProgramFault
-list_fault (Refused step) = Moves (NotAllowed step)
-list_fault (TooMany step) = TooManyWays step
-list_fault no_room = Memory
 
 -- how an input and an output are named
 abbrev pub input_text : Input → List ℕ

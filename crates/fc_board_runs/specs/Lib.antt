@@ -3,3 +3,4 @@ pub mod Fault
 pub mod Runs
 pub mod Sequences
 pub mod Showing
+pub mod inner

@@ -1,6 +1,6 @@
 -- What the runs of the program that deal and replay promise, over any source and any sink.
 use Rattle.std.specs.Prelude.{◌≡◌, ℕ, ◌+◌, List, [], Result, Ok, Err, IsTrue}
-use Rattle.fc_io.specs.Moves.{Takes, TakesFront, Stays, TellsAtLeast}
+use Rattle.fc_io.specs.Moves.{TakesBytes, TakesFront, Stays, TellsAtLeast}
 use Rattle.fc_position.specs.Board.{Board}
 use Rattle.fc_moves.specs.GameRules.{GameRules}
 use Rattle.fc_deal.specs.Deal.{IsDealNumber, dealt_board}
@@ -9,7 +9,7 @@ use Rattle.fc_replay.specs.declared.faults.ReplayFault.{ReplayFault}
 use Rattle.fc_replay.specs.declared.faults.ReplayFault.TheVariants.{BadMove, NotAllowed, Write as unwritten}
 use Rattle.fc_replay.specs.declared.pages.Page.{Page}
 use Rattle.fc_replay.specs.declared.replays.Ended.{Ended}
-use Rattle.fc_replay.specs.Played.{Replays, ReplaysAs}
+use Rattle.fc_replay.specs.Played.{Replays, ReplaysAs, sink_change}
 use Rattle.fc_replay.specs.Token.{move_tokens}
 use Rattle.fc_board_runs.specs.declared.runs.TheConstants.{LONGEST_MOVES}
 use Rattle.fc_board_runs.specs.declared.faults.Input.TheVariants.{Board as of_board, Moves as of_moves}
@@ -21,7 +21,7 @@ use Rattle.fc_board_runs.specs.Devices.{Device, GivesBoard, GivesFault, GivesWho
 -- a deal was printed: the number is one of a deal, and the sink took its text
 pub record IsDealt (n : ℕ) (sink : Device) (status : ℕ) : Type 0 where
   pub number : IsDealNumber n
-  pub written : Takes sink.old sink.new (deal_text (dealt_board n))
+  pub written : TakesBytes sink.old sink.new (deal_text (dealt_board n))
   pub sound : IsTrue sink.failed → ⊥
   pub told : status ≡ 0
 
@@ -55,7 +55,7 @@ IsBoardAlone g board sink = ((b : Board) × GivesBoard g.cells board b) × Stays
 pub record IsReplayAs (page : Page) (g : GameRules) (start : Board) (moves sink : Device) (result : Result Ended ReplayFault) : Type 0 where
   pub text : List ℕ
   pub read : GivesWhole moves text
-  pub replayed : ReplaysAs page g start (move_tokens text) sink.old sink.new result
+  pub replayed : ReplaysAs page g start (move_tokens text) (sink_change sink.old sink.new) result
 
 -- a replay that writes pages ran to its end: every token is an allowed move, and the sink took the page after each; one that
 -- has failed was given none

@@ -14,7 +14,7 @@ use Rattle.fc_sequences.specs.Pair.{SpellsPair, IsNoPair}
 use Rattle.fc_replay.specs.declared.faults.ReplayFault.TheVariants.{BadMove, NotAllowed}
 use Rattle.fc_replay.specs.declared.pages.Page.{Page}
 use Rattle.fc_replay.specs.declared.replays.Ended.{Ended}
-use Rattle.fc_replay.specs.Played.{PlaysAs}
+use Rattle.fc_replay.specs.Played.{PlaysAs, sink_change}
 use Rattle.fc_replay.specs.Token.{move_tokens}
 use Rattle.fc_board_runs.specs.declared.runs.TheConstants.{LONGEST_MOVES}
 use Rattle.fc_board_runs.specs.declared.faults.Input.TheVariants.{Moves as of_moves}
@@ -76,7 +76,7 @@ pub record IsPlayOf (page : Page) (g : GameRules) (start : Board) (moves sink : 
   pub read : GivesWhole moves text
   pub steps : List Move
   pub expanded : IsExpanded g start (move_tokens text) steps
-  pub played : PlaysAs page g start steps sink.old sink.new result
+  pub played : PlaysAs page g start steps (sink_change sink.old sink.new) result
 
 -- a list was played to its end; a sink that has failed was given no page
 pub record IsPlayed (page : Page) (g : GameRules) (start : Board) (moves sink : Device) (ended : Ended) : Type 0 where

@@ -1,6 +1,6 @@
 -- What the run that shows a board promises, over any source and any sink.
 use Rattle.std.specs.Prelude.{◌≡◌, ℕ, true, false, List, IsTrue}
-use Rattle.fc_io.specs.Moves.{Takes, TakesFront}
+use Rattle.fc_io.specs.Moves.{TakesBytes, TakesFront}
 use Rattle.fc_position.specs.Board.{Board}
 use Rattle.fc_text.specs.Printed.{board_text}
 use Rattle.fc_show.specs.Drawing.{drawing}
@@ -19,7 +19,7 @@ shown Text n b = board_text n b
 
 -- the sink took what shows a board
 pub record IsShown (look : Look) (n : ℕ) (b : Board) (sink : Device) (status : ℕ) : Type 0 where
-  pub written : Takes sink.old sink.new (shown look n b)
+  pub written : TakesBytes sink.old sink.new (shown look n b)
   pub sound : IsTrue sink.failed → ⊥
   pub told : status ≡ 0
 

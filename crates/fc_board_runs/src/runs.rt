@@ -4,7 +4,7 @@ ghost use Rattle.std.specs.Prelude.{◌≡◌, ◌+◌, ◌≤◌, IfOk, IfErr};
 ghost use Rattle.fc_io.specs.Moves.{GivesAtMost};
 ghost use Rattle.fc_position.specs.Position.{Fits};
 ghost use Rattle.fc_board_runs.specs.Devices.{change, GivesBoard, IsReadFault};
-ghost use Rattle.fc_board_runs.specs.Fault.{replay_fault};
+ghost use Rattle.fc_board_runs.specs.inner.Fault.{replay_fault};
 ghost use Rattle.fc_board_runs.specs.Runs.{IsDealt, IsDealFault, IsReplayed, IsReplayFault, IsReplayedAs, IsReplayFaultAs};
 
 use crate::faults::{Input, Output, ProgramFault, read_fault};

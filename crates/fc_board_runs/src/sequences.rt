@@ -6,7 +6,7 @@ ghost use Rattle.fc_io.specs.Moves.{GivesAtMost};
 ghost use Rattle.fc_moves.specs.GameRules.{IsPositionOf};
 ghost use Rattle.fc_replay.specs.Token.{move_tokens};
 ghost use Rattle.fc_board_runs.specs.Devices.{change};
-ghost use Rattle.fc_board_runs.specs.Fault.{list_fault};
+ghost use Rattle.fc_board_runs.specs.inner.Fault.{list_fault};
 ghost use Rattle.fc_board_runs.specs.Sequences.{IsExpanded, IsListFaultAs, IsPlayed, IsUnplayed, IsUnread, SpellPairs};
 
 use crate::faults::{Input, Output, ProgramFault, read_fault};

@@ -1,7 +1,7 @@
 //! The run of the program that shows a board, over any source and any sink.
 
 ghost use Rattle.std.specs.Prelude.{◌≤◌, ◌↔◌, IfOk, IfErr, OnOk, IsErr, IsTrue};
-ghost use Rattle.fc_io.specs.Moves.{Takes, TakesFront};
+ghost use Rattle.fc_io.specs.Moves.{TakesBytes, TakesFront};
 ghost use Rattle.fc_position.specs.Position.{Fits};
 ghost use Rattle.fc_board_runs.specs.Devices.{change};
 ghost use Rattle.fc_board_runs.specs.Showing.{IsShown, IsShowFault, shown};
@@ -56,7 +56,7 @@ fn write_look<K: Sink>(
     requires game { cells ≤ 4 }
     requires fits { Fits cells position.now }
     ensures front { TakesFront (K.held out.old) (K.held out.new) (shown look cells position.now) }
-    ensures whole { OnOk result (Takes (K.held out.old) (K.held out.new) (shown look cells position.now)) }
+    ensures whole { OnOk result (TakesBytes (K.held out.old) (K.held out.new) (shown look cells position.now)) }
     ensures fault { IsErr result ↔ IsTrue (K.has_failed out.new) }
 {
     match look {

@@ -7,9 +7,8 @@ use Rattle.std.proofs.lemmas.List.{get_or-set_same, get_or-set_other, get_or-rep
 use Rattle.std.proofs.lemmas.Bool.Decides.{nat_tests}
 use Rattle.std.proofs.lemmas.List.Folds.{list_any-append, list_any_at, Any-from_list_any}
 use Rattle.std.proofs.lemmas.List.Sums.{sum_by-cons, sum_by_push, sum_by-take-le}
-use Rattle.fc_cards.specs.Card.{rank, suit}
+use Rattle.fc_cards.specs.Card.{rank, suit, all_cards}
 use Rattle.fc_position.specs.Board.{count_in_column}
-use Rattle.fc_moves.specs.GameRules.{all_cards}
 use Rattle.fc_bound.specs.Bound.{is_lower, stands_in, is_above_lower}
 use Rattle.fc_bound.proofs.CountLemmas.{count-but_one, count-none}
 

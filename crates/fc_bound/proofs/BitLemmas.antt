@@ -14,8 +14,8 @@ use Rattle.fc_cards.specs.Card.{rank, suit}
 use Rattle.fc_position.specs.Board.{last_of}
 use Rattle.fc_bound.specs.Bound.{is_lower}
 use Rattle.fc_bound.specs.Clearing.{waits}
-use Rattle.fc_bound.specs.declared.columns.Front.{Front}
-use Rattle.fc_bound.specs.Fronts.{AreBits, Tells, IsFront, is_lower_than, number_where}
+use Rattle.fc_bound.specs.declared.fronts.Front.{Front}
+use Rattle.fc_bound.specs.inner.Fronts.{AreBits, Tells, IsFront, is_lower_than, number_where}
 use Rattle.fc_bound.specs.Knots.{has_last, ends_with, waits_in, waits_above, is_loose}
 use Rattle.fc_bound.proofs.AboveLemmas.{or-false}
 

@@ -8,10 +8,9 @@ use Rattle.std.proofs.lemmas.List.{append-nil, length-append}
 use Rattle.std.proofs.lemmas.List.Folds.{list_any-append}
 use Rattle.std.proofs.lemmas.List.Sums.{sum_by-cons}
 use Rattle.std.proofs.lemmas.List.Sorted.{IsPermutation-sym, list_any-IsPermutation, sum_by-IsPermutation}
-use Rattle.fc_cards.specs.Card.{rank, suit}
+use Rattle.fc_cards.specs.Card.{rank, suit, all_cards}
 use Rattle.fc_position.specs.Board.{last_of, front_of}
 use Rattle.fc_position.proofs.BoardLemmas.{front_last}
-use Rattle.fc_moves.specs.GameRules.{all_cards}
 use Rattle.fc_canonical.proofs.Rearrange.{renaming, IsPermutation-set}
 use Rattle.fc_bound.specs.Bound.{is_lower, is_away}
 use Rattle.fc_bound.specs.Clearing.{waits, fee, without, cards_in, order_cost, clearing_cost, clearing_bound}

@@ -5,13 +5,13 @@ use Rattle.std.specs.List.{list_any}
 use Rattle.std.proofs.lemmas.Bool.{cases_lt}
 use Rattle.std.proofs.lemmas.Bool.Decides.{nat_tests}
 use Rattle.std.proofs.lemmas.List.Sums.{sum_by-cons, get_or-le-sum_by}
-use Rattle.fc_cards.specs.Card.{rank, suit}
+use Rattle.fc_cards.specs.Card.{rank, suit, all_cards}
 use Rattle.fc_cards.specs.declared.places.Place.{Place}
 use Rattle.fc_cards.specs.declared.places.Place.TheVariants.{Column, Cell, Home}
 use Rattle.fc_position.specs.Board.{Board, column, playable, lifted, placed, count_in_column, IsNext}
 use Rattle.fc_position.specs.Position.{IsPosition, IsWon}
 use Rattle.fc_position.proofs.BoardLemmas.{playable_below, homes-lifted}
-use Rattle.fc_moves.specs.GameRules.{GameRules, all_cards}
+use Rattle.fc_moves.specs.GameRules.{GameRules}
 use Rattle.fc_moves.specs.Step.{Takes}
 use Rattle.fc_bound.specs.Bound.{is_away, is_lower, stands_in}
 use Rattle.fc_bound.specs.Clearing.{waits, fee, cards_in, clearing_cost, clearing_bound}

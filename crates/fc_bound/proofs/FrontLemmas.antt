@@ -9,10 +9,10 @@ use Rattle.std.proofs.lemmas.List.Folds.{list_any_more}
 use Rattle.std.proofs.lemmas.List.Sums.{sum_by-cons}
 use Rattle.std.proofs.lemmas.Option.{slice_get-get_or}
 use Rattle.fc_position.specs.Board.{last_of, front_of}
-use Rattle.fc_moves.specs.GameRules.{all_cards}
+use Rattle.fc_cards.specs.Card.{all_cards}
 use Rattle.fc_bound.specs.Clearing.{without, cards_in}
-use Rattle.fc_bound.specs.declared.columns.Front.{Front}
-use Rattle.fc_bound.specs.Fronts.{lowest, number_where, IsFront, IsLeft, no_front}
+use Rattle.fc_bound.specs.declared.fronts.Front.{Front}
+use Rattle.fc_bound.specs.inner.Fronts.{lowest, number_where, IsFront, IsLeft, no_front}
 use Rattle.fc_bound.specs.Knots.{has_last, ends_with, first_with, least_last, shed}
 use Rattle.fc_bound.proofs.AboveLemmas.{or-false}
 

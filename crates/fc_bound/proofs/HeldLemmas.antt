@@ -8,14 +8,14 @@ use Rattle.std.proofs.lemmas.List.{get_or-set_same, get_or-set_other, get_or_pas
 use Rattle.std.proofs.lemmas.List.Folds.{list_any_more}
 use Rattle.std.proofs.lemmas.List.Sums.{sum_by_more, sum_by-take-le, get_or-le-sum_by}
 use Rattle.std.proofs.lemmas.List.Sorted.{list_any-IsPermutation}
-use Rattle.fc_cards.specs.Card.{rank, suit}
+use Rattle.fc_cards.specs.Card.{rank, suit, all_cards}
 use Rattle.fc_cards.specs.declared.places.Place.{Place}
 use Rattle.fc_cards.specs.declared.places.Place.TheVariants.{Column, Cell, Home}
 use Rattle.fc_position.specs.Board.{Board, column, home, playable, lifted, placed, front_of, count_in_column, count_at_home, IsNext}
 use Rattle.fc_position.specs.Position.{IsPosition, IsWon}
 use Rattle.fc_position.proofs.BoardLemmas.{front_last, playable_below, places_most, position-moved, homes-lifted}
 use Rattle.fc_moves.specs.declared.steps.Move.{Move}
-use Rattle.fc_moves.specs.GameRules.{GameRules, all_cards}
+use Rattle.fc_moves.specs.GameRules.{GameRules}
 use Rattle.fc_moves.specs.Step.{Step, Takes}
 use Rattle.fc_moves.proofs.StepLemmas.{receives-takes}
 use Rattle.fc_bound.specs.Bound.{bound, is_away, is_held_back, is_above_lower, is_lower, stands_in}

@@ -9,7 +9,7 @@ use Rattle.std.proofs.lemmas.List.Sums.{sum_by-cons}
 use Rattle.std.proofs.lemmas.Option.{slice_get-get_or}
 use Rattle.fc_position.specs.Board.{last_of, front_of}
 use Rattle.fc_position.proofs.BoardLemmas.{front_last}
-use Rattle.fc_moves.specs.GameRules.{all_cards}
+use Rattle.fc_cards.specs.Card.{all_cards}
 use Rattle.fc_bound.specs.Bound.{bound, is_lower, is_above_lower}
 use Rattle.fc_bound.specs.Clearing.{waits, cards_in}
 use Rattle.fc_bound.specs.Knots.{has_last, waits_above, is_loose, is_in_knot, shed, knots, knot_count, knot_bound}

@@ -4,9 +4,8 @@ use Rattle.std.specs.Prelude.{◌==◌, ◌&&◌, ◌||◌, not, count_by, nat_l
 use Rattle.std.specs.List.{list_any}
 use Rattle.std.specs.List.Sorted.{IsPermutation}
 use Rattle.std.proofs.lemmas.List.Sorted.{IsPermutation-map, list_any-IsPermutation, sum_by-IsPermutation}
-use Rattle.fc_cards.specs.Card.{rank, suit}
+use Rattle.fc_cards.specs.Card.{rank, suit, all_cards}
 use Rattle.fc_position.specs.Board.{last_of, front_of}
-use Rattle.fc_moves.specs.GameRules.{all_cards}
 use Rattle.fc_bound.specs.Bound.{is_away}
 use Rattle.fc_bound.specs.Clearing.{cards_in}
 use Rattle.fc_bound.specs.Knots.{has_last, ends_with, waits_above, is_loose, are_knotted, first_with, least_last, first_knotted, second_knotted, is_in_knot, shed, knots, knot_count, knot_bound}

@@ -9,8 +9,8 @@ use Rattle.std.proofs.lemmas.List.Sums.{get_or-le-sum_by}
 use Rattle.std.proofs.lemmas.Option.{slice_get-get_or, slice_get_within, get_or_from_slice_get}
 use Rattle.fc_position.specs.Board.{Board, last_of, count_in_column}
 use Rattle.fc_position.specs.Position.{IsPosition}
-use Rattle.fc_moves.specs.GameRules.{all_cards}
-use Rattle.fc_moves.specs.GameLaws.{every_card}
+use Rattle.fc_cards.specs.Card.{all_cards}
+use Rattle.fc_cards.proofs.CardLemmas.{every_card}
 use Rattle.fc_bound.specs.Bound.{is_lower}
 use Rattle.fc_bound.specs.Clearing.{waits, cards_in, clearing_cost, clearing_bound}
 use Rattle.fc_bound.specs.Knots.{has_last, ends_with, waits_in, waits_above, is_loose, are_knotted, first_with, first_knotted, second_knotted, is_in_knot, shed, knots, knot_count, knot_bound}

@@ -9,6 +9,7 @@ pub mod ClearingTied
 pub mod CountLemmas
 pub mod FrontLemmas
 pub mod HeldLemmas
+pub mod KindLemmas
 pub mod KnotAbove
 pub mod KnotClass
 pub mod KnotCosts

@@ -1,10 +1,9 @@
 -- How many moves a board needs at least.
 use Rattle.std.specs.Prelude.{◌≡◌, ℕ, ◌+◌, ◌<◌, ◌==◌, ◌&&◌, ◌||◌, Bool, false, nat_lt, List, [], ◌∷◌, Some, slice_get, slice_index_or, count_by, IsTrue}
 use Rattle.std.specs.List.{list_any}
-use Rattle.fc_cards.specs.Card.{rank, suit}
+use Rattle.fc_cards.specs.Card.{rank, suit, all_cards}
 use Rattle.fc_cards.specs.declared.places.Place.{Place}
 use Rattle.fc_position.specs.Board.{Board, home, playable}
-use Rattle.fc_moves.specs.GameRules.{all_cards}
 
 -- the card is not home
 abbrev pub is_away : Board → ℕ → Bool

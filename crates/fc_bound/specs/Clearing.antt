@@ -2,7 +2,7 @@
 use Rattle.std.specs.Prelude.{ℕ, zero, suc, ◌+◌, Bool, false, cond, min, length, List, [], ◌∷◌, Option, Some, None, slice_set, slice_index_or, sum_by, count_by}
 use Rattle.std.specs.List.{list_any}
 use Rattle.fc_position.specs.Board.{Board, last_of, front_of}
-use Rattle.fc_moves.specs.GameRules.{all_cards}
+use Rattle.fc_cards.specs.Card.{all_cards}
 use Rattle.fc_bound.specs.Bound.{is_away, is_lower}
 
 -- a lower card of its own suit stands in some column; where there is no card, none waits

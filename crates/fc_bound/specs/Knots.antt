@@ -2,7 +2,7 @@
 use Rattle.std.specs.Prelude.{ℕ, zero, suc, ◌+◌, ◌==◌, ◌&&◌, ◌||◌, Bool, true, false, not, cond, map, List, [], ◌∷◌, Option, Some, None, count_by}
 use Rattle.std.specs.List.{list_any}
 use Rattle.fc_position.specs.Board.{Board, last_of, front_of}
-use Rattle.fc_moves.specs.GameRules.{all_cards}
+use Rattle.fc_cards.specs.Card.{all_cards}
 use Rattle.fc_bound.specs.Bound.{is_away, is_lower, stands_in}
 use Rattle.fc_bound.specs.Clearing.{waits, cards_in}
 

@@ -12,7 +12,10 @@ use Rattle.fc_canonical.specs.Class.{SameClass}
 use Rattle.fc_bound.specs.declared.bounds.TheConstants.{GREATEST_BOUND}
 use Rattle.fc_bound.specs.Bound.{bound, is_away, is_held_back, stands_in, StandsAboveLower}
 use Rattle.fc_bound.specs.Clearing.{waits, without, order_cost, clearing_cost, clearing_bound}
+use Rattle.fc_bound.specs.declared.kinds.BoundKind.{BoundKind}
+use Rattle.fc_bound.specs.Kinds.{guide_of, low_of}
 use Rattle.fc_bound.specs.Knots.{knot_bound, is_beneath}
+use Rattle.fc_bound.specs.LowerBound.{IsLowerBound}
 
 -- the tests by which the bound counts tell exactly the cards that are not home, and those above a lower card of their suit
 abbrev pub TestsTellTheCards : Type 0
@@ -105,3 +108,11 @@ AreApart a b = (c : ℕ) → Contains a c → Contains b c → ⊥
 abbrev pub KnotsCostOneEach : Type 0
 KnotsCostOneEach = (columns : List (List ℕ)) (knots : List (List ℕ)) → All (IsKnot columns) knots → AllPairs AreApart knots
     → length knots ≤ clearing_cost columns
+
+-- the bound that a search goes by and the one that a table is closed by are lower bounds, of each kind
+abbrev pub TheBoundsAreLowerBounds : Type 0
+TheBoundsAreLowerBounds = (kind : BoundKind) → IsLowerBound (guide_of kind) × IsLowerBound (low_of kind)
+
+-- of a position the bound that a search goes by is nowhere greater than the one that a table is closed by
+abbrev pub GuidesAreNoGreater : Type 0
+GuidesAreNoGreater = (kind : BoundKind) (b : Board) → IsPosition b → guide_of kind b ≤ low_of kind b

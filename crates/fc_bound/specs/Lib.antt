@@ -1,6 +1,7 @@
 pub mod Bound
 pub mod Clearing
-pub mod Fronts
 pub mod Kinds
 pub mod Knots
 pub mod Laws
+pub mod LowerBound
+pub mod inner

@@ -2,7 +2,7 @@ ghost use Rattle.std.specs.Prelude.{◌≡◌, ℕ, ◌≤◌, ◌↔◌, IsTrue
 ghost use Rattle.std.specs.List.{list_any};
 ghost use Rattle.fc_position.specs.Board.{count_in_column};
 ghost use Rattle.fc_position.specs.Position.{IsPosition};
-ghost use Rattle.fc_moves.specs.GameRules.{all_cards};
+ghost use Rattle.fc_cards.specs.Card.{all_cards};
 ghost use Rattle.fc_bound.specs.Bound.{bound, is_above_lower, is_away, is_lower, PlayableIsHeldBack};
 
 use fc_cards::{Card, Place, Suit};

@@ -6,7 +6,8 @@ ghost use Rattle.fc_bound.specs.Clearing.{cards_in, clearing_cost, clearing_boun
 ghost use Rattle.fc_bound.specs.Knots.{has_last, knot_count};
 
 use crate::bounds::{GREATEST_BOUND, away};
-use crate::columns::{Left, Table};
+use crate::columns::Left;
+use crate::fronts::Table;
 use crate::knots::knot_count;
 use fc_position::Position;
 

@@ -4,7 +4,8 @@ ghost use Rattle.fc_bound.specs.Clearing.{cards_in};
 ghost use Rattle.fc_bound.specs.Knots.{knots, knot_count, knot_bound};
 
 use crate::bounds::{GREATEST_BOUND, away};
-use crate::columns::{Left, Table};
+use crate::columns::Left;
+use crate::fronts::Table;
 use fc_position::Position;
 
 // Takes out the loose cards, or else a knot: how many knots are met so; `None` where no card is left.

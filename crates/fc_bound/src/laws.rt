@@ -1,6 +1,6 @@
 //! Laws of the bounds, each the contract of a function that does nothing.
 
-ghost use Rattle.fc_bound.specs.Laws.{TestsTellTheCards, StepsLowerTheBoundByOne, StepsMoveTheBoundByTheirCard, WinsNeedTheBound, ClassMatesHaveOneBound, BoundsAreSmall, ClearingCostIsLeast, ClassMatesHaveOneClearingBound, FreeCardsGoFirst, StepsLowerTheClearingBoundByOne, WinsNeedTheClearingBound, ClearingIsNoLess, KnotBoundIsNoGreater, KnotBoundIsNoLess, ClassMatesHaveOneKnotBound, OneOfTheTiedGoesFirst, KnotsCostOneEach};
+ghost use Rattle.fc_bound.specs.Laws.{TestsTellTheCards, StepsLowerTheBoundByOne, StepsMoveTheBoundByTheirCard, WinsNeedTheBound, ClassMatesHaveOneBound, BoundsAreSmall, ClearingCostIsLeast, ClassMatesHaveOneClearingBound, FreeCardsGoFirst, StepsLowerTheClearingBoundByOne, WinsNeedTheClearingBound, ClearingIsNoLess, KnotBoundIsNoGreater, KnotBoundIsNoLess, ClassMatesHaveOneKnotBound, OneOfTheTiedGoesFirst, KnotsCostOneEach, TheBoundsAreLowerBounds, GuidesAreNoGreater};
 
 /// The bound counts exactly the cards that are not home, and the cards that stand above a lower card of their own suit
 /// in their column.
@@ -87,4 +87,14 @@ pub fn one_of_the_tied_goes_first()
 /// Knots without a card in common cost one each, at least.
 pub fn knots_cost_one_each()
     ensures { KnotsCostOneEach }
+{}
+
+/// The bounds of each kind are lower bounds: no list that wins is shorter, and boards of one class have the same.
+pub fn the_bounds_are_lower_bounds()
+    ensures { TheBoundsAreLowerBounds }
+{}
+
+/// Of a position the bound that a search goes by is nowhere greater than the one that a table is closed by.
+pub fn guides_are_no_greater()
+    ensures { GuidesAreNoGreater }
 {}

@@ -15,6 +15,7 @@ pub use knots::knot_bound;
 mod bounds;
 mod clearing;
 mod columns;
+mod fronts;
 mod kinds;
 mod knots;
 pub mod laws;

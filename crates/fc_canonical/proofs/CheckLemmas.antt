@@ -9,7 +9,7 @@ use Rattle.std.proofs.lemmas.List.Sums.{sum_by-cons}
 use Rattle.fc_position.specs.Board.{count_in_column}
 use Rattle.fc_canonical.specs.Key.{column_bytes}
 use Rattle.fc_canonical.specs.Order.{column_order}
-use Rattle.fc_canonical.specs.Parts.{due, AreColumns}
+use Rattle.fc_canonical.specs.inner.Parts.{due, AreColumns}
 use Rattle.fc_canonical.proofs.KeyLemmas.{column_once}
 
 -- the order of a list is that of its first element and the others

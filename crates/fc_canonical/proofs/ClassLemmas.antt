@@ -12,11 +12,11 @@ use Rattle.fc_position.specs.Position.{IsPosition}
 use Rattle.fc_position.proofs.BoardLemmas.{position-rearranged, column_there, cell_there}
 use Rattle.fc_moves.specs.declared.steps.Move.{Move}
 use Rattle.fc_moves.specs.GameRules.{GameRules, IsPositionOf}
-use Rattle.fc_moves.specs.Run.{Wins}
+use Rattle.fc_moves.specs.Run.{Wins, WinsIn}
 use Rattle.fc_moves.specs.Step.{Joins, Takes, MayLand}
 use Rattle.fc_moves.proofs.StepLemmas.{step_keeps}
 use Rattle.fc_canonical.specs.Class.{SameClass}
-use Rattle.fc_canonical.specs.Laws.{ClassesAreEquivalences, ClassMatesArePositions, ClassMatesStepAlike, ClassMatesWinAlike, WinsIn}
+use Rattle.fc_canonical.specs.Laws.{ClassesAreEquivalences, ClassMatesArePositions, ClassMatesStepAlike, ClassMatesWinAlike}
 use Rattle.fc_canonical.proofs.Rearrange.{renaming, IsPermutation-set, empty_of_rearranged}
 
 -- a board is of its own class; to be of one class may be turned round and joined

@@ -20,7 +20,7 @@ use Rattle.fc_moves.specs.GameRules.{GameRules}
 use Rattle.fc_moves.specs.Step.{Step, Joins, Takes}
 use Rattle.fc_moves.proofs.StepLemmas.{other_column}
 use Rattle.fc_canonical.specs.Class.{SameClass}
-use Rattle.fc_canonical.specs.Distinct.{Stays}
+use Rattle.fc_canonical.specs.inner.Distinct.{Stays}
 use Rattle.fc_canonical.proofs.ClassLemmas.{class-refl, class-sym, class-trans, class-placed, Alike}
 use Rattle.fc_canonical.proofs.KeyLemmas.{two_of_sum, no_more}
 

@@ -16,3 +16,4 @@ pub mod SetLemmas
 pub mod SizeLemmas
 pub mod SortLemmas
 pub mod SpelledLemmas
+pub mod WrittenLemmas

@@ -8,12 +8,13 @@ use Rattle.fc_cards.specs.declared.places.Place.TheVariants.{Column, Cell, Home}
 use Rattle.fc_position.specs.Board.{Board, column, cell, playable, lifted, placed, last_of}
 use Rattle.fc_position.specs.Position.{IsPosition}
 use Rattle.fc_moves.specs.declared.steps.Move.{Move}
-use Rattle.fc_moves.specs.GameLaws.{Contains-cases, Contains-first, Contains-later}
+use Rattle.fc_moves.specs.inner.GameLaws.{Contains-cases, Contains-first, Contains-later}
 use Rattle.fc_moves.specs.GameRules.{GameRules, Opens}
 use Rattle.fc_moves.specs.Step.{Allows, Joins, Takes, MayLand, place_number, move_number}
 use Rattle.fc_moves.proofs.StepLemmas.{allowed_has_text, move_same, place_most, source_most}
 use Rattle.fc_canonical.specs.Class.{SameClass}
-use Rattle.fc_canonical.specs.Distinct.{Stays, IsFirstEmpty, IsLone, IsListed, ListsBelow, ListsClasses, AreFirst}
+use Rattle.fc_canonical.specs.Distinct.{ListsClasses, AreFirst}
+use Rattle.fc_canonical.specs.inner.Distinct.{ListsDistinctBelow, IsListed, IsLone, IsFirstEmpty, Stays}
 use Rattle.fc_canonical.proofs.ClassLemmas.{class-sym, class-trans}
 use Rattle.fc_canonical.proofs.DistinctLemmas.{IsSameKind, IsAlike, only_card, alike_class}
 
@@ -256,7 +257,7 @@ mate g b from Home u there joins takes = (
 )
 
 -- a list of all the moves to be listed leads to each class once
-pub lists_all : (g : GameRules) (b : Board) (ms : List Move) → IsPosition b → ListsBelow g b (12 * 13) ms → ListsClasses g b ms
+pub lists_all : (g : GameRules) (b : Board) (ms : List Move) → IsPosition b → ListsDistinctBelow g b (12 * 13) ms → ListsClasses g b ms
 lists_all g b ms p lists = record {
   allowed = λ m found. (lists.listed m found).0.allowed;
   complete = λ m x step.
@@ -280,7 +281,7 @@ lists_all g b ms p lists = record {
 }
 
 -- and to each by the first move that leads to it
-pub lists_first : (g : GameRules) (b : Board) (ms : List Move) → IsPosition b → ListsBelow g b (12 * 13) ms → AreFirst g b ms
+pub lists_first : (g : GameRules) (b : Board) (ms : List Move) → IsPosition b → ListsDistinctBelow g b (12 * 13) ms → AreFirst g b ms
 lists_first g b ms p lists m n x y found one two same =
     let k = mate g b n.from n.to two.card two.playable two.joins two.takes in
     let (z, step) = k.1.allowed in

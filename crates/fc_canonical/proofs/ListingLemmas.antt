@@ -17,7 +17,7 @@ use Rattle.fc_moves.specs.GameRules.{GameRules, IsGame, IsPair, Stands, Opens}
 use Rattle.fc_moves.specs.MoveText.{IsThere, IsSource}
 use Rattle.fc_moves.specs.Step.{Joins, Takes, place_number, move_number}
 use Rattle.fc_moves.proofs.StepLemmas.{allowed_has_text, source_is_there, place_once, place_most, move_same}
-use Rattle.fc_canonical.specs.Distinct.{Stays, IsLoneBelow, IsLaterLone, IsListed, ListsBelow, IsFirstColumn, IsFirstCell, IsOpening, IsCellOf, GoesTo}
+use Rattle.fc_canonical.specs.inner.Distinct.{IsCellOf, IsOpening, GoesTo, IsFirstCell, IsFirstColumn, ListsDistinctBelow, IsListed, IsLaterLone, IsLoneBelow, Stays}
 use Rattle.fc_canonical.proofs.ListedLemmas.{first_once, empty_or_not, no_last, joins_empty, allows_to, moves_on}
 
 -- what was read as the last card of a column is its last
@@ -26,8 +26,8 @@ pub last_is : (cards other : List ℕ) (read value : Option ℕ) → cards ≡ o
 last_is cards other read value same last is = ap last_of (sym same) ∙ sym last ∙ is
 
 -- where no move with a number from n on, below n + k, is to be listed, the list has those below n + k
-lists_past : (g : GameRules) (b : Board) (n k : ℕ) (ms : List Move) → ListsBelow g b n ms
-    → ((m : Move) → IsListed g b m → n ≤ move_number m → move_number m < n + k → ⊥) → ListsBelow g b (n + k) ms
+lists_past : (g : GameRules) (b : Board) (n k : ℕ) (ms : List Move) → ListsDistinctBelow g b n ms
+    → ((m : Move) → IsListed g b m → n ≤ move_number m → move_number m < n + k → ⊥) → ListsDistinctBelow g b (n + k) ms
 lists_past g b n k ms lists none = record {
   listed = λ m found. let a = lists.listed m found in (a.0, omega (arith, a.1));
   complete = λ m ok below.
@@ -36,10 +36,10 @@ lists_past g b n k ms lists none = record {
 }
 
 -- the one move to be listed with a number from n on, below n + k, is added
-lists_adds : (g : GameRules) (b : Board) (n k : ℕ) (ms : List Move) (m : Move) → ListsBelow g b n ms → IsListed g b m
+lists_adds : (g : GameRules) (b : Board) (n k : ℕ) (ms : List Move) (m : Move) → ListsDistinctBelow g b n ms → IsListed g b m
     → n ≤ move_number m → move_number m < n + k
     → ((o : Move) → IsListed g b o → n ≤ move_number o → move_number o < n + k → o ≡ m)
-    → ListsBelow g b (n + k) (ms ++ m ∷ [])
+    → ListsDistinctBelow g b (n + k) (ms ++ m ∷ [])
 lists_adds g b n k ms m lists ok low high only = record {
   listed = λ o found.
       ⊎_elim (λ old. let a = lists.listed o old in (a.0, omega (arith, a.1)))
@@ -88,27 +88,27 @@ between g b from a k m p source most ok low high =
 
 -- the move to the next place is added
 pub place_adds : (g : GameRules) (b : Board) (from to : Place) (n : ℕ) (ms new : List Move) → IsPosition b → IsSource from
-    → IsThere to → place_number to ≡ n → ListsBelow g b (place_number from * 13 + n) ms
+    → IsThere to → place_number to ≡ n → ListsDistinctBelow g b (place_number from * 13 + n) ms
     → IsListed g b (record { from = from; to = to }) → new ≡ ms ++ (record { from = from; to = to }) ∷ []
-    → ListsBelow g b (place_number from * 13 + (n + 1)) new
+    → ListsDistinctBelow g b (place_number from * 13 + (n + 1)) new
 place_adds g b from to n ms new p source there number lists ok items =
     let m : Move = record { from = from; to = to } in
     let next : place_number from * 13 + n + 1 ≡ place_number from * 13 + (n + 1) = omega arith in
     let most = place_most to there in
-    rw items (subst (λ k. ListsBelow g b k (ms ++ m ∷ [])) next
+    rw items (subst (λ k. ListsDistinctBelow g b k (ms ++ m ∷ [])) next
     (lists_adds g b (place_number from * 13 + n) 1 ms m lists ok (omega (arith, number)) (omega (arith, number)) (λ o other low high.
     let at = between g b from n 1 o p source (omega (arith, number, most)) other low high in
     move_same o m at.source (place_once o.to to at.there there (omega (arith, at.low, at.high, number))))))
 
 -- the next place is passed over
 pub place_passes : (g : GameRules) (b : Board) (from to : Place) (n : ℕ) (ms : List Move) → IsPosition b → IsSource from
-    → IsThere to → place_number to ≡ n → ListsBelow g b (place_number from * 13 + n) ms
-    → (IsListed g b (record { from = from; to = to }) → ⊥) → ListsBelow g b (place_number from * 13 + (n + 1)) ms
+    → IsThere to → place_number to ≡ n → ListsDistinctBelow g b (place_number from * 13 + n) ms
+    → (IsListed g b (record { from = from; to = to }) → ⊥) → ListsDistinctBelow g b (place_number from * 13 + (n + 1)) ms
 place_passes g b from to n ms p source there number lists refused =
     let m : Move = record { from = from; to = to } in
     let next : place_number from * 13 + n + 1 ≡ place_number from * 13 + (n + 1) = omega arith in
     let most = place_most to there in
-    subst (λ k. ListsBelow g b k ms) next
+    subst (λ k. ListsDistinctBelow g b k ms) next
     (lists_past g b (place_number from * 13 + n) 1 ms lists (λ o other low high.
     let at = between g b from n 1 o p source (omega (arith, number, most)) other low high in
     let same : o ≡ m = move_same o m at.source (place_once o.to to at.there there (omega (arith, at.low, at.high, number))) in
@@ -133,30 +133,30 @@ a_cell g b from held o p source told ok low high =
     (is.0, (told is.0).1 (subst (IsListed g b) same ok), same)
 
 pub cell_adds : (g : GameRules) (b : Board) (from : Place) (j : ℕ) (ms new : List Move) → IsPosition b → IsSource from
-    → IsCellOf g b from (Some j) → ListsBelow g b (place_number from * 13 + 8) ms
-    → new ≡ ms ++ (record { from = from; to = Cell j }) ∷ [] → ListsBelow g b (place_number from * 13 + 12) new
+    → IsCellOf g b from (Some j) → ListsDistinctBelow g b (place_number from * 13 + 8) ms
+    → new ≡ ms ++ (record { from = from; to = Cell j }) ∷ [] → ListsDistinctBelow g b (place_number from * 13 + 12) new
 cell_adds g b from j ms new p source told lists items =
     let m : Move = record { from = from; to = Cell j } in
     let ok = (told j).0 refl in
     let there : j < 4 = (allowed_has_text g b m p ok.allowed).to in
     let next : place_number from * 13 + 8 + 4 ≡ place_number from * 13 + 12 = omega arith in
-    rw items (subst (λ k. ListsBelow g b k (ms ++ m ∷ [])) next
+    rw items (subst (λ k. ListsDistinctBelow g b k (ms ++ m ∷ [])) next
     (lists_adds g b (place_number from * 13 + 8) 4 ms m lists ok (omega arith) (omega (arith, there)) (λ o other low high.
     let is = a_cell g b from (Some j) o p source told other low high in
     let same : is.0 ≡ j = cc (is.1) in
     is.2 ∙ ap (λ (n : ℕ). let r : Move = record { from = from; to = Cell n } in r) same)))
 
 pub cell_passes : (g : GameRules) (b : Board) (from : Place) (ms : List Move) → IsPosition b → IsSource from
-    → IsCellOf g b from None → ListsBelow g b (place_number from * 13 + 8) ms
-    → ListsBelow g b (place_number from * 13 + 12) ms
+    → IsCellOf g b from None → ListsDistinctBelow g b (place_number from * 13 + 8) ms
+    → ListsDistinctBelow g b (place_number from * 13 + 12) ms
 cell_passes g b from ms p source told lists =
     let next : place_number from * 13 + 8 + 4 ≡ place_number from * 13 + 12 = omega arith in
-    subst (λ k. ListsBelow g b k ms) next (lists_past g b (place_number from * 13 + 8) 4 ms lists (λ o other low high.
+    subst (λ k. ListsDistinctBelow g b k ms) next (lists_past g b (place_number from * 13 + 8) 4 ms lists (λ o other low high.
     let is = a_cell g b from None o p source told other low high in absurd (cc (is.1))))
 
 -- nothing can be taken from this place, so all its moves are passed over
 pub source_passes : (g : GameRules) (b : Board) (from : Place) (ms : List Move) → IsPosition b → IsSource from
-    → playable b from ≡ None → ListsBelow g b (place_number from * 13) ms → ListsBelow g b (place_number from * 13 + 13) ms
+    → playable b from ≡ None → ListsDistinctBelow g b (place_number from * 13) ms → ListsDistinctBelow g b (place_number from * 13 + 13) ms
 source_passes g b from ms p source none lists =
     lists_past g b (place_number from * 13) 13 ms lists (λ o other low high.
     let at = between g b from 0 13 o p source (omega arith) other (omega (arith, low)) (omega (arith, high)) in

@@ -16,9 +16,11 @@ use Rattle.fc_position.specs.Position.{IsPosition}
 use Rattle.fc_position.proofs.BoardLemmas.{front_last, column_there, columns-lifted, position-moved}
 use Rattle.fc_moves.proofs.StepLemmas.{other_column}
 use Rattle.fc_canonical.specs.Key.{column_bytes, padded, IsKeyOf}
-use Rattle.fc_canonical.specs.Moved.{MayMove, moved, SpellWith, Shortens, Lengthens}
+use Rattle.fc_canonical.specs.Moved.{MayMove, moved}
+use Rattle.fc_canonical.specs.inner.Moved.{Lengthens, Shortens, SpellWith}
 use Rattle.fc_canonical.specs.Order.{column_order, cell_byte}
-use Rattle.fc_canonical.proofs.KeyLemmas.{no_more, rearranged_map, ordered_cells, bytes_most, key_front}
+use Rattle.fc_canonical.proofs.KeyLemmas.{no_more, key_front}
+use Rattle.fc_canonical.proofs.WrittenLemmas.{rearranged_map, ordered_cells, bytes_most}
 
 -- the one byte of a list is written over
 one_set : (xs : List ℕ) (v : ℕ) → length xs ≡ 1 → set xs 0 v ≡ v ∷ []

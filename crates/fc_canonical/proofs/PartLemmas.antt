@@ -11,9 +11,10 @@ use Rattle.fc_position.specs.Board.{Board, places, count_in_column, count_in_cel
 use Rattle.fc_position.specs.Position.{IsPosition}
 use Rattle.fc_canonical.specs.Key.{column_bytes, board_bytes}
 use Rattle.fc_canonical.specs.Order.{IsCanonical, cell_byte, full_cells}
-use Rattle.fc_canonical.specs.Parts.{due, count_in_cells, AreCells, AreColumns}
+use Rattle.fc_canonical.specs.inner.Parts.{due, count_in_cells, AreCells, AreColumns}
 use Rattle.fc_canonical.specs.Spelled.{spelled, spelled_cell, IsKeyFor}
-use Rattle.fc_canonical.proofs.KeyLemmas.{same_fronts, key_front, ordered_cells, small_cells}
+use Rattle.fc_canonical.proofs.KeyLemmas.{same_fronts, key_front, small_cells}
+use Rattle.fc_canonical.proofs.WrittenLemmas.{ordered_cells}
 use Rattle.fc_canonical.proofs.ReadLemmas.{counts_most}
 use Rattle.fc_canonical.proofs.SpelledLemmas.{spelled_back, cells_back}
 

@@ -14,7 +14,7 @@ use Rattle.fc_position.proofs.BoardLemmas.{home_most}
 use Rattle.fc_position.proofs.TallyLemmas.{no_fault}
 use Rattle.fc_canonical.specs.Key.{column_bytes, board_bytes, IsKeyOf, HasExtent, BeginsWithKey}
 use Rattle.fc_canonical.specs.Order.{cell_byte, IsCanonical}
-use Rattle.fc_canonical.specs.Parts.{IsHolding}
+use Rattle.fc_canonical.specs.inner.Parts.{IsHolding}
 use Rattle.fc_canonical.proofs.KeyLemmas.{columns_align, column_once, no_more, key_parts, key_front, IsSpelled, position_spelled, spelled_once, board_once, own_key, canonical_key}
 
 -- the bytes are so many columns and the rest

@@ -8,7 +8,7 @@ use Rattle.std.proofs.lemmas.Nat.{and_le_r, or_lt, one_shl, pow_below, pow_pos}
 use Rattle.std.proofs.lemmas.Nat.Bits.{bit_at_and, bit_at_or, bit_at_ones, bit_at_ones_above, bit_at_above, bit_at-lt, and_pow, bit_at_set_same, bit_at_set_other, same_from_bits_below}
 use Rattle.fc_cards.specs.Card.{rank, suit}
 use Rattle.fc_position.specs.Board.{count_at_home}
-use Rattle.fc_canonical.specs.Parts.{times_in, due}
+use Rattle.fc_canonical.specs.inner.Parts.{times_in, due}
 
 -- where the bits of a mask are those of a suit, the cards below a rank have theirs among the lowest of them
 suit_bit : (mask s h c : ℕ) → agree_below (λ y. bit_at mask y == 1) (λ y. suit y == s) 52 ≡ true → c < 52

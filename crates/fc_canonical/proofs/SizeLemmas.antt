@@ -1,5 +1,5 @@
 -- How long a key is, by the cards that are home and the cells that are full.
-use Rattle.std.proofs.Common.{◌≡◌, ◌==◌, ℕ, zero, suc, ◌+◌, ◌-◌, ◌*◌, ◌/◌, ◌%◌, ◌<◌, ◌≤◌, Bool, true, false, cond, nat_le, nat_lt, min, Option, Some, None, List, [], ◌∷◌, ◌++◌, length, get_or, refl, sym, ◌∙◌, ap, subst, ⊎_elim, arith}
+use Rattle.std.proofs.Common.{◌≡◌, ◌==◌, ℕ, zero, suc, ◌+◌, ◌-◌, ◌*◌, ◌/◌, ◌%◌, ◌<◌, ◌≤◌, true, false, cond, nat_le, min, Option, Some, None, List, [], ◌∷◌, ◌++◌, length, refl, ◌∙◌, ap, ⊎_elim, arith}
 use Rattle.std.specs.Prelude.{All, slice_index, sum_by, count_by, is_some, not, map, take, drop}
 use Rattle.std.specs.List.{flat_map}
 use Rattle.std.proofs.lemmas.Bool.{cases_lt}
@@ -8,16 +8,16 @@ use Rattle.std.proofs.lemmas.List.{length-map, take_at}
 use Rattle.std.proofs.lemmas.List.Concat.{length-flat_map}
 use Rattle.std.proofs.lemmas.List.Elements.{All-head, All-tail}
 use Rattle.std.proofs.lemmas.List.Sums.{sum_by-cons}
-use Rattle.fc_cards.specs.Card.{rank, suit}
 use Rattle.fc_position.specs.Board.{Board, count_at_home, count_in_cell, count_in_column, places}
 use Rattle.fc_position.specs.Position.{IsPosition}
 use Rattle.fc_position.specs.Tally.{AllCards}
 use Rattle.fc_position.proofs.BoardLemmas.{home_most}
 use Rattle.fc_canonical.specs.Key.{board_bytes, column_bytes, BeginsWithKey}
 use Rattle.fc_canonical.specs.Order.{cell_byte, full_cells}
-use Rattle.fc_canonical.specs.Parts.{IsSmall}
+use Rattle.fc_canonical.specs.inner.Parts.{IsSmall}
 use Rattle.fc_canonical.proofs.ReadLemmas.{board_cells, board_counts}
-use Rattle.fc_canonical.proofs.KeyLemmas.{columns_hold, key_size, length-bytes, small_cells}
+use Rattle.fc_canonical.proofs.KeyLemmas.{columns_hold, key_size, small_cells}
+use Rattle.fc_canonical.proofs.WrittenLemmas.{length-bytes}
 
 -- the sum of what a function gives of the numbers below n
 abbrev total : (ℕ → ℕ) → ℕ → ℕ

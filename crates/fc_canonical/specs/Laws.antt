@@ -4,7 +4,7 @@ use Rattle.fc_position.specs.Board.{Board}
 use Rattle.fc_position.specs.Position.{IsPosition, Fits}
 use Rattle.fc_moves.specs.declared.steps.Move.{Move}
 use Rattle.fc_moves.specs.GameRules.{GameRules, IsPositionOf}
-use Rattle.fc_moves.specs.Run.{Wins}
+use Rattle.fc_moves.specs.Run.{WinsIn}
 use Rattle.fc_moves.specs.Step.{Step}
 use Rattle.fc_canonical.specs.Class.{SameClass}
 use Rattle.fc_canonical.specs.Key.{longest_key, IsKeyOf, HasExtent, BeginsWithKey}
@@ -25,10 +25,6 @@ ClassMatesArePositions = (b c : Board) → IsPosition b → SameClass b c → Is
 abbrev pub ClassMatesStepAlike : Type 0
 ClassMatesStepAlike = (g : GameRules) (b c x : Board) (m : Move) → IsPositionOf g b → IsPositionOf g c → SameClass b c
     → Step g b m x → (n : Move) × (y : Board) × Step g c n y × SameClass x y
-
--- some list of so many moves wins from the board
-abbrev pub WinsIn : GameRules → Board → ℕ → Type 0
-WinsIn g b count = (ms : List Move) × (length ms ≡ count) × Wins g b ms
 
 -- some list of so many moves wins from the one of two class-mates of the game exactly where one wins from the other
 abbrev pub ClassMatesWinAlike : Type 0

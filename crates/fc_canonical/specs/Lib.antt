@@ -5,5 +5,5 @@ pub mod KeyOrder
 pub mod Laws
 pub mod Moved
 pub mod Order
-pub mod Parts
 pub mod Spelled
+pub mod inner

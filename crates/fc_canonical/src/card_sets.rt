@@ -2,7 +2,7 @@
 
 ghost use Rattle.std.specs.Prelude.{◌≡◌, false, ℕ, ◌+◌, ◌-◌, ◌*◌, ◌^◌, ◌<◌, ◌≤◌, ◌↔◌, IsTrue, All, length, Some};
 ghost use Rattle.fc_position.specs.Board.{count_in_column, count_in_cell, count_at_home};
-ghost use Rattle.fc_canonical.specs.Parts.{times_in, due, count_in_cells};
+ghost use Rattle.fc_canonical.specs.inner.Parts.{times_in, due, count_in_cells};
 
 use std::marker::Model;
 

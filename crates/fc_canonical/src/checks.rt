@@ -3,7 +3,7 @@
 ghost use Rattle.std.specs.Prelude.{◌≡◌, ◌≤◌, ◌↔◌, ◌==◌, not, IsTrue, All, length, count_by};
 ghost use Rattle.std.specs.List.Sorted.{IsNonDecreasing};
 ghost use Rattle.fc_canonical.specs.Order.{column_order};
-ghost use Rattle.fc_canonical.specs.Parts.{times_in, AreCells, AreColumns};
+ghost use Rattle.fc_canonical.specs.inner.Parts.{times_in, AreCells, AreColumns};
 ghost use Rattle.fc_canonical.specs.Spelled.{IsKeyFor};
 
 use crate::card_sets::CardSet;

@@ -4,7 +4,8 @@ ghost use Rattle.fc_cards.specs.declared.places.Place.TheVariants.{Column, Cell}
 ghost use Rattle.fc_position.specs.Board.{playable, column};
 ghost use Rattle.fc_position.specs.Position.{IsPosition};
 ghost use Rattle.fc_moves.specs.Step.{place_number};
-ghost use Rattle.fc_canonical.specs.Distinct.{ListsClasses, ListsBelow, IsListed, IsLone, IsLoneBelow, IsLaterLone, GoesTo, IsFirstColumn, IsFirstCell, IsOpening, IsCellOf, AreFirst, AreInOrder};
+ghost use Rattle.fc_canonical.specs.Distinct.{ListsClasses, AreFirst, AreInOrder};
+ghost use Rattle.fc_canonical.specs.inner.Distinct.{IsCellOf, IsOpening, GoesTo, IsFirstCell, IsFirstColumn, ListsDistinctBelow, IsListed, IsLaterLone, IsLoneBelow, IsLone};
 
 use arrayvec::ArrayVec;
 use fc_cards::{Card, Place};
@@ -65,14 +66,21 @@ fn list_from_columns<G: Game>(
     requires column { IsFirstColumn position.now column }
     requires cell { IsFirstCell position.now (G.game game.now).cells cell }
     requires empty { array_vec_len list.old ≡ 0 }
-    ensures after { ListsBelow (G.game game.now) position.now (8 * 13) list.new.items }
+    ensures after { ListsDistinctBelow (G.game game.now) position.now (8 * 13) list.new.items }
     ensures count { array_vec_len list.new ≤ 80 }
 {
     for i in 0..8 {
         if let Some(card) = position.column(i).last() {
             let from = Place::Column(i);
             let opening = opening_of(game, position, from, *card, column);
-            list_from(game, position, from, *card, opening, cell, list);
+            list_from(
+                game,
+                position,
+                Source { from, card: *card },
+                opening,
+                cell,
+                list,
+            );
         }
     }
 }
@@ -86,15 +94,15 @@ fn list_from_cells<G: Game>(
 )
     requires whole { IsPosition position.now }
     requires column { IsFirstColumn position.now column }
-    requires before { ListsBelow (G.game game.now) position.now (8 * 13) list.old.items }
+    requires before { ListsDistinctBelow (G.game game.now) position.now (8 * 13) list.old.items }
     requires room { array_vec_len list.old ≤ 80 }
-    ensures after { ListsBelow (G.game game.now) position.now (12 * 13) list.new.items }
+    ensures after { ListsDistinctBelow (G.game game.now) position.now (12 * 13) list.new.items }
 {
     for i in 0..4 {
         if let Some(card) = position.cell(i) {
             let from = Place::Cell(i);
             let opening = opening_of(game, position, from, card, column);
-            list_from(game, position, from, card, opening, None, list);
+            list_from(game, position, Source { from, card }, opening, None, list);
         }
     }
 }
@@ -154,31 +162,40 @@ fn is_lone<G: Game>(game: &G, cards: &[Card]) -> bool
     }
 }
 
-// Lists the moves of the playable card of a place, after those of the places before it.
+// A playable card, and its place.
+#[derive(Clone, Copy)]
+struct Source {
+    from: Place,
+    card: Card,
+}
+
+// Lists the moves of the card, after those of the cards of the places before it.
 fn list_from<G: Game>(
     game: &G,
     position: &Position,
-    from: Place,
-    card: Card,
+    source: Source,
     opening: Option<u8>,
     cell: Option<u8>,
     list: &mut ArrayVec<Move, 132>,
 )
     requires whole { IsPosition position.now }
-    requires card { playable position.now from ≡ Some card }
-    requires opening { IsOpening (G.game game.now) position.now from opening }
-    requires cell { IsCellOf (G.game game.now) position.now from cell }
-    requires before { ListsBelow (G.game game.now) position.now (place_number from * 13) list.old.items }
+    requires card { playable position.now source.from ≡ Some source.card }
+    requires opening { IsOpening (G.game game.now) position.now source.from opening }
+    requires cell { IsCellOf (G.game game.now) position.now source.from cell }
+    requires before { ListsDistinctBelow (G.game game.now) position.now (place_number source.from * 13) list.old.items }
     requires room { array_vec_len list.old + 10 ≤ 132 }
-    ensures after { ListsBelow (G.game game.now) position.now (place_number from * 13 + 13) list.new.items }
+    ensures after { ListsDistinctBelow (G.game game.now) position.now (place_number source.from * 13 + 13) list.new.items }
     ensures count { array_vec_len list.new ≤ array_vec_len list.old + 10 }
 {
-    list_to_columns(game, position, from, card, opening, list);
+    list_to_columns(game, position, source.from, source.card, opening, list);
     if let Some(j) = cell {
         let to = Place::Cell(j);
-        list.push(Move { from, to });
+        list.push(Move {
+            from: source.from,
+            to,
+        });
     }
-    list_to_home(game, position, from, card, list);
+    list_to_home(game, position, source.from, source.card, list);
 }
 
 // Lists the moves of the card to columns.
@@ -193,9 +210,9 @@ fn list_to_columns<G: Game>(
     requires whole { IsPosition position.now }
     requires card { playable position.now from ≡ Some card }
     requires opening { IsOpening (G.game game.now) position.now from opening }
-    requires before { ListsBelow (G.game game.now) position.now (place_number from * 13) list.old.items }
+    requires before { ListsDistinctBelow (G.game game.now) position.now (place_number from * 13) list.old.items }
     requires room { array_vec_len list.old + 8 ≤ 132 }
-    ensures after { ListsBelow (G.game game.now) position.now (place_number from * 13 + 8) list.new.items }
+    ensures after { ListsDistinctBelow (G.game game.now) position.now (place_number from * 13 + 8) list.new.items }
     ensures count { array_vec_len list.new ≤ array_vec_len list.old + 8 }
 {
     for j in 0..8 {
@@ -227,12 +244,12 @@ fn list_to_home<G: Game>(
 )
     requires whole { IsPosition position.now }
     requires card { playable position.now from ≡ Some card }
-    requires before { ListsBelow (G.game game.now) position.now (place_number from * 13 + 12) list.old.items }
+    requires before { ListsDistinctBelow (G.game game.now) position.now (place_number from * 13 + 12) list.old.items }
     requires room { array_vec_len list.old < 132 }
-    ensures after { ListsBelow (G.game game.now) position.now (place_number from * 13 + 13) list.new.items }
+    ensures after { ListsDistinctBelow (G.game game.now) position.now (place_number from * 13 + 13) list.new.items }
     ensures count { array_vec_len list.new ≤ array_vec_len list.old + 1 }
 {
-    if position.home(card.suit()) + 1 == card.rank() {
+    if position.is_next(card) {
         let to = Place::Home;
         list.push(Move { from, to });
     }

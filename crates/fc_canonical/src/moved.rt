@@ -5,7 +5,8 @@ ghost use Rattle.fc_cards.specs.declared.places.Place.TheVariants.{Cell};
 ghost use Rattle.fc_position.specs.Board.{Board, lifted, placed, playable};
 ghost use Rattle.fc_position.specs.Position.{IsPosition};
 ghost use Rattle.fc_canonical.specs.Key.{board_bytes, column_bytes, padded, IsPaddedKeyOf};
-ghost use Rattle.fc_canonical.specs.Moved.{MayMove, IsAlone, IsEmptyColumn, moved, SpellWith, Shortens, Lengthens};
+ghost use Rattle.fc_canonical.specs.Moved.{MayMove, IsAlone, IsEmptyColumn, moved};
+ghost use Rattle.fc_canonical.specs.inner.Moved.{Lengthens, Shortens, SpellWith};
 ghost use Rattle.fc_canonical.specs.Order.{IsCanonical, column_order, cell_byte};
 
 use crate::orders::{bytes_of, sorted};

@@ -6,7 +6,7 @@ ghost use Rattle.fc_position.specs.Position.{IsPosition};
 ghost use Rattle.fc_position.specs.Tally.{AllCards};
 ghost use Rattle.fc_canonical.specs.Key.{column_bytes, board_bytes, HasExtent, BeginsWithBoard, BeginsWithKey};
 ghost use Rattle.fc_canonical.specs.Order.{cell_byte};
-ghost use Rattle.fc_canonical.specs.Parts.{IsSmall, IsHolding};
+ghost use Rattle.fc_canonical.specs.inner.Parts.{IsSmall, IsHolding};
 
 use crate::checks::full_cells;
 use crate::keys::key;

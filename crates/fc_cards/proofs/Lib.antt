@@ -1,2 +1,3 @@
+pub mod CardLemmas
 pub mod EachRank
 pub mod TextLemmas

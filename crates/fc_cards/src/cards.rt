@@ -1,5 +1,5 @@
-ghost use Rattle.std.specs.Prelude.{◌≡◌, ℕ, ◌+◌, ◌-◌, ◌*◌, ◌/◌, ◌<◌, ◌≤◌, ◌↔◌, Some, IsTrue, IsSome, IfSome, IfNone};
-ghost use Rattle.fc_cards.specs.Card.{rank, suit, IsRed};
+ghost use Rattle.std.specs.Prelude.{◌≡◌, ℕ, ◌+◌, ◌-◌, ◌*◌, ◌/◌, ◌<◌, ◌≤◌, ◌↔◌, Some, IsSome, IfSome, IfNone};
+ghost use Rattle.fc_cards.specs.Card.{rank, suit, is_red};
 ghost use Rattle.fc_cards.specs.Suit.{suit_index};
 ghost use Rattle.fc_cards.specs.Texts.{card_text, IsRank, IsCardText};
 
@@ -88,7 +88,7 @@ impl Card {
     /// Whether the suit is diamonds or hearts.
     #[inline]
     pub fn is_red(self) -> bool
-        ensures { IsTrue result ↔ IsRed self }
+        ensures value { result ≡ is_red self }
     {
         matches!(self.suit(), Suit::D | Suit::H)
     }

@@ -3,7 +3,7 @@ use Rattle.std.proofs.Common.{◌≡◌, ℕ, ◌^◌, ◌<◌, ◌≤◌, List,
 use Rattle.std.specs.Prelude.{All, Contains, Option, Some, None, MatchOption}
 use Rattle.fc_position.specs.Board.{Board}
 use Rattle.fc_moves.specs.declared.steps.Move.{Move}
-use Rattle.fc_moves.specs.GameLaws.{All-from_members}
+use Rattle.fc_moves.specs.inner.GameLaws.{All-from_members}
 use Rattle.fc_moves.specs.GameRules.{GameRules, IsGame, IsPositionOf}
 use Rattle.fc_moves.specs.Run.{Wins}
 use Rattle.fc_home.specs.declared.settling.TheConstants.{GREATEST_RULE}
@@ -12,7 +12,7 @@ use Rattle.fc_canonical.proofs.FitLemmas.{fits_by_count}
 use Rattle.fc_bound.specs.declared.kinds.BoundKind.{BoundKind}
 use Rattle.fc_bound.specs.declared.kinds.BoundKind.TheVariants.{Plain, Clearing}
 use Rattle.fc_bound.specs.Kinds.{low_of}
-use Rattle.fc_tables.proofs.BoundLemmas.{bounds_lower}
+use Rattle.fc_bound.proofs.KindLemmas.{bounds_lower}
 use Rattle.fc_tables.proofs.TableLemmas.{below_long, closed_never}
 use Rattle.fc_tables.specs.Table.{IsClosedBelow, as_boards}
 use Rattle.fc_answers.specs.declared.answers.Answer.{Answer}

@@ -13,7 +13,7 @@ use Rattle.fc_cert.specs.declared.contents.Kind.TheVariants.{Shortest, CannotWin
 use Rattle.fc_cert.specs.declared.faults.CertFault.{CertFault}
 use Rattle.fc_cert.specs.Content.{Content, four_bytes, head_bytes, listed_bytes, moves_bytes, record_bytes, rows_bytes, bytes_of, MayFloor, MayList, IsRecord, IsContent, IsSpelled}
 use Rattle.fc_cert.specs.Laws.{CertificatesAreRead}
-use Rattle.fc_cert.specs.Reading.{ReadsMoves, ReadsListed, ReadsList, ReadsRecords, Reads}
+use Rattle.fc_cert.specs.Reading.{ReadsMoves, ReadsListed, ReadsList, ReadsRecord, ReadsRecords, Reads}
 use Rattle.fc_cert.proofs.HeadLemmas.{IsFloor, IsHead, floor_small, head_spelled, head_read}
 use Rattle.fc_cert.proofs.SpelledLemmas.{pair_is, RisesFrom, moves_spelled, records_spelled}
 
@@ -128,7 +128,7 @@ list_read Between floor moves rest may least = listed_read floor moves rest (may
 
 records_read : (cells : ℕ) (kind : Kind) (rows : List (List ℕ × ℕ)) (k : ℕ) (before : Option (List ℕ)) (rest : List ℕ)
     → All (IsRecord cells kind) rows → RisesFrom before rows
-    → ReadsRecords cells kind (length rows) k before (flat_map record_bytes rows ++ rest) (Ok (rows, rest))
+    → ReadsRecords (ReadsRecord cells kind) (length rows) k before (flat_map record_bytes rows ++ rest) (Ok (rows, rest))
 records_read cells kind [] k before rest all up = refl
 records_read cells kind (row ∷ rows) k before rest all up = (
   Ok (row, flat_map record_bytes rows ++ rest),
@@ -179,7 +179,7 @@ content_read c is =
           (
             Ok (length c.rows, flat_map record_bytes c.rows),
             (four_bytes (length c.rows), refl, refl, (refl, is.count)),
-            subst (λ l. ReadsRecords c.head.cells c.head.kind (length c.rows) 0 None l (Ok (c.rows, [])))
+            subst (λ l. ReadsRecords (ReadsRecord c.head.cells c.head.kind) (length c.rows) 0 None l (Ok (c.rows, [])))
                 (append-nil (flat_map record_bytes c.rows))
                 (records_read c.head.cells c.head.kind c.rows 0 None [] is.rows (rising_all c.rows is.rising)),
           ),

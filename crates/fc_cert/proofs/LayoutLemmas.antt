@@ -16,7 +16,8 @@ use Rattle.fc_cert.specs.declared.contents.Kind.{Kind}
 use Rattle.fc_cert.specs.declared.contents.Kind.TheVariants.{Shortest, CannotWin, Between}
 use Rattle.fc_cert.specs.Content.{Content, IsRecord, MayList, four_bytes, record_bytes}
 use Rattle.fc_cert.proofs.OnceLemmas.{cost_small}
-use Rattle.fc_cert.specs.Layout.{AreParts, content_of, ends_from, moves_of, place_of, row_of, rows_ending, start_of}
+use Rattle.fc_cert.specs.Layout.{content_of, moves_of, place_of, row_of, rows_ending}
+use Rattle.fc_cert.specs.inner.Layout.{AreParts, start_of, ends_from}
 
 -- a place's letter says the place
 place_back : (p : Place) → IsThere p → place_of (place_letter p) ≡ p
@@ -100,13 +101,13 @@ start_next from n ends zero = refl
 start_next from n ends (suc i) = refl
 
 -- the bytes of the record with this number stand between where the one before it ends and where it ends
-pub record Stands (bytes : List ℕ) (from to : ℕ) (here : List ℕ) : Type 0 where
+pub record LiesBetween (bytes : List ℕ) (from to : ℕ) (here : List ℕ) : Type 0 where
   pub before : from ≤ to
   pub within : to ≤ length bytes
   pub bytes_are : slice_range bytes from to ≡ here
 
 record_there : (front : List ℕ) (rows : List (List ℕ × ℕ)) (i : ℕ) (d : List ℕ × ℕ) → i < length rows
-    → Stands (front ++ flat_map record_bytes rows) (start_of (length front) (ends_from (length front) rows) i)
+    → LiesBetween (front ++ flat_map record_bytes rows) (start_of (length front) (ends_from (length front) rows) i)
     (get_or (ends_from (length front) rows) i 0) (record_bytes (get_or rows i d))
 record_there front [] i d lt = absurd (omega (arith, lt))
 record_there front (row ∷ rows) zero d lt =
@@ -121,11 +122,11 @@ record_there front (row ∷ rows) (suc i) d lt =
     let rest = flat_map record_bytes rows in
     let next = length front + length bytes in
     let there = record_there (front ++ bytes) rows i d (omega (arith, lt)) in
-    let at = subst (λ k. Stands (front ++ (bytes ++ rest)) (start_of k (ends_from k rows) i) (get_or (ends_from k rows) i 0)
+    let at = subst (λ k. LiesBetween (front ++ (bytes ++ rest)) (start_of k (ends_from k rows) i) (get_or (ends_from k rows) i 0)
     (record_bytes (get_or rows i d))) (length-append front bytes)
-    (subst (λ l. Stands l (start_of (length (front ++ bytes)) (ends_from (length (front ++ bytes)) rows) i)
+    (subst (λ l. LiesBetween l (start_of (length (front ++ bytes)) (ends_from (length (front ++ bytes)) rows) i)
     (get_or (ends_from (length (front ++ bytes)) rows) i 0) (record_bytes (get_or rows i d))) (append_assoc front bytes rest) there) in
-    subst (λ k. Stands (front ++ (bytes ++ rest)) k (get_or (ends_from next rows) i 0) (record_bytes (get_or rows i d)))
+    subst (λ k. LiesBetween (front ++ (bytes ++ rest)) k (get_or (ends_from next rows) i 0) (record_bytes (get_or rows i d)))
     (sym (start_next (length front) next (ends_from next rows) i)) at
 
 -- moves of a certificate have texts
@@ -185,13 +186,13 @@ module _ (c : Content) (t r e : List ℕ) (parts : AreParts c t r e) where
 
   -- the record with a number stands where its places say, and its cost is small
   pub record_at_places : (i : ℕ) (to : ℕ) (d : List ℕ × ℕ) → i < length c.rows → to ≡ get_or e i to
-      → Stands r (start_of 0 e i) to (record_bytes (get_or c.rows i d))
+      → LiesBetween r (start_of 0 e i) to (record_bytes (get_or c.rows i d))
   record_at_places i to d lt there =
       let ends = sym parts.ends in
       let last : get_or e i 0 ≡ to = sym (there ∙ get_or_default e i to 0 (omega (arith, lt, places_many))) in
-      subst (λ k. Stands r (start_of 0 e i) k (record_bytes (get_or c.rows i d))) last
-      (subst (λ l. Stands r (start_of 0 l i) (get_or l i 0) (record_bytes (get_or c.rows i d))) ends
-      (subst (λ l. Stands l (start_of 0 (ends_from 0 c.rows) i) (get_or (ends_from 0 c.rows) i 0) (record_bytes (get_or c.rows i d)))
+      subst (λ k. LiesBetween r (start_of 0 e i) k (record_bytes (get_or c.rows i d))) last
+      (subst (λ l. LiesBetween r (start_of 0 l i) (get_or l i 0) (record_bytes (get_or c.rows i d))) ends
+      (subst (λ l. LiesBetween l (start_of 0 (ends_from 0 c.rows) i) (get_or (ends_from 0 c.rows) i 0) (record_bytes (get_or c.rows i d)))
       (sym parts.records) (record_there [] c.rows i d lt)))
 
   pub cost_at : (i : ℕ) (d : List ℕ × ℕ) → i < length c.rows → (get_or c.rows i d).1 < 2 ^ 32

@@ -290,8 +290,8 @@ ends_once cells kind number before bytes x y (inr (cost, key, has, judged)) (inr
     (subst (λ r. Judged cells kind number before price other r y) (sym same.2) decided)))
 
 records_once : (cells : ℕ) (kind : Kind) (n k : ℕ) (before : Option (List ℕ)) (bytes : List ℕ)
-    (a b : Result (List (List ℕ × ℕ) × List ℕ) CertFault) → ReadsRecords cells kind n k before bytes a
-    → ReadsRecords cells kind n k before bytes b → a ≡ b
+    (a b : Result (List (List ℕ × ℕ) × List ℕ) CertFault) → ReadsRecords (ReadsRecord cells kind) n k before bytes a
+    → ReadsRecords (ReadsRecord cells kind) n k before bytes b → a ≡ b
 records_once cells kind zero k before bytes a b p q = p ∙ sym q
 records_once cells kind (suc n) k before bytes a b p q =
     step_once _ _ a b

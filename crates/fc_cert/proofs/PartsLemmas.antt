@@ -7,7 +7,7 @@ use Rattle.fc_cert.specs.declared.contents.Head.{Head}
 use Rattle.fc_cert.specs.declared.faults.CertFault.{CertFault}
 use Rattle.fc_cert.specs.declared.faults.CertFault.TheVariants as fault
 use Rattle.fc_cert.specs.Content.{Content, IsRecord, IsSpelled, four_bytes, head_bytes, moves_bytes, record_bytes, rows_bytes}
-use Rattle.fc_cert.specs.Layout.{AreParts, AreRecords, HasParts, ends_from}
+use Rattle.fc_cert.specs.inner.Layout.{AreParts, AreRecords, HasParts, ends_from}
 use Rattle.fc_cert.specs.Reading.{IsFormFault, IsReadFault}
 use Rattle.fc_cert.proofs.ReadFaultLemmas.{never_memory}
 

@@ -80,7 +80,7 @@ list_not CannotWin floor bytes e = value_not _ e
 list_not Between floor bytes read = listed_not floor bytes read
 
 records_not : (cells : ℕ) (kind : Kind) (n k : ℕ) (before : Option (List ℕ)) (bytes : List ℕ)
-    → ReadsRecords cells kind n k before bytes (Err Memory) → ⊥
+    → ReadsRecords (ReadsRecord cells kind) n k before bytes (Err Memory) → ⊥
 records_not cells kind zero k before bytes e = value_not _ e
 records_not cells kind (suc n) k before bytes read =
     step_not (ReadsRecord cells kind k before bytes) _ (λ none. none)

@@ -42,37 +42,37 @@ moves_end count i bytes rest all leads =
 
 -- and records
 pub records_start : (cells : ℕ) (kind : Kind) (count : ℕ) (bytes : List ℕ)
-    → LeadsTo (ReadsRecords cells kind (count - 0) 0 None bytes) (ReadsRecords cells kind count 0 None bytes)
+    → LeadsTo (ReadsRecords (ReadsRecord cells kind) (count - 0) 0 None bytes) (ReadsRecords (ReadsRecord cells kind) count 0 None bytes)
 records_start cells kind count bytes =
-    subst (λ n. LeadsTo (ReadsRecords cells kind n 0 None bytes) (ReadsRecords cells kind count 0 None bytes)) (omega arith)
-    (leads_same (ReadsRecords cells kind count 0 None bytes))
+    subst (λ n. LeadsTo (ReadsRecords (ReadsRecord cells kind) n 0 None bytes) (ReadsRecords (ReadsRecord cells kind) count 0 None bytes)) (omega arith)
+    (leads_same (ReadsRecords (ReadsRecord cells kind) count 0 None bytes))
 
 pub records_more : (cells : ℕ) (kind : Kind) (count i : ℕ) (before : Option (List ℕ)) (bytes rest after key : List ℕ) (cost : ℕ)
     → i < count
-    → LeadsTo (ReadsRecords cells kind (count - i) i before rest) (ReadsRecords cells kind count 0 None bytes)
+    → LeadsTo (ReadsRecords (ReadsRecord cells kind) (count - i) i before rest) (ReadsRecords (ReadsRecord cells kind) count 0 None bytes)
     → ReadsRecord cells kind i before rest (Ok ((key, cost), after))
-    → LeadsTo (ReadsRecords cells kind (count - (i + 1)) (i + 1) (Some key) after) (ReadsRecords cells kind count 0 None bytes)
+    → LeadsTo (ReadsRecords (ReadsRecord cells kind) (count - (i + 1)) (i + 1) (Some key) after) (ReadsRecords (ReadsRecord cells kind) count 0 None bytes)
 records_more cells kind count i before bytes rest after key cost below leads first =
     let one : suc (count - (i + 1)) ≡ count - i = omega arith in
-    leads_on (ReadsRecords cells kind (count - (i + 1)) (i + 1) (Some key) after)
-    (ReadsRecords cells kind (suc (count - (i + 1))) i before rest) (ReadsRecords cells kind count 0 None bytes)
+    leads_on (ReadsRecords (ReadsRecord cells kind) (count - (i + 1)) (i + 1) (Some key) after)
+    (ReadsRecords (ReadsRecord cells kind) (suc (count - (i + 1))) i before rest) (ReadsRecords (ReadsRecord cells kind) count 0 None bytes)
     (record {
       read = λ rows end r. ((key, cost) ∷ rows, (Ok ((key, cost), after), first, (Ok (rows, end), r, refl)));
       fault = λ f r. (Ok ((key, cost), after), first, (Err f, r, refl));
     })
-    (subst (λ n. LeadsTo (ReadsRecords cells kind n i before rest) (ReadsRecords cells kind count 0 None bytes)) (sym one) leads)
+    (subst (λ n. LeadsTo (ReadsRecords (ReadsRecord cells kind) n i before rest) (ReadsRecords (ReadsRecord cells kind) count 0 None bytes)) (sym one) leads)
 
 pub records_stop : (cells : ℕ) (kind : Kind) (count i : ℕ) (before : Option (List ℕ)) (bytes rest : List ℕ) (f : CertFault)
     → i < count
-    → LeadsTo (ReadsRecords cells kind (count - i) i before rest) (ReadsRecords cells kind count 0 None bytes)
-    → ReadsRecord cells kind i before rest (Err f) → ReadsRecords cells kind count 0 None bytes (Err f)
+    → LeadsTo (ReadsRecords (ReadsRecord cells kind) (count - i) i before rest) (ReadsRecords (ReadsRecord cells kind) count 0 None bytes)
+    → ReadsRecord cells kind i before rest (Err f) → ReadsRecords (ReadsRecord cells kind) count 0 None bytes (Err f)
 records_stop cells kind count i before bytes rest f below leads wrong =
     let one : suc (count - (i + 1)) ≡ count - i = omega arith in
-    leads.fault f (subst (λ n. ReadsRecords cells kind n i before rest (Err f)) one (Err f, wrong, refl))
+    leads.fault f (subst (λ n. ReadsRecords (ReadsRecord cells kind) n i before rest (Err f)) one (Err f, wrong, refl))
 
 pub records_end : (cells : ℕ) (kind : Kind) (count i : ℕ) (before : Option (List ℕ)) (bytes rest : List ℕ) → count ≤ i
-    → LeadsTo (ReadsRecords cells kind (count - i) i before rest) (ReadsRecords cells kind count 0 None bytes)
-    → (rows : List (List ℕ × ℕ)) × ReadsRecords cells kind count 0 None bytes (Ok (rows, rest))
+    → LeadsTo (ReadsRecords (ReadsRecord cells kind) (count - i) i before rest) (ReadsRecords (ReadsRecord cells kind) count 0 None bytes)
+    → (rows : List (List ℕ × ℕ)) × ReadsRecords (ReadsRecord cells kind) count 0 None bytes (Ok (rows, rest))
 records_end cells kind count i before bytes rest all leads =
     let none : 0 ≡ count - i = omega arith in
-    leads.read [] rest (subst (λ n. ReadsRecords cells kind n i before rest (Ok ([], rest))) none refl)
+    leads.read [] rest (subst (λ n. ReadsRecords (ReadsRecord cells kind) n i before rest (Ok ([], rest))) none refl)

@@ -7,7 +7,7 @@ use Rattle.fc_canonical.specs.Key.{BeginsWithKey}
 use Rattle.fc_canonical.specs.Spelled.{spelled}
 use Rattle.fc_cert.specs.declared.contents.Kind.{Kind}
 use Rattle.fc_cert.specs.Content.{IsRecord, four_bytes, record_bytes}
-use Rattle.fc_cert.specs.Layout.{AreRecords, ends_from}
+use Rattle.fc_cert.specs.inner.Layout.{AreRecords, ends_from}
 
 module _ (cells : ℕ) (kind : Kind) (bytes : List ℕ) (row : List ℕ × ℕ) (rest : List ℕ) (is : IsRecord cells kind row)
     (e : bytes ≡ record_bytes row ++ rest) where

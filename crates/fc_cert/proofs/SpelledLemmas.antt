@@ -14,8 +14,8 @@ use Rattle.fc_cert.specs.declared.contents.Kind.{Kind}
 use Rattle.fc_cert.specs.declared.faults.CertFault.{CertFault}
 use Rattle.fc_cert.specs.declared.faults.CertFault.TheVariants.{Short, Trailing}
 use Rattle.fc_cert.specs.Content.{four_bytes, record_bytes, IsRecord}
-use Rattle.fc_cert.specs.Layout.{HasParts}
-use Rattle.fc_cert.specs.Reading.{Field, SaysNumber, IsAfter, HasRecord, ReadsHead, ReadsMoves, ReadsList, ReadsRecords, ReadsEnd, Reads}
+use Rattle.fc_cert.specs.inner.Layout.{HasParts}
+use Rattle.fc_cert.specs.Reading.{Field, SaysNumber, IsAfter, HasRecord, ReadsHead, ReadsMoves, ReadsList, ReadsRecord, ReadsRecords, ReadsEnd, Reads}
 
 -- a reader's value and rest are told by its outcome
 abbrev pub read_as : {A : Type 0} → A → List ℕ → Result (A × List ℕ) CertFault
@@ -50,7 +50,7 @@ moves_spelled (suc n) k bytes rest ms (Err f, first, same) = absurd cc
 
 -- records that are read are records, which rise and stand there
 pub records_spelled : (cells : ℕ) (kind : Kind) (n k : ℕ) (before : Option (List ℕ)) (bytes rest : List ℕ)
-    (rows : List (List ℕ × ℕ)) → ReadsRecords cells kind n k before bytes (Ok (rows, rest))
+    (rows : List (List ℕ × ℕ)) → ReadsRecords (ReadsRecord cells kind) n k before bytes (Ok (rows, rest))
     → (length rows ≡ n) × All (IsRecord cells kind) rows × RisesFrom before rows × (bytes ≡ flat_map record_bytes rows ++ rest)
 records_spelled cells kind zero k before bytes rest rows same =
     subst (λ (p : List (List ℕ × ℕ) × List ℕ). (length p.0 ≡ 0) × All (IsRecord cells kind) p.0 × RisesFrom before p.0
@@ -101,7 +101,7 @@ record_split bytes from_key key rest cost n e small extent split size = (
 pub whole_read : (bytes after_head after_moves records rest : List ℕ) (head : Head) (moves : List Move)
     (rows : List (List ℕ × ℕ)) (count : ℕ) → ReadsHead bytes (Ok (head, after_head))
     → ReadsList head.kind head.floor after_head (Ok (moves, after_moves)) → Field 4 SaysNumber Short after_moves (Ok (count, records))
-    → ReadsRecords head.cells head.kind count 0 None records (Ok (rows, rest)) → rest ≡ []
+    → ReadsRecords (ReadsRecord head.cells head.kind) count 0 None records (Ok (rows, rest)) → rest ≡ []
     → Reads bytes (Ok (record { head = head; moves = moves; rows = rows }))
 whole_read bytes after_head after_moves records rest head moves rows count first list number table none = (
   Ok (head, after_head),
@@ -121,7 +121,7 @@ whole_read bytes after_head after_moves records rest head moves rows count first
 pub trailing : (bytes after_head after_moves records rest : List ℕ) (head : Head) (moves : List Move)
     (rows : List (List ℕ × ℕ)) (count : ℕ) → ReadsHead bytes (Ok (head, after_head))
     → ReadsList head.kind head.floor after_head (Ok (moves, after_moves)) → Field 4 SaysNumber Short after_moves (Ok (count, records))
-    → ReadsRecords head.cells head.kind count 0 None records (Ok (rows, rest)) → (rest ≡ [] → ⊥)
+    → ReadsRecords (ReadsRecord head.cells head.kind) count 0 None records (Ok (rows, rest)) → (rest ≡ [] → ⊥)
     → Reads bytes (Err Trailing)
 trailing bytes after_head after_moves records [] head moves rows count first list number table some = absurd (some refl)
 trailing bytes after_head after_moves records (byte ∷ rest) head moves rows count first list number table some = (
@@ -132,7 +132,7 @@ trailing bytes after_head after_moves records (byte ∷ rest) head moves rows co
 
 -- and the records are all the bytes behind their number
 pub whole_parts : (head : Head) (moves : List Move) (rows : List (List ℕ × ℕ)) (texts records rest : List ℕ) (count : ℕ)
-    → texts ≡ flat_map move_text moves → ReadsRecords head.cells head.kind count 0 None records (Ok (rows, rest)) → rest ≡ []
+    → texts ≡ flat_map move_text moves → ReadsRecords (ReadsRecord head.cells head.kind) count 0 None records (Ok (rows, rest)) → rest ≡ []
     → HasParts (record { head = head; moves = moves; rows = rows }) head texts records count
 whole_parts head moves rows texts records rest count of_moves table none =
     let s = records_spelled head.cells head.kind count 0 None records rest rows table in

@@ -6,8 +6,8 @@ use Rattle.std.proofs.lemmas.List.{take_more, take_all}
 use Rattle.std.proofs.lemmas.List.Concat.{flat_map-append}
 use Rattle.std.proofs.lemmas.Option.{get_or_from_slice_get}
 use Rattle.fc_io.specs.declared.devices.Failed.{Failed}
-use Rattle.fc_io.specs.Moves.{Takes, TakesFront, Stays}
-use Rattle.fc_io.proofs.MoveLemmas.{Takes-both, takes_then_front, sound_at_ok}
+use Rattle.fc_io.specs.Moves.{TakesBytes, TakesFront, Stays}
+use Rattle.fc_io.proofs.MoveLemmas.{TakesBytes-both, takes_then_front, sound_at_ok}
 use Rattle.fc_moves.specs.declared.steps.Move.{Move}
 use Rattle.fc_moves.specs.GameRules.{GameRules}
 use Rattle.fc_answers.specs.declared.answers.Answer.{Answer}
@@ -23,10 +23,11 @@ use Rattle.fc_cert.specs.declared.faults.CertFault.{CertFault}
 use Rattle.fc_cert.specs.declared.faults.CertFault.TheVariants.{Write}
 use Rattle.fc_cert.specs.Claim.{IsWrittenAs, IsWrittenWith, written_form, written_head}
 use Rattle.fc_cert.specs.Content.{Content, magic, bound_byte, kind_byte, floor_bytes, head_bytes, bytes_of}
-use Rattle.fc_cert.specs.Writing.{SinkState, TakesWhole, IsCutShort, Gathers, Writes, WritesAnswer}
+use Rattle.fc_cert.specs.Writing.{SinkState, TakesWhole, IsCutShort, WritesAnswer}
+use Rattle.fc_cert.specs.inner.Writing.{Writes, Gathers}
 
 -- what `write_all` says of a piece that was written
-pub whole_piece : {old new : Option (List ℕ)} {was is : Bool} {piece : List ℕ} → Takes old new piece → (IsTrue is → false ≡ true)
+pub whole_piece : {old new : Option (List ℕ)} {was is : Bool} {piece : List ℕ} → TakesBytes old new piece → (IsTrue is → false ≡ true)
     → (IsTrue was → false ≡ true) → TakesWhole (record { held = old; has_failed = was }) (record { held = new; has_failed = is }) piece
 whole_piece {old} {new} {was} {is} {piece} taken fault stays = record {
   taken = taken;
@@ -48,7 +49,7 @@ cut_told old new bytes (Err failed) is cut = cut
 -- the sink took the one piece and then the other
 pub whole_both : {a b c : SinkState} {xs ys : List ℕ} → TakesWhole a b xs → TakesWhole b c ys → TakesWhole a c (xs ++ ys)
 whole_both {a} {b} {c} {xs} {ys} first second = record {
-  taken = Takes-both a.held b.held c.held xs ys first.taken second.taken;
+  taken = TakesBytes-both a.held b.held c.held xs ys first.taken second.taken;
   was_sound = first.was_sound;
   is_sound = second.is_sound;
 }
@@ -148,7 +149,7 @@ module _ {X : Type 0} (bytes_of_one : X → List ℕ) where
   pub gathers_end : {a b : SinkState} {held : Option (List ℕ)} {is : Bool} {gathered piece : List ℕ} (head : List ℕ) (xs : List X)
       (i : ℕ) (told : Result (Unit {0}) Failed) → length xs ≤ i → piece ≡ gathered
       → Gathers a b gathered (head ++ flat_map bytes_of_one (take i xs)) → TakesFront b.held held piece
-      → OnOk told (Takes b.held held piece) → (IsErr told ↔ IsTrue is) → (IsTrue b.has_failed → Stays b.held held)
+      → OnOk told (TakesBytes b.held held piece) → (IsErr told ↔ IsTrue is) → (IsTrue b.has_failed → Stays b.held held)
       → Writes a (record { held = held; has_failed = is }) (head ++ flat_map bytes_of_one xs) told
   gathers_end {a} {b} {held} {is} {gathered} {piece} head xs i (Ok done) past same so_far front taken fault unmoved =
       let all : List ℕ = head ++ flat_map bytes_of_one xs in

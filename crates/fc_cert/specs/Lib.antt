@@ -4,3 +4,4 @@ pub mod Layout
 pub mod Laws
 pub mod Reading
 pub mod Writing
+pub mod inner

@@ -161,20 +161,21 @@ ReadsRecord cells kind number before bytes (Err (Label i)) =
     × (MayCost kind cost → ⊥))
 ReadsRecord cells kind number before bytes (Err other) = ⊥
 
--- so many records, the first of them with this number, after one with this key
-abbrev pub ReadsRecords : ℕ → Kind → ℕ → ℕ → Option (List ℕ) → List ℕ → Result (List (List ℕ × ℕ) × List ℕ) CertFault → Type 0
-ReadsRecords cells kind zero number before bytes out = out ≡ Ok ([], bytes)
-ReadsRecords cells kind (suc left) number before bytes out =
-    (first : Result ((List ℕ × ℕ) × List ℕ) CertFault) × ReadsRecord cells kind number before bytes first × Then first
+-- so many records, each read in this way, the first of them with this number, after one with this key
+abbrev pub ReadsRecords : (ℕ → Option (List ℕ) → List ℕ → Result ((List ℕ × ℕ) × List ℕ) CertFault → Type 0) → ℕ → ℕ
+    → Option (List ℕ) → List ℕ → Result (List (List ℕ × ℕ) × List ℕ) CertFault → Type 0
+ReadsRecords ReadsOne zero number before bytes out = out ≡ Ok ([], bytes)
+ReadsRecords ReadsOne (suc left) number before bytes out =
+    (first : Result ((List ℕ × ℕ) × List ℕ) CertFault) × ReadsOne number before bytes first × Then first
     (λ row rest out. (others : Result (List (List ℕ × ℕ) × List ℕ) CertFault)
-    × ReadsRecords cells kind left (number + 1) (Some row.0) rest others × Then others
+    × ReadsRecords ReadsOne left (number + 1) (Some row.0) rest others × Then others
     (λ rows rest out. out ≡ Ok (row ∷ rows, rest)) out) out
 
 -- the table: how many records, and the records, counted from 0
 abbrev pub ReadsTable : ℕ → Kind → List ℕ → Result (List (List ℕ × ℕ) × List ℕ) CertFault → Type 0
 ReadsTable cells kind bytes out =
     (count : Result (ℕ × List ℕ) CertFault) × Field 4 SaysNumber Short bytes count × Then count
-    (λ n rest out. ReadsRecords cells kind n 0 None rest out) out
+    (λ n rest out. ReadsRecords (ReadsRecord cells kind) n 0 None rest out) out
 
 -- nothing follows
 abbrev pub ReadsEnd : Content → List ℕ → Result Content CertFault → Type 0

@@ -1,7 +1,6 @@
 -- What becomes of the sink that a certificate is written to.
-use Rattle.std.specs.Prelude.{◌≡◌, ◌⊎◌, ℕ, Bool, false, List, ◌++◌, Option, None, Result, Ok, Err, IsTrue}
-use Rattle.fc_io.specs.declared.devices.Failed.{Failed}
-use Rattle.fc_io.specs.Moves.{Takes, TakesFront, Stays}
+use Rattle.std.specs.Prelude.{◌≡◌, ◌⊎◌, ℕ, Bool, false, List, Option, None, Result, Ok, Err, IsTrue}
+use Rattle.fc_io.specs.Moves.{TakesBytes, TakesFront, Stays}
 use Rattle.fc_moves.specs.GameRules.{GameRules}
 use Rattle.fc_answers.specs.declared.answers.Answer.{Answer}
 use Rattle.fc_answers.specs.Answer.{HasGivenUp}
@@ -17,7 +16,7 @@ pub record SinkState : Type 0 where
 
 -- the sink took all these bytes; it had not failed before, and has not
 pub record TakesWhole (old new : SinkState) (bytes : List ℕ) : Type 0 where
-  pub taken : Takes old.held new.held bytes
+  pub taken : TakesBytes old.held new.held bytes
   pub was_sound : old.has_failed ≡ false
   pub is_sound : new.has_failed ≡ false
 
@@ -26,17 +25,6 @@ pub record IsCutShort (old new : SinkState) (bytes : List ℕ) : Type 0 where
   pub front : TakesFront old.held new.held bytes
   pub failed : IsTrue new.has_failed
   pub unmoved : IsTrue old.has_failed → Stays old.held new.held
-
--- the sink took a front of these bytes, and the others are gathered, still to be written
-pub record Gathers (old new : SinkState) (gathered bytes : List ℕ) : Type 0 where
-  pub front : List ℕ
-  pub parts : bytes ≡ front ++ gathered
-  pub whole : TakesWhole old new front
-
--- bytes were written, or the sink failed on the way
-abbrev pub Writes : SinkState → SinkState → List ℕ → Result (Unit {0}) Failed → Type 0
-Writes old new bytes (Ok done) = TakesWhole old new bytes
-Writes old new bytes (Err failed) = IsCutShort old new bytes
 
 -- the answer has no certificate: it has no table, or a search gave up
 abbrev pub IsUncertified : Answer → Type 0

@@ -2,13 +2,14 @@
 
 ghost use Rattle.std.specs.Prelude.{◌≡◌, ◌+◌, ◌<◌, ◌≤◌, ◌^◌, ◌↔◌, ℕ, List, [], ◌++◌, Some, length, slice_get, Contains, IsTrue, IfOk, IfErr, OnErr, MatchOption};
 ghost use Rattle.fc_cert.specs.Content.{Content, IsContent, IsRecord, IsSpelled, kind_byte, record_bytes};
-ghost use Rattle.fc_cert.specs.Layout.{AreRecords, ends_from, start_of};
+ghost use Rattle.fc_cert.specs.inner.Layout.{AreRecords, start_of, ends_from};
 ghost use Rattle.fc_cert.specs.Reading.{IsFormFault, IsReadFault};
 
 use crate::comparisons::compare;
 use crate::contents::Head;
 use crate::faults::CertFault;
-use crate::readers::{check_form, split_number};
+use crate::fields::split_number;
+use crate::readers::check_form;
 use fc_canonical::key_size;
 use fc_home::GREATEST_RULE;
 use fc_moves::{Move, read_move};
@@ -30,7 +31,8 @@ pub struct Certificate<'a> {
 
 impl<'a> Model for Certificate<'a> {
     ghost use Rattle.fc_cert.specs.Content.{Content};
-    ghost use Rattle.fc_cert.specs.Layout.{AreParts, content_of};
+    ghost use Rattle.fc_cert.specs.Layout.{content_of};
+    ghost use Rattle.fc_cert.specs.inner.Layout.{AreParts};
 
     ghost Value = { Content };
 

@@ -13,6 +13,8 @@ mod claims;
 mod comparisons;
 mod contents;
 mod faults;
+mod fields;
+mod heads;
 pub mod laws;
 mod readers;
 mod writers;

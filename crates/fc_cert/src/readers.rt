@@ -1,22 +1,20 @@
-ghost use Rattle.std.specs.Prelude.{◌≡◌, ◌+◌, ◌<◌, ◌≤◌, ◌^◌, ◌↔◌, ℕ, List, [], ◌∷◌, ◌++◌, length, take, drop, IsTrue, IfOk, IfErr, IfSome, IfNone, Option};
+ghost use Rattle.std.specs.Prelude.{◌≡◌, ◌+◌, ◌<◌, ◌↔◌, ℕ, List, length, IsTrue, IfOk, IfErr, IfSome, IfNone, Option};
 ghost use Rattle.std.specs.List.{flat_map};
 ghost use Rattle.std.specs.Option.{option_copied};
 ghost use Rattle.fc_moves.specs.declared.steps.Move.{Move};
 ghost use Rattle.fc_moves.specs.MoveText.{move_text};
-ghost use Rattle.fc_canonical.specs.Key.{HasExtent};
-ghost use Rattle.fc_canonical.specs.KeyOrder.{IsBefore};
 ghost use Rattle.fc_canonical.specs.Spelled.{IsKeyFor};
 ghost use Rattle.fc_cert.specs.declared.contents.Kind.{Kind};
-ghost use Rattle.fc_cert.specs.Content.{Content, magic, bound_byte, four_bytes, record_bytes, MayClaim, MayCost};
-ghost use Rattle.fc_cert.specs.Layout.{HasParts};
-ghost use Rattle.fc_cert.specs.Reading.{Field, SaysByte, SaysKind, SaysNumber, SaysNoLess, SaysMove, MayRule, IsAfter, HasRecord, ReadsNamed, ReadsGame, ReadsBound, ReadsFloor, ReadsClaim, ReadsHead, ReadsMoves, ReadsListed, ReadsList, ReadsRecord, ReadsRecords, Reads, IsFormFault};
+ghost use Rattle.fc_cert.specs.Content.{Content, MayCost};
+ghost use Rattle.fc_cert.specs.inner.Layout.{HasParts};
+ghost use Rattle.fc_cert.specs.Reading.{Field, SaysNoLess, SaysMove, IsAfter, HasRecord, ReadsMoves, ReadsListed, ReadsList, ReadsRecord, ReadsRecords, Reads, IsFormFault};
 
 use crate::comparisons::compare;
-use crate::contents::{Form, Head, Kind};
+use crate::contents::{Head, Kind};
 use crate::faults::CertFault;
-use fc_bound::BoundKind;
+use crate::fields::{read_number, split_number};
+use crate::heads::read_head;
 use fc_canonical::{is_key, key_len};
-use fc_home::GREATEST_RULE;
 use fc_moves::read_move;
 
 /// The parts of a certificate's bytes that are kept: the head, the texts of the moves, and the records, so many.
@@ -51,167 +49,6 @@ pub fn check_form(bytes: &[u8]) -> Result<Parts<'_>, CertFault>
         count,
         records,
     })
-}
-
-// The fields before the moves, and what follows them.
-fn read_head(bytes: &[u8]) -> Result<(Head, &[u8]), CertFault>
-    ensures read { IfOk result (λ r. ReadsHead bytes.now (Ok (r.0, r.1.now))) }
-    ensures fault { IfErr result (λ f. ReadsHead bytes.now (Err f)) }
-{
-    let (form, rest) = read_form(bytes)?;
-    let ((game, cells), rest) = read_game(form, rest)?;
-    let (rule, rest) = read_rule(form, rest)?;
-    let (bound, rest) = read_bound(form, rest)?;
-    let ((kind, floor), rest) = read_claim(form, rest)?;
-    let head = Head {
-        form,
-        game,
-        cells,
-        rule,
-        bound,
-        kind,
-        floor,
-    };
-    Ok((head, rest))
-}
-
-// The form, by the four bytes at the front, and what follows them.
-fn read_form(bytes: &[u8]) -> Result<(Form, &[u8]), CertFault>
-    ensures read { IfOk result (λ r. Field 4 (λ here form. here ≡ magic form) CertFault.BadMagic bytes.now (Ok (r.0, r.1.now))) }
-    ensures fault { IfErr result (λ f. Field 4 (λ here form. here ≡ magic form) CertFault.BadMagic bytes.now (Err f)) }
-{
-    let (here, rest) = bytes.split_at_checked(4).ok_or(CertFault::Short)?;
-    match here {
-        b"FCC1" => Ok((Form::First, rest)),
-        b"FCC2" => Ok((Form::Second, rest)),
-        b"FCC3" => Ok((Form::Third, rest)),
-        _ => Err(CertFault::BadMagic),
-    }
-}
-
-// The code of the game and its number of cells, and what follows them.
-fn read_game(form: Form, bytes: &[u8]) -> Result<((u8, u8), &[u8]), CertFault>
-    ensures read { IfOk result (λ r. ReadsGame form bytes.now (Ok (r.0, r.1.now))) }
-    ensures fault { IfErr result (λ f. ReadsGame form bytes.now (Err f)) }
-{
-    match form {
-        Form::First => Ok(((0, 4), bytes)),
-        Form::Second | Form::Third => read_named(bytes),
-    }
-}
-
-// A byte for the code of a game, one for its number of cells, and what follows them.
-fn read_named(bytes: &[u8]) -> Result<((u8, u8), &[u8]), CertFault>
-    ensures read { IfOk result (λ r. ReadsNamed bytes.now (Ok (r.0, r.1.now))) }
-    ensures fault { IfErr result (λ f. ReadsNamed bytes.now (Err f)) }
-{
-    let (game, rest) = split_byte(bytes)?;
-    let (cells, rest) = read_cells(rest)?;
-    Ok(((game, cells), rest))
-}
-
-// The number of cells of a game, and what follows it.
-fn read_cells(bytes: &[u8]) -> Result<(u8, &[u8]), CertFault>
-    ensures read { IfOk result (λ r. Field 1 (SaysByte (λ n. n ≤ 4)) CertFault.BadCells bytes.now (Ok (r.0, r.1.now))) }
-    ensures fault { IfErr result (λ f. Field 1 (SaysByte (λ n. n ≤ 4)) CertFault.BadCells bytes.now (Err f)) }
-{
-    let (cells, rest) = split_byte(bytes)?;
-    if cells <= 4 {
-        Ok((cells, rest))
-    } else {
-        Err(CertFault::BadCells)
-    }
-}
-
-// A home rule that the form may name, and what follows it.
-fn read_rule(form: Form, bytes: &[u8]) -> Result<(u8, &[u8]), CertFault>
-    ensures read { IfOk result (λ r. Field 1 (SaysByte (MayRule form)) CertFault.BadRule bytes.now (Ok (r.0, r.1.now))) }
-    ensures fault { IfErr result (λ f. Field 1 (SaysByte (MayRule form)) CertFault.BadRule bytes.now (Err f)) }
-{
-    let (rule, rest) = split_byte(bytes)?;
-    if rule <= greatest_rule(form) {
-        Ok((rule, rest))
-    } else {
-        Err(CertFault::BadRule)
-    }
-}
-
-// The greatest home rule that the form may name.
-fn greatest_rule(form: Form) -> u8
-    ensures value { (rule : ℕ) → (rule ≤ result) ↔ MayRule form rule }
-{
-    match form {
-        Form::First => 1,
-        Form::Second | Form::Third => GREATEST_RULE,
-    }
-}
-
-// The bound, and what follows it.
-fn read_bound(form: Form, bytes: &[u8]) -> Result<(BoundKind, &[u8]), CertFault>
-    ensures read { IfOk result (λ r. ReadsBound form bytes.now (Ok (r.0, r.1.now))) }
-    ensures fault { IfErr result (λ f. ReadsBound form bytes.now (Err f)) }
-{
-    match form {
-        Form::First | Form::Second => Ok((BoundKind::Plain, bytes)),
-        Form::Third => read_bound_byte(bytes),
-    }
-}
-
-// The bound that the first byte names, and what follows it.
-fn read_bound_byte(bytes: &[u8]) -> Result<(BoundKind, &[u8]), CertFault>
-    ensures read { IfOk result (λ r. Field 1 (λ here bound. here ≡ bound_byte bound ∷ []) CertFault.BadBound bytes.now
-        (Ok (r.0, r.1.now))) }
-    ensures fault { IfErr result (λ f. Field 1 (λ here bound. here ≡ bound_byte bound ∷ []) CertFault.BadBound bytes.now
-        (Err f)) }
-{
-    let (byte, rest) = split_byte(bytes)?;
-    match byte {
-        0 => Ok((BoundKind::Plain, rest)),
-        1 => Ok((BoundKind::Clearing, rest)),
-        _ => Err(CertFault::BadBound),
-    }
-}
-
-// The kind and the floor, and what follows them.
-fn read_claim(form: Form, bytes: &[u8]) -> Result<((Kind, u32), &[u8]), CertFault>
-    ensures read { IfOk result (λ r. ReadsClaim form bytes.now (Ok (r.0, r.1.now))) }
-    ensures fault { IfErr result (λ f. ReadsClaim form bytes.now (Err f)) }
-{
-    let (kind, rest) = read_kind(form, bytes)?;
-    let (floor, rest) = read_floor(kind, rest)?;
-    Ok(((kind, floor), rest))
-}
-
-// A kind that the form may name, and what follows it.
-fn read_kind(form: Form, bytes: &[u8]) -> Result<(Kind, &[u8]), CertFault>
-    ensures read { IfOk result (λ r. Field 1 (SaysKind form) CertFault.BadKind bytes.now (Ok (r.0, r.1.now))) }
-    ensures fault { IfErr result (λ f. Field 1 (SaysKind form) CertFault.BadKind bytes.now (Err f)) }
-{
-    let (byte, rest) = split_byte(bytes)?;
-    match byte {
-        1 => Ok((Kind::Shortest, rest)),
-        2 => Ok((Kind::CannotWin, rest)),
-        3 if names_floors(form) => Ok((Kind::Between, rest)),
-        _ => Err(CertFault::BadKind),
-    }
-}
-
-// Whether the form has a kind with a floor.
-fn names_floors(form: Form) -> bool
-    ensures value { IsTrue result ↔ MayClaim form Kind.Between }
-{
-    form == Form::Third
-}
-
-// The floor of a certificate of this kind, 0 where it has none, and what follows it.
-fn read_floor(kind: Kind, bytes: &[u8]) -> Result<(u32, &[u8]), CertFault>
-    ensures read { IfOk result (λ r. ReadsFloor kind bytes.now (Ok (r.0, r.1.now))) }
-    ensures fault { IfErr result (λ f. ReadsFloor kind bytes.now (Err f)) }
-{
-    match kind {
-        Kind::Shortest | Kind::CannotWin => Ok((0, bytes)),
-        Kind::Between => read_number(bytes),
-    }
 }
 
 // The texts of the moves that a certificate with this head lists, and what follows them.
@@ -277,8 +114,8 @@ fn read_text(number: u32, bytes: &[u8]) -> Result<&[u8], CertFault>
 // What follows so many records.
 fn read_records<'a>(head: &Head, count: u32, bytes: &'a [u8]) -> Result<&'a [u8], CertFault>
     ensures read { IfOk result (λ r. (rows : List (List ℕ × ℕ))
-        × ReadsRecords head.now.cells head.now.kind count 0 None bytes.now (Ok (rows, r.now))) }
-    ensures fault { IfErr result (λ f. ReadsRecords head.now.cells head.now.kind count 0 None bytes.now (Err f)) }
+        × ReadsRecords (ReadsRecord head.now.cells head.now.kind) count 0 None bytes.now (Ok (rows, r.now))) }
+    ensures fault { IfErr result (λ f. ReadsRecords (ReadsRecord head.now.cells head.now.kind) count 0 None bytes.now (Err f)) }
 {
     let mut rest = bytes;
     let mut before = None;
@@ -386,31 +223,4 @@ fn may_cost(kind: Kind, cost: u32) -> bool
         Kind::Shortest | Kind::Between => true,
         Kind::CannotWin => cost == 0,
     }
-}
-
-// A number of four bytes, and what follows it.
-fn read_number(bytes: &[u8]) -> Result<(u32, &[u8]), CertFault>
-    ensures read { IfOk result (λ r. Field 4 SaysNumber CertFault.Short bytes.now (Ok (r.0, r.1.now))) }
-    ensures fault { IfErr result (λ f. Field 4 SaysNumber CertFault.Short bytes.now (Err f)) }
-{
-    split_number(bytes).ok_or(CertFault::Short)
-}
-
-/// The number that the first four bytes say, and what follows them. `None` where the bytes end first.
-#[inline]
-pub fn split_number(bytes: &[u8]) -> Option<(u32, &[u8])>
-    ensures found { IfSome result (λ r. (bytes.now ≡ four_bytes r.0 ++ r.1.now) × (r.0 < 2 ^ 32)) }
-    ensures none { IfNone result (length bytes.now < 4) }
-{
-    let (here, rest) = bytes.split_first_chunk::<4>()?;
-    Some((u32::from_be_bytes(*here), rest))
-}
-
-// The first byte, and what follows it.
-fn split_byte(bytes: &[u8]) -> Result<(u8, &[u8]), CertFault>
-    ensures read { IfOk result (λ r. (bytes.now ≡ r.0 ∷ r.1.now) × (r.0 < 256)) }
-    ensures fault { IfErr result (λ f. (bytes.now ≡ []) × (f ≡ CertFault.Short)) }
-{
-    let (byte, rest) = bytes.split_first().ok_or(CertFault::Short)?;
-    Ok((*byte, rest))
 }

@@ -7,7 +7,8 @@ ghost use Rattle.fc_answers.specs.Verdict.{CanBeWritten};
 ghost use Rattle.fc_cert.specs.declared.contents.Form.TheVariants.{Second, Third};
 ghost use Rattle.fc_cert.specs.Claim.{written_form, written_head};
 ghost use Rattle.fc_cert.specs.Content.{magic, bound_byte, kind_byte, floor_bytes, head_bytes, listed_bytes, record_bytes, rows_bytes};
-ghost use Rattle.fc_cert.specs.Writing.{Gathers, IsCutShort, Writes, WritesAnswer};
+ghost use Rattle.fc_cert.specs.Writing.{IsCutShort, WritesAnswer};
+ghost use Rattle.fc_cert.specs.inner.Writing.{Writes, Gathers};
 
 use crate::contents::{Form, Kind};
 use crate::faults::CertFault;

@@ -12,9 +12,9 @@ use Rattle.fc_canonical.specs.Order.{IsCanonical}
 use Rattle.fc_canonical.specs.Spelled.{IsKeyIn, IsKeyFor, spelled}
 use Rattle.fc_canonical.proofs.FitLemmas.{canonical_fits, keys_by_cells}
 use Rattle.fc_bound.specs.Kinds.{low_of}
-use Rattle.fc_tables.specs.Table.{IsClosed, IsClosedBelow, ListsFitting, StepsCovered, StepsListed, as_boards}
-use Rattle.fc_tables.proofs.BoundLemmas.{bounds_lower}
-use Rattle.fc_tables.proofs.EveryLemmas.{every_settles}
+use Rattle.fc_tables.specs.Table.{IsClosed, IsClosedBelow, ListsFitting, Covered, StepsCovered, StepsListed, as_boards}
+use Rattle.fc_bound.proofs.KindLemmas.{bounds_lower}
+use Rattle.fc_home.proofs.EveryLemmas.{every_settles}
 use Rattle.fc_tables.proofs.LookLemmas.{one_enough, one_enough_listed, seen_below, seen_closed}
 use Rattle.fc_canonical.proofs.ClassLemmas.{class-refl}
 use Rattle.fc_cert.specs.declared.contents.Kind.{Kind}
@@ -22,7 +22,7 @@ use Rattle.fc_cert.specs.declared.contents.Kind.TheVariants.{Shortest, CannotWin
 use Rattle.fc_cert.specs.Claim.{Shows, IsCertificate}
 use Rattle.fc_cert.specs.Content.{Content, IsContent, IsSpelled}
 use Rattle.fc_checker.specs.Check.{Holds, IsOfGame, MovesHold, RecordHolds, RecordsHold, StepsHold, level, level_of}
-use Rattle.fc_checker.specs.Steps.{IsProof, claim_of}
+use Rattle.fc_checker.specs.inner.Steps.{IsProof, claim_of}
 use Rattle.fc_checker.proofs.ListedLemmas.{row_key, row_listed}
 
 -- what stands at a place is a row
@@ -102,7 +102,7 @@ module _ (g : GameRules) (c : Content) (is : IsContent c) (of : IsOfGame g c) wh
             let s = steps_of (Some n) e k proof.records there in
             (one_enough (low_of c.head.bound) g c.head.rule n (as_boards c.rows) e.0 e.0 e.1 (bounds_lower c.head.bound).1 pe pe (class-refl e.0)).1
             (subst (λ (p : Board × ℕ). p.1 + low_of c.head.bound p.0 < n
-            → StepsCovered (low_of c.head.bound) g c.head.rule n (as_boards c.rows) p.0 p.1) (sym s.1) s.2 near);
+            → StepsCovered (Covered (low_of c.head.bound) n (as_boards c.rows)) g c.head.rule p.0 p.1) (sym s.1) s.2 near);
       })
 
   -- and without one, closed

@@ -21,7 +21,7 @@ use Rattle.fc_checker.specs.declared.faults.CheckFault.{CheckFault}
 use Rattle.fc_checker.specs.declared.faults.CheckFault.TheVariants.{Form, OtherGame, NotAllowed, NotHome, StartOpen, WonListed, Open, Memory}
 use Rattle.fc_checker.specs.Check.{HasContent, HasStart, Holds, IsCheckFault, IsOfGame, IsStopped, MovesHold, StartHolds, StepsHold, level}
 use Rattle.fc_checker.specs.Laws.{CertificatesHaveNoFault, ClaimsAreOne, FaultsAreOne}
-use Rattle.fc_checker.specs.Steps.{IsProof}
+use Rattle.fc_checker.specs.inner.Steps.{IsProof}
 use Rattle.fc_checker.proofs.ClosedLemmas.{level_in, row_in, row_there}
 use Rattle.fc_checker.proofs.FaultLemmas.{IsBadRecord, bad_record_once, content_once, form_fault_once, moves_win, no_form_fault, stopped_nowhere, stopped_once}
 use Rattle.fc_checker.proofs.ListedLemmas.{board_listed}

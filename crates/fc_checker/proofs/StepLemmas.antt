@@ -16,11 +16,11 @@ use Rattle.fc_home.specs.Settles.{Settles, SettlesBy}
 use Rattle.fc_home.proofs.MateLemmas.{class_settle}
 use Rattle.fc_home.proofs.WayLemmas.{settles_once}
 use Rattle.fc_bound.specs.Kinds.{low_of}
-use Rattle.fc_tables.proofs.BoundLemmas.{bounds_lower}
-use Rattle.fc_tables.specs.Table.{StepsCovered, StepsListed, as_boards}
+use Rattle.fc_bound.proofs.KindLemmas.{bounds_lower}
+use Rattle.fc_tables.specs.Table.{Covered, StepsCovered, StepsListed, as_boards}
 use Rattle.fc_cert.specs.Content.{Content}
 use Rattle.fc_checker.specs.Check.{Holds, StartHolds, StepsHold, level}
-use Rattle.fc_checker.specs.Steps.{SettledHolds, StepHolds}
+use Rattle.fc_checker.specs.inner.Steps.{SettledHolds, StepHolds}
 
 -- what holds of a board does so of its class-mates
 holds_alike : (c : Content) (by : Option ℕ) (x y : Board) (d : ℕ) → SameClass y x → Holds c by x d → Holds c by y d
@@ -85,7 +85,7 @@ module _ (g : GameRules) (c : Content) where
       → StepsHold g c (level c) (key, cost)
   held_steps x key cost n e all same =
       subst (λ s. StepsHold g c s (key, cost)) (sym e)
-      (λ near. subst (λ b. StepsCovered (low_of c.head.bound) g c.head.rule n (as_boards c.rows) b cost) same
+      (λ near. subst (λ b. StepsCovered (Covered (low_of c.head.bound) n (as_boards c.rows)) g c.head.rule b cost) same
       (λ m y z k step settles. subst (λ s. Holds c s z (cost + 1 + k)) e (all m y step z k settles)))
 
   -- and else not
@@ -94,7 +94,7 @@ module _ (g : GameRules) (c : Content) where
   near_steps x key cost n e near same holds m y step z k settles =
       let all = subst (λ s. StepsHold g c s (key, cost)) e holds in
       let low = subst (λ b. n ≤ cost + low_of c.head.bound b → ⊥) same near in
-      let covered = subst (λ b. StepsCovered (low_of c.head.bound) g c.head.rule n (as_boards c.rows) b cost) (sym same) (all (omega (arith, low))) in
+      let covered = subst (λ b. StepsCovered (Covered (low_of c.head.bound) n (as_boards c.rows)) g c.head.rule b cost) (sym same) (all (omega (arith, low))) in
       subst (λ s. Holds c s z (cost + 1 + k)) (sym e) (covered m y z k step settles)
 
   pub listed_steps : (x : Board) (key : List ℕ) (cost : ℕ) (t : Bool) → level c ≡ None

@@ -51,7 +51,7 @@ StartHolds g b c = (q : Board) (k : ℕ) → Settles g c.head.rule b k q → Hol
 -- and without one that they are listed
 abbrev pub StepsHold : GameRules → Content → Option ℕ → List ℕ × ℕ → Type 0
 StepsHold g c (Some n) row = row.1 + low_of c.head.bound (spelled row.0) < n
-    → StepsCovered (low_of c.head.bound) g c.head.rule n (as_boards c.rows) (spelled row.0) row.1
+    → StepsCovered (Covered (low_of c.head.bound) n (as_boards c.rows)) g c.head.rule (spelled row.0) row.1
 StepsHold g c None row = StepsListed g c.head.rule (as_boards c.rows) (spelled row.0)
 
 -- what is asked of a record: its board isn't won, and its steps hold

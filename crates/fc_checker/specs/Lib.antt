@@ -1,3 +1,3 @@
 pub mod Check
 pub mod Laws
-pub mod Steps
+pub mod inner

@@ -11,7 +11,7 @@ ghost use Rattle.fc_cert.specs.Claim.{IsCertificate, IsTrueOf};
 ghost use Rattle.fc_cert.specs.Content.{IsContent};
 ghost use Rattle.fc_cert.specs.Reading.{IsReadFault};
 ghost use Rattle.fc_checker.specs.Check.{IsCheckFault, IsOfGame, MovesHold, RecordsHold, StepsHold, level as level_of};
-ghost use Rattle.fc_checker.specs.Steps.{IsFaultOf, IsFaultOfMoves, IsFaultOfRecords, IsProof, claim_of};
+ghost use Rattle.fc_checker.specs.inner.Steps.{IsFaultOf, IsFaultOfMoves, IsFaultOfRecords, IsProof, claim_of};
 
 use crate::faults::CheckFault;
 use crate::steps::{is_far, is_seen_far, level, settled_holds, steps_hold};

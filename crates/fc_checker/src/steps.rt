@@ -8,7 +8,7 @@ ghost use Rattle.fc_bound.specs.Kinds.{guide_of, low_of};
 ghost use Rattle.fc_tables.specs.Table.{Covered, Lists, ListsClass, as_boards};
 ghost use Rattle.fc_cert.specs.Content.{IsContent};
 ghost use Rattle.fc_checker.specs.Check.{Holds, level as level_of};
-ghost use Rattle.fc_checker.specs.Steps.{SettledHolds, StepHolds};
+ghost use Rattle.fc_checker.specs.inner.Steps.{SettledHolds, StepHolds};
 
 use fc_canonical::{distinct_moves, key, position_of};
 use fc_cards::Place;

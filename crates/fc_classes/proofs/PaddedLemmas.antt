@@ -8,7 +8,8 @@ use Rattle.fc_canonical.specs.Key.{board_bytes, padded, IsKeyOf, HasExtent, Begi
 use Rattle.fc_canonical.specs.Order.{IsCanonical}
 use Rattle.fc_canonical.proofs.KeyLemmas.{key_extents}
 use Rattle.fc_canonical.specs.Spelled.{spelled}
-use Rattle.fc_classes.specs.Key.{front_key, IsPadded}
+use Rattle.fc_classes.specs.Key.{front_key}
+use Rattle.fc_classes.specs.inner.Key.{IsPadded}
 use Rattle.fc_canonical.proofs.SpelledLemmas.{spelled_front}
 
 -- the key stands at the front

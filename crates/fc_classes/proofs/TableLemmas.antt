@@ -9,12 +9,13 @@ use Rattle.fc_canonical.specs.Class.{SameClass}
 use Rattle.fc_canonical.proofs.ClassLemmas.{class-refl, class-sym}
 use Rattle.fc_home.specs.Settles.{Settles}
 use Rattle.fc_home.proofs.SettleLemmas.{settles_keep}
-use Rattle.fc_home.proofs.WayLemmas.{settles_all}
+use Rattle.fc_home.proofs.EveryLemmas.{every_settles}
 use Rattle.fc_tables.specs.Table as boards
 use Rattle.fc_tables.proofs.LookLemmas.{one_enough}
 use Rattle.fc_tables.proofs.TableLemmas.{inside_long}
 use Rattle.fc_best_first.specs.Graph.{IsClosedInside, Covers}
-use Rattle.fc_tables.specs.Table.{IsLowerBound, as_boards}
+use Rattle.fc_tables.specs.Table.{as_boards}
+use Rattle.fc_bound.specs.LowerBound.{IsLowerBound}
 use Rattle.fc_classes.specs.Classes.{classes}
 use Rattle.fc_canonical.specs.Spelled.{spelled}
 use Rattle.fc_classes.specs.Laws.{ClassesAreLawful}
@@ -57,11 +58,11 @@ starts_board low g rule p n table lower pp closed q k settles =
 -- and what the steps of a listed position lead to
 steps_board : (low : Board → ℕ) (g : GameRules) (rule : ℕ) (p : Board) (n : ℕ) (table : List (List ℕ × ℕ)) → IsLowerBound low → IsPositionOf g p
     → IsClosedInside (classes low g rule p) n table → (x : List ℕ) (d : ℕ) → Contains table (x, d) → d + low (spelled x) < n
-    → boards.ClassesCovered low g rule n (as_boards table) (spelled x) d
+    → boards.ClassesCovered (boards.Covered low n (as_boards table)) g rule (spelled x) d
 steps_board low g rule p n table lower pp closed x d listed inside m y step =
     let valid = (reached_of_positions low g rule p x d pp (closed.reached x d listed)).0 in
     let py = step_keeps g (spelled x) y m valid.position step in
-    let way = settles_all g rule y py.position in
+    let way = every_settles g rule y in
     let k = way.0 in
     let z = way.1 in
     let key = has_key z in
@@ -91,7 +92,7 @@ closed_board low g rule p n table lower pp closed = record {
       let equal = lower.alike x (spelled key.0) mates in
       let all = (one_enough low g rule n (as_boards table) (spelled key.0) x key.1 lower valid.position px (class-sym x (spelled key.0) mates)).0
       (steps_board low g rule p n table lower pp closed key.0 key.1 key.2 (omega (arith, inside, cost, equal))) in
-      subst (boards.StepsCovered low g rule n (as_boards table) x) (sym cost) all;
+      subst (boards.StepsCovered (boards.Covered low n (as_boards table)) g rule x) (sym cost) all;
 }
 
 -- so the classes of a game's positions are a lawful question

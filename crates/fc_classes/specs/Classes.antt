@@ -6,7 +6,7 @@ use Rattle.fc_moves.specs.declared.steps.Move.{Move}
 use Rattle.fc_moves.specs.GameRules.{GameRules}
 use Rattle.fc_moves.specs.Step.{Step}
 use Rattle.fc_canonical.specs.Key.{IsKeyOf}
-use Rattle.fc_canonical.specs.Laws.{WinsIn}
+use Rattle.fc_moves.specs.Run.{WinsIn}
 use Rattle.fc_home.specs.Settles.{Settles}
 use Rattle.fc_best_first.specs.Graph.{Graph}
 use Rattle.fc_canonical.specs.Spelled.{IsKeyIn, spelled}

@@ -7,7 +7,7 @@ use Rattle.fc_moves.specs.Run.{Run}
 use Rattle.fc_canonical.specs.Class.{SameClass}
 use Rattle.fc_canonical.specs.Key.{IsKeyOf}
 use Rattle.fc_home.specs.Settles.{Settles}
-use Rattle.fc_tables.specs.Table.{IsLowerBound}
+use Rattle.fc_bound.specs.LowerBound.{IsLowerBound}
 use Rattle.fc_best_first.specs.Graph.{IsLawful, Reached}
 use Rattle.fc_classes.specs.Classes.{classes}
 use Rattle.fc_canonical.specs.Spelled.{IsKeyIn, spelled}

@@ -1,3 +1,4 @@
 pub mod Classes
 pub mod Key
 pub mod Laws
+pub mod inner

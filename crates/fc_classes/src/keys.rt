@@ -3,7 +3,7 @@ ghost use Rattle.fc_position.specs.Position.{IsPosition};
 ghost use Rattle.fc_canonical.specs.Key.{board_bytes, IsKeyOf};
 ghost use Rattle.fc_canonical.specs.Moved.{MayMove, IsAlone, IsEmptyColumn, moved};
 ghost use Rattle.fc_canonical.specs.Order.{IsCanonical};
-ghost use Rattle.fc_classes.specs.Key.{bytes_exact};
+ghost use Rattle.fc_classes.specs.inner.Key.{bytes_exact};
 
 use fc_best_first::ExactKey;
 use fc_canonical::{Key, key_len, moved_key, padded_key};
@@ -21,7 +21,8 @@ pub struct ClassKey {
 
 impl Model for ClassKey {
     ghost use Rattle.std.specs.Prelude.{ℕ, List};
-    ghost use Rattle.fc_classes.specs.Key.{front_key, IsPadded};
+    ghost use Rattle.fc_classes.specs.Key.{front_key};
+    ghost use Rattle.fc_classes.specs.inner.Key.{IsPadded};
 
     ghost Value = { List ℕ };
 

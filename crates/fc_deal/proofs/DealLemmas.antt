@@ -9,16 +9,16 @@ use Rattle.std.proofs.lemmas.List.FromFn.{fill_by_all, map-range_with_len_more, 
 use Rattle.std.proofs.lemmas.List.Sums.{sum_by-set, sum_by_push, sum_by-cons, sum_by-swap_remove}
 use Rattle.std.proofs.lemmas.Bool.{cases_eq}
 use Rattle.std.proofs.lemmas.Bool.Decides.{nat_tests}
-use Rattle.fc_cards.specs.Card.{suit}
+use Rattle.fc_cards.specs.Card.{suit, all_cards}
 use Rattle.fc_position.specs.Board.{Board, places, count_in_column, count_at_home}
 use Rattle.fc_position.specs.Tally.{IsFaultOf}
 use Rattle.fc_position.proofs.TallyLemmas.{no_fault}
 use Rattle.fc_position.specs.declared.faults.PartsFault.{PartsFault}
 use Rattle.fc_deal.specs.Draw.{draw}
-use Rattle.fc_deal.specs.Deal.{whole_deck, picked, deck_after, taken, dealt_column, dealt_columns, dealt_board}
+use Rattle.fc_deal.specs.Deal.{picked, deck_after, taken, dealt_column, dealt_columns, dealt_board}
 
 -- the deck as it is before the first card and after one more
-pub deck_after-none : (n : ℕ) → deck_after n 0 ≡ whole_deck
+pub deck_after-none : (n : ℕ) → deck_after n 0 ≡ all_cards
 unfolding deck_after
 deck_after-none n = refl
 
@@ -30,12 +30,12 @@ deck_after-more n k = rw (add-one k) refl
 length-swap_remove : (xs : List ℕ) (i : ℕ) → length (swap_remove xs i 0) ≡ length xs - 1
 length-swap_remove xs i = simp (length-take, length-set) (omega arith)
 
-length-whole_deck : length whole_deck ≡ 52
-unfolding whole_deck
-length-whole_deck = refl
+length-all_cards : length all_cards ≡ 52
+unfolding all_cards
+length-all_cards = refl
 
 pub length-deck_after : (n k : ℕ) → length (deck_after n k) ≡ 52 - k
-length-deck_after n zero = ap length (deck_after-none n) ∙ length-whole_deck
+length-deck_after n zero = ap length (deck_after-none n) ∙ length-all_cards
 length-deck_after n (suc k) =
     rw (← add-one k, deck_after-more n k)
     (omega (arith, length-deck_after n k, length-swap_remove (deck_after n k) (picked (draw n (k + 1)) (deck_after n k))))
@@ -93,7 +93,7 @@ room_for_card n k below =
 
 -- what is dealt and what is left add up to the deck
 sum_by-dealt : (f : ℕ → ℕ) (n k : ℕ) → k ≤ 52
-    → sum_by (sum_by f) (dealt_columns n k) + sum_by f (deck_after n k) ≡ sum_by f whole_deck
+    → sum_by (sum_by f) (dealt_columns n k) + sum_by f (deck_after n k) ≡ sum_by f all_cards
 sum_by-dealt f n zero most = rw (dealt_columns-none n, deck_after-none n) (omega arith)
 sum_by-dealt f n (suc k) most =
     let before = sum_by-dealt f n k (omega arith) in
@@ -108,7 +108,7 @@ sum_by-dealt f n (suc k) most =
     let pushed = sum_by_push f (get_or columns (k % 8) []) t in
     rw (← add-one k, dealt_columns-more n k, deck_after-more n k) (omega arith)
 
-sum_by-dealt_all : (f : ℕ → ℕ) (n k : ℕ) → k ≡ 52 → sum_by (sum_by f) (dealt_columns n k) ≡ sum_by f whole_deck
+sum_by-dealt_all : (f : ℕ → ℕ) (n k : ℕ) → k ≡ 52 → sum_by (sum_by f) (dealt_columns n k) ≡ sum_by f all_cards
 sum_by-dealt_all f n k e =
     let all = sum_by-dealt f n k (omega arith) in
     let none : deck_after n k ≡ [] = nil_from_length (deck_after n k) (omega (arith, length-deck_after n k)) in
@@ -133,9 +133,9 @@ count-range a (suc n) c from below =
     omega (arith, cut, first, count-range (a + 1) n c (omega arith) (omega arith)))
     (cases_eq a c)
 
-count-whole_deck : (c : ℕ) → c < 52 → count_in_column c whole_deck ≡ 1
-unfolding whole_deck
-count-whole_deck c below = count-range 0 52 c (omega arith) (omega arith)
+count-all_cards : (c : ℕ) → c < 52 → count_in_column c all_cards ≡ 1
+unfolding all_cards
+count-all_cards c below = count-range 0 52 c (omega arith) (omega arith)
 
 -- no card is home on the board of a deal
 none_home : (c : ℕ) → count_at_home c (replicate 4 0) ≡ 0
@@ -148,12 +148,12 @@ pub places-dealt_board : (n c : ℕ) → c < 52 → places (dealt_board n) c ≡
 unfolding dealt_board
 places-dealt_board n c below =
     let columns = sum_by-dealt_all (λ x. cond (eqb x c) 1 0) n 52 refl in
-    omega (arith, columns, count-whole_deck c below, none_home c)
+    omega (arith, columns, count-all_cards c below, none_home c)
 
 -- a list that has each number of a card at its own place is the deck
-pub whole_deck_is : (cards : List ℕ) → length cards ≡ 52 → ((k : ℕ) → k < 52 → slice_index cards k ≡ k) → take 52 cards ≡ whole_deck
-unfolding whole_deck
-whole_deck_is cards long each =
+pub all_cards_are : (cards : List ℕ) → length cards ≡ 52 → ((k : ℕ) → k < 52 → slice_index cards k ≡ k) → take 52 cards ≡ all_cards
+unfolding all_cards
+all_cards_are cards long each =
     take_all 52 cards (omega arith) ∙ fill_by_all (λ k. k) cards 52 0 long each ∙ map-id (range_with_len 0 52)
 
 -- a card at the end of a column, where it is seen as a list

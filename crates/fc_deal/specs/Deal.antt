@@ -1,6 +1,7 @@
 -- Numbered deals: the draws take the cards out of a list that shrinks, and the cards go along the columns.
 use Rattle.std.specs.Prelude.{ℕ, zero, suc, ◌+◌, ◌-◌, ◌*◌, ◌/◌, ◌%◌, ◌≤◌, length, List, None, slice_index, replicate, map}
 use Rattle.std.specs.List.{range_with_len, swap_remove}
+use Rattle.fc_cards.specs.Card.{all_cards}
 use Rattle.fc_position.specs.Board.{Board}
 use Rattle.fc_deal.specs.Draw.{draw}
 
@@ -9,17 +10,13 @@ pub record IsDealNumber (n : ℕ) : Type 0 where
   pub least : 1 ≤ n
   pub greatest : n ≤ 1000000
 
--- the cards by number
-unfoldable pub whole_deck : List ℕ
-whole_deck = range_with_len 0 52
-
 -- which of these cards a draw picks: the draw modulo how many there are
 abbrev pub picked : ℕ → List ℕ → ℕ
 picked number cards = number % length cards
 
 -- what is left of the deck when k cards of game n are taken: each draw takes one out, the last moving into its place
 unfoldable pub deck_after : ℕ → ℕ → List ℕ
-deck_after n zero = whole_deck
+deck_after n zero = all_cards
 deck_after n (suc k) = swap_remove (deck_after n k) (picked (draw n (suc k)) (deck_after n k)) 0
 
 -- the card that is taken when k cards are taken already

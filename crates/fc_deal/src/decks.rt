@@ -1,6 +1,7 @@
 ghost use Rattle.std.specs.Prelude.{◌≡◌, ℕ, ◌<◌, length, slice_index};
 ghost use Rattle.std.specs.List.{swap_remove};
-ghost use Rattle.fc_deal.specs.Deal.{whole_deck, picked};
+ghost use Rattle.fc_cards.specs.Card.{all_cards};
+ghost use Rattle.fc_deal.specs.Deal.{picked};
 
 use fc_cards::Card;
 use std::marker::Model;
@@ -26,7 +27,7 @@ impl Model for Deck {
 impl Deck {
     // All cards, by number.
     pub fn new() -> Deck
-        ensures whole { result ≡ whole_deck }
+        ensures whole { result ≡ all_cards }
     {
         let mut cards = [Card::default(); 52];
         for index in 0..52 {

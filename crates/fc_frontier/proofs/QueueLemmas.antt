@@ -8,7 +8,8 @@ use Rattle.std.proofs.lemmas.List.{append-nil, get_or_read, take-append-drop, dr
 use Rattle.std.proofs.lemmas.List.Sums.{fold_push, fold-append, sum_by-cons}
 use Rattle.std.proofs.lemmas.List.Elements.{All-cons, All-head, All-tail, All-append, All-weaker}
 use Rattle.std.proofs.lemmas.List.Sorted.{IsPermutation-refl, IsPermutation-sym, IsPermutation-trans, IsPermutation-cons, IsPermutation-middle, IsPermutation-append_left, length_permutation, All-permutation, sum_by-IsPermutation}
-use Rattle.fc_frontier.specs.Queue.{Adds, IsLeast, IsPlaceOfNext, inserted, in_order}
+use Rattle.fc_frontier.specs.Queue.{Adds, IsLeast, inserted, in_order}
+use Rattle.fc_frontier.specs.inner.Queue.{IsPlaceOfNext}
 use Rattle.fc_frontier.specs.Laws.{AddsCountOnce, times}
 
 -- a pair that has no greater f than the first goes before it, and else after it

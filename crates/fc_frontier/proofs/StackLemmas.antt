@@ -8,7 +8,8 @@ use Rattle.std.proofs.lemmas.Bool.{cases_lt}
 use Rattle.std.proofs.lemmas.Bool.Decides.{nat_tests}
 use Rattle.std.proofs.lemmas.List.Elements.{All-nil, All-append, All-map, All-weaker}
 use Rattle.fc_frontier.specs.Queue.{IsLeast, inserted}
-use Rattle.fc_frontier.specs.Stack.{stack_pairs, stacked, nodes_of, AreStacks}
+use Rattle.fc_frontier.specs.Stack.{nodes_of}
+use Rattle.fc_frontier.specs.inner.Stack.{AreStacks, stacked, stack_pairs}
 use Rattle.fc_frontier.proofs.QueueLemmas.{inserted-behind, inserted-least}
 
 -- a node on top comes first

@@ -3,7 +3,7 @@ use Rattle.std.proofs.Common.{◌≡◌, ℕ, ◌+◌, List, [], ◌∷◌, ◌+
 use Rattle.std.specs.Prelude.{reverse}
 use Rattle.std.specs.List.Sorted.{IsPermutation}
 use Rattle.std.proofs.lemmas.List.Sorted.{IsPermutation-refl, IsPermutation-append, IsPermutation-map, IsPermutation-reverse}
-use Rattle.fc_frontier.specs.Stack.{stack_pairs, stacked}
+use Rattle.fc_frontier.specs.inner.Stack.{stacked, stack_pairs}
 use Rattle.fc_frontier.specs.Walk.{node_pairs, walked}
 
 -- the pairs of stacks in the order in which they are walked over are those in the order in which they are taken

@@ -2,3 +2,4 @@ pub mod Laws
 pub mod Queue
 pub mod Stack
 pub mod Walk
+pub mod inner

@@ -1,5 +1,5 @@
 -- Queues of pairs of a number f and a node: what stands in them, and in which order it is taken.
-use Rattle.std.specs.Prelude.{ℕ, ◌<◌, ◌≤◌, nat_le, cond, fold, length, List, [], ◌∷◌, slice_index_or, All}
+use Rattle.std.specs.Prelude.{ℕ, ◌≤◌, nat_le, cond, fold, List, [], ◌∷◌, All}
 use Rattle.std.specs.List.Sorted.{IsPermutation}
 
 -- the new pairs are the old ones and this one, each as often as it stands there, in any order
@@ -18,11 +18,3 @@ inserted pair (other ∷ others) = cond (nat_le pair.0 other.0) (pair ∷ other 
 -- pairs that were pushed one by one, in the order in which they are taken
 abbrev pub in_order : List (ℕ × ℕ) → List (ℕ × ℕ)
 in_order pushed = fold (λ queue pair. inserted pair queue) [] pushed
-
--- of pairs in the order in which they were pushed, the place of the one that is taken first: no pair has a lesser f,
--- and no later pair an equal one
-pub record IsPlaceOfNext (pushed : List (ℕ × ℕ)) (place : ℕ) : Type 0 where
-  pub within : place < length pushed
-  pub least : (k : ℕ) (d : ℕ × ℕ) → k < length pushed → (slice_index_or pushed place d).0 ≤ (slice_index_or pushed k d).0
-  pub last : (k : ℕ) (d : ℕ × ℕ) → place < k → k < length pushed
-      → (slice_index_or pushed place d).0 < (slice_index_or pushed k d).0

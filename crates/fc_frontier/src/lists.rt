@@ -1,6 +1,7 @@
 ghost use Rattle.std.specs.Prelude.{◌≡◌, ◌^◌, ◌<◌, ◌↔◌, [], ◌++◌, length, option_to_list, IsNone, IfSome, IfNone, MatchOption, OnOk, OnErr};
 ghost use Rattle.std.specs.List.Sorted.{IsPermutation};
-ghost use Rattle.fc_frontier.specs.Queue.{Adds, IsLeast, IsPlaceOfNext, inserted};
+ghost use Rattle.fc_frontier.specs.Queue.{Adds, IsLeast, inserted};
+ghost use Rattle.fc_frontier.specs.inner.Queue.{IsPlaceOfNext};
 
 use crate::frontiers::{Frontier, Full};
 use crate::walks::Pairs;

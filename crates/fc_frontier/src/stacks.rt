@@ -23,7 +23,9 @@ pub struct Stacks {
 
 impl Model for Stacks {
     ghost use Rattle.std.specs.Prelude.{ℕ, List};
-    ghost use Rattle.fc_frontier.specs.Stack.{nodes_of, stacked, AreStacks};
+    ghost use Rattle.fc_frontier.specs.Stack.{nodes_of};
+    ghost use Rattle.fc_frontier.specs.inner.Stack.{AreStacks};
+    ghost use Rattle.fc_frontier.specs.inner.Stack.{stacked};
 
     ghost Value = { List (ℕ × ℕ) };
 

@@ -6,7 +6,7 @@ use Rattle.std.proofs.lemmas.List.Elements.{Contains-push, Contains-push_cases, 
 use Rattle.std.proofs.lemmas.Bool.{cases_eq}
 use Rattle.fc_cards.specs.declared.places.Place.{Place}
 use Rattle.fc_cards.specs.declared.places.Place.TheVariants.{Column, Cell, Home}
-use Rattle.fc_moves.specs.GameLaws.{Contains-cases}
+use Rattle.fc_moves.specs.inner.GameLaws.{Contains-cases}
 use Rattle.fc_position.specs.Board.{Board, IsHome, column, cell, playable, lifted, placed, front_of, last_of}
 use Rattle.fc_position.proofs.BoardLemmas.{front_last, column_there, cell_there}
 

@@ -6,7 +6,7 @@ use Rattle.fc_cards.specs.Card.{rank, suit}
 use Rattle.fc_position.specs.Board.{IsHome, IsNext}
 use Rattle.fc_moves.specs.GameRules.{GameRules, IsGame}
 use Rattle.fc_home.specs.HomeRule.{IsForced, IsFreeWithin, IsFree}
-use Rattle.fc_home.specs.Known.{IsLevel, answer_of, Tells, IsKnown}
+use Rattle.fc_home.specs.inner.Known.{IsLevel, answer_of, Tells, IsKnown}
 use Rattle.fc_home.specs.Laws.{GoersStay}
 use Rattle.fc_home.proofs.CountLemmas.{with_home, home-kept, home-own, home-cases, next-kept, other_count}
 use Rattle.fc_home.proofs.RuleLemmas.{host_lower, forced_free}

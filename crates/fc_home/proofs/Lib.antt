@@ -1,11 +1,11 @@
 pub mod CountLemmas
 pub mod CoverLemmas
+pub mod EveryLemmas
 pub mod KnownLemmas
 pub mod LossLemmas
 pub mod MateLemmas
 pub mod NextLemmas
 pub mod RuleLemmas
-pub mod SearchLemmas
 pub mod SettleLemmas
 pub mod SimulationLemmas
 pub mod WayLemmas

@@ -9,9 +9,9 @@ use Rattle.fc_position.specs.Position.{IsPosition, IsWon}
 use Rattle.fc_position.proofs.BoardLemmas.{home_most, homes-lifted}
 use Rattle.fc_moves.specs.declared.steps.Move.{Move}
 use Rattle.fc_moves.specs.GameRules.{GameRules, Stands}
-use Rattle.fc_moves.specs.Run.{Run, Wins}
+use Rattle.fc_moves.specs.Run.{Run, Wins, WinsWithin}
 use Rattle.fc_home.specs.HomeRule.{IsFreeWithin, IsFree, GoesHome}
-use Rattle.fc_home.specs.Laws.{WinsWithin, SettlingLosesNothing}
+use Rattle.fc_home.specs.Laws.{SettlingLosesNothing}
 use Rattle.fc_home.specs.Settles.{IsFirstHome, SettlesBy, sent_home}
 use Rattle.fc_home.proofs.CountLemmas.{with_home, home-own, IsAhead, ahead-right}
 use Rattle.fc_home.proofs.CoverLemmas.{Covers, cover_right_home, cover_lifted}

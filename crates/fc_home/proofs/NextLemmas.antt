@@ -1,8 +1,8 @@
 -- Looking at one place after the other for the next cards, and taking the first of them that goes home.
-use Rattle.std.proofs.Common.{◌≡◌, ◌≢◌, ℕ, Bool, true, ◌+◌, ◌<◌, Option, Some, None, List, length, set, refl, sym, ◌∙◌, ap, subst, ⊎_elim, arith}
+use Rattle.std.proofs.Common.{◌≡◌, ◌≢◌, ℕ, Bool, true, ◌+◌, ◌<◌, ◌⊎◌, Option, Some, None, List, length, set, refl, sym, ◌∙◌, ap, subst, inl, inr, ⊎_elim, arith}
 use Rattle.std.specs.Prelude.{slice_set}
 use Rattle.std.proofs.lemmas.List.{get_or-set_same, get_or-set_other, length-set}
-use Rattle.std.proofs.lemmas.Bool.{cases_eq}
+use Rattle.std.proofs.lemmas.Bool.{cases_lt, cases_eq}
 use Rattle.fc_cards.specs.Card.{rank, suit}
 use Rattle.fc_cards.specs.declared.places.Place.{Place}
 use Rattle.fc_position.specs.Board.{Board, IsNext, playable}
@@ -11,15 +11,22 @@ use Rattle.fc_position.proofs.BoardLemmas.{homes-lifted}
 use Rattle.fc_moves.specs.GameRules.{GameRules}
 use Rattle.fc_moves.specs.MoveText.{IsThere}
 use Rattle.fc_moves.specs.Step.{place_number}
-use Rattle.fc_moves.proofs.StepLemmas.{source_there, source_most}
+use Rattle.fc_moves.proofs.StepLemmas.{place_once, source_there, source_is_there, source_most}
 use Rattle.fc_home.specs.declared.settling.Goer.{Goer}
 use Rattle.fc_home.specs.HomeRule.{GoesHome}
-use Rattle.fc_home.specs.Known.{answer_of, IsKnown}
-use Rattle.fc_home.specs.Nexts.{goer_of, HasNexts, IsLeastBelow}
+use Rattle.fc_home.specs.inner.Known.{answer_of, IsKnown}
+use Rattle.fc_home.specs.inner.Nexts.{goer_of, HasNexts, IsLeastBelow}
 use Rattle.fc_home.specs.Settles.{IsFirstHome, NoneGoesHome, sent_home}
 use Rattle.fc_home.proofs.KnownLemmas.{next_once, known_send}
-use Rattle.fc_home.proofs.SearchLemmas.{up_to}
 use Rattle.fc_home.proofs.SettleLemmas.{goes_next}
+
+-- a place up to this one is an earlier one or this one
+up_to : (b : Board) (from other : Place) (d : ℕ) → IsPosition b → IsThere from → playable b other ≡ Some d
+    → place_number other < place_number from + 1 → (place_number other < place_number from) ⊎ (other ≡ from)
+up_to b from other d p at there below =
+    ⊎_elim (λ lt. inl lt)
+    (λ le. inr (place_once other from (source_is_there other (source_there b other d p there)) at (omega arith)))
+    (cases_lt (place_number other) (place_number from))
 
 -- the card of a place isn't next, or there is none
 pub nexts_pass : (P : ℕ → Type 0) (b : Board) (from : Place) (nexts : List (Option Goer)) → IsPosition b → IsThere from

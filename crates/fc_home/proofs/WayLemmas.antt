@@ -1,25 +1,17 @@
--- Every position settles, and in one way.
-use Rattle.std.proofs.Common.{◌≡◌, ℕ, zero, suc, ◌+◌, ◌-◌, ◌<◌, ◌≤◌, ◌⊎◌, Option, Some, None, List, [], ◌∷◌, length, refl, sym, ◌∙◌, ap, subst, inl, inr, ⊎_elim, add-one, arith}
+-- Whether a card goes home is decided, and a position settles in one way.
+use Rattle.std.proofs.Common.{◌≡◌, ℕ, zero, suc, ◌+◌, ◌-◌, ◌⊎◌, Some, List, [], ◌∷◌, length, refl, sym, ◌∙◌, ap, subst, inl, inr, ⊎_elim, arith}
 use Rattle.std.specs.Prelude.{Contains, slice_index}
 use Rattle.std.proofs.lemmas.Bool.{cases_lt, cases_eq}
 use Rattle.fc_cards.specs.Card.{rank, suit}
-use Rattle.fc_cards.specs.declared.places.Place.{Place}
-use Rattle.fc_cards.specs.declared.places.Place.TheVariants.{Column, Cell, Home}
-use Rattle.fc_position.specs.Board.{Board, IsHome, IsNext, playable}
-use Rattle.fc_position.specs.Position.{IsPosition}
-use Rattle.fc_moves.specs.declared.steps.Move.{Move}
-use Rattle.fc_moves.specs.GameLaws.{Contains-cases, Contains-first, Contains-later}
+use Rattle.fc_position.specs.Board.{IsHome, IsNext}
+use Rattle.fc_moves.specs.inner.GameLaws.{Contains-cases, Contains-first, Contains-later}
 use Rattle.fc_moves.specs.GameRules.{GameRules, Stands}
-use Rattle.fc_moves.specs.MoveText.{IsThere}
-use Rattle.fc_moves.specs.Step.{place_number}
 use Rattle.fc_moves.proofs.StepLemmas.{move_same}
 use Rattle.fc_canonical.proofs.DistinctLemmas.{source_once}
-use Rattle.fc_home.specs.declared.settling.Goer.{Goer}
 use Rattle.fc_home.specs.HomeRule.{IsFreeWithin, GoesHome}
-use Rattle.fc_home.specs.Laws.{PositionsSettle, PositionsSettleInOneWay, SettlingMovesAreOne}
-use Rattle.fc_home.specs.Settles.{IsFirstHome, NoneGoesHome, SettlesBy, sent_home}
-use Rattle.fc_home.proofs.SearchLemmas.{IsFirstBelow, first_of_none, GoesAfter, GoesBefore, first_stays, first_changes, first_found, none_found, stays_at_none, stays_at_stuck}
-use Rattle.fc_home.proofs.SettleLemmas.{total, turn_total, sent_position}
+use Rattle.fc_home.specs.Laws.{PositionsSettleInOneWay, SettlingMovesAreOne}
+use Rattle.fc_home.specs.Settles.{SettlesBy, sent_home}
+use Rattle.fc_home.proofs.SettleLemmas.{sent_position}
 
 -- what holds, or doesn't
 abbrev Decided : Type 0 → Type 0
@@ -73,74 +65,7 @@ decide_goes (suc zero) g homes c =
     (decide_hosts g.pairs c (IsHome homes) (decide_home homes))
 decide_goes (suc (suc more)) g homes c = decide_free (rank c) g homes c
 
--- the place with a number
-place_at : (n : ℕ) → n < 12 → (p : Place) × (place_number p ≡ n) × IsThere p
-place_at n below =
-    ⊎_elim (λ lt. (Column n, refl, lt)) (λ le. let number : place_number (Cell (n - 8)) ≡ n = omega arith in (Cell (n - 8), number, omega arith))
-    (cases_lt n 8)
-
-before_or_after : (first : Option Goer) (d : ℕ) → GoesBefore first d ⊎ GoesAfter first d
-before_or_after None d = inl tt
-before_or_after (Some goer) d = cases_lt d goer.card
-
--- the first card that goes home from a place and those before it
-first_more : (rule : ℕ) (g : GameRules) (b : Board) (from : Place) (first : Option Goer) → IsPosition b → IsThere from
-    → IsFirstBelow rule g b (place_number from) first → (new : Option Goer) × IsFirstBelow rule g b (place_number from + 1) new
-first_more rule g b from first p at before =
-    elim (playable b from) as (λ x. playable b from ≡ x → (new : Option Goer) × IsFirstBelow rule g b (place_number from + 1) new) [
-      | None ↦ λ e. (first, stays_at_none rule g b from first p at before e)
-      | Some card ↦ λ e. ⊎_elim
-          (λ goes. ⊎_elim
-          (λ earlier. let goer : Goer = record { card = card; from = from } in
-          (Some goer, first_changes rule g b from first goer p at e refl goes before earlier))
-          (λ late. (first, first_stays rule g b from first p at before (λ d there also. let same : card ≡ d = cc in subst (GoesAfter first) same late)))
-          (before_or_after first card))
-          (λ stuck. (first, stays_at_stuck rule g b from first card p at before e stuck))
-          (decide_goes rule g b.homes card)
-    ] refl
-
-first_below : (rule : ℕ) (g : GameRules) (b : Board) → IsPosition b → (n : ℕ) → n ≤ 12
-    → (first : Option Goer) × IsFirstBelow rule g b n first
-first_below rule g b p zero few = (None, first_of_none rule g b)
-first_below rule g b p (suc n) few =
-    let before = first_below rule g b p n (omega arith) in
-    let at = place_at n (omega arith) in
-    let more = first_more rule g b at.0 before.0 p at.2 (subst (λ k. IsFirstBelow rule g b k before.0) (sym at.1) before.1) in
-    let next : place_number at.0 + 1 ≡ suc n = ap (λ k. k + 1) at.1 ∙ add-one n in
-    (more.0, subst (λ k. IsFirstBelow rule g b k more.0) next more.1)
-
--- a first card goes home, or none does
-first_or_none : (rule : ℕ) (g : GameRules) (b : Board) (first : Option Goer) → IsPosition b → IsFirstBelow rule g b 12 first
-    → ((from : Place) × (c : ℕ) × IsFirstHome rule g b from c) ⊎ NoneGoesHome rule g b
-first_or_none rule g b None p none = inr (none_found rule g b p none)
-first_or_none rule g b (Some goer) p first = inl (goer.from, goer.card, first_found rule g b goer p first)
-
-pub decide_first : (rule : ℕ) (g : GameRules) (b : Board) → IsPosition b
-    → ((from : Place) × (c : ℕ) × IsFirstHome rule g b from c) ⊎ NoneGoesHome rule g b
-decide_first rule g b p = let found = first_below rule g b p 12 (omega arith) in first_or_none rule g b found.0 p found.1
-
--- a position on which all but n cards are home settles
-settles_within : (n rule : ℕ) (g : GameRules) (b : Board) → IsPosition b → 52 ≤ total b.homes + n
-    → (ms : List Move) × (q : Board) × SettlesBy g rule b ms q
-settles_within zero rule g b p few =
-    ⊎_elim
-    (λ f. let more = turn_total rule g b (sent_home b f.0 f.1) f.0 f.1 p f.2 refl in absurd (omega (arith, more.1, few)))
-    (λ none. ([], b, (refl, none))) (decide_first rule g b p)
-settles_within (suc n) rule g b p few =
-    ⊎_elim
-    (λ f. let next = sent_home b f.0 f.1 in
-    let m : Move = record { from = f.0; to = Home } in
-    let more = turn_total rule g b next f.0 f.1 p f.2 refl in
-    let rest = settles_within n rule g next (sent_position rule g b f.0 f.1 p f.2) (omega (arith, more.0, few)) in
-    (m ∷ rest.0, rest.1, (f.1, f.2, refl, rest.2)))
-    (λ none. ([], b, (refl, none))) (decide_first rule g b p)
-
--- every position settles
-pub settles_all : PositionsSettle
-settles_all g rule b p =
-    let s = settles_within 52 rule g b p (omega arith) in (length s.0, s.1, (s.0, refl, s.2))
-
--- in one way
+-- by one list of moves, to one board
 pub settles_by_once : SettlingMovesAreOne
 settles_by_once g rule b q r [] [] p (same, none) (also, none_too) = (refl, same ∙ sym also)
 settles_by_once g rule b q r [] (n ∷ ns) p (same, none) (d, first, home, rest) = absurd (none n.from d first.there first.goes)

@@ -5,7 +5,7 @@ use Rattle.fc_position.specs.Board.{Board, IsHome, IsNext}
 use Rattle.fc_position.specs.Position.{IsPosition}
 use Rattle.fc_moves.specs.declared.steps.Move.{Move}
 use Rattle.fc_moves.specs.GameRules.{GameRules, IsGame, IsPositionOf, Stands}
-use Rattle.fc_moves.specs.Run.{Run, Wins}
+use Rattle.fc_moves.specs.Run.{Run, WinsWithin}
 use Rattle.fc_canonical.specs.Class.{SameClass}
 use Rattle.fc_home.specs.HomeRule.{IsForced, IsFree, GoesHome}
 use Rattle.fc_home.specs.Settles.{SettlesBy, Settles}
@@ -37,9 +37,9 @@ SettlingKeepsPositions = (g : GameRules) (rule : ℕ) (b q : Board) (count : ℕ
 abbrev pub SettledBoardsStay : Type 0
 SettledBoardsStay = (g : GameRules) (rule : ℕ) (b q : Board) (count : ℕ) → Settles g rule b count q → Settles g rule q 0 q
 
--- every position settles by every rule
-abbrev pub PositionsSettle : Type 0
-PositionsSettle = (g : GameRules) (rule : ℕ) (b : Board) → IsPosition b → (count : ℕ) × (q : Board) × Settles g rule b count q
+-- every board settles by every home rule, whether or not it is a position
+abbrev pub EveryBoardSettles : Type 0
+EveryBoardSettles = (g : GameRules) (rule : ℕ) (b : Board) → (count : ℕ) × (q : Board) × Settles g rule b count q
 
 -- a position settles by a rule in one number of moves and to one board
 abbrev pub PositionsSettleInOneWay : Type 0
@@ -55,10 +55,6 @@ SettlingMovesAreOne = (g : GameRules) (rule : ℕ) (b q r : Board) (ms ns : List
 abbrev pub ClassMatesSettleAlike : Type 0
 ClassMatesSettleAlike = (g : GameRules) (rule : ℕ) (b c x : Board) (count : ℕ) → SameClass b c → Settles g rule b count x
     → (y : Board) × Settles g rule c count y × SameClass x y
-
--- some list of at most so many moves wins from the board
-abbrev pub WinsWithin : GameRules → Board → ℕ → Type 0
-WinsWithin g b most = (ms : List Move) × (length ms ≤ most) × Wins g b ms
 
 -- a list of at most so many moves wins from a position exactly where the settling moves are no more, and a list of at most
 -- the others wins from the settled position

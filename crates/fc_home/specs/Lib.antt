@@ -1,5 +1,4 @@
 pub mod HomeRule
-pub mod Known
 pub mod Laws
-pub mod Nexts
 pub mod Settles
+pub mod inner

@@ -1,6 +1,6 @@
 ghost use Rattle.std.specs.Prelude.{◌≡◌, ◌≢◌, ℕ, Bool, true, Some, None};
 ghost use Rattle.fc_cards.specs.Suit.{suit_index};
-ghost use Rattle.fc_home.specs.Known.{answer_of, lasting};
+ghost use Rattle.fc_home.specs.inner.Known.{answer_of, lasting};
 
 use fc_cards::Suit;
 use std::marker::Model;

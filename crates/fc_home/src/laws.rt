@@ -1,6 +1,6 @@
 //! Laws of the definitions, each the contract of a function that does nothing.
 
-ghost use Rattle.fc_home.specs.Laws.{CardsAreFreeByOthers, ForcedCardsAreFree, GoersStay, SettlingIsARun, SettlingKeepsPositions, SettledBoardsStay, PositionsSettle, PositionsSettleInOneWay, SettlingMovesAreOne, ClassMatesSettleAlike, SettlingLosesNothing};
+ghost use Rattle.fc_home.specs.Laws.{CardsAreFreeByOthers, ForcedCardsAreFree, GoersStay, SettlingIsARun, SettlingKeepsPositions, SettledBoardsStay, EveryBoardSettles, PositionsSettleInOneWay, SettlingMovesAreOne, ClassMatesSettleAlike, SettlingLosesNothing};
 
 /// By the rules of a game, a card is free exactly where it is next and each card that may stand on it is home or free.
 pub fn cards_are_free_by_others()
@@ -32,9 +32,9 @@ pub fn settled_boards_stay()
     ensures { SettledBoardsStay }
 {}
 
-/// Every position settles by every rule.
-pub fn positions_settle()
-    ensures { PositionsSettle }
+/// Every board settles by every home rule, in every game, whether or not each card has one place.
+pub fn every_board_settles()
+    ensures { EveryBoardSettles }
 {}
 
 /// A position settles by a rule in one number of moves and to one board.

@@ -1,7 +1,7 @@
 ghost use Rattle.std.specs.Prelude.{◌↔◌, IsTrue};
-ghost use Rattle.fc_position.specs.Board.{IsHome, IsNext};
+ghost use Rattle.fc_position.specs.Board.{IsHome};
 ghost use Rattle.fc_home.specs.HomeRule.{IsForced, IsFree, GoesHome};
-ghost use Rattle.fc_home.specs.Known.{IsKnown, IsLevel};
+ghost use Rattle.fc_home.specs.inner.Known.{IsKnown, IsLevel};
 
 use crate::known::Known;
 use fc_cards::{Card, Suit};
@@ -39,7 +39,7 @@ pub(crate) fn goes_home<G: Game>(
 fn is_forced<G: Game>(game: &G, position: &Position, card: Card) -> bool
     ensures value { IsTrue result ↔ IsForced (G.game game.now) position.now.homes card }
 {
-    if !is_next(position, card) {
+    if !position.is_next(card) {
         return false;
     }
     if is_level(position, card) {
@@ -60,7 +60,7 @@ fn is_free<G: Game>(game: &G, position: &Position, card: Card, known: &mut Known
     ensures value { IsTrue result ↔ IsFree (G.game game.now) position.now.homes card }
     ensures known { IsKnown (G.game game.now) position.now.homes known.new }
 {
-    if !is_next(position, card) {
+    if !position.is_next(card) {
         return false;
     }
     if is_level(position, card) {
@@ -83,13 +83,6 @@ fn is_home(position: &Position, card: Card) -> bool
     ensures value { IsTrue result ↔ IsHome position.now.homes card }
 {
     card.rank() <= position.home(card.suit())
-}
-
-// Whether the card is the next of its suit to go home.
-pub(crate) fn is_next(position: &Position, card: Card) -> bool
-    ensures value { IsTrue result ↔ IsNext position.now.homes card }
-{
-    position.home(card.suit()) + 1 == card.rank()
 }
 
 // Whether every card of a lower rank is home, so that no game has a card left to stand on this one.

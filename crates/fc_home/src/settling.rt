@@ -6,12 +6,13 @@ ghost use Rattle.fc_moves.specs.MoveText.{IsThere};
 ghost use Rattle.fc_moves.specs.Run.{Run};
 ghost use Rattle.fc_moves.specs.Step.{place_number};
 ghost use Rattle.fc_home.specs.HomeRule.{GoesHome};
-ghost use Rattle.fc_home.specs.Known.{IsKnown};
-ghost use Rattle.fc_home.specs.Nexts.{HasNexts, IsLeastBelow, IsEarlier};
+ghost use Rattle.fc_home.specs.inner.Known.{IsKnown};
+ghost use Rattle.fc_home.specs.inner.Nexts.{HasNexts, IsLeastBelow, IsEarlier};
 ghost use Rattle.fc_home.specs.Settles.{IsFirstHome, PlayableGoesHome, NoneGoesHome, SettlesBy, Settles};
 
+use crate::home_rules::HomeRule;
 use crate::known::Known;
-use crate::rules::{goes_home, is_next};
+use crate::rules::goes_home;
 use arrayvec::ArrayVec;
 use fc_cards::{Card, Place};
 use fc_moves::{Game, Move};
@@ -38,18 +39,17 @@ pub fn forced<G: Game>(game: &G, position: &Position) -> Option<Card>
     Some(goer.card)
 }
 
-/// Whether the place has a playable card and it goes home by a home rule, at most 2.
+/// Whether the place has a playable card and it goes home by the home rule.
 #[inline]
-pub fn goes_home_from<G: Game>(game: &G, position: &Position, rule: u8, from: Place) -> bool
-    requires rule { rule ≤ GREATEST_RULE }
+pub fn goes_home_from<G: Game>(game: &G, position: &Position, rule: HomeRule, from: Place) -> bool
     ensures value { IsTrue result ↔ PlayableGoesHome rule (G.game game.now) position.now from }
     ensures whole { IsPosition position.now }
 {
     match position.playable(from) {
         // Few cards are next, and the others need no more than that look.
-        Some(card) if is_next(position, card) => {
+        Some(card) if position.is_next(card) => {
             let mut known = Known::new();
-            goes_home(game, position, rule, card, &mut known)
+            goes_home(game, position, rule.get(), card, &mut known)
         }
         _ => false,
     }
@@ -130,7 +130,7 @@ fn add_next(position: &Position, from: Place, nexts: &mut [Option<Goer>; 4])
     let Some(card) = position.playable(from) else {
         return;
     };
-    if is_next(position, card) {
+    if position.is_next(card) {
         nexts[card.suit().index() as usize] = Some(Goer { card, from });
     }
 }

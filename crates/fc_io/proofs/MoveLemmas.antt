@@ -3,12 +3,12 @@ use Rattle.std.proofs.Common.{length-append, ◌≡◌, ℕ, zero, suc, ◌+◌,
 use Rattle.std.proofs.lemmas.List.{take-append-le}
 use borrow.Rule.Slice.PartMut.{put_mid, post_of}
 use Rattle.std.specs.Io.KnownBytes.{prepend_known, append_known}
-use Rattle.fc_io.specs.Moves.{Gives, GivesAtMost, Takes, TakesFront}
+use Rattle.fc_io.specs.Moves.{Gives, GivesAtMost, TakesBytes, TakesFront}
 
 -- nothing was taken where nothing changed
-pub Takes-none : (held : Option (List ℕ)) → Takes held held []
-Takes-none None = refl
-Takes-none (Some bytes) = ap Some (sym (append-nil bytes))
+pub TakesBytes-none : (held : Option (List ℕ)) → TakesBytes held held []
+TakesBytes-none None = refl
+TakesBytes-none (Some bytes) = ap Some (sym (append-nil bytes))
 
 pub prepend_known-append : (xs ys : List ℕ) (known : Option (List ℕ))
     → prepend_known (xs ++ ys) known ≡ prepend_known xs (prepend_known ys known)
@@ -26,8 +26,8 @@ Gives-both a b c xs ys first second =
     first ∙ ap (prepend_known xs) second ∙ sym (prepend_known-append xs ys c)
 
 -- a sink took xs and then ys
-pub Takes-both : (a b c : Option (List ℕ)) (xs ys : List ℕ) → Takes a b xs → Takes b c ys → Takes a c (xs ++ ys)
-Takes-both a b c xs ys first second =
+pub TakesBytes-both : (a b c : Option (List ℕ)) (xs ys : List ℕ) → TakesBytes a b xs → TakesBytes b c ys → TakesBytes a c (xs ++ ys)
+TakesBytes-both a b c xs ys first second =
     second ∙ ap (λ known. append_known known ys) first ∙ sym (append_known-append a xs ys)
 
 -- a device hasn't failed where that would make an `Ok` an `Err`
@@ -64,10 +64,10 @@ gives_then_at_most a b c xs more limit first second fits = record {
 }
 
 -- a sink took xs and then a front of ys
-pub takes_then_front : (a b c : Option (List ℕ)) (xs ys : List ℕ) → Takes a b xs → TakesFront b c ys → TakesFront a c (xs ++ ys)
+pub takes_then_front : (a b c : Option (List ℕ)) (xs ys : List ℕ) → TakesBytes a b xs → TakesFront b c ys → TakesFront a c (xs ++ ys)
 takes_then_front a b c xs ys first second = record {
   front = xs ++ second.front;
   rest = second.rest;
   parts = ap (λ l. xs ++ l) second.parts ∙ sym (append_assoc xs second.front second.rest);
-  taken = Takes-both a b c xs second.front first second.taken;
+  taken = TakesBytes-both a b c xs second.front first second.taken;
 }

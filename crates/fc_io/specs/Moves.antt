@@ -11,8 +11,8 @@ abbrev pub Gives : Option (List ℕ) → Option (List ℕ) → List ℕ → Type
 Gives old new bytes = old ≡ prepend_known bytes new
 
 -- a sink took these bytes, after those that it held
-abbrev pub Takes : Option (List ℕ) → Option (List ℕ) → List ℕ → Type 0
-Takes old new bytes = new ≡ append_known old bytes
+abbrev pub TakesBytes : Option (List ℕ) → Option (List ℕ) → List ℕ → Type 0
+TakesBytes old new bytes = new ≡ append_known old bytes
 
 -- these bytes are all that a source told, where it told any
 abbrev pub IsAllTold : Option (List ℕ) → List ℕ → Type 0
@@ -33,4 +33,4 @@ pub record TakesFront (old new : Option (List ℕ)) (piece : List ℕ) : Type 0 
   pub front : List ℕ
   pub rest : List ℕ
   pub parts : piece ≡ front ++ rest
-  pub taken : Takes old new front
+  pub taken : TakesBytes old new front

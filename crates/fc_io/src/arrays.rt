@@ -1,5 +1,5 @@
 ghost use Rattle.std.specs.Prelude.{◌≡◌, ◌-◌, ◌<◌, ◌≤◌, ◌↔◌, [], min, false, length, take, Some, IsTrue, IsErr, IfOk, OnErr};
-ghost use Rattle.fc_io.specs.Moves.{Takes, Stays};
+ghost use Rattle.fc_io.specs.Moves.{TakesBytes, Stays};
 
 use crate::devices::{Failed, Sink};
 use arrayvec::ArrayVec;
@@ -50,7 +50,7 @@ impl<const N: usize> Sink for ToArray<N> {
     fn write(&mut self, piece: &[u8]) -> Result<usize, Failed>
         ensures within { IfOk result (λ n. n ≤ length piece.now) }
         ensures moved { IfOk result
-            (λ n. Takes (Some self.old.bytes) (Some self.new.bytes) (take n piece.now)) }
+            (λ n. TakesBytes (Some self.old.bytes) (Some self.new.bytes) (take n piece.now)) }
         ensures some { IfOk result (λ n. 0 < length piece.now → 0 < n) }
         ensures unmoved { OnErr result (Stays (Some self.old.bytes) (Some self.new.bytes)) }
         ensures fault { IsErr result ↔ IsTrue self.new.has_failed }

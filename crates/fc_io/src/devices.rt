@@ -1,6 +1,6 @@
 ghost use Rattle.std.specs.Prelude.{◌≡◌, ℕ, ◌<◌, ◌≤◌, ◌↔◌, Bool, List, Option, length, take, IsTrue, IsErr, IfOk, OnErr};
 ghost use Rattle.std.specs.Io.KnownBytes.{IsAtEnd};
-ghost use Rattle.fc_io.specs.Moves.{Gives, Takes, Stays};
+ghost use Rattle.fc_io.specs.Moves.{Gives, TakesBytes, Stays};
 
 use thiserror::Error;
 
@@ -51,7 +51,7 @@ pub trait Sink {
     /// has moved, and every later call is an `Err` too.
     fn write(&mut self, piece: &[u8]) -> Result<usize, Failed>
         ensures within { IfOk result (λ n. n ≤ length piece.now) }
-        ensures moved { IfOk result (λ n. Takes (held self.old) (held self.new) (take n piece.now)) }
+        ensures moved { IfOk result (λ n. TakesBytes (held self.old) (held self.new) (take n piece.now)) }
         ensures some { IfOk result (λ n. 0 < length piece.now → 0 < n) }
 
         ensures unmoved { OnErr result (Stays (held self.old) (held self.new)) }

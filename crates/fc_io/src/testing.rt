@@ -2,7 +2,7 @@
 
 ghost use Rattle.std.specs.Prelude.{◌≡◌, ◌+◌, ◌<◌, ◌≤◌, ◌↔◌, ◌||◌, ◌==◌, false, length, take, IsTrue, IsErr, IfOk, OnOk, OnErr};
 ghost use Rattle.std.specs.Io.KnownBytes.{IsAtEnd};
-ghost use Rattle.fc_io.specs.Moves.{Gives, Takes, Stays};
+ghost use Rattle.fc_io.specs.Moves.{Gives, TakesBytes, Stays};
 
 use crate::devices::{Failed, Sink, Source};
 
@@ -87,7 +87,7 @@ impl<K: Sink> Sink for Failing<K> {
     fn write(&mut self, piece: &[u8]) -> Result<usize, Failed>
         ensures within { IfOk result (λ n. n ≤ length piece.now) }
         ensures moved { IfOk result
-            (λ n. Takes (K.held self.old.device) (K.held self.new.device) (take n piece.now)) }
+            (λ n. TakesBytes (K.held self.old.device) (K.held self.new.device) (take n piece.now)) }
         ensures some { IfOk result (λ n. 0 < length piece.now → 0 < n) }
         ensures unmoved { OnErr result (Stays (K.held self.old.device) (K.held self.new.device)) }
         ensures fault { IsErr result ↔ IsTrue (self.new.is_broken || K.has_failed self.new.device) }

@@ -1,6 +1,6 @@
 ghost use Rattle.std.specs.Prelude.{◌≡◌, ◌+◌, ◌<◌, ◌≤◌, ◌↔◌, length, take, IsTrue, IsErr, IfOk, OnOk, IsErrOf, vec_len};
 ghost use Rattle.std.specs.Io.KnownBytes.{IsAtEnd};
-ghost use Rattle.fc_io.specs.Moves.{Gives, GivesAtMost, IsAllTold, TellsAtLeast, Takes, TakesFront, Stays};
+ghost use Rattle.fc_io.specs.Moves.{Gives, GivesAtMost, IsAllTold, TellsAtLeast, TakesBytes, TakesFront, Stays};
 
 use crate::devices::{Failed, Sink, Source};
 use std::alloc::{AllocError, Global};
@@ -9,7 +9,7 @@ use thiserror::Error;
 /// Writes the whole of `piece`. At `Err` some front of it was written, and nothing to a sink that had failed before.
 pub fn write_all<K: Sink>(sink: &mut K, piece: &[u8]) -> Result<(), Failed>
     ensures front { TakesFront (K.held sink.old) (K.held sink.new) piece.now }
-    ensures whole { OnOk result (Takes (K.held sink.old) (K.held sink.new) piece.now) }
+    ensures whole { OnOk result (TakesBytes (K.held sink.old) (K.held sink.new) piece.now) }
 
     ensures fault { IsErr result ↔ IsTrue (K.has_failed sink.new) }
     ensures stays { IsTrue (K.has_failed sink.old) → IsErr result }

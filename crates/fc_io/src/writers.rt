@@ -1,5 +1,5 @@
 ghost use Rattle.std.specs.Prelude.{◌≡◌, ℕ, List, ◌<◌, ◌≤◌, ◌↔◌, ◌⊎◌, false, length, take, None, IsTrue, IsErr, IfOk, OnErr};
-ghost use Rattle.fc_io.specs.Moves.{Takes, Stays};
+ghost use Rattle.fc_io.specs.Moves.{TakesBytes, Stays};
 
 use crate::devices::{Failed, Sink};
 use std::io;
@@ -75,7 +75,7 @@ impl<W: Writing> Sink for ToWriter<W> {
     /// Writes to the writer once.
     fn write(&mut self, piece: &[u8]) -> Result<usize, Failed>
         ensures within { IfOk result (λ n. n ≤ length piece.now) }
-        ensures moved { IfOk result (λ n. Takes None None (take n piece.now)) }
+        ensures moved { IfOk result (λ n. TakesBytes None None (take n piece.now)) }
         ensures some { IfOk result (λ n. 0 < length piece.now → 0 < n) }
         ensures unmoved { OnErr result (Stays None None) }
         ensures fault { IsErr result ↔ IsTrue self.new.has_failed }

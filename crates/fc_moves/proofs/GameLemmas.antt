@@ -1,29 +1,20 @@
 -- What the tests of the games' methods say of their pairs and openers.
-use Rattle.std.proofs.Common.{◌≡◌, ℕ, ◌+◌, ◌-◌, ◌*◌, ◌≤◌, ◌<◌, ◌↔◌, ◌⊎◌, Bool, true, false, not, List, [], ◌∷◌, map, refl, sym, ◌∙◌, subst, inl, inr, ⊎_elim, arith}
+use Rattle.std.proofs.Common.{◌≡◌, ℕ, ◌+◌, ◌-◌, ◌*◌, ◌≤◌, ◌<◌, ◌↔◌, ◌⊎◌, Bool, true, false, not, List, [], ◌∷◌, map, refl, sym, ◌∙◌, subst, ⊎_elim, arith}
 use Rattle.std.specs.Bool.{beq}
 use Rattle.std.specs.Prelude.{IsTrue, Contains, ◌==◌}
 use Rattle.std.specs.List.{range_with_len}
 use Rattle.std.proofs.lemmas.List.FromFn.{get_or-map-range_with_len, length-map-range_with_len}
 use Rattle.std.proofs.lemmas.Bool.Decides.{nat_tests}
-use Rattle.fc_cards.specs.Card.{rank, suit, IsRed}
+use Rattle.fc_cards.specs.Card.{rank, suit, is_red, all_cards}
 use Rattle.fc_cards.specs.declared.suits.Suit.{Suit}
 use Rattle.fc_cards.specs.declared.suits.Suit.TheVariants.{C, D, H, S}
 use Rattle.fc_cards.specs.contracts.suits.Suit.{the_type}
 use denote.Enum.Bare.{sameb}
 use Rattle.fc_cards.specs.Suit.{suit_index}
-use Rattle.fc_moves.specs.GameRules.{GameRules, Stands, Opens, IsLowerOf, all_cards, pairs_where, free_cell, bakers_game, kings, is_red, are_of_other_colour}
-use Rattle.fc_moves.specs.GameLaws.{Contains-cases, Contains-first, Contains-filter, Contains-from_filter, pairs_where-have, pairs_where-only, every_card}
-
--- the test tells the colour
-is_red-is : (c : ℕ) (b : Bool) → (IsTrue b ↔ IsRed c) → is_red c ≡ b
-is_red-is c true (red, _) =
-    ⊎_elim (λ e. let t : (suit c == 1) ≡ true = grind (arith, nat_tests) in grind (arith, nat_tests))
-    (λ e. let t : (suit c == 2) ≡ true = grind (arith, nat_tests) in grind (arith, nat_tests)) (red refl)
-is_red-is c false (_, black) =
-    let no : IsRed c → ⊥ = λ r. cc (black r) in
-    let one : (suit c == 1) ≡ false = let n : suit c ≡ 1 → ⊥ = λ e. no (inl e) in grind (arith, nat_tests) in
-    let two : (suit c == 2) ≡ false = let n : suit c ≡ 2 → ⊥ = λ e. no (inr e) in grind (arith, nat_tests) in
-    rw (one, two) refl
+use Rattle.fc_moves.specs.GameRules.{GameRules, Stands, Opens, pairs_where, free_cell, bakers_game, kings, are_of_other_colour}
+use Rattle.fc_moves.specs.inner.GameRules.{IsLowerOf}
+use Rattle.fc_moves.specs.inner.GameLaws.{Contains-cases, Contains-first, Contains-filter, Contains-from_filter, pairs_where-have, pairs_where-only}
+use Rattle.fc_cards.proofs.CardLemmas.{every_card}
 
 -- a pair of the game is two cards one rank apart that pass its test
 pub stands-where : (test : ℕ → ℕ → Bool) (u l : ℕ) → Contains (pairs_where test) (u, l)
@@ -34,10 +25,10 @@ stands-where test u l = (
 )
 
 -- FreeCell's test on two cards, from their ranks and colours
-pub free_cell-stands : (n u l : ℕ) (a b : Bool) → u < 52 → l < 52 → (IsTrue a ↔ IsRed u) → (IsTrue b ↔ IsRed l)
+pub free_cell-stands : (n u l : ℕ) (a b : Bool) → u < 52 → l < 52 → a ≡ is_red u → b ≡ is_red l
     → rank u + 1 ≡ rank l → IsTrue (not (beq a b)) ↔ Stands (free_cell n) u l
 free_cell-stands n u l a b one two p q next =
-    let same : are_of_other_colour u l ≡ not (beq a b) = rw (is_red-is u a p, is_red-is l b q) refl in (
+    let same : are_of_other_colour u l ≡ not (beq a b) = rw (p, q) refl in (
       λ t. pairs_where-have are_of_other_colour u l one two next (same ∙ t),
       λ found. sym same ∙ (pairs_where-only are_of_other_colour (u, l) found).1,
     )
@@ -89,26 +80,24 @@ red_suits : (u : ℕ) → is_red u ≡ true → (suit u ≡ 1) ⊎ (suit u ≡ 2
 red_suits u red = grind (arith, nat_tests)
 
 -- what a card's hosts are, where they are its lower cards of the other colour
-pub hosts_of_red : (n card : ℕ) → card < 52 → IsRed card → (u : ℕ) → IsLowerOf card 0 3 u ↔ Stands (free_cell n) u card
-hosts_of_red n card below red u =
-    let other : is_red card ≡ true = is_red-is card true (λ _. red, λ _. refl) in (
-      λ (one, next, suits). pairs_where-have are_of_other_colour u card one below next
-          (⊎_elim (λ e. let a : is_red u ≡ false = rw e refl in rw (a, other) refl)
-          (λ e. let a : is_red u ≡ false = rw e refl in rw (a, other) refl) suits),
-      λ found. let p = pairs_where-only are_of_other_colour (u, card) found in
-          (p.0.0, p.0.2, black_suits u (black-of u card other p.1)),
-    )
+pub hosts_of_red : (n card : ℕ) → card < 52 → is_red card ≡ true → (u : ℕ) → IsLowerOf card 0 3 u ↔ Stands (free_cell n) u card
+hosts_of_red n card below other u = (
+  λ (one, next, suits). pairs_where-have are_of_other_colour u card one below next
+      (⊎_elim (λ e. let a : is_red u ≡ false = rw e refl in rw (a, other) refl)
+      (λ e. let a : is_red u ≡ false = rw e refl in rw (a, other) refl) suits),
+  λ found. let p = pairs_where-only are_of_other_colour (u, card) found in
+      (p.0.0, p.0.2, black_suits u (black-of u card other p.1)),
+)
 
-pub hosts_of_black : (n card : ℕ) → card < 52 → (IsRed card → ⊥) → (u : ℕ)
+pub hosts_of_black : (n card : ℕ) → card < 52 → is_red card ≡ false → (u : ℕ)
     → IsLowerOf card 1 2 u ↔ Stands (free_cell n) u card
-hosts_of_black n card below black u =
-    let other : is_red card ≡ false = is_red-is card false (λ e. absurd (cc e), λ r. absurd (black r)) in (
-      λ (one, next, suits). pairs_where-have are_of_other_colour u card one below next
-          (⊎_elim (λ e. let a : is_red u ≡ true = rw e refl in rw (a, other) refl)
-          (λ e. let a : is_red u ≡ true = rw e refl in rw (a, other) refl) suits),
-      λ found. let p = pairs_where-only are_of_other_colour (u, card) found in
-          (p.0.0, p.0.2, red_suits u (red-of u card other p.1)),
-    )
+hosts_of_black n card below other u = (
+  λ (one, next, suits). pairs_where-have are_of_other_colour u card one below next
+      (⊎_elim (λ e. let a : is_red u ≡ true = rw e refl in rw (a, other) refl)
+      (λ e. let a : is_red u ≡ true = rw e refl in rw (a, other) refl) suits),
+  λ found. let p = pairs_where-only are_of_other_colour (u, card) found in
+      (p.0.0, p.0.2, red_suits u (red-of u card other p.1)),
+)
 
 -- what a card's hosts are, where they are its lower card of the same suit
 pub hosts_in_suit : (n card x : ℕ) → card < 52 → 2 ≤ rank card → x ≡ (rank card - 1 - 1) * 4 + suit card → (u : ℕ)

@@ -13,7 +13,8 @@ use Rattle.fc_position.specs.Position.{IsPosition}
 use Rattle.fc_moves.specs.declared.steps.Move.{Move}
 use Rattle.fc_moves.specs.GameRules.{GameRules}
 use Rattle.fc_moves.specs.MoveText.{IsThere, IsSource, HasText}
-use Rattle.fc_moves.specs.Step.{Allows, Joins, ListsMoves, ListsBelow, place_number, move_number, most_from}
+use Rattle.fc_moves.specs.Step.{Allows, Joins, ListsMoves, place_number, move_number}
+use Rattle.fc_moves.specs.inner.Step.{most_from, ListsBelow}
 use Rattle.fc_moves.proofs.StepLemmas.{allowed_has_text, move_once, place_once, source_is_there, place_most, source_most}
 
 -- a greater number at the end of a rising list keeps it rising

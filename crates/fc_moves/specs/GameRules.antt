@@ -1,8 +1,8 @@
 -- What sets one game apart from another, as plain data, and the games that come with the program.
-use Rattle.std.specs.Prelude.{◌≡◌, ℕ, ◌+◌, ◌/◌, ◌%◌, ◌<◌, ◌≤◌, ◌⊎◌, ◌==◌, ◌&&◌, ◌||◌, Bool, not, List, All, Contains, map, filter, bit_or}
+use Rattle.std.specs.Prelude.{◌≡◌, ℕ, ◌+◌, ◌/◌, ◌%◌, ◌<◌, ◌≤◌, ◌==◌, ◌&&◌, Bool, not, List, All, Contains, map, filter, bit_or}
 use Rattle.std.specs.Bool.{beq}
 use Rattle.std.specs.List.{range_with_len}
-use Rattle.fc_cards.specs.Card.{rank, suit}
+use Rattle.fc_cards.specs.Card.{rank, suit, is_red, all_cards}
 use Rattle.fc_position.specs.Board.{Board}
 use Rattle.fc_position.specs.Position.{IsPosition, Fits}
 
@@ -38,27 +38,17 @@ pub record IsPositionOf (g : GameRules) (b : Board) : Type 0 where
   pub position : IsPosition b
   pub fits : Fits g.cells b
 
--- the first cards by number, and the first pairs of cards by the number of one and then of the other
-abbrev pub first_cards : ℕ → List ℕ
-first_cards n = range_with_len 0 n
-
+-- the first pairs of cards, by the number of one and then of the other
 abbrev pub first_pairs : ℕ → List (ℕ × ℕ)
 first_pairs n = map (λ k. (k / 52, k % 52)) (range_with_len 0 n)
 
--- every card, and every pair of cards
-unfoldable pub all_cards : List ℕ
-all_cards = first_cards 52
-
+-- every pair of cards
 unfoldable pub all_pairs : List (ℕ × ℕ)
 all_pairs = first_pairs 2704
 
 -- the pairs of a card and one that is one rank higher, and passes a test with it
 abbrev pub pairs_where : (ℕ → ℕ → Bool) → List (ℕ × ℕ)
 pairs_where test = filter (λ p. (rank p.0 + 1 == rank p.1) && test p.0 p.1) all_pairs
-
--- diamonds and hearts
-abbrev pub is_red : ℕ → Bool
-is_red c = (suit c == 1) || (suit c == 2)
 
 -- one of the cards is red and the other black
 abbrev pub are_of_other_colour : ℕ → ℕ → Bool
@@ -79,7 +69,3 @@ bakers_game n = built_game (λ u l. suit u == suit l) n 1
 -- the same game, but that every king opens a column, and no other card does
 abbrev pub kings : GameRules → GameRules
 kings g = record g { openers = filter (λ c. rank c == 13) all_cards; code = bit_or g.code 2 }
-
--- the card u is one rank below a card, and of one of two suits
-abbrev pub IsLowerOf : ℕ → ℕ → ℕ → ℕ → Type 0
-IsLowerOf card low high u = (u < 52) × (rank u + 1 ≡ rank card) × ((suit u ≡ low) ⊎ (suit u ≡ high))

@@ -1,6 +1,7 @@
-pub mod GameLaws
 pub mod GameRules
 pub mod Laws
 pub mod MoveText
+pub mod Refusal
 pub mod Run
 pub mod Step
+pub mod inner

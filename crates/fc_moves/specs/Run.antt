@@ -15,6 +15,14 @@ Run g b (m ∷ ms) c = (mid : Board) × Step g b m mid × Run g mid ms c
 abbrev pub Wins : GameRules → Board → List Move → Type 0
 Wins g b ms = (c : Board) × Run g b ms c × IsWon c
 
+-- some list of so many moves wins from the board
+abbrev pub WinsIn : GameRules → Board → ℕ → Type 0
+WinsIn g b count = (ms : List Move) × (length ms ≡ count) × Wins g b ms
+
+-- some list of at most so many moves wins from the board
+abbrev pub WinsWithin : GameRules → Board → ℕ → Type 0
+WinsWithin g b most = (ms : List Move) × (length ms ≤ most) × Wins g b ms
+
 -- the list wins, and no list that wins is shorter
 pub record IsShortest (g : GameRules) (b : Board) (ms : List Move) : Type 0 where
   pub wins : Wins g b ms

@@ -54,15 +54,3 @@ pub record ListsMoves (g : GameRules) (b : Board) (moves : List Move) : Type 0 w
   pub allowed : (m : Move) → Contains moves m → Allows g b m
   pub complete : (m : Move) → Allows g b m → Contains moves m
   pub rising : IsStrictlyIncreasing (map move_number moves)
-
--- of the allowed moves, the list has exactly those with numbers below n, each once, by rising number
-pub record ListsBelow (g : GameRules) (b : Board) (n : ℕ) (moves : List Move) : Type 0 where
-  pub allowed : (m : Move) → Contains moves m → Allows g b m × (move_number m < n)
-  pub complete : (m : Move) → Allows g b m → move_number m < n → Contains moves m
-  pub rising : IsStrictlyIncreasing (map move_number moves)
-
--- to how many places a card may go from a place, whatever stands there
-abbrev pub most_from : Place → ℕ
-most_from (Column i) = 12
-most_from (Cell i) = 9
-most_from Home = 0

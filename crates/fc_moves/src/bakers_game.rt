@@ -2,7 +2,7 @@ ghost use Rattle.std.specs.Prelude.{◌≡◌, ◌==◌, ◌≤◌, ◌↔◌, I
 ghost use Rattle.std.proofs.Common.{lit<};
 ghost use Rattle.fc_cards.specs.Card.{suit};
 ghost use Rattle.fc_moves.specs.GameRules.{bakers_game};
-ghost use Rattle.fc_moves.specs.GameLaws.{built_game_is_game};
+ghost use Rattle.fc_moves.specs.inner.GameLaws.{built_game_is_game};
 
 use crate::games::Game;
 use arrayvec::ArrayVec;

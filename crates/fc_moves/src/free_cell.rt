@@ -2,8 +2,9 @@ ghost use Rattle.std.specs.Prelude.{◌≡◌, ℕ, ◌<◌, ◌≤◌, ◌↔�
 ghost use Rattle.std.specs.List.Sorted.{IsStrictlyIncreasing};
 ghost use Rattle.std.proofs.Common.{lit<};
 ghost use Rattle.fc_cards.specs.Suit.{suit_index};
-ghost use Rattle.fc_moves.specs.GameRules.{IsLowerOf, are_of_other_colour, free_cell};
-ghost use Rattle.fc_moves.specs.GameLaws.{built_game_is_game};
+ghost use Rattle.fc_moves.specs.GameRules.{are_of_other_colour, free_cell};
+ghost use Rattle.fc_moves.specs.inner.GameRules.{IsLowerOf};
+ghost use Rattle.fc_moves.specs.inner.GameLaws.{built_game_is_game};
 
 use crate::games::Game;
 use arrayvec::ArrayVec;

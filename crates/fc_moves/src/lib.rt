@@ -1,4 +1,4 @@
-//! What the rules allow: games, one-card moves, and what lists of moves lead to.
+//! What the rules allow, and why they refuse a move: games, one-card moves, and what lists of moves lead to.
 //!
 //! A game is plain data to contracts: which cards may stand on which, which may go to an empty column, how many cells
 //! there are. Everything here is generic over it. No call allocates.
@@ -9,7 +9,8 @@ pub use free_cell::FreeCell;
 pub use games::Game;
 pub use lists::moves;
 pub use only_kings::Kings;
-pub use steps::{Move, allows, apply};
+pub use refusals::{Refusal, refusal_of};
+pub use steps::{Move, allows, apply, may_land};
 pub use texts::{move_text, read_move};
 
 mod bakers_game;
@@ -18,5 +19,6 @@ mod games;
 pub mod laws;
 mod lists;
 mod only_kings;
+mod refusals;
 mod steps;
 mod texts;

@@ -3,7 +3,8 @@ ghost use Rattle.arrayvec.specs.ArrayVec.{array_vec_len};
 ghost use Rattle.fc_position.specs.Board.{playable};
 ghost use Rattle.fc_position.specs.Position.{IsPosition};
 ghost use Rattle.fc_moves.specs.MoveText.{IsThere};
-ghost use Rattle.fc_moves.specs.Step.{ListsMoves, ListsBelow, place_number, most_from};
+ghost use Rattle.fc_moves.specs.Step.{ListsMoves, place_number};
+ghost use Rattle.fc_moves.specs.inner.Step.{most_from, ListsBelow};
 
 use crate::games::Game;
 use crate::steps::{Move, joins, takes};

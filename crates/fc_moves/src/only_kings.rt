@@ -1,6 +1,6 @@
 ghost use Rattle.std.specs.Prelude.{◌≡◌};
 ghost use Rattle.fc_moves.specs.GameRules.{kings};
-ghost use Rattle.fc_moves.specs.GameLaws.{kings_is_game};
+ghost use Rattle.fc_moves.specs.inner.GameLaws.{kings_is_game};
 
 use crate::games::Game;
 use arrayvec::ArrayVec;

@@ -51,13 +51,13 @@ pub(crate) fn takes<G: Game>(game: &G, position: &Position, card: Card, to: Plac
     match to {
         Place::Column(j) => j < 8 && may_land(game, position.column(j), card),
         Place::Cell(j) => j < game.cells() && position.cell(j).is_none(),
-        Place::Home => position.home(card.suit()) + 1 == card.rank(),
+        Place::Home => position.is_next(card),
     }
 }
 
-// Whether the card may go to a column with these cards.
-fn may_land<G: Game>(game: &G, cards: &[Card], card: Card) -> bool
-    ensures { IsTrue result ↔ MayLand (G.game game.now) cards.now card }
+/// Whether the card may go to a column with these cards.
+pub fn may_land<G: Game>(game: &G, cards: &[Card], card: Card) -> bool
+    ensures value { IsTrue result ↔ MayLand (G.game game.now) cards.now card }
 {
     match cards.last() {
         Some(last) => game.stands(card, *last),

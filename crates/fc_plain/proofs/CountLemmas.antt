@@ -5,7 +5,8 @@ use Rattle.std.proofs.lemmas.Bool.{cases_lt, cases_order}
 use Rattle.std.proofs.lemmas.List.{drop_more, drop_all, take_at, drop_at, take-append-drop, get_or_append_left, get_or_at, length-append}
 use Rattle.std.proofs.lemmas.Grind.{pow_more}
 use Rattle.std.proofs.Math.Nat.{mul-le-mul_left, one-le-pow, pow-le-pow_right}
-use Rattle.fc_plain.specs.Count.{IsDigit, IsNumberByte, SpellsDigits, SpellsNumber, SpellsUnit, SpellsCount}
+use Rattle.fc_plain.specs.Count.{IsDigit, SpellsDigits, SpellsNumber, SpellsUnit, SpellsCount}
+use Rattle.fc_plain.specs.inner.Count.{IsNumberByte}
 
 -- a product of a number that was capped is the product, once capped
 capped_times : (top m p : ℕ) → 1 ≤ p → min (min m top * p) top ≡ min (m * p) top

@@ -5,10 +5,6 @@ use Rattle.std.specs.Prelude.{◌≡◌, ℕ, ◌+◌, ◌-◌, ◌*◌, ◌^◌
 abbrev pub IsDigit : ℕ → Type 0
 IsDigit b = (48 ≤ b) × (b ≤ 57)
 
--- the byte may stand in a number: a digit, or an underscore
-abbrev pub IsNumberByte : ℕ → Type 0
-IsNumberByte b = IsDigit b ⊎ (b ≡ 95)
-
 -- digits, among which underscores say nothing, tell a number, where those before them tell this one
 abbrev pub SpellsDigits : ℕ → List ℕ → ℕ → Type 0
 SpellsDigits before [] n = n ≡ before

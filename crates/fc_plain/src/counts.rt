@@ -1,5 +1,6 @@
 ghost use Rattle.std.specs.Prelude.{◌≡◌, ℕ, ◌*◌, ◌^◌, ◌<◌, ◌≤◌, min, length, slice_index, IfSome, IfNone};
-ghost use Rattle.fc_plain.specs.Count.{IsNumberByte, SpellsCount, SpellsNumber, SpellsUnit};
+ghost use Rattle.fc_plain.specs.Count.{SpellsCount, SpellsNumber, SpellsUnit};
+ghost use Rattle.fc_plain.specs.inner.Count.{IsNumberByte};
 
 /// The count that a text spells: digits, among which underscores say nothing, and then perhaps `k` for thousands, `M` for
 /// millions or `e` with the number of noughts, as in `100000`, `100_000`, `100k` and `1e5`. A count past 4,294,967,295 is

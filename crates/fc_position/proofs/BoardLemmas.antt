@@ -13,7 +13,8 @@ use Rattle.std.proofs.lemmas.Bool.Decides.{nat_tests}
 use Rattle.fc_cards.specs.Card.{rank, suit}
 use Rattle.fc_cards.specs.declared.places.Place.{Place}
 use Rattle.fc_cards.specs.declared.places.Place.TheVariants.{Column, Cell, Home}
-use Rattle.fc_position.specs.Board.{Board, column, cell, playable, lifted, placed, places, Receives, HasRoom, IsNext, last_of, front_of, count_in_column, count_in_cell, count_at_home}
+use Rattle.fc_position.specs.Board.{Board, column, cell, playable, lifted, placed, places, Receives, IsNext, last_of, front_of, count_in_column, count_in_cell, count_at_home}
+use Rattle.fc_position.specs.inner.Board.{HasRoom}
 use Rattle.fc_position.specs.Position.{IsPosition}
 use Rattle.fc_position.proofs.Pigeonhole.{room_for_one}
 

@@ -11,7 +11,8 @@ use Rattle.fc_position.specs.declared.faults.PartsFault.{PartsFault}
 use Rattle.fc_position.specs.declared.faults.PartsFault.TheVariants.{Repeated, Missing}
 use Rattle.fc_position.specs.Board.{Board, places, count_in_column, count_in_cell, count_at_home}
 use Rattle.fc_position.specs.Position.{IsPosition, IsShaped}
-use Rattle.fc_position.specs.Tally.{Adds, AllCards, IsOfCards, IsFaultOf, EachOnce}
+use Rattle.fc_position.specs.Tally.{Adds, AllCards, IsFaultOf, EachOnce}
+use Rattle.fc_position.specs.inner.Tally.{IsOfCards}
 
 -- counting on adds up
 pub adds_more : (f g : ℕ → ℕ) (a b d : List ℕ) → Adds f a b → Adds g b d → Adds (λ c. f c + g c) a d

@@ -71,12 +71,6 @@ Receives b u (Column i) = i < length b.columns
 Receives b u (Cell i) = (i < length b.cells) × (cell b i ≡ None)
 Receives b u Home = IsNext b.homes u
 
--- the place has room for a card: a column that is there, with less than 52 cards, a cell that is there, or home
-abbrev pub HasRoom : Board → Place → Type 0
-HasRoom b (Column i) = (i < length b.columns) × (length (column b i) < 52)
-HasRoom b (Cell i) = i < length b.cells
-HasRoom b Home = Unit {0}
-
 -- how often a card stands in a column, in a cell, and at home
 abbrev pub count_in_column : ℕ → List ℕ → ℕ
 count_in_column c cards = count_by (λ x. x == c) cards

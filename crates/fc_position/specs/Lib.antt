@@ -1,3 +1,4 @@
 pub mod Board
 pub mod Position
 pub mod Tally
+pub mod inner

@@ -1,17 +1,11 @@
 -- Tallies: how often each card was counted, and what is wrong where one wasn't counted once.
-use Rattle.std.specs.Prelude.{◌≡◌, ℕ, ◌+◌, ◌<◌, ◌≤◌, min, List, slice_index, All, IfSome}
-use Rattle.fc_position.specs.Board.{Board}
+use Rattle.std.specs.Prelude.{◌≡◌, ℕ, ◌+◌, ◌<◌, ◌≤◌, min, List, slice_index, All}
 use Rattle.fc_position.specs.declared.faults.PartsFault.{PartsFault}
 use Rattle.fc_position.specs.declared.faults.PartsFault.TheVariants.{Repeated, Missing}
 
 -- each is the number of a card
 abbrev pub AllCards : List ℕ → Type 0
 AllCards cards = All (λ c. c < 52) cards
-
--- what lies on the board are cards
-pub record IsOfCards (b : Board) : Type 0 where
-  pub columns : All AllCards b.columns
-  pub cells : All (λ cell. IfSome cell (λ c. c < 52)) b.cells
 
 -- the new tally has each card so often more, two standing for every greater count
 abbrev pub Adds : (ℕ → ℕ) → List ℕ → List ℕ → Type 0

@@ -1,7 +1,9 @@
 ghost use Rattle.std.specs.Prelude.{◌≡◌, ◌↔◌, IsTrue, replicate, map};
-ghost use Rattle.fc_position.specs.Board.{playable, lifted, placed, places, HasRoom};
+ghost use Rattle.fc_position.specs.Board.{playable, lifted, placed, places};
+ghost use Rattle.fc_position.specs.inner.Board.{HasRoom};
 ghost use Rattle.fc_position.specs.Position.{IsShaped};
-ghost use Rattle.fc_position.specs.Tally.{Adds, IsOfCards};
+ghost use Rattle.fc_position.specs.Tally.{Adds};
+ghost use Rattle.fc_position.specs.inner.Tally.{IsOfCards};
 
 use crate::tallies::Tally;
 use arrayvec::ArrayVec;

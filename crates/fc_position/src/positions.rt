@@ -1,6 +1,6 @@
 ghost use Rattle.std.specs.Prelude.{◌≡◌, ℕ, ◌≤◌, ◌<◌, ◌↔◌, IsTrue, Some, map, swap, All, IfOk, IfErr};
 ghost use Rattle.fc_cards.specs.Suit.{suit_index};
-ghost use Rattle.fc_position.specs.Board.{board_of, column, cell, home, playable, places, Receives, Shifted};
+ghost use Rattle.fc_position.specs.Board.{board_of, column, cell, home, playable, places, IsNext, Receives, Shifted};
 ghost use Rattle.fc_position.specs.Position.{IsPosition, IsWon, Fits};
 ghost use Rattle.fc_position.specs.Tally.{IsFaultOf};
 
@@ -105,6 +105,15 @@ impl Position {
     {
         let layout = &self.layout;
         layout.homes[suit.index() as usize]
+    }
+
+    /// Whether the card is the next one of its suit: its suit is home up to the rank below its own.
+    #[inline]
+    pub fn is_next(&self, card: Card) -> bool
+        ensures value { IsTrue result ↔ IsNext self.now.homes card }
+        ensures whole { IsPosition self.now }
+    {
+        self.home(card.suit()) + 1 == card.rank()
     }
 
     /// Whether every card is home.

@@ -3,7 +3,7 @@ use Rattle.std.proofs.Common.{◌≡◌, ℕ, ◌+◌, ◌<◌, Bool, false, Lis
 use Rattle.std.specs.Prelude.{Err}
 use Rattle.fc_position.specs.Board.{Board}
 use Rattle.fc_io.specs.declared.devices.Failed.{Failed}
-use Rattle.fc_io.specs.Moves.{Takes, TakesFront}
+use Rattle.fc_io.specs.Moves.{TakesBytes, TakesFront}
 use Rattle.fc_moves.specs.declared.steps.Move.{Move}
 use Rattle.fc_moves.specs.GameRules.{GameRules}
 use Rattle.fc_moves.specs.Run.{Run}
@@ -11,7 +11,7 @@ use Rattle.fc_moves.specs.Step.{Step, Allows}
 use Rattle.fc_moves.proofs.StepLemmas.{step_once}
 use Rattle.fc_replay.specs.declared.pages.Page.{Page}
 use Rattle.fc_replay.specs.Page.{page_text, pages_text}
-use Rattle.fc_replay.specs.Played.{PlaysAs, Passes}
+use Rattle.fc_replay.specs.Played.{PlaysAs, Passes, sink_change}
 use Rattle.fc_replay.proofs.PageLemmas.{pages_text-append, front_of_more}
 use Rattle.fc_replay.proofs.PlayLemmas.{passes_append, passed_length, run_passes}
 use Rattle.fc_replay.proofs.ReplayLoop.{Course, Sheets, course_next, sheets_next, sheets_failed}
@@ -50,7 +50,7 @@ next_parts moves left more all m parts first = append_assoc moves (m ∷ []) mor
 -- the next move was made, and its page is written
 pub way_next : (page : Page) (g : GameRules) (start : Board) (all left more : List Move) (steps : ℕ) (here next : Board) (old new newer : Option (List ℕ)) (before after later : Bool) (m : Move) (n : ℕ)
     → OnTheWay page g start all left steps here old new before after → left ≡ m ∷ more → Step g here m next
-    → n ≡ g.cells → Takes new newer (page_text page n (steps + 1) m next) → after ≡ false → later ≡ false
+    → n ≡ g.cells → TakesBytes new newer (page_text page n (steps + 1) m next) → after ≡ false → later ≡ false
     → OnTheWay page g start all more (steps + 1) next old newer before later
 way_next page g start all left more steps here next old new newer before after later m n way first step cells taken sound still = record {
   moves = way.moves ++ m ∷ [];
@@ -66,7 +66,7 @@ way_next page g start all left more steps here next old new newer before after l
 pub way_failed : (page : Page) (g : GameRules) (start : Board) (all left more : List Move) (steps : ℕ) (here next : Board) (old new newer : Option (List ℕ)) (before after : Bool) (m : Move) (n : ℕ) (fault : Failed)
     → OnTheWay page g start all left steps here old new before after → left ≡ m ∷ more → Step g here m next
     → n ≡ g.cells → TakesFront new newer (page_text page n (steps + 1) m next)
-    → PlaysAs page g start all old newer (Err fault)
+    → PlaysAs page g start all (sink_change old newer) (Err fault)
 way_failed page g start all left more steps here next old new newer before after m n fault way first step cells taken =
     let moves = way.moves ++ m ∷ [] in
     let boards = way.boards ++ next ∷ [] in

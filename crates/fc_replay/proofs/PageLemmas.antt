@@ -12,7 +12,7 @@ use Rattle.fc_replay.specs.declared.pages.Page.{Page}
 use Rattle.fc_replay.specs.declared.pages.Page.TheVariants.{Board as printed}
 use Rattle.fc_replay.specs.declared.replays.Ended.{Ended}
 use Rattle.fc_replay.specs.Page.{page_text, pages_text}
-use Rattle.fc_replay.specs.Played.{Passes, Replays, ReplaysAs, Writes, boards_text, counted}
+use Rattle.fc_replay.specs.Played.{Passes, Replays, ReplaysAs, Writes, boards_text, counted, sink_change}
 
 -- the pages of moves and of those that go on from where they lead
 pub pages_text-append : (page : Page) (n step next : ℕ) (ms ns : List Move) (boards others : List Board) → length boards ≡ length ms
@@ -48,7 +48,7 @@ writes_same old new result text other same = subst (λ t. Writes old new t resul
 
 -- a replay that writes pages of printed boards is one that writes printed boards
 pub replays_printed : (g : GameRules) (b : Board) (tokens : List (List ℕ)) (old new : Option (List ℕ)) (result : Result Ended ReplayFault)
-    → ReplaysAs printed g b tokens old new result → Replays g b tokens old new (counted result)
+    → ReplaysAs printed g b tokens (sink_change old new) result → Replays g b tokens old new (counted result)
 replays_printed g b tokens old new result replayed = record {
   boards = replayed.boards;
   ends = replayed.ends;

@@ -5,8 +5,8 @@ use Rattle.std.proofs.lemmas.Bool.{false≢true}
 use Rattle.std.proofs.Math.Seq.{take-append_seam}
 use Rattle.fc_position.specs.Board.{Board}
 use Rattle.fc_position.specs.Position.{IsWon}
-use Rattle.fc_io.specs.Moves.{Takes, TakesFront, Stays}
-use Rattle.fc_io.proofs.MoveLemmas.{Takes-none, Takes-both, takes_then_front}
+use Rattle.fc_io.specs.Moves.{TakesBytes, TakesFront, Stays}
+use Rattle.fc_io.proofs.MoveLemmas.{TakesBytes-none, TakesBytes-both, takes_then_front}
 use Rattle.fc_moves.specs.declared.steps.Move.{Move}
 use Rattle.fc_moves.specs.GameRules.{GameRules, IsPositionOf}
 use Rattle.fc_moves.specs.Step.{Step, Allows}
@@ -16,7 +16,7 @@ use Rattle.fc_replay.specs.declared.pages.Page.{Page}
 use Rattle.fc_replay.specs.declared.replays.Ended.{Ended}
 use Rattle.fc_replay.specs.Page.{page_text, pages_text}
 use Rattle.fc_replay.specs.Token.{is_gap, move_tokens, SpellsMove, IsNoMove}
-use Rattle.fc_replay.specs.Played.{Passes, Plays, SpellMoves, StopsAt, IsNotAllowed, ReplaysAs, BeginsWithStep, board_after}
+use Rattle.fc_replay.specs.Played.{Passes, Plays, SpellMoves, StopsAt, IsNotAllowed, ReplaysAs, BeginsWithStep, board_after, sink_change}
 use Rattle.fc_text.proofs.PartLemmas.{length-tokens_between}
 use Rattle.fc_replay.proofs.PageLemmas.{pages_text-append}
 use Rattle.fc_replay.proofs.PlayLemmas.{spell_push, passes_append, board_after_push, no_moves_pass, none_spelled, spelled_length, passed_length, spelled_once}
@@ -43,14 +43,14 @@ course_next g start moves boards steps here next m course step = record {
 
 -- the pages of moves were written to a sink that hasn't failed meanwhile; one that had failed took nothing
 pub record Sheets (page : Page) (g : GameRules) (moves : List Move) (boards : List Board) (old new : Option (List ℕ)) (before after : Bool) : Type 0 where
-  pub taken : Takes old new (pages_text page g.cells 1 moves boards)
+  pub taken : TakesBytes old new (pages_text page g.cells 1 moves boards)
   pub same : after ≡ before
   pub idle : IsTrue before → moves ≡ []
   pub unmoved : IsTrue before → Stays old new
 
 pub sheets_none : (page : Page) (g : GameRules) (held : Option (List ℕ)) (failed : Bool) → Sheets page g [] [] held held failed failed
 sheets_none page g held failed = record {
-  taken = Takes-none held;
+  taken = TakesBytes-none held;
   same = refl;
   idle = λ _. refl;
   unmoved = λ _. refl;
@@ -69,13 +69,13 @@ next_page page g start moves boards steps here next m n course cells =
 
 pub sheets_next : (page : Page) (g : GameRules) (start : Board) (moves : List Move) (boards : List Board) (steps : ℕ) (here next : Board) (old new newer : Option (List ℕ)) (before after later : Bool) (m : Move) (n : ℕ)
     → Course g start moves boards steps here → Sheets page g moves boards old new before after → n ≡ g.cells
-    → Takes new newer (page_text page n (steps + 1) m next) → after ≡ false → later ≡ false
+    → TakesBytes new newer (page_text page n (steps + 1) m next) → after ≡ false → later ≡ false
     → Sheets page g (moves ++ m ∷ []) (boards ++ next ∷ []) old newer before later
 sheets_next page g start moves boards steps here next old new newer before after later m n course sheets cells taken sound still =
     let fails : IsTrue before → ⊥ = λ t. absurd (false≢true (sym sound ∙ sheets.same ∙ t)) in
     record {
-      taken = subst (Takes old newer) (next_page page g start moves boards steps here next m n course cells)
-          (Takes-both old new newer (pages_text page g.cells 1 moves boards) (page_text page n (steps + 1) m next) sheets.taken taken);
+      taken = subst (TakesBytes old newer) (next_page page g start moves boards steps here next m n course cells)
+          (TakesBytes-both old new newer (pages_text page g.cells 1 moves boards) (page_text page n (steps + 1) m next) sheets.taken taken);
       same = still ∙ sym sound ∙ sheets.same;
       idle = λ t. absurd (fails t);
       unmoved = λ t. absurd (fails t);
@@ -191,7 +191,7 @@ so_none page g start here text rest held failed e same position = record {
 -- the next token has played too, and its page is written
 pub so_next : (page : Page) (g : GameRules) (start : Board) (text rest more : List ℕ) (steps : ℕ) (here next : Board) (old new newer : Option (List ℕ)) (before after later : Bool) (token : List ℕ) (m : Move) (n : ℕ)
     → SoFar page g start text rest steps here old new before after → move_tokens rest ≡ token ∷ move_tokens more
-    → SpellsMove token m → Step g here m next → n ≡ g.cells → Takes new newer (page_text page n (steps + 1) m next)
+    → SpellsMove token m → Step g here m next → n ≡ g.cells → TakesBytes new newer (page_text page n (steps + 1) m next)
     → after ≡ false → later ≡ false → SoFar page g start text more (steps + 1) next old newer before later
 so_next page g start text rest more steps here next old new newer before after later token m n so first spells step cells taken sound still = record {
   moves = so.moves ++ m ∷ [];
@@ -209,7 +209,7 @@ so_room page g start text rest more steps here old new before after token so fir
 
 pub so_bad : (page : Page) (g : GameRules) (start : Board) (text rest : List ℕ) (more : List (List ℕ)) (steps : ℕ) (here : Board) (old new : Option (List ℕ)) (before after : Bool) (token : List ℕ)
     → SoFar page g start text rest steps here old new before after → move_tokens rest ≡ token ∷ more
-    → IsNoMove token → ReplaysAs page g start (move_tokens text) old new (Err (BadMove (steps + 1)))
+    → IsNoMove token → ReplaysAs page g start (move_tokens text) (sink_change old new) (Err (BadMove (steps + 1)))
 so_bad page g start text rest more steps here old new before after token so first bad = record {
   moves = so.moves;
   boards = so.boards;
@@ -222,7 +222,7 @@ so_bad page g start text rest more steps here old new before after token so firs
 
 pub so_refused : (page : Page) (g : GameRules) (start : Board) (text rest : List ℕ) (more : List (List ℕ)) (steps : ℕ) (here : Board) (old new : Option (List ℕ)) (before after : Bool) (token : List ℕ) (m : Move)
     → SoFar page g start text rest steps here old new before after → move_tokens rest ≡ token ∷ more
-    → SpellsMove token m → (Allows g here m → ⊥) → ReplaysAs page g start (move_tokens text) old new (Err (NotAllowed (steps + 1)))
+    → SpellsMove token m → (Allows g here m → ⊥) → ReplaysAs page g start (move_tokens text) (sink_change old new) (Err (NotAllowed (steps + 1)))
 so_refused page g start text rest more steps here old new before after token m so first spells refused = record {
   moves = so.moves;
   boards = so.boards;
@@ -236,7 +236,7 @@ so_refused page g start text rest more steps here old new before after token m s
 -- all tokens have played
 pub so_all : (page : Page) (g : GameRules) (start : Board) (text rest : List ℕ) (steps : ℕ) (here : Board) (old new : Option (List ℕ)) (before after won : Bool)
     → SoFar page g start text rest steps here old new before after → move_tokens rest ≡ [] → (IsTrue won ↔ IsWon here)
-    → ReplaysAs page g start (move_tokens text) old new (Ok record { moves = steps; is_won = won })
+    → ReplaysAs page g start (move_tokens text) (sink_change old new) (Ok record { moves = steps; is_won = won })
 so_all page g start text rest steps here old new before after won so none is = record {
   moves = so.moves;
   boards = so.boards;
@@ -255,7 +255,7 @@ so_all page g start text rest steps here old new before after won so none is = r
 pub so_failed : (page : Page) (g : GameRules) (start : Board) (text rest more : List ℕ) (steps : ℕ) (here next : Board) (old new newer : Option (List ℕ)) (before after : Bool) (token : List ℕ) (m : Move) (n : ℕ)
     → SoFar page g start text rest steps here old new before after → move_tokens rest ≡ token ∷ move_tokens more
     → SpellsMove token m → Step g here m next → n ≡ g.cells → TakesFront new newer (page_text page n (steps + 1) m next)
-    → ReplaysAs page g start (move_tokens text) old newer (Err Write)
+    → ReplaysAs page g start (move_tokens text) (sink_change old newer) (Err Write)
 so_failed page g start text rest more steps here next old new newer before after token m n so first spells step cells taken =
     let course = course_next g start so.moves so.boards steps here next m so.course step in
     let spelled = spelled_next text rest more so.moves token m so.spelled first spells in

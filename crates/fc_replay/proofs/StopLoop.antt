@@ -5,9 +5,9 @@ use Rattle.fc_position.specs.Board.{Board}
 use Rattle.fc_moves.specs.declared.steps.Move.{Move}
 use Rattle.fc_moves.specs.GameRules.{GameRules, IsPositionOf}
 use Rattle.fc_moves.specs.Step.{Step}
-use Rattle.fc_replay.specs.declared.refusals.Refusal.{Refusal}
+use Rattle.fc_moves.specs.declared.refusals.Refusal.{Refusal}
 use Rattle.fc_replay.specs.Played.{IsReason, IsFirstStop}
-use Rattle.fc_replay.specs.Refusal.{IsWhy}
+use Rattle.fc_moves.specs.Refusal.{IsWhy}
 use Rattle.fc_replay.specs.Token.{move_tokens, SpellsMove}
 use Rattle.fc_replay.proofs.ReplayLoop.{Course, Spelled, course_none, course_next, spelled_none, spelled_next, step_fits, stops_here}
 

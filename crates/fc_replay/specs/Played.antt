@@ -4,7 +4,7 @@ use Rattle.std.specs.List.{flat_map}
 use Rattle.fc_position.specs.Board.{Board}
 use Rattle.fc_position.specs.Position.{IsWon}
 use Rattle.fc_io.specs.declared.devices.Failed.{Failed}
-use Rattle.fc_io.specs.Moves.{Takes, TakesFront}
+use Rattle.fc_io.specs.Moves.{TakesBytes, TakesFront}
 use Rattle.fc_moves.specs.declared.steps.Move.{Move}
 use Rattle.fc_moves.specs.GameRules.{GameRules}
 use Rattle.fc_moves.specs.Step.{Step, Allows}
@@ -12,10 +12,10 @@ use Rattle.fc_text.specs.Printed.{board_text}
 use Rattle.fc_replay.specs.declared.faults.ReplayFault.{ReplayFault}
 use Rattle.fc_replay.specs.declared.faults.ReplayFault.TheVariants.{BadMove, NotAllowed, Write}
 use Rattle.fc_replay.specs.declared.pages.Page.{Page}
-use Rattle.fc_replay.specs.declared.refusals.Refusal.{Refusal}
+use Rattle.fc_moves.specs.declared.refusals.Refusal.{Refusal}
 use Rattle.fc_replay.specs.declared.replays.Ended.{Ended}
 use Rattle.fc_replay.specs.Page.{pages_text}
-use Rattle.fc_replay.specs.Refusal.{IsWhy}
+use Rattle.fc_moves.specs.Refusal.{IsWhy}
 use Rattle.fc_replay.specs.Token.{SpellsMove, IsNoMove}
 
 -- the tokens spell these moves, one each
@@ -77,9 +77,9 @@ boards_text n boards = flat_map (board_text n) boards
 
 -- the sink took the whole text, or a front of it where it failed
 abbrev pub Writes : Option (List ℕ) → Option (List ℕ) → List ℕ → Result ℕ ReplayFault → Type 0
-Writes old new text (Ok n) = Takes old new text
-Writes old new text (Err (BadMove step)) = Takes old new text
-Writes old new text (Err (NotAllowed step)) = Takes old new text
+Writes old new text (Ok n) = TakesBytes old new text
+Writes old new text (Err (BadMove step)) = TakesBytes old new text
+Writes old new text (Err (NotAllowed step)) = TakesBytes old new text
 Writes old new text (Err Write) = TakesFront old new text
 
 -- a replay of the tokens: the boards that it passes, how it ends, and that their texts were written
@@ -88,6 +88,15 @@ pub record Replays (g : GameRules) (b : Board) (tokens : List (List ℕ)) (old n
   pub ends : Ends g b tokens boards result
   pub written : Writes old new (boards_text g.cells boards) result
 
+-- what a sink held before, and what it holds now; `None` where it tells no bytes
+pub record SinkChange : Type 0 where
+  pub old : Option (List ℕ)
+  pub new : Option (List ℕ)
+
+-- a sink held the one, and holds the other now
+abbrev pub sink_change : Option (List ℕ) → Option (List ℕ) → SinkChange
+sink_change old new = record { old = old; new = new }
+
 -- what a replay answers, by the number of its moves alone
 abbrev pub counted : Result Ended ReplayFault → Result ℕ ReplayFault
 counted (Ok ended) = Ok ended.moves
@@ -95,21 +104,21 @@ counted (Err fault) = Err fault
 
 -- a replay of the tokens that writes pages: the moves that it makes, which are those of the tokens at the front, the boards
 -- after them, how it ends, that their pages were written, and at its end whether the last board is won
-pub record ReplaysAs (page : Page) (g : GameRules) (b : Board) (tokens : List (List ℕ)) (old new : Option (List ℕ)) (result : Result Ended ReplayFault) : Type 0 where
+pub record ReplaysAs (page : Page) (g : GameRules) (b : Board) (tokens : List (List ℕ)) (sink : SinkChange) (result : Result Ended ReplayFault) : Type 0 where
   pub moves : List Move
   pub boards : List Board
   pub spelled : SpellMoves (take (length moves) tokens) moves
   pub passed : Passes g b moves boards
   pub ends : Ends g b tokens boards (counted result)
-  pub written : Writes old new (pages_text page g.cells 1 moves boards) (counted result)
+  pub written : Writes sink.old sink.new (pages_text page g.cells 1 moves boards) (counted result)
   pub won : IfOk result (λ ended. IsTrue ended.is_won ↔ IsWon (board_after b boards))
 
 -- the moves were made: the boards after them, that their pages were written, or a front of them where the sink failed,
 -- and else how many they are and whether the last board is won
-pub record PlaysAs (page : Page) (g : GameRules) (b : Board) (moves : List Move) (old new : Option (List ℕ)) (result : Result Ended Failed) : Type 0 where
+pub record PlaysAs (page : Page) (g : GameRules) (b : Board) (moves : List Move) (sink : SinkChange) (result : Result Ended Failed) : Type 0 where
   pub boards : List Board
   pub passed : Passes g b moves boards
-  pub written : MatchResult result (λ _. Takes old new (pages_text page g.cells 1 moves boards)) (λ _. TakesFront old new (pages_text page g.cells 1 moves boards))
+  pub written : MatchResult result (λ _. TakesBytes sink.old sink.new (pages_text page g.cells 1 moves boards)) (λ _. TakesFront sink.old sink.new (pages_text page g.cells 1 moves boards))
   pub count : IfOk result (λ ended. ended.moves ≡ length moves)
   pub won : IfOk result (λ ended. IsTrue ended.is_won ↔ IsWon (board_after b boards))
 

@@ -1,11 +1,10 @@
-//! The boards of a list of moves, as players and solvers write such lists, and why the rules refuse a move. No call
-//! allocates.
+//! The boards of a list of moves, as players and solvers write such lists, and where such a list stops being one that the
+//! rules allow. No call allocates.
 #![tactic(auto)]
 
 pub use faults::ReplayFault;
 pub use pages::Page;
 pub use plays::play;
-pub use refusals::{Refusal, refusal_of};
 pub use replays::{Ended, replay, replay_as};
 pub use stops::{Stop, first_stop};
 pub use tokens::MoveGaps;
@@ -14,7 +13,6 @@ mod faults;
 pub mod laws;
 mod pages;
 mod plays;
-mod refusals;
 mod replays;
 mod stops;
 mod tokens;

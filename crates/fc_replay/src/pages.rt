@@ -1,5 +1,5 @@
 ghost use Rattle.std.specs.Prelude.{◌≡◌, ◌≤◌, ◌↔◌, ◌++◌, OnOk, IsErr, IsTrue, codes};
-ghost use Rattle.fc_io.specs.Moves.{Stays, Takes, TakesFront};
+ghost use Rattle.fc_io.specs.Moves.{Stays, TakesBytes, TakesFront};
 ghost use Rattle.fc_position.specs.Position.{Fits};
 ghost use Rattle.fc_moves.specs.MoveText.{HasText};
 ghost use Rattle.fc_replay.specs.Page.{header, page_text};
@@ -39,7 +39,7 @@ pub(crate) fn write_page<K: Sink>(
     requires fits { Fits cells position.now }
     requires has_text { HasText m }
     ensures front { TakesFront (K.held sink.old) (K.held sink.new) (page_text page cells step m position.now) }
-    ensures whole { OnOk result (Takes (K.held sink.old) (K.held sink.new) (page_text page cells step m position.now)) }
+    ensures whole { OnOk result (TakesBytes (K.held sink.old) (K.held sink.new) (page_text page cells step m position.now)) }
     ensures fault { IsErr result ↔ IsTrue (K.has_failed sink.new) }
     ensures stays { IsTrue (K.has_failed sink.old) → IsErr result }
     ensures unmoved { IsTrue (K.has_failed sink.old) → Stays (K.held sink.old) (K.held sink.new) }
@@ -70,7 +70,7 @@ fn header(step: u32, m: Move) -> ArrayVec<u8, 64>
 // Writes a drawing below a line, and an empty line.
 fn write_drawing<K: Sink>(sink: &mut K, header: &[u8], drawing: &[u8]) -> Result<(), Failed>
     ensures front { TakesFront (K.held sink.old) (K.held sink.new) (header.now ++ drawing.now ++ codes "\n") }
-    ensures whole { OnOk result (Takes (K.held sink.old) (K.held sink.new) (header.now ++ drawing.now ++ codes "\n")) }
+    ensures whole { OnOk result (TakesBytes (K.held sink.old) (K.held sink.new) (header.now ++ drawing.now ++ codes "\n")) }
     ensures fault { IsErr result ↔ IsTrue (K.has_failed sink.new) }
     ensures stays { IsTrue (K.has_failed sink.old) → IsErr result }
     ensures unmoved { IsTrue (K.has_failed sink.old) → Stays (K.held sink.old) (K.held sink.new) }
@@ -82,7 +82,7 @@ fn write_drawing<K: Sink>(sink: &mut K, header: &[u8], drawing: &[u8]) -> Result
 // Writes two pieces, one straight after the other.
 fn write_both<K: Sink>(sink: &mut K, first: &[u8], second: &[u8]) -> Result<(), Failed>
     ensures front { TakesFront (K.held sink.old) (K.held sink.new) (first.now ++ second.now) }
-    ensures whole { OnOk result (Takes (K.held sink.old) (K.held sink.new) (first.now ++ second.now)) }
+    ensures whole { OnOk result (TakesBytes (K.held sink.old) (K.held sink.new) (first.now ++ second.now)) }
     ensures fault { IsErr result ↔ IsTrue (K.has_failed sink.new) }
     ensures stays { IsTrue (K.has_failed sink.old) → IsErr result }
     ensures unmoved { IsTrue (K.has_failed sink.old) → Stays (K.held sink.old) (K.held sink.new) }

@@ -3,7 +3,7 @@ ghost use Rattle.fc_io.specs.Moves.{Stays};
 ghost use Rattle.fc_position.specs.Board.{Board};
 ghost use Rattle.fc_position.specs.Position.{Fits};
 ghost use Rattle.fc_moves.specs.Run.{Run};
-ghost use Rattle.fc_replay.specs.Played.{PlaysAs};
+ghost use Rattle.fc_replay.specs.Played.{PlaysAs, sink_change};
 
 use crate::pages::{Page, write_page};
 use crate::replays::Ended;
@@ -28,7 +28,7 @@ pub fn play<G: Game, K: Sink>(
     requires run { (c : Board) × Run (G.game game.now) position.now moves.now c }
     requires few { length moves.now ≤ 4294967295 }
     ensures played { PlaysAs page (G.game game.now) position.now moves.now
-        (K.held sink.old) (K.held sink.new) result }
+        (sink_change (K.held sink.old) (K.held sink.new)) result }
     ensures fault { IsTrue (K.has_failed sink.new) ↔ (IsErr result ⊎ IsTrue (K.has_failed sink.old)) }
     ensures stays { IsTrue (K.has_failed sink.old) → 0 < length moves.now → IsErr result }
     ensures unmoved { IsTrue (K.has_failed sink.old) → Stays (K.held sink.old) (K.held sink.new) }

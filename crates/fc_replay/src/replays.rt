@@ -2,7 +2,7 @@ ghost use Rattle.std.specs.Prelude.{◌≤◌, ◌⊎◌, ◌↔◌, length, IsT
 ghost use Rattle.fc_io.specs.Moves.{Stays};
 ghost use Rattle.fc_position.specs.Position.{Fits};
 ghost use Rattle.fc_replay.specs.Token.{move_tokens};
-ghost use Rattle.fc_replay.specs.Played.{Replays, ReplaysAs, BeginsWithStep};
+ghost use Rattle.fc_replay.specs.Played.{Replays, ReplaysAs, BeginsWithStep, sink_change};
 
 use crate::faults::ReplayFault;
 use crate::pages::{Page, write_page};
@@ -69,7 +69,7 @@ pub fn replay_as<G: Game, K: Sink>(
     requires fits { Fits (G.game game.now).cells position.now }
     requires short { length text.now ≤ 1048576 }
     ensures replayed { ReplaysAs page (G.game game.now) position.now (move_tokens text.now)
-        (K.held sink.old) (K.held sink.new) result }
+        (sink_change (K.held sink.old) (K.held sink.new)) result }
     ensures fault { IsTrue (K.has_failed sink.new)
         ↔ (IsErrOf result ReplayFault.Write ⊎ IsTrue (K.has_failed sink.old)) }
     ensures stays { IsTrue (K.has_failed sink.old)

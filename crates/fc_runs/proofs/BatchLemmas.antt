@@ -5,8 +5,8 @@ use Rattle.std.specs.List.{flat_map}
 use Rattle.std.proofs.Math.Nat.{max-zero, suc-max-suc, zero-max}
 use Rattle.std.proofs.lemmas.Bool.{cases_eq}
 use Rattle.std.proofs.lemmas.List.{flat_map_more, length-append}
-use Rattle.fc_io.specs.Moves.{Takes, TakesFront}
-use Rattle.fc_io.proofs.MoveLemmas.{Takes-both, takes_then_front}
+use Rattle.fc_io.specs.Moves.{TakesBytes, TakesFront}
+use Rattle.fc_io.proofs.MoveLemmas.{TakesBytes-both, takes_then_front}
 use Rattle.fc_position.specs.Position.{Fits}
 use Rattle.fc_deal.specs.Deal.{dealt_board}
 use Rattle.fc_answers.specs.declared.answers.Outcome.{Outcome}
@@ -14,17 +14,18 @@ use Rattle.fc_best_first.specs.declared.searches.SearchFault.{SearchFault}
 use Rattle.fc_best_first.specs.declared.searches.Step.{Step}
 use Rattle.fc_best_first.specs.declared.turns.Status.{Status}
 use Rattle.fc_best_first.specs.declared.turns.Status.TheVariants.{Running}
-use Rattle.fc_best_first.specs.Graph.{Graph}
+use Rattle.fc_best_first.specs.Graph.{Task}
 use Rattle.fc_best_first.specs.Search.{Begins, Turns, TurnsOn}
 use Rattle.fc_best_first.specs.Store.{Store}
 use Rattle.fc_methods.specs.Method.{Asked}
-use Rattle.fc_search.specs.Problem.{Problem, classes_of, problem_of}
+use Rattle.fc_search.specs.Problem.{Problem, classes_of, problem_of, task_of_problem}
 use Rattle.fc_search.specs.Search.{State}
 use Rattle.fc_batch.specs.Batch.{Batch, HasTurn, HasTurns, OthersStay, TurnFor, TurnsFor, running, search_at, times}
 use Rattle.fc_batch.proofs.BatchLemmas.{stays_self}
 use Rattle.fc_batch.proofs.LawLemmas.{turn_alone}
 use Rattle.fc_board_runs.specs.Devices.{Device}
-use Rattle.fc_runs.specs.Batches.{AreCutShort, AreLines, AreTold, HaveEnded, HoldsDeals, IsRightOf, IsSearchOf, Line, greatest_status, line_text, told_status}
+use Rattle.fc_runs.specs.Batches.{AreCutShort, AreLines, AreTold, IsRightOf, Line, greatest_status, line_text, told_status}
+use Rattle.fc_runs.specs.inner.Batches.{HaveEnded, HoldsDeals, IsSearchOf}
 
 -- no card of a deal stands in a cell, so it is of every game
 pub dealt_fits : (n deal : ℕ) → Fits n (dealt_board deal)
@@ -35,16 +36,16 @@ dealt_fits n deal (suc (suc zero)) past = refl
 dealt_fits n deal (suc (suc (suc zero))) past = refl
 dealt_fits n deal (suc (suc (suc (suc i)))) past = refl
 
-module _ {K : Type 0} (g : Graph K) (weight budget : ℕ) where
+module _ {K : Type 0} (task : Task K) where
   -- one more turn after some
   turns_more : (turns : ℕ) (before between after : Status K) (old mid new : Store K) (reply : Result Step SearchFault)
-      → TurnsOn turns g weight budget before old mid between → Turns g weight budget between mid new after reply
-      → TurnsOn (suc turns) g weight budget before old new after
+      → TurnsOn turns task before old mid between → Turns task between mid new after reply
+      → TurnsOn (suc turns) task before old new after
   turns_more zero before between after old mid new reply (same, stays) turn = (
     new,
     after,
     reply,
-    subst (λ s. Turns g weight budget s old new after reply) stays (subst (λ s. Turns g weight budget between s new after reply) same turn),
+    subst (λ s. Turns task s old new after reply) stays (subst (λ s. Turns task between s new after reply) same turn),
     (refl, refl),
   )
   turns_more (suc turns) before between after old mid new reply (next, then, told, one, rest) turn =
@@ -72,9 +73,9 @@ one_turn_on q deal old new reply turn search = record {
     begins = search.ran.begins;
     runs = (
       suc search.ran.runs.0,
-      turns_more _ q.method.weight q.method.budget search.ran.runs.0 Running old.status new.status search.ran.first old.store new.store reply
+      turns_more (task_of_problem (problem_of q (dealt_board deal))) search.ran.runs.0 Running old.status new.status search.ran.first old.store new.store reply
           search.ran.runs.1
-          (subst (λ (p : Problem). Turns (classes_of p) p.method.weight p.method.budget old.status old.store new.store new.status reply) search.problem
+          (subst (λ (p : Problem). Turns (task_of_problem p) old.status old.store new.store new.status reply) search.problem
           turn.turned),
     );
   };
@@ -151,7 +152,7 @@ pub record AreWritten (q : Asked) (from count : ℕ) (old new : Option (List ℕ
   pub lines : List Line
   pub right : AreLines q from lines
   pub whole : length lines ≡ count
-  pub written : Takes old new (flat_map line_text lines)
+  pub written : TakesBytes old new (flat_map line_text lines)
   pub greatest : status ≡ greatest_status lines
 
 -- the text of one line more
@@ -160,7 +161,7 @@ text_more lines line = flat_map_more line_text [] lines line
 
 pub one_more_written : (q : Asked) (from count : ℕ) (old mid new : Option (List ℕ)) (status : ℕ) (told : Option Outcome)
     (text : List ℕ) (next : ℕ) → AreWritten q from count old mid status → IsRightOf q (from + count) told
-    → text ≡ line_text (record { deal = from + count; told = told }) → Takes mid new text → next ≡ max status (told_status told)
+    → text ≡ line_text (record { deal = from + count; told = told }) → TakesBytes mid new text → next ≡ max status (told_status told)
     → AreWritten q from (count + 1) old new next
 one_more_written q from count old mid new status told text next so_far here same taken greater =
     let line : Line = record { deal = from + count; told = told } in
@@ -169,8 +170,8 @@ one_more_written q from count old mid new status told text next so_far here same
       lines = so_far.lines ++ line ∷ [];
       right = one_more_line q from (from + count) so_far.lines told so_far.right (omega (arith, whole)) here;
       whole = omega (arith, whole, length-append so_far.lines (line ∷ []));
-      written = subst (Takes old new) (text_more so_far.lines line)
-          (Takes-both old mid new (flat_map line_text so_far.lines) (line_text line) so_far.written (subst (Takes mid new) same taken));
+      written = subst (TakesBytes old new) (text_more so_far.lines line)
+          (TakesBytes-both old mid new (flat_map line_text so_far.lines) (line_text line) so_far.written (subst (TakesBytes mid new) same taken));
       greatest = greater ∙ ap (λ s. max s (told_status told)) so_far.greatest ∙ sym (greatest_more so_far.lines line);
     }
 

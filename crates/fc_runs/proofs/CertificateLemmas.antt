@@ -1,6 +1,6 @@
 -- What is written of an answer of a search certifies its verdict.
 use Rattle.std.proofs.Common.{◌≡◌, ◌∙◌, ℕ, List, Option, Some, None, length, refl, sym, ap, subst, Ok, Err, IsTrue, false}
-use Rattle.fc_io.specs.Moves.{Takes, TakesFront}
+use Rattle.fc_io.specs.Moves.{TakesBytes, TakesFront}
 use Rattle.fc_moves.specs.GameRules.{IsGame, IsPositionOf}
 use Rattle.fc_bound.specs.declared.kinds.BoundKind.{BoundKind}
 use Rattle.fc_answers.specs.declared.answers.Answer.{Answer}
@@ -134,13 +134,13 @@ uncertified p answered cert sink answers ran cut same =
 -- an answer whose text was written after its certificate
 pub told_whole : (p : Problem) (answered : Answer) (cert sink : Device) (text : List ℕ) (status : ℕ)
     → Answers p answered → IsRunToEnd p answered.verdict → IsCertified p answered.verdict cert
-    → text ≡ answer_text answered.verdict → Takes sink.old sink.new text → (IsTrue sink.failed → ⊥)
+    → text ≡ answer_text answered.verdict → TakesBytes sink.old sink.new text → (IsTrue sink.failed → ⊥)
     → status ≡ status_of answered.verdict → IsAnswered p (Some cert) sink status
 told_whole p answered cert sink text status answers ran certified same taken sound told = record {
   verdict = answered.verdict;
   decided = record { right = answers.told; ran = ran };
   certified = certified;
-  written = subst (Takes sink.old sink.new) same taken;
+  written = subst (TakesBytes sink.old sink.new) same taken;
   sound = sound;
   told = told;
 }

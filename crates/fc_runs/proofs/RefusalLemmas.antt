@@ -14,7 +14,8 @@ use Rattle.fc_board_runs.specs.declared.faults.Input.TheVariants.{Board as of_bo
 use Rattle.fc_board_runs.specs.declared.faults.ProgramFault.{ProgramFault}
 use Rattle.fc_board_runs.specs.declared.faults.ProgramFault.TheVariants.{Number, Range, Budget, Board as bad_board, TooLong, Moves, TooManyWays, Cert, Read, Write, Memory as wanting}
 use Rattle.fc_board_runs.specs.Devices.{Device, GivesBoard, GivesWhole, IsUntouched}
-use Rattle.fc_runs.specs.Checking.{IsChecked, IsCheckedOf, IsRefusal, IsRefusalOf, check_fault}
+use Rattle.fc_runs.specs.Checking.{IsChecked, IsCheckedOf, IsRefusal, IsRefusalOf}
+use Rattle.fc_runs.specs.inner.Checking.{check_fault}
 
 -- a source that gave some bytes, all that it told, told some
 told_some : (told : Option (List ℕ)) (bytes : List ℕ) → IsAllTold told bytes → 1 ≤ length bytes → TellsAtLeast told 1

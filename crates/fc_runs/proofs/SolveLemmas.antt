@@ -1,6 +1,6 @@
 -- From a position that was given to the end of a run.
-use Rattle.std.proofs.Common.{◌≡◌, ◌⊎◌, inl, inr, ℕ, Option, Some, None, Result, Ok, Err, refl, subst}
-use Rattle.std.specs.Prelude.{IfOk, IfErr}
+use Rattle.std.proofs.Common.{◌≡◌, ◌⊎◌, ◌∙◌, ap, inl, inr, ℕ, Option, Some, None, Result, Ok, Err, refl, subst}
+use Rattle.std.specs.Prelude.{IfOk, IfErr, IfSome}
 use Rattle.fc_position.specs.Board.{Board}
 use Rattle.fc_moves.specs.GameRules.{GameRules}
 use Rattle.fc_best_first.specs.Limits.{IsBudget}
@@ -15,6 +15,12 @@ use Rattle.fc_runs.specs.Solving.{IsAnswered, IsSolved, IsSolveFault, IsUnanswer
 pub is_lent : {A : Type 0} (o : Option A) → (o ≡ None) ⊎ ((x : A) × (o ≡ Some x))
 is_lent None = inl refl
 is_lent (Some x) = inr (x, refl)
+
+-- the question that was asked, by the number that its home rule was made of
+pub asked_by : (q : Asked) (g : GameRules) (rule given budget : ℕ) (known : Option ℕ) → q ≡ shortest_asked g rule budget
+    → known ≡ Some rule → IfSome known (λ r. r ≡ given) → q ≡ shortest_asked g given budget
+asked_by q g rule given budget known asked there value =
+    asked ∙ ap (λ (r : ℕ). shortest_asked g r budget) (subst (λ o. IfSome o (λ r. r ≡ given)) there value)
 
 pub solved : (g : GameRules) (rule budget : ℕ) (q : Asked) (n : ℕ) (source : Device) (cert : Option Device) (sink : Device) (start : Board)
     (result : Result ℕ ProgramFault) → q ≡ shortest_asked g rule budget → n ≡ g.cells → IsBudget budget → GivesBoard n source start

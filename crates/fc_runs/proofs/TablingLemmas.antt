@@ -2,8 +2,8 @@
 use Rattle.std.proofs.Common.{◌≡◌, ◌∙◌, ℕ, zero, suc, ◌+◌, ◌<◌, List, [], ◌∷◌, ◌++◌, length, map, Option, Some, None, sym, ap, subst, arith, IsTrue}
 use Rattle.std.specs.Prelude.{IfSome, max, slice_get}
 use Rattle.std.proofs.lemmas.List.{flat_map_more, length-append, map_push}
-use Rattle.fc_io.specs.Moves.{Takes, TakesFront}
-use Rattle.fc_io.proofs.MoveLemmas.{Takes-both, takes_then_front}
+use Rattle.fc_io.specs.Moves.{TakesBytes, TakesFront}
+use Rattle.fc_io.proofs.MoveLemmas.{TakesBytes-both, takes_then_front}
 use Rattle.fc_deal.specs.Deal.{dealt_board}
 use Rattle.fc_moves.specs.GameRules.{GameRules}
 use Rattle.fc_answers.specs.declared.answers.Outcome.{Outcome}
@@ -12,7 +12,8 @@ use Rattle.fc_answers.specs.declared.answers.Verdict.{Verdict}
 use Rattle.fc_answers.specs.declared.answers.Verdict.TheVariants as verdict
 use Rattle.fc_answers.specs.Verdict.{IsRight, outcome_of}
 use Rattle.fc_search.specs.declared.listeners.Progress.{Progress}
-use Rattle.fc_search.specs.Watch.{HearsAll, TellFloors}
+use Rattle.fc_search.specs.Watch.{HearsAll}
+use Rattle.fc_search.specs.inner.Watch.{TellFloors}
 use Rattle.fc_board_runs.specs.Devices.{Device}
 use Rattle.fc_runs.specs.declared.tabling.Last.{Last}
 use Rattle.fc_runs.specs.declared.tabling.Row.{Row}
@@ -47,7 +48,7 @@ pub record RowsAreWritten (q : Asked) (from count : ℕ) (old new : Option (List
   pub rows : List Row
   pub right : AreRows q from rows
   pub whole : length rows ≡ count
-  pub written : Takes old new (table_text rows)
+  pub written : TakesBytes old new (table_text rows)
   pub greatest : status ≡ greatest_status (map line_of rows)
 
 -- the text of one row more
@@ -57,7 +58,7 @@ text_more rows row = flat_map_more row_text names_text rows row
 pub one_more_written : (q : Asked) (from count : ℕ) (old mid new : Option (List ℕ)) (status next : ℕ) (row : Row)
     → RowsAreWritten q from count old mid status → row.deal ≡ from + count
     → IfSome row.told (IsToldOf q (from + count)) → IfSome (floor_of row.told row.far) (IsDealFloor q.game (from + count))
-    → Takes mid new (row_text row) → next ≡ max status (told_status row.told)
+    → TakesBytes mid new (row_text row) → next ≡ max status (told_status row.told)
     → RowsAreWritten q from (count + 1) old new next
 one_more_written q from count old mid new status next row so_far deal told floor taken greater =
     let whole = so_far.whole in
@@ -65,8 +66,8 @@ one_more_written q from count old mid new status next row so_far deal told floor
       rows = so_far.rows ++ row ∷ [];
       right = one_more_row q from count so_far.rows row so_far.right whole deal told floor;
       whole = omega (arith, whole, length-append so_far.rows (row ∷ []));
-      written = subst (Takes old new) (text_more so_far.rows row)
-          (Takes-both old mid new (table_text so_far.rows) (row_text row) so_far.written taken);
+      written = subst (TakesBytes old new) (text_more so_far.rows row)
+          (TakesBytes-both old mid new (table_text so_far.rows) (row_text row) so_far.written taken);
       greatest = greater ∙ ap (λ s. max s (told_status row.told)) so_far.greatest
           ∙ sym (ap greatest_status (map_push line_of so_far.rows row) ∙ greatest_more (map line_of so_far.rows) (line_of row));
     }

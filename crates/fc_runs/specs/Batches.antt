@@ -1,7 +1,7 @@
 -- What running several deals in turns promises, over any sink.
 use Rattle.std.specs.Prelude.{◌≡◌, ◌⊎◌, ℕ, ◌+◌, ◌<◌, ◌≤◌, List, [], ◌∷◌, ◌++◌, max, length, slice_get, Option, Some, None, IsTrue, codes, decimal}
 use Rattle.std.specs.List.{flat_map}
-use Rattle.fc_io.specs.Moves.{Takes, TakesFront}
+use Rattle.fc_io.specs.Moves.{TakesBytes, TakesFront}
 use Rattle.fc_deal.specs.Deal.{IsDealNumber, dealt_board}
 use Rattle.fc_answers.specs.declared.answers.Outcome.{Outcome}
 use Rattle.fc_answers.specs.declared.answers.Verdict.{Verdict}
@@ -12,15 +12,14 @@ use Rattle.fc_search.specs.Problem.{problem_of}
 use Rattle.fc_best_first.specs.Store.{Store}
 use Rattle.fc_best_first.specs.declared.turns.Status.{Status}
 use Rattle.fc_best_first.specs.declared.turns.Status.TheVariants.{Running}
-use Rattle.fc_search.specs.Search.{HasRun, State}
-use Rattle.fc_batch.specs.Batch.{Batch, search_at}
-use Rattle.fc_board_runs.specs.declared.faults.Output.TheVariants.{Answer as of_answer}
+use Rattle.fc_search.specs.Search.{HasRun}
 use Rattle.fc_board_runs.specs.declared.faults.ProgramFault.{ProgramFault}
 use Rattle.fc_board_runs.specs.declared.faults.ProgramFault.TheVariants.{Number, Range, Budget, Write, Memory}
 use Rattle.fc_board_runs.specs.Devices.{Device, IsUntouched}
 use Rattle.fc_runs.specs.declared.batches.TheConstants.{MOST_DEALS}
 use Rattle.fc_runs.specs.AnswerText.{outcome_text, outcome_status}
 use Rattle.fc_runs.specs.Solving.{IsDecided}
+use Rattle.fc_board_runs.specs.declared.faults.Output.TheVariants.{Answer as of_answer}
 
 -- a line of a batch: the number of its deal, and what is told of it; `None` where memory was wanted
 pub record Line : Type 0 where
@@ -84,7 +83,7 @@ pub record AreTold (q : Asked) (from count : ℕ) (sink : Device) (status : ℕ)
   pub lines : List Line
   pub right : AreLines q from lines
   pub whole : length lines ≡ count
-  pub written : Takes sink.old sink.new (flat_map line_text lines)
+  pub written : TakesBytes sink.old sink.new (flat_map line_text lines)
   pub sound : IsTrue sink.failed → ⊥
   pub greatest : status ≡ greatest_status lines
 
@@ -124,17 +123,3 @@ IsBatchFault q from to sink Memory = AreDeals from to × IsBudget q.method.budge
 IsBatchFault q from to sink (Write of_answer) =
     IsBudget q.method.budget × ((count : ℕ) × IsAsked from to count × AreCutShort q from count sink)
 IsBatchFault q from to sink fault = IsUnasked from to fault × IsUntouched sink
-
--- the search of a deal: asked for its board, with the budget, and run on to where it stands
-pub record IsSearchOf (q : Asked) (deal : ℕ) (s : State) : Type 0 where
-  pub problem : s.problem ≡ problem_of q (dealt_board deal)
-  pub ran : HasRun (problem_of q (dealt_board deal)) s.store s.status
-
--- a batch holds the searches of so many deals, rising from this one, under the numbers from 0
-abbrev pub HoldsDeals : Asked → ℕ → ℕ → Batch → Type 0
-HoldsDeals q from count batch =
-    (i : ℕ) → i < count → (s : State) × (search_at batch i ≡ Some s) × IsSearchOf q (from + i) s
-
--- no search with one of the first numbers runs
-abbrev pub HaveEnded : ℕ → Batch → Type 0
-HaveEnded count batch = (i : ℕ) (s : State) → i < count → search_at batch i ≡ Some s → s.status ≡ Running → ⊥

@@ -1,25 +1,19 @@
 -- What checking a certificate promises, over any sources and any sink.
 use Rattle.std.specs.Prelude.{◌≡◌, ◌≢◌, ℕ, ◌+◌, List, IsTrue}
-use Rattle.fc_io.specs.Moves.{Takes, TakesFront, Stays, TellsAtLeast}
+use Rattle.fc_io.specs.Moves.{TakesBytes, TakesFront, Stays, TellsAtLeast}
 use Rattle.fc_position.specs.Board.{Board}
 use Rattle.fc_moves.specs.GameRules.{GameRules}
 use Rattle.fc_cert.specs.declared.certificates.TheConstants.{LONGEST_CERTIFICATE}
 use Rattle.fc_cert.specs.declared.claims.Claim.{Claim}
 use Rattle.fc_cert.specs.Claim.{IsCertificate, IsTrueOf}
-use Rattle.fc_checker.specs.declared.faults.CheckFault.{CheckFault}
-use Rattle.fc_checker.specs.declared.faults.CheckFault.TheVariants.{Memory as refused}
 use Rattle.fc_checker.specs.Check.{IsCheckFault}
-use Rattle.fc_board_runs.specs.declared.faults.Input.TheVariants.{Board as of_board, Cert as of_certificate}
-use Rattle.fc_board_runs.specs.declared.faults.Output.TheVariants.{Answer as of_answer}
 use Rattle.fc_board_runs.specs.declared.faults.ProgramFault.{ProgramFault}
-use Rattle.fc_board_runs.specs.declared.faults.ProgramFault.TheVariants.{Board as bad_board, Cert, TooLong, Read, Write, Memory}
+use Rattle.fc_board_runs.specs.declared.faults.ProgramFault.TheVariants.{Cert, TooLong, Read, Write, Memory, Board as bad_board}
 use Rattle.fc_board_runs.specs.Devices.{Device, GivesBoard, GivesFault, GivesWhole, IsUntouched}
 use Rattle.fc_runs.specs.AnswerText.{accepted_text}
-
--- why bytes weren't accepted, as a fault of the program
-abbrev pub check_fault : CheckFault → ProgramFault
-check_fault refused = Memory
-check_fault fault = Cert fault
+use Rattle.fc_checker.specs.declared.faults.CheckFault.TheVariants.{Memory as refused}
+use Rattle.fc_board_runs.specs.declared.faults.Input.TheVariants.{Board as of_board, Cert as of_certificate}
+use Rattle.fc_board_runs.specs.declared.faults.Output.TheVariants.{Answer as of_answer}
 
 -- a source gave a certificate of a position and of a claim, which is true
 pub record IsAccepted (g : GameRules) (b : Board) (cert : Device) (claim : Claim) : Type 0 where
@@ -32,7 +26,7 @@ pub record IsAccepted (g : GameRules) (b : Board) (cert : Device) (claim : Claim
 pub record IsCheckedOf (g : GameRules) (b : Board) (cert sink : Device) (status : ℕ) : Type 0 where
   pub claim : Claim
   pub accepted : IsAccepted g b cert claim
-  pub written : Takes sink.old sink.new (accepted_text claim)
+  pub written : TakesBytes sink.old sink.new (accepted_text claim)
   pub sound : IsTrue sink.failed → ⊥
   pub told : status ≡ 0
 

@@ -3,3 +3,4 @@ pub mod Batches
 pub mod Checking
 pub mod Solving
 pub mod Tabling
+pub mod inner

@@ -1,6 +1,6 @@
 -- What solving promises, over any source and any sinks.
 use Rattle.std.specs.Prelude.{◌≡◌, ◌⊎◌, ℕ, List, [], length, Option, Some, None, IfSome, IsTrue}
-use Rattle.fc_io.specs.Moves.{Takes, TakesFront, Stays}
+use Rattle.fc_io.specs.Moves.{TakesBytes, TakesFront, Stays}
 use Rattle.fc_position.specs.Board.{Board}
 use Rattle.fc_moves.specs.declared.steps.Move.{Move}
 use Rattle.fc_answers.specs.declared.answers.Verdict.{Verdict}
@@ -57,7 +57,7 @@ pub record IsCertificateOf (p : Problem) (verdict : Verdict) (bytes : List ℕ) 
 -- a sink took a certificate of the verdict, all of it
 abbrev pub TakesCertificate : Problem → Verdict → Device → Type 0
 TakesCertificate p verdict sink =
-    ((bytes : List ℕ) × IsCertificateOf p verdict bytes × Takes sink.old sink.new bytes) × (IsTrue sink.failed → ⊥)
+    ((bytes : List ℕ) × IsCertificateOf p verdict bytes × TakesBytes sink.old sink.new bytes) × (IsTrue sink.failed → ⊥)
 
 -- a sink took what there is of certificates of the verdict: of giving up nothing
 abbrev pub IsCertified : Problem → Verdict → Device → Type 0
@@ -77,7 +77,7 @@ pub record IsAnswered (p : Problem) (cert : Option Device) (sink : Device) (stat
   pub verdict : Verdict
   pub decided : IsDecided p verdict
   pub certified : IfSome cert (IsCertified p verdict)
-  pub written : Takes sink.old sink.new (answer_text verdict)
+  pub written : TakesBytes sink.old sink.new (answer_text verdict)
   pub sound : IsTrue sink.failed → ⊥
   pub told : status ≡ status_of verdict
 
@@ -98,7 +98,7 @@ IsUnanswered p cert sink other = ⊥
 
 -- a board was answered, and this is what was heard of the very search whose verdict was written
 abbrev pub IsHeardAnswered : Problem → Device → List Progress → Type 0
-IsHeardAnswered p sink heard = (verdict : Verdict) × IsHeardToEnd p heard verdict × Takes sink.old sink.new (answer_text verdict)
+IsHeardAnswered p sink heard = (verdict : Verdict) × IsHeardToEnd p heard verdict × TakesBytes sink.old sink.new (answer_text verdict)
 
 -- solving was answered: the budget is one, and the source gave the text of a position, which was answered, by one of three
 -- verdicts

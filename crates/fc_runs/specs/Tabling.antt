@@ -1,7 +1,7 @@
 -- What a table of several deals promises, over any sink.
 use Rattle.std.specs.Prelude.{◌≡◌, ℕ, ◌+◌, ◌≤◌, List, [], ◌++◌, length, map, slice_get, Option, Some, None, IfSome, IsTrue, codes, decimal}
 use Rattle.std.specs.List.{flat_map}
-use Rattle.fc_io.specs.Moves.{Takes, TakesFront}
+use Rattle.fc_io.specs.Moves.{TakesBytes, TakesFront}
 use Rattle.fc_deal.specs.Deal.{dealt_board}
 use Rattle.fc_moves.specs.declared.steps.Move.{Move}
 use Rattle.fc_moves.specs.GameRules.{GameRules}
@@ -91,7 +91,7 @@ pub record AreTabled (q : Asked) (from count : ℕ) (sink : Device) (status : �
   pub rows : List Row
   pub right : AreRows q from rows
   pub whole : length rows ≡ count
-  pub written : Takes sink.old sink.new (table_text rows)
+  pub written : TakesBytes sink.old sink.new (table_text rows)
   pub sound : IsTrue sink.failed → ⊥
   pub greatest : status ≡ greatest_status (map line_of rows)
 

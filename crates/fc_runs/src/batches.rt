@@ -6,7 +6,8 @@ ghost use Rattle.fc_methods.specs.Method.{Asked, shortest_asked};
 ghost use Rattle.fc_search.specs.Search.{State};
 ghost use Rattle.fc_batch.specs.Batch.{OthersStay, search_at, work_left};
 ghost use Rattle.fc_board_runs.specs.Devices.{change};
-ghost use Rattle.fc_runs.specs.Batches.{AreCutShort, AreTold, HaveEnded, HoldsDeals, IsAsked, IsBatched, IsBatchFault, IsRightOf, IsSearchOf, IsUnasked};
+ghost use Rattle.fc_runs.specs.Batches.{AreCutShort, AreTold, IsAsked, IsBatched, IsBatchFault, IsRightOf, IsUnasked};
+ghost use Rattle.fc_runs.specs.inner.Batches.{HaveEnded, HoldsDeals, IsSearchOf};
 
 use crate::answers::{line_text, outcome_of, told_status};
 use crate::solving::shortest;
@@ -18,7 +19,7 @@ use fc_deal::deal;
 use fc_frontier::BucketFrontier;
 use fc_home::GREATEST_RULE;
 use fc_io::{Failed, Sink, write_all};
-use fc_methods::Question;
+use fc_methods::{HomeRule, Question};
 use fc_moves::Game;
 use fc_search::Search;
 use std::alloc::Global;
@@ -49,7 +50,7 @@ pub fn run_batch<G: Game + Drop, K: Sink>(
     ensures fault { IfErr result (IsBatchFault (shortest_asked (G.game game.now) rule budget) from to (change K.held K.has_failed out.old out.new)) }
 {
     deals_of(from, to)?;
-    let question = shortest(game, rule, budget)?;
+    let question = shortest(game, HomeRule::new(rule).unwrap(), budget)?;
     run_batch_by(alloc, &question, from, to, out)
 }
 

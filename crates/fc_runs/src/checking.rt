@@ -4,7 +4,8 @@ ghost use Rattle.std.specs.Prelude.{◌≡◌, ◌+◌, IfOk, IfErr};
 ghost use Rattle.fc_io.specs.Moves.{GivesAtMost};
 ghost use Rattle.fc_position.specs.Position.{Fits};
 ghost use Rattle.fc_board_runs.specs.Devices.{change};
-ghost use Rattle.fc_runs.specs.Checking.{IsChecked, IsCheckedOf, IsRefusal, IsRefusalOf, check_fault};
+ghost use Rattle.fc_runs.specs.Checking.{IsChecked, IsCheckedOf, IsRefusal, IsRefusalOf};
+ghost use Rattle.fc_runs.specs.inner.Checking.{check_fault};
 
 use crate::answers::accepted_text;
 use fc_board_runs::{Input, LONGEST_BOARD, Output, ProgramFault, read_fault, read_position};

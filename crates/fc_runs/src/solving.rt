@@ -51,7 +51,7 @@ pub fn run_solve<G: Game + Drop, S: Source, K: Sink, C: Sink>(
     ensures taken { GivesAtMost (S.told board.old) (S.told board.new) (LONGEST_BOARD + 1) }
     ensures back { IsHandedBack cert.entry cert.exit }
 {
-    let question = shortest(game, rule, budget)?;
+    let question = shortest(game, HomeRule::new(rule).unwrap(), budget)?;
     let start = read_position(board, game.cells())?;
     match cert {
         Some(cert) => certify(alloc, &question, &start, out, cert, &mut Unheard),
@@ -59,18 +59,16 @@ pub fn run_solve<G: Game + Drop, S: Source, K: Sink, C: Sink>(
     }
 }
 
-// The question of a shortest list, under a home rule of at most 2; `Budget` where the budget is none.
+// The question of a shortest list; `Budget` where the budget is none.
 pub(crate) fn shortest<G: Game + Drop>(
     game: &G,
-    rule: u8,
+    rule: HomeRule,
     budget: u32,
 ) -> Result<Question<G>, ProgramFault>
-    requires rule { rule ≤ GREATEST_RULE }
     ensures question { IfOk result (λ question. question ≡ shortest_asked (G.game game.now) rule budget) }
     ensures budgeted { OnOk result (IsBudget budget) }
     ensures fault { IfErr result (λ fault. (fault ≡ ProgramFault.Budget) × (IsBudget budget → ⊥)) }
 {
-    let rule = HomeRule::new(rule).unwrap();
     match Budget::new(budget) {
         Some(budget) => Ok(Question::shortest(game, rule, budget)),
         None => Err(ProgramFault::Budget),

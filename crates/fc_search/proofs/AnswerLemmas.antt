@@ -19,30 +19,31 @@ use Rattle.fc_best_first.specs.declared.books.Mark.{Mark}
 use Rattle.fc_best_first.specs.declared.turns.Status.TheVariants as status
 use Rattle.fc_best_first.specs.Kept.{IsSound, IsExpanded}
 use Rattle.fc_best_first.specs.Shown.{IsFound, IsExhausted, IsLeastOpen, Shows}
-use Rattle.fc_best_first.specs.Store.{Store, Stands}
+use Rattle.fc_best_first.specs.Store.{Store, IsStored}
 use Rattle.fc_best_first.proofs.KeptLemmas.{same_entry, stands_within}
 use Rattle.fc_best_first.proofs.FloorLemmas.{open_floors}
-use Rattle.fc_best_first.proofs.SearchLemmas.{closed_inside}
+use Rattle.fc_best_first.proofs.ClosedLemmas.{closed_inside}
 use Rattle.fc_tables.specs.Table.{as_boards}
 use Rattle.fc_canonical.specs.Spelled.{spelled}
 use Rattle.fc_classes.proofs.PathLemmas.{reached_of_positions}
 use Rattle.fc_classes.proofs.TableLemmas.{board_listed, key_listed, closed_board, lawful}
 use Rattle.fc_answers.specs.declared.answers.Verdict.TheVariants.{Shortest, Won, CannotWin, GaveUp}
-use Rattle.fc_methods.specs.declared.methods.Method.{Method}
-use Rattle.fc_methods.specs.Method.{Asked, as_written}
+use Rattle.fc_methods.specs.Method.{Asked, shortest_asked}
 use Rattle.fc_search.specs.Problem.{Problem, classes_of, problem_of, shortest_from}
 use Rattle.fc_answers.specs.declared.answers.Verdict.{Verdict}
 use Rattle.fc_answers.specs.Verdict.{IsRight}
 use Rattle.fc_search.specs.Search.{IsOneOfThree, IsVerdict}
 use Rattle.fc_answers.specs.Answer.{IsBackedBelow, IsBackedWhole}
-use Rattle.fc_answers.specs.Table.{Listing, HaveKeysOnce, IsRising, inside, at_no_cost}
+use Rattle.fc_answers.specs.Table.{Listing, HaveKeysOnce, IsRising}
+use Rattle.fc_answers.specs.inner.Table.{at_no_cost, inside}
 use Rattle.fc_answers.proofs.OrderLemmas.{in_order}
 use Rattle.fc_answers.proofs.RowLemmas.{free_listed, freely_listed, inside_listed, inside_once, listed_inside, no_cost_once}
-use Rattle.fc_search.specs.Stored.{costs_of}
-use Rattle.fc_search.specs.Walk.{IsAtClass}
+use Rattle.fc_search.specs.inner.Stored.{costs_of}
+use Rattle.fc_search.specs.inner.Walk.{IsAtClass}
 use Rattle.fc_search.proofs.NeedLemmas.{needs_more, needs_reach}
 use Rattle.fc_search.proofs.RowLemmas.{stored_once, stored_long}
-use Rattle.fc_tables.proofs.BoundLemmas.{bounds_lower, greater_close, guides_under}
+use Rattle.fc_bound.proofs.KindLemmas.{bounds_lower, guides_under}
+use Rattle.fc_tables.proofs.GreaterLemmas.{greater_close}
 
 -- each move of a run from a position of the game has a text
 run_texts : (g : GameRules) (b c : Board) (ms : List Move) → IsPositionOf g b → Run g b ms c → All HasText ms
@@ -97,7 +98,7 @@ module _ (pr : Problem) (s : Store (List ℕ)) (pp : IsPositionOf pr.game pr.sta
   -- a list to the won class wins, has no more moves than it costs, and is within the weight
   pub won_within : (number : ℕ) (ms : List Move) (b : Board) → Shows (classes_of pr) pr.method.weight pr.method.budget s (status.Won number)
       → IsAtClass pr.game s pr.start number ms b
-      → (x : List ℕ) × (mark : Mark) × Stands s number x mark × (length ms ≤ mark.cost) × Wins pr.game pr.start ms
+      → (x : List ℕ) × (mark : Mark) × IsStored s number x mark × (length ms ≤ mark.cost) × Wins pr.game pr.start ms
       × ((others : List Move) → Wins pr.game pr.start others → mark.cost ≤ pr.method.weight * length others)
   won_within number ms b (x, mark, at, won, reached, answer, least) (y, mine, there, run, same, le) =
       let one = same_entry s number x y mark mine at there in
@@ -114,7 +115,7 @@ module _ (pr : Problem) (s : Store (List ℕ)) (pp : IsPositionOf pr.game pr.sta
   -- by weight 1 it has as many moves as the class costs, and is a shortest one
   pub won_length : pr.method.weight ≡ 1 → (number : ℕ) (ms : List Move) (b : Board)
       → Shows (classes_of pr) pr.method.weight pr.method.budget s (status.Won number) → IsAtClass pr.game s pr.start number ms b
-      → (x : List ℕ) × (mark : Mark) × Stands s number x mark × (length ms ≡ mark.cost) × Wins pr.game pr.start ms
+      → (x : List ℕ) × (mark : Mark) × IsStored s number x mark × (length ms ≡ mark.cost) × Wins pr.game pr.start ms
       × ((others : List Move) → Wins pr.game pr.start others → length ms ≤ length others)
   won_length light number ms b shows walked =
       let won = won_within number ms b shows walked in
@@ -131,7 +132,7 @@ module _ (pr : Problem) (s : Store (List ℕ)) (pp : IsPositionOf pr.game pr.sta
 
   -- the table of a search whose stored classes below n are expanded shows that no list of fewer moves wins
   pub backed_below : (n : ℕ) (table : Listing) → IsSound (classes_of pr) pr.method.weight pr.method.budget s
-      → ((i : ℕ) (y : List ℕ) (m : Mark) → Stands s i y m → m.cost + guide_of pr.method.bound (spelled y) < n
+      → ((i : ℕ) (y : List ℕ) (m : Mark) → IsStored s i y m → m.cost + guide_of pr.method.bound (spelled y) < n
       → IsExpanded (classes_of pr) s y m.cost)
       → table.rule ≡ pr.method.rule → table.bound ≡ pr.method.bound → table.rule ≤ 2
       → length table.rows ≤ 4000000 → IsRising table.rows → IsPermutation (inside (guide_of pr.method.bound) n (costs_of s)) table.rows
@@ -173,7 +174,7 @@ module _ (pr : Problem) (s : Store (List ℕ)) (pp : IsPositionOf pr.game pr.sta
   -- the table of a search that found a shortest list shows that none is shorter
   pub backed_shortest : pr.method.weight ≡ 1 → (number : ℕ) (ms : List Move) (table : Listing)
       → IsFound (classes_of pr) pr.method.weight pr.method.budget s number
-      → (x : List ℕ) (mark : Mark) → Stands s number x mark → length ms ≡ mark.cost → table.rule ≡ pr.method.rule → table.bound ≡ pr.method.bound → table.rule ≤ 2
+      → (x : List ℕ) (mark : Mark) → IsStored s number x mark → length ms ≡ mark.cost → table.rule ≡ pr.method.rule → table.bound ≡ pr.method.bound → table.rule ≤ 2
       → length table.rows ≤ 4000000 → IsRising table.rows → IsPermutation (inside (guide_of pr.method.bound) (length ms) (costs_of s)) table.rows
       → IsBackedBelow pr.game pr.start (length ms) table
   backed_shortest light number ms table found x mark at long ruled bounded known few rising moved =
@@ -186,14 +187,14 @@ module _ (pr : Problem) (s : Store (List ℕ)) (pp : IsPositionOf pr.game pr.sta
       (λ i y m there lt. found_done i y m there (omega (arith, lt, cost, one_times pr.method.weight (guide_of pr.method.bound (spelled y)) light)))
       ruled bounded known few rising moved
     where
-      found_done : (i : ℕ) (y : List ℕ) (m : Mark) → Stands s i y m → m.cost + pr.method.weight * guide_of pr.method.bound (spelled y) < found.1.1.cost
+      found_done : (i : ℕ) (y : List ℕ) (m : Mark) → IsStored s i y m → m.cost + pr.method.weight * guide_of pr.method.bound (spelled y) < found.1.1.cost
           → IsExpanded (classes_of pr) s y m.cost
       found_done i y m there lt = found.1.4 i y m there lt
 
   -- what a number is that is told as a floor: no list has fewer moves, and the stored classes below it are expanded
   pub floor_holds : (number : ℕ) (x : List ℕ) (mark : Mark) (floor : ℕ) → IsFound (classes_of pr) pr.method.weight pr.method.budget s number
-      → Stands s number x mark → IsLeastOpen (classes_of pr) pr.method.weight s mark.cost floor
-      → ((i : ℕ) (y : List ℕ) (m : Mark) → Stands s i y m → m.cost + guide_of pr.method.bound (spelled y) < floor
+      → IsStored s number x mark → IsLeastOpen (classes_of pr) pr.method.weight s mark.cost floor
+      → ((i : ℕ) (y : List ℕ) (m : Mark) → IsStored s i y m → m.cost + guide_of pr.method.bound (spelled y) < floor
       → IsExpanded (classes_of pr) s y m.cost)
       × ((others : List Move) → Wins pr.game pr.start others → floor ≤ length others)
   floor_holds number x mark floor found at least =
@@ -245,7 +246,7 @@ module _ (pr : Problem) (s : Store (List ℕ)) (pp : IsPositionOf pr.game pr.sta
 
   -- the verdict of a search by a greater weight that found a list, no longer than the won class costs
   pub won_verdict : 2 ≤ pr.method.weight → (number : ℕ) (ms : List Move) (x : List ℕ) (mark : Mark) (floor : ℕ) → pr.method.rule ≤ 2 → pr.method.budget ≤ 4000000
-      → IsFound (classes_of pr) pr.method.weight pr.method.budget s number → Stands s number x mark
+      → IsFound (classes_of pr) pr.method.weight pr.method.budget s number → IsStored s number x mark
       → IsLeastOpen (classes_of pr) pr.method.weight s mark.cost floor → length ms ≤ mark.cost → Wins pr.game pr.start ms
       → ((others : List Move) → Wins pr.game pr.start others → mark.cost ≤ pr.method.weight * length others)
       → IsVerdict pr (Won ms floor)
@@ -308,8 +309,7 @@ one_of_three g b budget CannotWin right = right
 one_of_three g b budget (GaveUp told) right = right
 
 -- a question of a shortest list, with a start, is the problem of one
-pub asked_shortest : (q : Asked) (g : GameRules) (rule : ℕ) (b : Board) (budget : ℕ) → q.game ≡ g → q.method ≡ as_written rule budget
-    → problem_of q b ≡ shortest_from g rule b budget
-asked_shortest q g rule b budget game method =
-    ap (λ (x : GameRules). problem_of (record { game = x; method = q.method }) b) game
-    ∙ ap (λ (m : Method). problem_of (record { game = g; method = m }) b) method
+pub asked_shortest : (q : Asked) (g : GameRules) (rule given : ℕ) (b : Board) (budget : ℕ) → q ≡ shortest_asked g rule budget
+    → rule ≡ given → problem_of q b ≡ shortest_from g given b budget
+asked_shortest q g rule given b budget asked same =
+    ap (λ (x : Asked). problem_of x b) asked ∙ ap (λ (r : ℕ). shortest_from g r b budget) same

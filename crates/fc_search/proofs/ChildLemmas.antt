@@ -19,26 +19,27 @@ use Rattle.fc_home.proofs.SettleLemmas.{settles_keep}
 use Rattle.fc_home.proofs.WayLemmas.{settles_once}
 use Rattle.fc_bound.specs.declared.kinds.BoundKind.{BoundKind}
 use Rattle.fc_bound.specs.Kinds.{guide_of}
-use Rattle.fc_tables.proofs.EveryLemmas.{every_settles}
-use Rattle.fc_tables.proofs.BoundLemmas.{bounds_lower}
+use Rattle.fc_home.proofs.EveryLemmas.{every_settles}
+use Rattle.fc_bound.proofs.KindLemmas.{bounds_lower}
 use Rattle.fc_best_first.specs.declared.spaces.Child.{Child}
 use Rattle.fc_best_first.specs.Turn.{AreChildren}
 use Rattle.fc_classes.specs.Classes.{SettlesTo, classes}
 use Rattle.fc_canonical.specs.Spelled.{IsKeyIn, spelled}
 use Rattle.fc_canonical.proofs.SpelledLemmas.{key_spells}
 use Rattle.fc_canonical.proofs.SortLemmas.{has_key}
-use Rattle.fc_search.specs.Children.{IsChildOf, IsSettled, AreAllowed, AreChildrenBy}
+use Rattle.fc_search.specs.Children.{IsChildOf, IsSettledChild, AreChildrenBy}
+use Rattle.fc_search.specs.inner.Children.{AreAllowed}
 
 -- a child's bound is that of its key
 pub child_bound : (g : GameRules) (rule : ℕ) (kind : BoundKind) (z : Board) (moves : ℕ) (child : Child (List ℕ)) → IsPositionOf g z
-    → IsSettled g rule kind z moves child → IfSome child.bound (λ b. b ≡ guide_of kind (spelled child.key))
+    → IsSettledChild g rule kind z moves child → IfSome child.bound (λ b. b ≡ guide_of kind (spelled child.key))
 child_bound g rule kind z moves child p (q, count, settles, key, cost, low) =
     subst (λ k. IfSome child.bound (λ b. b ≡ k))
     ((bounds_lower kind).0.alike q (spelled child.key) (key_spells g q child.key (settles_keep g rule z q count p settles) key).1) low
 
 -- of class-mates that settle, the one child has the key of what the other settles to, at as many moves
 pub child_once : (g : GameRules) (rule : ℕ) (kind : BoundKind) (x z : Board) (moves count : ℕ) (child : Child (List ℕ)) (y : List ℕ) → IsPositionOf g x
-    → IsPositionOf g z → SameClass x z → IsSettled g rule kind z moves child → SettlesTo g rule x count y
+    → IsPositionOf g z → SameClass x z → IsSettledChild g rule kind z moves child → SettlesTo g rule x count y
     → (child.key ≡ y) × (child.cost ≡ moves + count)
 child_once g rule kind x z moves count child y px pz same (r, number, there, key, cost, low) (q, settles, also) =
     let mate = class_settle g rule x z q count same settles in
@@ -117,7 +118,7 @@ children_all g rule kind p x moves children valid lists are = record {
       let child = has.0 in
       let is = has.2 in
       let same = step_once g (spelled x) n is.0 w is.1 other.3 in
-      let settled = subst (λ b. IsSettled g rule kind b 1 child) same is.2 in
+      let settled = subst (λ b. IsSettledChild g rule kind b 1 child) same is.2 in
       let once = child_once g rule kind e.1 w 1 e.2 child y px pw other.4 settled e.4 in
       (child, has.1, once.0, omega (arith, once.1, e.5));
 }
@@ -130,14 +131,14 @@ next_child g rule kind b moves rest m child children e is are =
     subst (λ l. AreChildrenBy g rule kind b l (child ∷ children)) (sym (ap reverse e ∙ reverse-append rest (m ∷ []))) (is, are)
 
 -- this child starts
-pub settled_starts : (g : GameRules) (rule : ℕ) (kind : BoundKind) (p : Board) (child : Child (List ℕ)) → IsSettled g rule kind p 0 child
+pub settled_starts : (g : GameRules) (rule : ℕ) (kind : BoundKind) (p : Board) (child : Child (List ℕ)) → IsSettledChild g rule kind p 0 child
     → SettlesTo g rule p child.cost child.key
 settled_starts g rule kind p child (q, count, settles, key, cost, low) =
     let same : count ≡ child.cost = omega (arith, cost) in
     subst (λ n. SettlesTo g rule p n child.key) same (q, settles, key)
 
 -- what starts is this child, at no less
-pub start_alone : (g : GameRules) (rule : ℕ) (kind : BoundKind) (p : Board) (child : Child (List ℕ)) → IsPositionOf g p → IsSettled g rule kind p 0 child
+pub start_alone : (g : GameRules) (rule : ℕ) (kind : BoundKind) (p : Board) (child : Child (List ℕ)) → IsPositionOf g p → IsSettledChild g rule kind p 0 child
     → (x : List ℕ) (d : ℕ) → SettlesTo g rule p d x → (x ≡ child.key) × (child.cost ≤ d)
 start_alone g rule kind p child pp settled x d starts =
     let once = child_once g rule kind p p 0 d child x pp pp (class-refl p) settled starts in

@@ -6,7 +6,8 @@ use Rattle.fc_answers.specs.declared.answers.Verdict.{Verdict}
 use Rattle.fc_search.specs.Problem.{Problem}
 use Rattle.fc_search.specs.Search.{IsOfStatus, State}
 use Rattle.fc_search.specs.declared.listeners.Progress.{Progress}
-use Rattle.fc_search.specs.Watch.{IsHeard, IsHeardAtMost, IsHeardInPart, IsHeardOn, IsHeardToEnd, Stage, TellFloors, stage_of}
+use Rattle.fc_search.specs.Watch.{IsHeard, IsHeardAtMost, IsHeardInPart, IsHeardToEnd, Stage}
+use Rattle.fc_search.specs.inner.Watch.{TellFloors, IsHeardOn, stage_of}
 
 module _ (q : Problem) where
   module _ (heard : List Progress) (s : State) (is : IsHeardOn q heard s) where

@@ -2,7 +2,7 @@
 use Rattle.std.proofs.Common.{◌≡◌, ◌≢◌, ℕ, ◌≤◌, List, [], ◌∷◌, ◌++◌, refl, subst}
 use Rattle.std.specs.Prelude.{max}
 use Rattle.fc_best_first.specs.Search.{Runs}
-use Rattle.fc_search.specs.Problem.{Problem, classes_of}
+use Rattle.fc_search.specs.Problem.{Problem, task_of_problem}
 use Rattle.fc_search.specs.declared.listeners.Progress.{Progress}
 use Rattle.fc_search.specs.Watch.{HearsAll, IsFar, IsHeard, Stage, TurnsMany}
 use Rattle.fc_search.proofs.TurnLemmas.{turns_both, turns_on}
@@ -44,21 +44,21 @@ module _ (q : Problem) where
 
   -- a search that was heard ran
   pub heard_runs : (old new : Stage) (most : ℕ) (heard : List Progress) → IsHeard q old most heard new
-      → Runs (classes_of q) q.method.weight q.method.budget old.status old.store new.store new.status
+      → Runs (task_of_problem q) old.status old.store new.store new.status
   heard_runs old new most [] same = (0, turns_on q 0 old new same)
   heard_runs old new most (far ∷ later) (mid, made, some, turned, is, greatest, rest) =
       let (more, ran) = heard_runs mid new far.most_open later rest in (
         _,
-        turns_both (classes_of q) q.method.weight q.method.budget made more old.status mid.status new.status old.store mid.store new.store
+        turns_both (task_of_problem q) made more old.status mid.status new.status old.store mid.store new.store
             (turns_on q made old mid turned) ran,
       )
 
   -- and so did one that was stopped then
   pub stopped_runs : (old mid new : Stage) (most made : ℕ) (heard : List Progress) → IsHeard q old most heard mid
-      → TurnsMany made q mid new → Runs (classes_of q) q.method.weight q.method.budget old.status old.store new.store new.status
+      → TurnsMany made q mid new → Runs (task_of_problem q) old.status old.store new.store new.status
   stopped_runs old mid new most made heard told turned =
       let (before, ran) = heard_runs old mid most heard told in (
         _,
-        turns_both (classes_of q) q.method.weight q.method.budget before made old.status mid.status new.status old.store mid.store new.store
+        turns_both (task_of_problem q) before made old.status mid.status new.status old.store mid.store new.store
             ran (turns_on q made mid new turned),
       )

@@ -15,7 +15,7 @@ use Rattle.fc_canonical.proofs.KeyLemmas.{keys_tell}
 use Rattle.fc_home.specs.Settles.{Settles}
 use Rattle.fc_home.proofs.MateLemmas.{class_settle}
 use Rattle.fc_home.proofs.SettleLemmas.{settles_keep, settles_run}
-use Rattle.fc_tables.proofs.BoundLemmas.{bounds_lower}
+use Rattle.fc_bound.proofs.KindLemmas.{bounds_lower}
 use Rattle.fc_best_first.specs.Kept as kept
 use Rattle.fc_best_first.specs.Shown.{AreNeeded}
 use Rattle.fc_canonical.specs.Spelled.{spelled}

@@ -13,7 +13,7 @@ use Rattle.fc_bound.specs.Bound.{bound, is_held_back, PlayableIsHeldBack}
 use Rattle.fc_bound.proofs.HeldLemmas.{step_moves, bound_small}
 use Rattle.fc_bound.proofs.MovedLemmas.{told_card}
 use Rattle.fc_best_first.specs.declared.spaces.Child.{Child}
-use Rattle.fc_search.specs.Children.{IsSettled, IsChildOf}
+use Rattle.fc_search.specs.Children.{IsSettledChild, IsChildOf}
 use Rattle.fc_canonical.proofs.BackLemmas.{taken_back}
 
 byte_is : (t : Bool) → bool_byte t ≡ cond t 1 0
@@ -48,6 +48,6 @@ shifts g b c m low before after step p other is told seen =
 
 -- what the result of a step settles to is a child of the move
 pub child_of_step : (g : GameRules) (rule : ℕ) (kind : BoundKind) (b z : Board) (m : Move) (child : Option (Child (List ℕ))) → Step g b m z
-    → IfSome child (IsSettled g rule kind z 1) → IfSome child (IsChildOf g rule kind b m)
+    → IfSome child (IsSettledChild g rule kind z 1) → IfSome child (IsChildOf g rule kind b m)
 child_of_step g rule kind b z m None step settled = settled
 child_of_step g rule kind b z m (Some child) step settled = (z, step, settled)

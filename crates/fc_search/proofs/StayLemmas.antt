@@ -11,7 +11,7 @@ use Rattle.fc_moves.specs.GameRules.{GameRules}
 use Rattle.fc_moves.specs.Step.{Step}
 use Rattle.fc_home.specs.HomeRule.{GoesHome}
 use Rattle.fc_home.specs.Settles.{NoneGoesHome, Settles}
-use Rattle.fc_search.specs.Children.{OthersStay}
+use Rattle.fc_search.specs.inner.Children.{OthersStay}
 use Rattle.fc_canonical.proofs.BackLemmas.{taken_back}
 
 -- two places are one or two

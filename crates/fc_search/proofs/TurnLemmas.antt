@@ -11,13 +11,14 @@ use Rattle.fc_best_first.specs.declared.searches.Step.{Step}
 use Rattle.fc_best_first.specs.declared.searches.Step.TheVariants.{Running as running}
 use Rattle.fc_best_first.specs.declared.searches.SearchFault.{SearchFault}
 use Rattle.fc_best_first.specs.declared.searches.SearchFault.TheVariants.{Memory}
-use Rattle.fc_best_first.specs.Graph.{Graph, IsLawful}
+use Rattle.fc_best_first.specs.Graph.{Graph, Task, IsLawful}
 use Rattle.fc_best_first.specs.Store.{Store}
 use Rattle.fc_best_first.specs.Search.{Begins, FloorAfter, Turns, TurnsOn, reply_of}
 use Rattle.fc_best_first.specs.Turn.{work_left}
-use Rattle.fc_search.specs.Problem.{Problem, classes_of}
+use Rattle.fc_search.specs.Problem.{Problem, task_of_problem}
 use Rattle.fc_search.specs.Search.{State}
-use Rattle.fc_search.specs.Watch.{Stage, TurnsMany, TurnsOnce, stage_of}
+use Rattle.fc_search.specs.Watch.{Stage, TurnsMany, TurnsOnce}
+use Rattle.fc_search.specs.inner.Watch.{stage_of}
 
 module _ (q : Problem) where
   -- some turns, and then one more
@@ -30,40 +31,40 @@ module _ (q : Problem) where
 
   -- turns with their floors are turns
   pub turns_on : (made : ℕ) (old new : Stage) → TurnsMany made q old new
-      → TurnsOn made (classes_of q) q.method.weight q.method.budget old.status old.store new.store new.status
+      → TurnsOn made (task_of_problem q) old.status old.store new.store new.status
   turns_on zero old new same = (ap (λ (s : Stage). s.store) same, ap (λ (s : Stage). s.status) same)
   turns_on (suc made) old new (mid, one, rest) = (mid.store, mid.status, one.reply, one.turn, turns_on made mid new rest)
 
   -- a turn of a search that is still of the problem with which it began
   pub one_turn : (old new : State) (before : ℕ) (reply : Result Step SearchFault) → old.problem ≡ q
-      → Turns (classes_of old.problem) old.problem.method.weight old.problem.method.budget old.status old.store new.store new.status reply
+      → Turns (task_of_problem old.problem) old.status old.store new.store new.status reply
       → FloorAfter old.status old.store.waiting old.floor new.floor
       → TurnsOnce q (stage_of old before) (stage_of new (before + 1))
   one_turn old new before reply asked turn floor = record {
     reply = reply;
-    turn = subst (λ p. Turns (classes_of p) p.method.weight p.method.budget old.status old.store new.store new.status reply) asked turn;
+    turn = subst (λ p. Turns (task_of_problem p) old.status old.store new.store new.status reply) asked turn;
     floor = floor;
     counted = refl;
   }
 
-module _ {K : Type 0} (g : Graph K) (weight budget : ℕ) where
+module _ {K : Type 0} (task : Task K) where
   -- some turns, and then some more
   pub turns_both : (first then : ℕ) (before between after : Status K) (old mid new : Store K)
-      → TurnsOn first g weight budget before old mid between → TurnsOn then g weight budget between mid new after
-      → TurnsOn (first + then) g weight budget before old new after
+      → TurnsOn first task before old mid between → TurnsOn then task between mid new after
+      → TurnsOn (first + then) task before old new after
   turns_both zero then before between after old mid new (same, stays) more =
       let count : then ≡ 0 + then = omega arith in
-      subst (λ n. TurnsOn n g weight budget before old new after) count
-      (subst (λ s. TurnsOn then g weight budget s old new after) stays
-      (subst (λ s. TurnsOn then g weight budget between s new after) same more))
+      subst (λ n. TurnsOn n task before old new after) count
+      (subst (λ s. TurnsOn then task s old new after) stays
+      (subst (λ s. TurnsOn then task between s new after) same more))
   turns_both (suc first) then before between after old mid new (next, state, told, one, rest) more =
       let count : suc (first + then) ≡ suc first + then = omega arith in
-      subst (λ n. TurnsOn n g weight budget before old new after) count
+      subst (λ n. TurnsOn n task before old new after) count
       (next, state, told, one, turns_both first then state between after next mid new rest more)
 
   -- what a turn of a running search replies, by the status that it leaves
   pub turn_replies : (after : Status K) (old new : Store K) (reply : Result Step SearchFault)
-      → Turns g weight budget Running old new after reply
+      → Turns task Running old new after reply
       → MatchResult reply (λ step. reply_of after ≡ Ok step) (λ f. (f ≡ Memory) × (after ≡ Stopped))
   turn_replies after old new (Ok step) (inl (takes, same)) = sym same
   turn_replies after old new (Ok step) (inr (stopped, same)) = absurd (cc)

@@ -21,14 +21,14 @@ use Rattle.fc_home.proofs.SettleLemmas.{settles_keep, settles_run}
 use Rattle.fc_home.proofs.WayLemmas.{settles_once}
 use Rattle.fc_best_first.specs.declared.books.Mark.{Mark}
 use Rattle.fc_best_first.specs.Kept.{IsSound}
-use Rattle.fc_best_first.specs.Store.{Store, Stands}
+use Rattle.fc_best_first.specs.Store.{Store, IsStored}
 use Rattle.fc_best_first.proofs.KeptLemmas.{same_entry}
 use Rattle.fc_classes.specs.Classes.{classes}
 use Rattle.fc_canonical.specs.Spelled.{spelled}
 use Rattle.fc_canonical.proofs.SpelledLemmas.{key_spells}
 use Rattle.fc_classes.proofs.PathLemmas.{run_on}
 use Rattle.fc_search.specs.Problem.{Problem, classes_of}
-use Rattle.fc_search.specs.Walk.{IsStart, IsWay, IsAtClass, LeadsWithin}
+use Rattle.fc_search.specs.inner.Walk.{IsStart, IsWay, IsAtClass, LeadsWithin}
 use Rattle.fc_bound.specs.declared.kinds.BoundKind.{BoundKind}
 use Rattle.fc_bound.specs.Kinds.{guide_of}
 
@@ -59,13 +59,13 @@ key_of_mate b c k same key = record {
 -- from the board that a walk came to, a step leads on to the next class within what is left of its cost
 pub leads_on : (pr : Problem) (s : Store (List ℕ)) → IsPositionOf pr.game pr.start
     → IsSound (classes_of pr) pr.method.weight pr.method.budget s → (number next : ℕ) (made : List Move) (b : Board) (x : List ℕ) (mark : Mark)
-    → IsAtClass pr.game s pr.start number made b → Stands s next x mark → mark.parent ≡ number → (number ≡ next → ⊥)
+    → IsAtClass pr.game s pr.start number made b → IsStored s next x mark → mark.parent ≡ number → (number ≡ next → ⊥)
     → (length made ≤ mark.cost) × ((m : Move) × LeadsWithin pr.game pr.method.rule b x (mark.cost - length made) m)
 leads_on pr s pp sound number next made b x mark (y, mine, there, run, same, le) at parent other =
     ⊎_elim
     (λ (own, start). absurd (other (sym parent ∙ own)))
     (λ (w, was, c, stands, (kw, (m, z, count, step, (q, settles, key), paid)), less).
-    let here = subst (λ n. Stands s n w was) parent stands in
+    let here = subst (λ n. IsStored s n w was) parent stands in
     let one = same_entry s number w y was mine here there in
     let mates : SameClass b (spelled w) = subst (λ k. SameClass b (spelled k)) (sym one.0) same in
     let cost : was.cost ≡ mine.cost = ap (λ n. n.cost) one.1 in
@@ -82,7 +82,7 @@ leads_on pr s pp sound number next made b x mark (y, mine, there, run, same, le)
 -- having walked on
 pub walked_on : (g : GameRules) (rule : ℕ) (p : Board) (budget : ℕ) (s : Store (List ℕ)) → IsPositionOf g p
     → (number next : ℕ) (made more : List Move) (b c : Board) (x : List ℕ) (mark : Mark)
-    → IsAtClass g s p number made b → Stands s next x mark → length made ≤ mark.cost → Run g b more c
+    → IsAtClass g s p number made b → IsStored s next x mark → length made ≤ mark.cost → Run g b more c
     → length more ≤ mark.cost - length made → IsKeyOf c x → IsPositionOf g c → IsAtClass g s p next (made ++ more) c
 walked_on g rule p budget s pp number next made more b c x mark (y, mine, there, run, same, le) at room on few key pc = (
   x,
@@ -106,7 +106,7 @@ walk_begins pr s pp sound number settling q (x, mark, at, own) by pq =
     let few : length settling ≤ mark.cost = let e = one.0 in omega (arith, e) in
     (x, mark, at, settles_run pr.game pr.method.rule pr.start q settling by, (key_spells pr.game q x kept here).1, few))
     (λ (w, was, c, stands, (kw, (m, z, count, step, to, paid)), less).
-    let here = subst (λ n. Stands s n w was) own stands in
+    let here = subst (λ n. IsStored s n w was) own stands in
     let same = same_entry s number w x was mark here at in
     let cost : was.cost ≡ mark.cost = ap (λ n. n.cost) same.1 in
     absurd (omega (arith, less, paid, cost)))
@@ -114,13 +114,13 @@ walk_begins pr s pp sound number settling q (x, mark, at, own) by pq =
 
 -- a class's parent costs less than it does
 pub parent_less : (g : GameRules) (rule weight : ℕ) (kind : BoundKind) (p : Board) (budget : ℕ) (s : Store (List ℕ)) → IsSound (classes (guide_of kind) g rule p) weight budget s
-    → (number parent : ℕ) (x : List ℕ) (mark : Mark) → Stands s number x mark → mark.parent ≡ parent → (parent ≡ number → ⊥)
-    → (w : List ℕ) × (was : Mark) × Stands s parent w was × (was.cost < mark.cost)
+    → (number parent : ℕ) (x : List ℕ) (mark : Mark) → IsStored s number x mark → mark.parent ≡ parent → (parent ≡ number → ⊥)
+    → (w : List ℕ) × (was : Mark) × IsStored s parent w was × (was.cost < mark.cost)
 parent_less g rule weight kind p budget s sound number parent x mark at by other =
     ⊎_elim
     (λ (own, start). absurd (other (sym by ∙ own)))
     (λ (w, was, c, stands, (kw, (m, z, count, step, to, paid)), less).
-    (w, was, subst (λ n. Stands s n w was) by stands, omega (arith, less, paid)))
+    (w, was, subst (λ n. IsStored s n w was) by stands, omega (arith, less, paid)))
     (sound.comes number x mark at)
 
 -- what can't be absent is there

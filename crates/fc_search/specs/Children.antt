@@ -1,34 +1,23 @@
 -- The children of a class: where the steps of its position lead, once settled.
-use Rattle.std.specs.Prelude.{◌≡◌, ◌≢◌, ℕ, ◌+◌, IfSome, Some, List, [], ◌∷◌, Contains}
-use Rattle.fc_cards.specs.declared.places.Place.{Place}
-use Rattle.fc_position.specs.Board.{Board, playable}
+use Rattle.std.specs.Prelude.{◌≡◌, ℕ, ◌+◌, IfSome, List, [], ◌∷◌}
+use Rattle.fc_position.specs.Board.{Board}
 use Rattle.fc_moves.specs.declared.steps.Move.{Move}
 use Rattle.fc_moves.specs.GameRules.{GameRules}
-use Rattle.fc_moves.specs.Step.{Step, Allows}
-use Rattle.fc_canonical.specs.Key.{IsKeyOf, board_bytes}
-use Rattle.fc_canonical.specs.Order.{IsCanonical}
-use Rattle.fc_home.specs.HomeRule.{GoesHome}
+use Rattle.fc_moves.specs.Step.{Step}
+use Rattle.fc_canonical.specs.Key.{IsKeyOf}
 use Rattle.fc_home.specs.Settles.{Settles}
 use Rattle.fc_bound.specs.declared.kinds.BoundKind.{BoundKind}
 use Rattle.fc_bound.specs.Kinds.{guide_of}
 use Rattle.fc_best_first.specs.declared.spaces.Child.{Child}
 
--- the position is canonical, and this is its key
-abbrev pub Spells : List ℕ → Board → Type 0
-Spells key b = IsCanonical b × (key ≡ board_bytes b)
-
 -- the child is of what the board settles to, at a cost of so many moves and those of settling, with its bound where it is told
-abbrev pub IsSettled : GameRules → ℕ → BoundKind → Board → ℕ → Child (List ℕ) → Type 0
-IsSettled g rule kind z moves child = (q : Board) × (count : ℕ) × Settles g rule z count q × IsKeyOf q child.key
+abbrev pub IsSettledChild : GameRules → ℕ → BoundKind → Board → ℕ → Child (List ℕ) → Type 0
+IsSettledChild g rule kind z moves child = (q : Board) × (count : ℕ) × Settles g rule z count q × IsKeyOf q child.key
     × (child.cost ≡ moves + count) × IfSome child.bound (λ b. b ≡ guide_of kind q)
 
 -- the child is of where the move leads, once settled
 abbrev pub IsChildOf : GameRules → ℕ → BoundKind → Board → Move → Child (List ℕ) → Type 0
-IsChildOf g rule kind b m child = (z : Board) × Step g b m z × IsSettled g rule kind z 1 child
-
--- no playable card goes home by the rule but perhaps that of one place
-abbrev pub OthersStay : ℕ → GameRules → Board → Place → Type 0
-OthersStay rule g b from = (other : Place) (c : ℕ) → other ≢ from → playable b other ≡ Some c → GoesHome rule g b.homes c → ⊥
+IsChildOf g rule kind b m child = (z : Board) × Step g b m z × IsSettledChild g rule kind z 1 child
 
 -- what is left of the children of a position of a game: the moves that lead to them, the next one last
 pub record Left (G : Type 0) : Type 0 where
@@ -37,10 +26,6 @@ pub record Left (G : Type 0) : Type 0 where
   pub kind : BoundKind
   pub position : Board
   pub moves : List Move
-
--- the moves are allowed
-abbrev pub AreAllowed : GameRules → Board → List Move → Type 0
-AreAllowed g b moves = (m : Move) → Contains moves m → Allows g b m
 
 -- the children are those to which the moves lead, one after the other
 abbrev pub AreChildrenBy : GameRules → ℕ → BoundKind → Board → List Move → List (Child (List ℕ)) → Type 0

@@ -2,6 +2,5 @@ pub mod Children
 pub mod Need
 pub mod Problem
 pub mod Search
-pub mod Stored
-pub mod Walk
 pub mod Watch
+pub mod inner

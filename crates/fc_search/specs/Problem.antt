@@ -3,7 +3,7 @@ use Rattle.std.specs.Prelude.{ℕ, List}
 use Rattle.fc_position.specs.Board.{Board}
 use Rattle.fc_moves.specs.GameRules.{GameRules}
 use Rattle.fc_bound.specs.Kinds.{guide_of}
-use Rattle.fc_best_first.specs.Graph.{Graph}
+use Rattle.fc_best_first.specs.Graph.{Graph, Task}
 use Rattle.fc_classes.specs.Classes.{classes}
 use Rattle.fc_methods.specs.declared.methods.Method.{Method}
 use Rattle.fc_methods.specs.Method.{Asked, as_written}
@@ -25,3 +25,7 @@ shortest_from g rule b budget = record { game = g; method = as_written rule budg
 -- the graph of classes in which it is searched, whatever the weight and the budget
 abbrev pub classes_of : Problem → Graph (List ℕ)
 classes_of p = classes (guide_of p.method.bound) p.game p.method.rule p.start
+
+-- what a search of it is asked
+abbrev pub task_of_problem : Problem → Task (List ℕ)
+task_of_problem p = record { graph = classes_of p; weight = p.method.weight; budget = p.method.budget }

@@ -9,16 +9,16 @@ use Rattle.fc_best_first.specs.declared.searches.SearchFault.{SearchFault}
 use Rattle.fc_best_first.specs.declared.searches.SearchFault.TheVariants as fault
 use Rattle.fc_best_first.specs.Search.{Begins, Runs}
 use Rattle.fc_best_first.specs.Shown.{IsLeastOpen}
-use Rattle.fc_best_first.specs.Store.{Store, Stands}
+use Rattle.fc_best_first.specs.Store.{Store, IsStored}
 use Rattle.fc_answers.specs.declared.answers.Answer.{Answer}
 use Rattle.fc_answers.specs.declared.answers.Verdict.{Verdict}
 use Rattle.fc_answers.specs.declared.answers.Verdict.TheVariants as verdict
 use Rattle.fc_answers.specs.Answer.{IsBacked, IsSearchedBy, CanBeBacked}
 use Rattle.fc_answers.specs.Verdict.{IsRight, CanBeWritten, HasFewMoves}
 use Rattle.fc_search.specs.Need.{IsEarned}
-use Rattle.fc_search.specs.Problem.{Problem, classes_of}
+use Rattle.fc_search.specs.Problem.{Problem, classes_of, task_of_problem}
 use Rattle.fc_best_first.specs.Limits.{IsBudget}
-use Rattle.fc_moves.specs.Run.{IsShortest, CannotWin as NoneWins, ReachesMore}
+use Rattle.fc_moves.specs.Run.{IsShortest, ReachesMore, CannotWin as NoneWins}
 
 -- where a search stands: its problem, what it stores and has open, its status, and the greatest cost plus weighed bound
 -- that it took
@@ -28,19 +28,14 @@ pub record State : Type 0 where
   pub status : Status (List ℕ)
   pub floor : ℕ
 
--- the number is the least cost and bound of what a search has open, and no more than the class with this number costs
-abbrev pub IsFloorOf : State → ℕ → ℕ → Type 0
-IsFloorOf s number floor = (x : List ℕ) × (mark : Mark) × Stands s.store number x mark
-    × IsLeastOpen (classes_of s.problem) s.problem.method.weight s.store mark.cost floor
-
 -- the verdict is of the kind of the status that a search ends with: by weight 1 as many moves as the won class costs, and
 -- by more no more than that, since a class on the way may have been met at less cost after it, with the least cost and bound
 -- of what is open; that no list wins; or the budget
 abbrev pub IsOfStatus : Problem → Store (List ℕ) → Status (List ℕ) → Verdict → Type 0
 IsOfStatus p s (Won number) (verdict.Shortest moves) =
-    (x : List ℕ) × (mark : Mark) × Stands s number x mark × (length moves ≡ mark.cost) × (p.method.weight ≡ 1)
+    (x : List ℕ) × (mark : Mark) × IsStored s number x mark × (length moves ≡ mark.cost) × (p.method.weight ≡ 1)
 IsOfStatus p s (Won number) (verdict.Won moves floor) =
-    (x : List ℕ) × (mark : Mark) × Stands s number x mark × (length moves ≤ mark.cost) × (2 ≤ p.method.weight)
+    (x : List ℕ) × (mark : Mark) × IsStored s number x mark × (length moves ≤ mark.cost) × (2 ≤ p.method.weight)
     × IsLeastOpen (classes_of p) p.method.weight s mark.cost floor
 IsOfStatus p s CannotWin verdict.CannotWin = Unit {0}
 IsOfStatus p s (GaveUp y number) (verdict.GaveUp told) = told ≡ p.method.budget
@@ -86,7 +81,7 @@ IsUnanswered done told = told ≡ fault.Memory
 pub record HasRun (p : Problem) (last : Store (List ℕ)) (status : Status (List ℕ)) : Type 0 where
   pub first : Store (List ℕ)
   pub begins : Begins (classes_of p) p.method.weight first
-  pub runs : Runs (classes_of p) p.method.weight p.method.budget Running first last status
+  pub runs : Runs (task_of_problem p) Running first last status
 
 -- the verdict is that of a search of the problem that began, and ran to its end
 pub record IsRunToEnd (p : Problem) (verdict : Verdict) : Type 0 where

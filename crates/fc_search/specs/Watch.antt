@@ -1,9 +1,7 @@
 -- Searches that tell how far they are, and who hears it.
 use Rattle.std.specs.Prelude.{◌≡◌, ◌≢◌, ℕ, zero, suc, ◌+◌, ◌*◌, ◌<◌, ◌≤◌, ◌⊎◌, max, List, [], ◌∷◌, ◌++◌, length, Result}
 use Rattle.fc_frontier.specs.Queue.{Adds}
-use Rattle.fc_position.specs.Board.{Board}
 use Rattle.fc_moves.specs.declared.steps.Move.{Move}
-use Rattle.fc_moves.specs.GameRules.{GameRules}
 use Rattle.fc_moves.specs.Run.{Wins}
 use Rattle.fc_best_first.specs.Search.{Begins, FloorAfter, Turns}
 use Rattle.fc_best_first.specs.Store.{Store}
@@ -12,8 +10,8 @@ use Rattle.fc_best_first.specs.declared.searches.Step.{Step}
 use Rattle.fc_best_first.specs.declared.turns.Status.{Status}
 use Rattle.fc_best_first.specs.declared.turns.Status.TheVariants.{Running, Stopped}
 use Rattle.fc_answers.specs.declared.answers.Verdict.{Verdict}
-use Rattle.fc_search.specs.Problem.{Problem, classes_of}
-use Rattle.fc_search.specs.Search.{State, IsOfStatus}
+use Rattle.fc_search.specs.Problem.{Problem, classes_of, task_of_problem}
+use Rattle.fc_search.specs.Search.{IsOfStatus}
 use Rattle.fc_search.specs.declared.listeners.Progress.{Progress}
 
 module _ {L : Type 0} where
@@ -29,10 +27,6 @@ pub record Stage : Type 0 where
   pub floor : ℕ
   pub turns : ℕ
 
--- where a search stands after so many turns
-abbrev pub stage_of : State → ℕ → Stage
-stage_of s turns = record { store = s.store; status = s.status; floor = s.floor; turns = turns }
-
 -- a search of the problem that has had no turn stands there
 pub record IsFirst (p : Problem) (stage : Stage) : Type 0 where
   pub begins : Begins (classes_of p) p.method.weight stage.store
@@ -43,7 +37,7 @@ pub record IsFirst (p : Problem) (stage : Stage) : Type 0 where
 -- one turn of a search of the problem leads from the one stage to the other
 pub record TurnsOnce (p : Problem) (old new : Stage) : Type 0 where
   pub reply : Result Step SearchFault
-  pub turn : Turns (classes_of p) p.method.weight p.method.budget old.status old.store new.store new.status reply
+  pub turn : Turns (task_of_problem p) old.status old.store new.store new.status reply
   pub floor : FloorAfter old.status old.store.waiting old.floor new.floor
   pub counted : new.turns ≡ old.turns + 1
 
@@ -74,14 +68,6 @@ abbrev pub IsHeard : Problem → Stage → ℕ → List Progress → Stage → T
 IsHeard p old most [] new = new ≡ old
 IsHeard p old most (far ∷ later) new = (mid : Stage) × (made : ℕ) × (1 ≤ made) × TurnsMany made p old mid
     × IsFar p mid far × (far.most_open ≡ max most far.open) × IsHeard p mid far.most_open later new
-
--- a search of the problem began and stands there now; and this is what was heard of it, where it stands now last
-pub record IsHeardOn (p : Problem) (heard : List Progress) (s : State) : Type 0 where
-  pub first : Stage
-  pub turns : ℕ
-  pub begins : IsFirst p first
-  pub some : heard ≢ []
-  pub told : IsHeard p first 0 heard (stage_of s turns)
 
 -- a search of the problem began and ran to its end, from which it has this verdict; and this is what was heard of it, its
 -- end last
@@ -114,8 +100,3 @@ pub record IsHeardInPart (p : Problem) (heard : List Progress) : Type 0 where
 -- nothing was heard, or this of a search of the problem
 abbrev pub IsHeardAtMost : Problem → List Progress → Type 0
 IsHeardAtMost p heard = (heard ≡ []) ⊎ IsHeardInPart p heard
-
--- each tells a number of moves that no list that wins from the board is shorter than
-abbrev pub TellFloors : GameRules → Board → List Progress → Type 0
-TellFloors g b [] = Unit {0}
-TellFloors g b (far ∷ heard) = ((moves : List Move) → Wins g b moves → far.at_least ≤ length moves) × TellFloors g b heard

@@ -12,8 +12,9 @@ ghost use Rattle.fc_best_first.specs.Graph.{Reached};
 ghost use Rattle.fc_classes.specs.Classes.{classes};
 ghost use Rattle.fc_canonical.specs.Spelled.{IsKeyIn, spelled};
 ghost use Rattle.fc_classes.proofs.TableLemmas.{lawful};
-ghost use Rattle.fc_search.specs.Children.{IsSettled, IsChildOf, OthersStay, Spells, AreChildrenBy};
-ghost use Rattle.fc_tables.proofs.BoundLemmas.{bounds_lower};
+ghost use Rattle.fc_search.specs.Children.{IsSettledChild, IsChildOf, AreChildrenBy};
+ghost use Rattle.fc_search.specs.inner.Children.{OthersStay, Spells};
+ghost use Rattle.fc_bound.proofs.KindLemmas.{bounds_lower};
 
 use arrayvec::ArrayVec;
 use fc_best_first::{Child, Space};
@@ -59,7 +60,9 @@ impl<G: Game + Drop> Model for Children<G> {
     ghost use Rattle.fc_moves.specs.GameRules.{IsPositionOf};
     ghost use Rattle.fc_home.specs.Settles.{NoneGoesHome};
     ghost use Rattle.fc_bound.specs.Kinds.{guide_of};
-    ghost use Rattle.fc_search.specs.Children.{AreAllowed, Left, Spells};
+    ghost use Rattle.fc_search.specs.Children.{Left};
+    ghost use Rattle.fc_search.specs.inner.Children.{AreAllowed};
+    ghost use Rattle.fc_search.specs.inner.Children.{Spells};
 
     ghost Value = { Left G };
 
@@ -120,7 +123,7 @@ impl<G: Game + Drop> Positions<G> {
 // The class that the position settles to, where so many moves led to the position.
 fn settled<G: Game + Drop>(rules: &ClassRules<G>, position: Position, moves: u8) -> Child<ClassKey>
     requires few { moves ≤ 1 }
-    ensures settled { IsSettled (G.game rules.now.game) rules.now.rule rules.now.kind position moves result }
+    ensures settled { IsSettledChild (G.game rules.now.game) rules.now.rule rules.now.kind position moves result }
 {
     let mut position = position;
     let settling = settle(&rules.game, &mut position, rules.rule.get());
@@ -143,9 +146,9 @@ fn settled_already<G: Game + Drop>(
     requires bound { IfSome bound (λ b. b ≡ guide_of rules.now.kind position.now) }
     requires key { IfSome key (IsKeyOf position.now) }
     requires others { OthersStay rules.now.rule (G.game rules.now.game) position.now from }
-    ensures settled { IfSome result (IsSettled (G.game rules.now.game) rules.now.rule rules.now.kind position.now 1) }
+    ensures settled { IfSome result (IsSettledChild (G.game rules.now.game) rules.now.rule rules.now.kind position.now 1) }
 {
-    if goes_home_from(&rules.game, position, rules.rule.get(), from) {
+    if goes_home_from(&rules.game, position, rules.rule, from) {
         return None;
     }
     Some(Child {

@@ -6,11 +6,12 @@ ghost use Rattle.fc_best_first.specs.Limits.{IsBudget};
 ghost use Rattle.fc_best_first.specs.Search.{Begins, FloorAfter, Turns, Runs, reply_of};
 ghost use Rattle.fc_best_first.specs.Kept.{IsSound};
 ghost use Rattle.fc_best_first.specs.Shown.{Holds, Shows};
-ghost use Rattle.fc_best_first.specs.Store.{Stands};
+ghost use Rattle.fc_best_first.specs.Store.{IsStored};
 ghost use Rattle.fc_best_first.specs.Turn.{work_left};
-ghost use Rattle.fc_methods.specs.Method.{as_written};
-ghost use Rattle.fc_search.specs.Problem.{classes_of, problem_of, shortest_from};
-ghost use Rattle.fc_search.specs.Search.{Answers, IsFloorOf, IsVerdict, IsOfStatus, IsRefused, IsUnanswered};
+ghost use Rattle.fc_methods.specs.Method.{shortest_asked};
+ghost use Rattle.fc_search.specs.Problem.{classes_of, problem_of, shortest_from, task_of_problem};
+ghost use Rattle.fc_search.specs.Search.{Answers, IsVerdict, IsOfStatus, IsRefused, IsUnanswered};
+ghost use Rattle.fc_search.specs.inner.Search.{IsFloorOf};
 
 use crate::positions::Positions;
 use fc_answers::{Answer, MoveList, Verdict};
@@ -72,7 +73,7 @@ impl<F: Frontier + Drop, G: Game + Drop> Search<F, G> {
         ensures range { OnOk result (IsBudget budget) }
         ensures fault { IfErr result (IsRefused budget) }
     {
-        let question = shortest(game, rule, budget)?;
+        let question = shortest(game, HomeRule::new(rule).unwrap(), budget)?;
         match Search::new_by(alloc, &question, position) {
             Ok(search) => Ok(search),
             Err(_) => Err(SearchFault::Memory),
@@ -109,7 +110,7 @@ impl<F: Frontier + Drop, G: Game + Drop> Search<F, G> {
     /// `Memory` where a growth was refused, and the search is stopped; `Stopped` from then on, and it stays as it is.
     pub fn turn(&mut self) -> Result<Step, SearchFault>
         ensures problem { self.new.problem ≡ self.old.problem }
-        ensures turns { Turns (classes_of self.old.problem) self.old.problem.method.weight self.old.problem.method.budget self.old.status self.old.store self.new.store self.new.status result }
+        ensures turns { Turns (task_of_problem self.old.problem) self.old.status self.old.store self.new.store self.new.status result }
         ensures floor { FloorAfter self.old.status self.old.store.waiting self.old.floor self.new.floor }
         ensures rises { self.old.floor ≤ self.new.floor }
         ensures falls { result ≡ Ok Step.Running → work_left self.old.problem.method.budget self.new.store < work_left self.old.problem.method.budget self.old.store }
@@ -123,7 +124,7 @@ impl<F: Frontier + Drop, G: Game + Drop> Search<F, G> {
     /// `Memory` where a growth was refused, and the search is stopped; `Stopped` where it was before.
     pub fn run(&mut self) -> Result<(), SearchFault>
         ensures problem { self.new.problem ≡ self.old.problem }
-        ensures runs { Runs (classes_of self.old.problem) self.old.problem.method.weight self.old.problem.method.budget self.old.status self.old.store self.new.store self.new.status }
+        ensures runs { Runs (task_of_problem self.old.problem) self.old.status self.old.store self.new.store self.new.status }
         ensures done { OnOk result (reply_of self.new.status ≡ Ok Step.Done) }
         ensures stopped { OnErr result (self.new.status ≡ Status.Stopped) }
         ensures fault { IfErr result (λ f. ((f ≡ SearchFault.Memory) × (self.old.status ≡ Status.Running)) ⊎ ((f ≡ SearchFault.Stopped) × (self.old.status ≡ Status.Stopped))) }
@@ -182,7 +183,7 @@ impl<F: Frontier + Drop, G: Game + Drop> Search<F, G> {
     // The key of the class with this number, and its mark.
     pub(crate) fn at(&self, number: u32) -> (&ClassKey, Mark)
         requires within { number < length self.now.store.stored }
-        ensures stands { Stands self.now.store number result.0.now result.1 }
+        ensures stands { IsStored self.now.store number result.0.now result.1 }
     {
         self.search.entry(number).unwrap()
     }
@@ -281,21 +282,18 @@ impl<F: Frontier + Drop, G: Game + Drop> Search<F, G> {
     }
 }
 
-// The question of a shortest list by the plain bound, under a home rule of at most 2; `Budget` where the budget is none.
+// The question of a shortest list by the plain bound; `Budget` where the budget is none.
 pub(crate) fn shortest<G: Game + Drop>(
     game: &G,
-    rule: u8,
+    rule: HomeRule,
     budget: u32,
 ) -> Result<Question<G>, SearchFault>
-    requires rule { rule ≤ GREATEST_RULE }
-    ensures game { IfOk result (λ question. question.game ≡ G.game game.now) }
-    ensures method { IfOk result (λ question. question.method ≡ as_written rule budget) }
+    ensures question { IfOk result (λ question. question ≡ shortest_asked (G.game game.now) rule budget) }
     ensures range { OnOk result (IsBudget budget) }
     ensures fault { IfErr result (λ f. (f ≡ SearchFault.Budget) × (IsBudget budget → ⊥)) }
 {
-    let rule = HomeRule::new(rule).unwrap();
     match Budget::new(budget) {
-        Some(budget) => Ok(Question::new(game, Method::shortest(rule, budget))),
+        Some(budget) => Ok(Question::shortest(game, rule, budget)),
         None => Err(SearchFault::Budget),
     }
 }

@@ -7,7 +7,8 @@ ghost use Rattle.fc_best_first.specs.Search.{reply_of};
 ghost use Rattle.fc_search.specs.declared.listeners.Progress.{Progress};
 ghost use Rattle.fc_search.specs.Problem.{problem_of, shortest_from};
 ghost use Rattle.fc_search.specs.Search.{Answers, IsOneOfThree, IsRefused, IsVerdict, IsRunToEnd, HasRun};
-ghost use Rattle.fc_search.specs.Watch.{HearsAll, IsHeardAtMost, IsHeardOn, IsHeardToEnd};
+ghost use Rattle.fc_search.specs.Watch.{HearsAll, IsHeardAtMost, IsHeardToEnd};
+ghost use Rattle.fc_search.specs.inner.Watch.{IsHeardOn};
 
 use crate::listeners::{Listener, Unheard};
 use crate::searches::{Search, shortest};
@@ -16,7 +17,7 @@ use fc_answers::{Answer, Verdict};
 use fc_best_first::{SearchFault, Step};
 use fc_frontier::BucketFrontier;
 use fc_home::GREATEST_RULE;
-use fc_methods::Question;
+use fc_methods::{HomeRule, Question};
 use fc_moves::Game;
 use fc_position::Position;
 use std::alloc::{AllocError, Global};
@@ -42,7 +43,7 @@ pub fn solve<G: Game + Drop>(
     ensures range { OnOk result (IsBudget budget) }
     ensures fault { IfErr result (IsRefused budget) }
 {
-    let question = shortest(game, rule, budget)?;
+    let question = shortest(game, HomeRule::new(rule).unwrap(), budget)?;
     match solve_by(alloc, &question, position, &mut Unheard) {
         Ok(answer) => Ok(answer),
         Err(_) => Err(SearchFault::Memory),

@@ -4,9 +4,10 @@ ghost use Rattle.std.specs.Prelude.{◌≡◌, ◌≤◌, length, IfOk};
 ghost use Rattle.std.specs.List.Sorted.{IsPermutation};
 ghost use Rattle.fc_best_first.specs.Kept.{IsSound};
 ghost use Rattle.fc_bound.specs.Kinds.{guide_of};
-ghost use Rattle.fc_answers.specs.Table.{IsRising, inside, at_no_cost};
+ghost use Rattle.fc_answers.specs.Table.{IsRising};
+ghost use Rattle.fc_answers.specs.inner.Table.{at_no_cost, inside};
 ghost use Rattle.fc_search.specs.Problem.{classes_of};
-ghost use Rattle.fc_search.specs.Stored.{costs_of};
+ghost use Rattle.fc_search.specs.inner.Stored.{costs_of};
 
 use crate::searches::Search;
 use fc_answers::{Row, Table};
@@ -41,7 +42,7 @@ impl<F: Frontier + Drop, G: Game + Drop> Search<F, G> {
                 })?;
             }
         }
-        Ok(Table::sorted(space.rules.rule.get(), kind, rows))
+        Ok(Table::sorted(space.rules.rule, kind, rows))
     }
 
     // The stored classes, each at no cost.
@@ -64,6 +65,6 @@ impl<F: Frontier + Drop, G: Game + Drop> Search<F, G> {
             })?;
         }
         let space = self.search.space();
-        Ok(Table::sorted(space.rules.rule.get(), space.rules.kind, rows))
+        Ok(Table::sorted(space.rules.rule, space.rules.kind, rows))
     }
 }

@@ -9,10 +9,10 @@ ghost use Rattle.fc_moves.specs.Run.{Run};
 ghost use Rattle.fc_moves.specs.Step.{Allows};
 ghost use Rattle.fc_best_first.specs.declared.books.Mark.{Mark};
 ghost use Rattle.fc_best_first.specs.Kept.{IsSound};
-ghost use Rattle.fc_best_first.specs.Store.{Stands};
+ghost use Rattle.fc_best_first.specs.Store.{IsStored};
 ghost use Rattle.fc_canonical.specs.Key.{IsKeyOf};
 ghost use Rattle.fc_search.specs.Problem.{classes_of};
-ghost use Rattle.fc_search.specs.Walk.{IsStart, IsWay, IsAtClass, LeadsWithin, LeadsOn};
+ghost use Rattle.fc_search.specs.inner.Walk.{IsStart, IsWay, IsAtClass, LeadsWithin, LeadsOn};
 
 use crate::positions::Positions;
 use crate::searches::Search;
@@ -64,7 +64,7 @@ impl<F: Frontier + Drop, G: Game + Drop> Search<F, G> {
     fn parent(&self, number: u32) -> Option<u32>
         requires within { number < length self.now.store.stored }
         ensures value { MatchOption result (IsStart self.now.store number)
-            (λ parent. (x : List ℕ) × (mark : Mark) × Stands self.now.store number x mark × (mark.parent ≡ parent) × (parent ≢ number)) }
+            (λ parent. (x : List ℕ) × (mark : Mark) × IsStored self.now.store number x mark × (mark.parent ≡ parent) × (parent ≢ number)) }
     {
         let (_key, mark) = self.at(number);
         if mark.parent == number {

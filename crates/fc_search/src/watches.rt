@@ -6,9 +6,10 @@ ghost use Rattle.fc_position.specs.Position.{Fits};
 ghost use Rattle.fc_moves.specs.GameRules.{IsPositionOf};
 ghost use Rattle.fc_best_first.specs.Search.{Begins, Runs, reply_of};
 ghost use Rattle.fc_best_first.specs.Turn.{work_left};
-ghost use Rattle.fc_search.specs.Problem.{classes_of};
+ghost use Rattle.fc_search.specs.Problem.{classes_of, task_of_problem};
 ghost use Rattle.fc_search.specs.declared.listeners.Progress.{Progress};
-ghost use Rattle.fc_search.specs.Watch.{HearsAll, IsHeardInPart, IsHeardOn, TurnsMany, stage_of};
+ghost use Rattle.fc_search.specs.Watch.{HearsAll, IsHeardInPart, TurnsMany};
+ghost use Rattle.fc_search.specs.inner.Watch.{IsHeardOn, stage_of};
 
 use crate::listeners::{Listener, Progress};
 use crate::searches::Search;
@@ -29,7 +30,7 @@ pub(crate) fn watch<F: Frontier + Drop, G: Game + Drop, L: Listener>(
     requires begins { Begins (classes_of search.old.problem) search.old.problem.method.weight search.old.store }
     requires floor { Adds [] search.old.store.waiting (search.old.floor, 0) }
     ensures problem { search.new.problem ≡ search.old.problem }
-    ensures runs { Runs (classes_of search.old.problem) search.old.problem.method.weight search.old.problem.method.budget Status.Running search.old.store search.new.store search.new.status }
+    ensures runs { Runs (task_of_problem search.old.problem) Status.Running search.old.store search.new.store search.new.status }
     ensures done { OnOk result (reply_of search.new.status ≡ Ok Step.Done) }
     ensures heard { (heard : List Progress) × HearsAll L.hears listener.old heard listener.new
         × MatchResult result (λ done. IsHeardOn search.old.problem heard search.new) (λ refused. IsHeardInPart search.old.problem heard) }

@@ -346,7 +346,7 @@ fn added<F: Frontier + Drop>(
     f: u32,
 ) -> Offered<Sum>
     requires room { length book.old.stored ≤ budget }
-    ensures offers { Offers budget book.old book.new value mark f result }
+    ensures offers { Offers budget book.old book.new (record { key = value; mark = mark; f = f }) result }
 {
     let key = Sum { value };
     match book.find(&key) {

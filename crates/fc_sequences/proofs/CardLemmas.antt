@@ -8,7 +8,7 @@ use Rattle.fc_position.specs.Board.{last_of}
 use Rattle.fc_moves.specs.GameRules.{GameRules, Stands, Opens}
 use Rattle.fc_moves.specs.Step.{MayLand}
 use Rattle.fc_sequences.specs.Sequence.{last_cards, cards_before, IsSequence}
-use Rattle.fc_sequences.specs.Carry.{EndsInSequence, EndOpens}
+use Rattle.fc_sequences.specs.inner.Carry.{EndOpens, EndsInSequence}
 
 -- how many cards there are before the last k, and among them
 pub length-before : (k : ℕ) (cards : List ℕ) → length (cards_before k cards) ≡ length cards - k

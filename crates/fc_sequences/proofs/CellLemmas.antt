@@ -11,7 +11,8 @@ use Rattle.fc_moves.specs.GameRules.{GameRules}
 use Rattle.fc_moves.specs.Step.{Allows, Step, MayLand}
 use Rattle.fc_moves.proofs.StepLemmas.{step_keeps}
 use Rattle.fc_sequences.specs.Sequence.{last_cards, cards_before, carried}
-use Rattle.fc_sequences.specs.Carry.{EndsInSequence, MayLie, AreFreeCells, AddsRun, Carries, MayCarryBy}
+use Rattle.fc_sequences.specs.Carry.{AddsRun}
+use Rattle.fc_sequences.specs.inner.Carry.{Carries, reached_at, MayCarryBy, load_of, AreFreeCells, MayLie, EndsInSequence}
 use Rattle.fc_sequences.proofs.BoardLemmas.{Changed, carried_so, changed_once}
 use Rattle.fc_sequences.proofs.CardLemmas.{before-before, last-last, lands_after}
 use Rattle.fc_sequences.proofs.LieLemmas.{lies_rest, once_head, once_tail}
@@ -66,7 +67,7 @@ after_across g b c i j k long one may step =
     step.after ∙ ap make two ∙ ap (carried b i j) (sym one)
 
 -- where there are more cards than one, a free cell takes the last
-pub allows_aside : (g : GameRules) (b : Board) (i j k a : ℕ) (cells others : List ℕ) → cells ≡ a ∷ others → MayCarryBy g b i j k cells
+pub allows_aside : (g : GameRules) (b : Board) (i j k a : ℕ) (cells others : List ℕ) → cells ≡ a ∷ others → MayCarryBy g b (load_of i j k) cells
     → Allows g b (aside i a)
 allows_aside g b i j k a cells others e may =
     let cards = column b i in
@@ -105,7 +106,7 @@ aside_so g b c i a within step =
 
 -- the last card of several is put aside in the first of the cells
 pub record PutsAside (g : GameRules) (b : Board) (i j k a : ℕ) (cells others : List ℕ) (c : Board) : Type 0 where
-  pub may : MayCarryBy g b i j k cells
+  pub may : MayCarryBy g b (load_of i j k) cells
   pub more : k ≢ 1
   pub first : cells ≡ a ∷ others
   pub step : Step g b (aside i a) c
@@ -118,12 +119,12 @@ parted : (cells : List ℕ) → 1 ≤ length cells → cells ≡ get_or cells 0 
 parted cells some_cells = drop_more cells 0 0 (omega arith) ∙ ap (λ l. get_or cells 0 0 ∷ l) (sym (take_rest cells 1))
 
 -- more cards than one may be carried where there is a cell
-pub parts : (g : GameRules) (b : Board) (i j k : ℕ) (cells : List ℕ) → MayCarryBy g b i j k cells → k ≢ 1
+pub parts : (g : GameRules) (b : Board) (i j k : ℕ) (cells : List ℕ) → MayCarryBy g b (load_of i j k) cells → k ≢ 1
     → cells ≡ get_or cells 0 0 ∷ later cells
 parts g b i j k cells may more =
     parted cells (⊎_elim (λ e. absurd (more e)) (λ ne. omega (arith, may.enough, may.lies.some_cards)) (cases_eq k 1))
 
-pub puts_aside : (g : GameRules) (b : Board) (i j k : ℕ) (cells : List ℕ) (c : Board) → MayCarryBy g b i j k cells → k ≢ 1
+pub puts_aside : (g : GameRules) (b : Board) (i j k : ℕ) (cells : List ℕ) (c : Board) → MayCarryBy g b (load_of i j k) cells → k ≢ 1
     → Step g b (aside i (get_or cells 0 0)) c → PutsAside g b i j k (get_or cells 0 0) cells (later cells) c
 puts_aside g b i j k cells c may more step = record {
   may = may;
@@ -138,7 +139,7 @@ long_of g b c i j k a cells others p = aside_so g b c i a (omega (arith, p.may.l
 
 -- then the others may be carried over the other cells
 pub by_rest : (g : GameRules) (b c : Board) (i j k a : ℕ) (cells others : List ℕ) → PutsAside g b i j k a cells others c
-    → MayCarryBy g c i j (k - 1) others
+    → MayCarryBy g c (load_of i j (k - 1)) others
 by_rest g b c i j k a cells others p =
     let lies = p.may.lies in
     let d = long_of g b c i j k a cells others p in
@@ -259,8 +260,8 @@ after_back g b c d e i j k a cells others p after step =
     (carried_so b i j k eight lies.from lies.to lies.other)
 
 pub carried_by : (g : GameRules) (b c d e : Board) (i j k a : ℕ) (cells others : List ℕ) (w x y z : List Move)
-    → PutsAside g b i j k a cells others c → AddsRun g b w c x → length x ≡ length w + 1 → Carries g c i j (k - 1) (2 * (k - 1) - 1) x d y
-    → Step g d (back a j) e → AddsRun g d y e z → length z ≡ length y + 1 → Carries g b i j k (2 * k - 1) w e z
+    → PutsAside g b i j k a cells others c → AddsRun g b w c x → length x ≡ length w + 1 → Carries g (load_of i j (k - 1)) (2 * (k - 1) - 1) (reached_at c x) (reached_at d y)
+    → Step g d (back a j) e → AddsRun g d y e z → length z ≡ length y + 1 → Carries g (load_of i j k) (2 * k - 1) (reached_at b w) (reached_at e z)
 carried_by g b c d e i j k a cells others w x y z p one first two step three last = record {
   after = after_back g b c d e i j k a cells others p two.after step;
   run = adds_on g b d e w y z (adds_on g b c d w x y one two.run) three;

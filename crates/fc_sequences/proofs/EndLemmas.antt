@@ -14,7 +14,7 @@ use Rattle.fc_sequences.specs.declared.lists.ListFault.TheVariants.{Refused, Too
 use Rattle.fc_sequences.specs.declared.pairs.Pair.{Pair}
 use Rattle.fc_sequences.specs.declared.trees.Node.{Node}
 use Rattle.fc_sequences.specs.Following.{Expands, Follows, LeadsToMany, LeadToFewBefore, IsListFault}
-use Rattle.fc_sequences.specs.Tree.{IsGrown, IsGrownTo, boards_of}
+use Rattle.fc_sequences.specs.inner.Tree.{IsGrown, IsGrownTo, boards_of}
 use Rattle.fc_sequences.proofs.GetLemmas.{get_drop, no_more}
 use Rattle.fc_sequences.proofs.GrowLemmas.{board_held, level_of}
 

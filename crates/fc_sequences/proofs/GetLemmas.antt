@@ -1,7 +1,7 @@
 -- Elements of a list that has one more, and lists that hold the elements of another.
 use Rattle.std.proofs.Common.{◌≡◌, ◌≢◌, ◌⊎◌, ℕ, ◌+◌, ◌≤◌, zero, suc, List, [], ◌∷◌, ◌++◌, length, get_or, take, drop, Some, refl, sym, ◌∙◌, ap, subst, inl, inr, ⊎_elim, zero-add, arith}
 use Rattle.std.specs.Prelude.{slice_get, All, AllPairs, Contains, OnOk, Result, Ok, Err}
-use Rattle.fc_moves.specs.GameLaws.{Contains-cases, Contains-first, Contains-later}
+use Rattle.fc_moves.specs.inner.GameLaws.{Contains-cases, Contains-first, Contains-later}
 
 -- an element stays where it is
 pub get_old : {X : Type 0} (xs ys : List X) (i : ℕ) (x : X) → slice_get xs i ≡ Some x → slice_get (xs ++ ys) i ≡ Some x

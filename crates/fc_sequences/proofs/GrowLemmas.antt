@@ -10,13 +10,13 @@ use Rattle.fc_cards.specs.declared.places.Place.{Place}
 use Rattle.fc_cards.specs.declared.places.Place.TheVariants.{Column, Cell, Home}
 use Rattle.fc_position.specs.Board.{Board}
 use Rattle.fc_moves.specs.GameRules.{GameRules, IsPositionOf}
-use Rattle.fc_moves.specs.GameLaws.{Contains-cases, Contains-first, Contains-later}
+use Rattle.fc_moves.specs.inner.GameLaws.{Contains-cases, Contains-first, Contains-later}
 use Rattle.fc_moves.proofs.StepLemmas.{step_once}
 use Rattle.fc_sequences.specs.declared.pairs.Pair.{Pair}
 use Rattle.fc_sequences.specs.declared.trees.Node.{Node}
 use Rattle.fc_sequences.specs.Pair.{PlaysCards, PlaysBy, PlaysPair}
 use Rattle.fc_sequences.specs.Following.{Follows}
-use Rattle.fc_sequences.specs.Tree.{IsChild, IsNode, IsTree, IsGrown, IsGrowing, boards_of}
+use Rattle.fc_sequences.specs.inner.Tree.{IsChild, IsNode, IsTree, IsGrown, IsGrowing, boards_of, growth}
 use Rattle.fc_sequences.proofs.GetLemmas.{get_old, get_cases, get_drop, drop_get, take_next}
 use Rattle.fc_sequences.proofs.TreeLemmas.{follows_push, follows_pop}
 
@@ -104,9 +104,9 @@ get_before nodes child i node within found =
 
 -- one more number of cards was tried, and the board to which it leads is there
 pub growing_there : (g : GameRules) (b : Board) (ps : List Pair) (pair : Pair) (nodes : List Node) (depth start layer parent count : ℕ) (from : Node)
-    → IsGrowing g b ps pair nodes depth start layer parent count → slice_get nodes parent ≡ Some from
+    → IsGrowing g b ps pair nodes (growth depth start layer parent count) → slice_get nodes parent ≡ Some from
     → ((c : Board) → PlaysBy g from.position pair count c → Contains (boards_of (drop layer nodes)) c)
-    → IsGrowing g b ps pair nodes depth start layer parent (count + 1)
+    → IsGrowing g b ps pair nodes (growth depth start layer parent (count + 1))
 growing_there g b ps pair nodes depth start layer parent count from growing stands led = record {
   tree = growing.tree;
   entry = growing.entry;
@@ -130,10 +130,10 @@ apart boards c new k d below e = new (subst (Contains boards) e (Contains-get_or
 
 -- one more board was added
 pub growing_push : (g : GameRules) (b : Board) (ps : List Pair) (pair : Pair) (nodes : List Node) (depth start layer parent count : ℕ) (from child : Node)
-    → IsGrowing g b ps pair nodes depth start layer parent count → start ≤ parent → parent < layer → slice_get nodes parent ≡ Some from
+    → IsGrowing g b ps pair nodes (growth depth start layer parent count) → start ≤ parent → parent < layer → slice_get nodes parent ≡ Some from
     → IsChild g from parent pair count child → IsPositionOf g child.position
     → (Contains (boards_of (drop layer nodes)) child.position → ⊥)
-    → IsGrowing g b ps pair (nodes ++ child ∷ []) depth start layer parent (count + 1)
+    → IsGrowing g b ps pair (nodes ++ child ∷ []) (growth depth start layer parent (count + 1))
 growing_push g b ps pair nodes depth start layer parent count from child growing first there stands is position new =
     let within : layer ≤ length nodes = growing.within in
     let boards = boards_push nodes child layer within in
@@ -165,10 +165,10 @@ growing_push g b ps pair nodes depth start layer parent count from child growing
 
 -- the next board is played from
 pub growing_next : (g : GameRules) (b : Board) (ps : List Pair) (pair : Pair) (nodes : List Node) (depth start layer parent count : ℕ)
-    → IsGrowing g b ps pair nodes depth start layer parent count
+    → IsGrowing g b ps pair nodes (growth depth start layer parent count)
     → ((node : Node) (k : ℕ) (c : Board) → slice_get nodes parent ≡ Some node → PlaysBy g node.position pair k c → k < count)
     → ((node : Node) (c : Board) → PlaysBy g node.position pair 0 c → ⊥)
-    → IsGrowing g b ps pair nodes depth start layer (parent + 1) 1
+    → IsGrowing g b ps pair nodes (growth depth start layer (parent + 1) 1)
 growing_next g b ps pair nodes depth start layer parent count growing all none = record {
   tree = growing.tree;
   entry = growing.entry;
@@ -216,7 +216,7 @@ board_held nodes start c within held =
 pub growing_first : (g : GameRules) (b : Board) (ps : List Pair) (pair : Pair) (nodes : List Node) (depth start : ℕ)
     → IsGrown g b ps nodes depth start → slice_get ps depth ≡ Some pair
     → ((node : Node) (c : Board) → PlaysBy g node.position pair 0 c → ⊥)
-    → IsGrowing g b ps pair nodes depth start (length nodes) start 1
+    → IsGrowing g b ps pair nodes (growth depth start (length nodes) start 1)
 growing_first g b ps pair nodes depth start grown entry none =
     let past : drop (length nodes) nodes ≡ [] = drop_all (length nodes) nodes (omega arith) in
     record {
@@ -233,7 +233,7 @@ growing_first g b ps pair nodes depth start grown entry none =
 
 -- when all boards of a layer were played from, the next one is whole
 pub growing_last : (g : GameRules) (b : Board) (ps : List Pair) (pair : Pair) (nodes : List Node) (depth start layer : ℕ)
-    → IsGrowing g b ps pair nodes depth start layer layer 1 → IsGrown g b ps nodes (depth + 1) layer
+    → IsGrowing g b ps pair nodes (growth depth start layer layer 1) → IsGrown g b ps nodes (depth + 1) layer
 growing_last g b ps pair nodes depth start layer growing = record {
   tree = growing.tree;
   within = growing.within;
@@ -249,9 +249,9 @@ growing_last g b ps pair nodes depth start layer growing = record {
 
 -- by so many cards the entry leads nowhere
 pub growing_skip : (g : GameRules) (b : Board) (ps : List Pair) (pair : Pair) (nodes : List Node) (depth start layer parent count : ℕ) (from : Node)
-    → IsGrowing g b ps pair nodes depth start layer parent count → slice_get nodes parent ≡ Some from
+    → IsGrowing g b ps pair nodes (growth depth start layer parent count) → slice_get nodes parent ≡ Some from
     → ((c : Board) × PlaysBy g from.position pair count c → ⊥)
-    → IsGrowing g b ps pair nodes depth start layer parent (count + 1)
+    → IsGrowing g b ps pair nodes (growth depth start layer parent (count + 1))
 growing_skip g b ps pair nodes depth start layer parent count from growing stands never =
     growing_there g b ps pair nodes depth start layer parent count from growing stands (λ c plays. absurd (never (c, plays)))
 
@@ -280,9 +280,9 @@ of_board nodes c held =
 
 -- by so many cards the entry leads to a board that is there
 pub growing_held : (g : GameRules) (b : Board) (ps : List Pair) (pair : Pair) (nodes : List Node) (depth start layer parent count : ℕ) (from child : Node)
-    → IsGrowing g b ps pair nodes depth start layer parent count → slice_get nodes parent ≡ Some from
+    → IsGrowing g b ps pair nodes (growth depth start layer parent count) → slice_get nodes parent ≡ Some from
     → IsChild g from parent pair count child → Any (λ n. n.position ≡ child.position) (drop layer nodes)
-    → IsGrowing g b ps pair nodes depth start layer parent (count + 1)
+    → IsGrowing g b ps pair nodes (growth depth start layer parent (count + 1))
 growing_held g b ps pair nodes depth start layer parent count from child growing stands is held =
     growing_there g b ps pair nodes depth start layer parent count from growing stands
     (λ c plays. subst (Contains (boards_of (drop layer nodes))) (plays_once g from.position pair count child.position c is.played plays)
@@ -290,16 +290,16 @@ growing_held g b ps pair nodes depth start layer parent count from child growing
 
 -- or to one that isn't
 pub growing_new : (g : GameRules) (b : Board) (ps : List Pair) (pair : Pair) (nodes : List Node) (depth start layer parent count : ℕ) (from child : Node)
-    → IsGrowing g b ps pair nodes depth start layer parent count → start ≤ parent → parent < layer → slice_get nodes parent ≡ Some from
+    → IsGrowing g b ps pair nodes (growth depth start layer parent count) → start ≤ parent → parent < layer → slice_get nodes parent ≡ Some from
     → IsChild g from parent pair count child → IsPositionOf g child.position
     → (Any (λ n. n.position ≡ child.position) (drop layer nodes) → ⊥)
-    → IsGrowing g b ps pair (nodes ++ child ∷ []) depth start layer parent (count + 1)
+    → IsGrowing g b ps pair (nodes ++ child ∷ []) (growth depth start layer parent (count + 1))
 growing_new g b ps pair nodes depth start layer parent count from child growing first there stands is position new =
     growing_push g b ps pair nodes depth start layer parent count from child growing first there stands is position
     (λ held. new (of_board (drop layer nodes) child.position held))
 
 -- the node that stands at a number
 pub node_at : (g : GameRules) (b : Board) (ps : List Pair) (pair : Pair) (nodes : List Node) (depth start layer parent count i : ℕ) (node : Node)
-    → IsGrowing g b ps pair nodes depth start layer parent count → i < layer → node ≡ get_or nodes i node → slice_get nodes i ≡ Some node
+    → IsGrowing g b ps pair nodes (growth depth start layer parent count) → i < layer → node ≡ get_or nodes i node → slice_get nodes i ≡ Some node
 node_at g b ps pair nodes depth start layer parent count i node growing within is =
     slice_get_read nodes (length nodes) i node refl (omega (arith, growing.within)) is

@@ -5,7 +5,7 @@ use Rattle.fc_position.specs.Board.{Board, column}
 use Rattle.fc_moves.specs.GameRules.{GameRules}
 use Rattle.fc_moves.specs.Step.{MayLand}
 use Rattle.fc_sequences.specs.Sequence.{last_cards, cards_before}
-use Rattle.fc_sequences.specs.Carry.{EndsInSequence, EndOpens, MayLie, AreFreeCells, AreSpareColumns}
+use Rattle.fc_sequences.specs.inner.Carry.{AreSpareColumns, AreFreeCells, MayLie, EndOpens, EndsInSequence}
 use Rattle.fc_sequences.proofs.CardLemmas.{length-before, length-last, first_before, first_last, sequence_before, sequence_last, lands_after}
 
 -- the last h of a longer sequence may lie on an empty column

@@ -8,7 +8,8 @@ use Rattle.fc_position.specs.Board.{Board, column}
 use Rattle.fc_moves.specs.declared.steps.Move.{Move}
 use Rattle.fc_moves.specs.GameRules.{GameRules, IsPositionOf}
 use Rattle.fc_sequences.specs.Sequence.{last_cards, cards_before, carried}
-use Rattle.fc_sequences.specs.Carry.{AreSpareColumns, EndOpens, Carries, MayCarryOver, carry_moves}
+use Rattle.fc_sequences.specs.Carry.{carry_moves}
+use Rattle.fc_sequences.specs.inner.Carry.{Carries, reached_at, MayCarryOver, load_of, AreSpareColumns, EndOpens}
 use Rattle.fc_sequences.proofs.BoardLemmas.{Changed, carried_so, changed_once}
 use Rattle.fc_sequences.proofs.CardLemmas.{length-last, before-before, last-last, last_all, before_all, opens_before, opens_last}
 use Rattle.fc_sequences.proofs.LieLemmas.{lies_aside, lies_rest, lies_back, free_same, spare_still}
@@ -17,7 +18,7 @@ use Rattle.fc_sequences.proofs.RunLemmas.{adds_on}
 
 -- where the other columns are enough, the first is not needed
 pub over_others : (g : GameRules) (b : Board) (i j k s : ℕ) (cells columns others : List ℕ) → columns ≡ s ∷ others
-    → k ≤ (length cells + 1) * 2 ^ length others → MayCarryOver g b i j k cells columns → MayCarryOver g b i j k cells others
+    → k ≤ (length cells + 1) * 2 ^ length others → MayCarryOver g b (load_of i j k) cells columns → MayCarryOver g b (load_of i j k) cells others
 over_others g b i j k s cells columns others e enough may = record {
   lies = may.lies;
   opens = may.opens;
@@ -29,14 +30,14 @@ over_others g b i j k s cells columns others e enough may = record {
 
 -- the last k cards are h and the r before them, as many as the columns after the first can do
 pub record Halves (g : GameRules) (b : Board) (i j s h r : ℕ) (cells others : List ℕ) : Type 0 where
-  pub may : MayCarryOver g b i j (h + r) cells (s ∷ others)
+  pub may : MayCarryOver g b (load_of i j (h + r)) cells (s ∷ others)
   pub last : 1 ≤ h
   pub rest : r ≡ (length cells + 1) * 2 ^ length others
 
 pub halves : (g : GameRules) (b : Board) (i j k s h r : ℕ) (cells columns others : List ℕ) → columns ≡ s ∷ others → k ≡ h + r → 1 ≤ h
-    → r ≡ (length cells + 1) * 2 ^ length others → MayCarryOver g b i j k cells columns → Halves g b i j s h r cells others
+    → r ≡ (length cells + 1) * 2 ^ length others → MayCarryOver g b (load_of i j k) cells columns → Halves g b i j s h r cells others
 halves g b i j k s h r cells columns others e sum last rest may = record {
-  may = subst (λ n. MayCarryOver g b i j n cells (s ∷ others)) sum (subst (λ (l : List ℕ). MayCarryOver g b i j k cells l) e may);
+  may = subst (λ n. MayCarryOver g b (load_of i j n) cells (s ∷ others)) sum (subst (λ (l : List ℕ). MayCarryOver g b (load_of i j k) cells l) e may);
   last = last;
   rest = rest;
 }
@@ -50,7 +51,7 @@ one_power a m = omega (arith, mul-pos {m = a + 1} {n = 2 ^ m} (omega arith) (pow
 
 -- the last half may be carried aside
 pub over_aside : (g : GameRules) (b : Board) (i j s h r : ℕ) (cells others : List ℕ) → Halves g b i j s h r cells others
-    → MayCarryOver g b i s h cells others
+    → MayCarryOver g b (load_of i s h) cells others
 over_aside g b i j s h r cells others p =
     let may = p.may in
     let first = may.spare.spare 0 0 (omega arith) in
@@ -67,7 +68,7 @@ over_aside g b i j s h r cells others p =
 
 -- then the cards before them to their place
 pub over_rest : (g : GameRules) (b c : Board) (i j s h r : ℕ) (cells others : List ℕ) → Halves g b i j s h r cells others
-    → IsPositionOf g c → c ≡ carried b i s h → MayCarryOver g c i j r cells others
+    → IsPositionOf g c → c ≡ carried b i s h → MayCarryOver g c (load_of i j r) cells others
 over_rest g b c i j s h r cells others p fits after =
     let may = p.may in
     let cards = column b i in
@@ -121,7 +122,7 @@ between_so g b c d i j s h r cells others p one two =
 
 -- and then the last half after them
 pub over_back : (g : GameRules) (b c d : Board) (i j s h r : ℕ) (cells others : List ℕ) → Halves g b i j s h r cells others
-    → IsPositionOf g d → c ≡ carried b i s h → d ≡ carried c i j r → MayCarryOver g d s j h cells others
+    → IsPositionOf g d → c ≡ carried b i s h → d ≡ carried c i j r → MayCarryOver g d (load_of s j h) cells others
 over_back g b c d i j s h r cells others p fits one two =
     let may = p.may in
     let cards = column b i in
@@ -173,10 +174,10 @@ after_back g b c d e i j s h r cells others p one two three =
     (carried_so b i j (h + r) eight may.lies.from may.lies.to may.lies.other)
 
 pub carried_over : (g : GameRules) (b c d e : Board) (i j k s h r : ℕ) (cells columns others : List ℕ) (w x y z : List Move) → k ≡ h + r
-    → columns ≡ s ∷ others → Halves g b i j s h r cells others → Carries g b i s h (carry_moves (length cells) (length others) h) w c x
-    → Carries g c i j r (carry_moves (length cells) (length others) r) x d y
-    → Carries g d s j h (carry_moves (length cells) (length others) h) y e z
-    → Carries g b i j k (carry_moves (length cells) (length columns) k) w e z
+    → columns ≡ s ∷ others → Halves g b i j s h r cells others → Carries g (load_of i s h) (carry_moves (length cells) (length others) h) (reached_at b w) (reached_at c x)
+    → Carries g (load_of i j r) (carry_moves (length cells) (length others) r) (reached_at c x) (reached_at d y)
+    → Carries g (load_of s j h) (carry_moves (length cells) (length others) h) (reached_at d y) (reached_at e z)
+    → Carries g (load_of i j k) (carry_moves (length cells) (length columns) k) (reached_at b w) (reached_at e z)
 carried_over g b c d e i j k s h r cells columns others w x y z sum parts p one two three = record {
   after = after_back g b c d e i j s h r cells others p one.after two.after three.after ∙ ap (carried b i j) (sym sum);
   run = adds_on g b d e w y z (adds_on g b c d w x y one.run two.run) three.run;
@@ -188,15 +189,15 @@ carried_over g b c d e i j k s h r cells columns others w x y z sum parts p one 
 
 -- where the other columns did it
 pub carried_by_others : (g : GameRules) (b c : Board) (i j k s : ℕ) (cells columns others : List ℕ) (w x : List Move) → columns ≡ s ∷ others
-    → k ≤ (length cells + 1) * 2 ^ length others → Carries g b i j k (carry_moves (length cells) (length others) k) w c x
-    → Carries g b i j k (carry_moves (length cells) (length columns) k) w c x
+    → k ≤ (length cells + 1) * 2 ^ length others → Carries g (load_of i j k) (carry_moves (length cells) (length others) k) (reached_at b w) (reached_at c x)
+    → Carries g (load_of i j k) (carry_moves (length cells) (length columns) k) (reached_at b w) (reached_at c x)
 carried_by_others g b c i j k s cells columns others w x parts few one =
-    subst (λ n. Carries g b i j k n w c x)
+    subst (λ n. Carries g (load_of i j k) n (reached_at b w) (reached_at c x))
     (sym (ap (λ (l : List ℕ). carry_moves (length cells) (length l) k) parts ∙ moves_others (length cells) (length others) k few)) one
 
 -- where there are none
 pub carried_alone : (g : GameRules) (b c : Board) (i j k : ℕ) (cells columns : List ℕ) (w x : List Move) → length columns ≡ 0
-    → Carries g b i j k (2 * k - 1) w c x → Carries g b i j k (carry_moves (length cells) (length columns) k) w c x
+    → Carries g (load_of i j k) (2 * k - 1) (reached_at b w) (reached_at c x) → Carries g (load_of i j k) (carry_moves (length cells) (length columns) k) (reached_at b w) (reached_at c x)
 carried_alone g b c i j k cells columns w x none one =
-    subst (λ n. Carries g b i j k n w c x)
+    subst (λ n. Carries g (load_of i j k) n (reached_at b w) (reached_at c x))
     (sym (ap (λ n. carry_moves (length cells) n k) none ∙ moves_alone (length cells) k)) one

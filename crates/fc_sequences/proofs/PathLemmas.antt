@@ -12,7 +12,7 @@ use Rattle.fc_sequences.specs.declared.trees.Node.{Node}
 use Rattle.fc_sequences.specs.Carry.{AddsRun}
 use Rattle.fc_sequences.specs.Pair.{PlaysBy, moves_for}
 use Rattle.fc_sequences.specs.Following.{Expands}
-use Rattle.fc_sequences.specs.Tree.{ComesFrom, IsTree, Leads}
+use Rattle.fc_sequences.specs.inner.Tree.{ComesFrom, IsTree, Leads}
 use Rattle.fc_sequences.proofs.GetLemmas.{take_next}
 use Rattle.fc_sequences.proofs.GrowLemmas.{plays_once}
 use Rattle.fc_sequences.proofs.TreeLemmas.{expands_push}

@@ -12,7 +12,7 @@ use Rattle.fc_position.specs.Board.{Board, column, cell}
 use Rattle.fc_moves.specs.GameRules.{GameRules, IsGame, IsPositionOf, Opens}
 use Rattle.fc_moves.specs.Step.{MayLand}
 use Rattle.fc_sequences.specs.Sequence.{free_cells, is_spare, spare_columns, last_cards, IsSequence, AreEnough, MayCarry}
-use Rattle.fc_sequences.specs.Carry.{AreFreeCells, AreSpareColumns, EndOpens, MayLie, MayCarryBy, MayCarryOver}
+use Rattle.fc_sequences.specs.inner.Carry.{MayCarryOver, MayCarryBy, load_of, AreSpareColumns, AreFreeCells, MayLie, EndOpens}
 use Rattle.fc_sequences.proofs.CardLemmas.{length-last, last-at, ends_in}
 
 -- a range names each number below its end once
@@ -93,7 +93,7 @@ end_opens g k cards there opens a low within =
 
 -- what may be carried may be carried over the free cells, where they are enough
 pub may_by : (g : GameRules) (b : Board) (i j k : ℕ) (cells : List ℕ) → IsGame g → IsPositionOf g b → MayCarry g b i j k
-    → cells ≡ free_cells g b → length cells ≤ 4 → k ≤ length cells + 1 → MayCarryBy g b i j k cells
+    → cells ≡ free_cells g b → length cells ≤ 4 → k ≤ length cells + 1 → MayCarryBy g b (load_of i j k) cells
 may_by g b i j k cells game fits may e few enough = record {
   lies = may_lie g b i j k may;
   free = cells_are_free g b cells game e few;
@@ -104,7 +104,7 @@ may_by g b i j k cells game fits may e few enough = record {
 -- else over the spare columns too
 pub may_over : (g : GameRules) (b : Board) (i j k : ℕ) (cells columns : List ℕ) → IsGame g → IsPositionOf g b → MayCarry g b i j k
     → cells ≡ free_cells g b → columns ≡ spare_columns b j → length cells ≤ 4 → length columns ≤ 8 → length cells + 1 < k
-    → MayCarryOver g b i j k cells columns
+    → MayCarryOver g b (load_of i j k) cells columns
 unfolding spare_columns
 may_over g b i j k cells columns game fits may e f few few_columns more =
     let long = length-last k (column b i) may.there in

@@ -2,4 +2,4 @@ pub mod Carry
 pub mod Following
 pub mod Pair
 pub mod Sequence
-pub mod Tree
+pub mod inner

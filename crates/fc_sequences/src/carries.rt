@@ -2,13 +2,14 @@
 
 ghost use Rattle.std.specs.Prelude.{◌≡◌, ◌↔◌, ◌<◌, ◌≤◌, ◌+◌, ◌-◌, ◌*◌, ◌^◌, length, All, IsTrue, OnOk};
 ghost use Rattle.fc_moves.specs.GameRules.{IsPositionOf, Opens};
-ghost use Rattle.fc_moves.specs.Step.{Allows, Step, MayLand};
+ghost use Rattle.fc_moves.specs.Step.{Allows, Step};
 ghost use Rattle.fc_sequences.specs.Sequence.{AreEnough, IsSequence, MayCarry, carried, free_cells, spare_columns};
-ghost use Rattle.fc_sequences.specs.Carry.{AddsRun, Carries, MayCarryBy, MayCarryOver, carry_moves};
+ghost use Rattle.fc_sequences.specs.Carry.{AddsRun, carry_moves};
+ghost use Rattle.fc_sequences.specs.inner.Carry.{Carries, reached_at, MayCarryOver, MayCarryBy};
 
 use crate::spaces::{free_cells, spare_columns};
 use fc_cards::{Card, Place};
-use fc_moves::{Game, Move, apply};
+use fc_moves::{Game, Move, apply, may_land};
 use fc_position::Position;
 use std::alloc::AllocError;
 
@@ -54,20 +55,27 @@ pub fn carry<G: Game>(
     ensures whole { OnOk result (IsPositionOf (G.game game.now) position.new) }
 {
     let cells = free_cells(game, position);
+    let load = Load { from, to, count };
     if count as usize <= cells.len() + 1 {
-        return carry_by_cells(game, position, from, to, count, cells.as_slice(), moves);
+        return carry_by_cells(game, position, load, cells.as_slice(), moves);
     }
     let columns = spare_columns(position, to);
     carry_over(
         game,
         position,
-        from,
-        to,
-        count,
+        load,
         cells.as_slice(),
         columns.as_slice(),
         moves,
     )
+}
+
+// Cards that are carried: the last `count` of column `from`, to column `to`.
+#[derive(Clone, Copy)]
+struct Load {
+    from: u8,
+    to: u8,
+    count: u8,
 }
 
 // Carries cards over these free cells and these spare columns: where there are more than the others can do, first so many
@@ -75,51 +83,70 @@ pub fn carry<G: Game>(
 fn carry_over<G: Game>(
     game: &G,
     position: &mut Position,
-    from: u8,
-    to: u8,
-    count: u8,
+    load: Load,
     cells: &[u8],
     columns: &[u8],
     moves: &mut Vec<Move>,
 ) -> Result<(), AllocError>
-    requires { MayCarryOver (G.game game.now) position.old from to count cells.now columns.now }
-    ensures { OnOk result (Carries (G.game game.now) position.old from to count (carry_moves (length cells.now) (length columns.now) count)
-        moves.old.items position.new moves.new.items) }
+    requires { MayCarryOver (G.game game.now) position.old load cells.now columns.now }
+    ensures { OnOk result (Carries (G.game game.now) load (carry_moves (length cells.now) (length columns.now) load.count)
+        (reached_at position.old moves.old.items) (reached_at position.new moves.new.items)) }
 {
     let Some((column, others)) = columns.split_first() else {
-        return carry_by_cells(game, position, from, to, count, cells, moves);
+        return carry_by_cells(game, position, load, cells, moves);
     };
+    let Load { from, to, count } = load;
     let most = room(cells.len(), others.len());
     if count as usize <= most {
-        return carry_over(game, position, from, to, count, cells, others, moves);
+        return carry_over(game, position, load, cells, others, moves);
     }
     let rest = most as u8;
     let last = count - rest;
-    carry_over(game, position, from, *column, last, cells, others, moves)?;
-    carry_over(game, position, from, to, rest, cells, others, moves)?;
-    carry_over(game, position, *column, to, last, cells, others, moves)
+    let aside = Load {
+        from,
+        to: *column,
+        count: last,
+    };
+    let onto = Load {
+        from,
+        to,
+        count: rest,
+    };
+    let back = Load {
+        from: *column,
+        to,
+        count: last,
+    };
+    carry_over(game, position, aside, cells, others, moves)?;
+    carry_over(game, position, onto, cells, others, moves)?;
+    carry_over(game, position, back, cells, others, moves)
 }
 
 // Carries cards over these free cells.
 fn carry_by_cells<G: Game>(
     game: &G,
     position: &mut Position,
-    from: u8,
-    to: u8,
-    count: u8,
+    load: Load,
     cells: &[u8],
     moves: &mut Vec<Move>,
 ) -> Result<(), AllocError>
-    requires { MayCarryBy (G.game game.now) position.old from to count cells.now }
-    ensures { OnOk result (Carries (G.game game.now) position.old from to count (2 * count - 1) moves.old.items position.new moves.new.items) }
+    requires { MayCarryBy (G.game game.now) position.old load cells.now }
+    ensures { OnOk result (Carries (G.game game.now) load (2 * load.count - 1)
+        (reached_at position.old moves.old.items) (reached_at position.new moves.new.items)) }
 {
+    let Load { from, to, count } = load;
     let (source, target) = (Place::Column(from), Place::Column(to));
     if count == 1 {
         return step(game, position, source, target, moves);
     }
     let aside = Place::Cell(cells[0]);
     step(game, position, source, aside, moves)?;
-    carry_by_cells(game, position, from, to, count - 1, &cells[1..], moves)?;
+    let others = Load {
+        from,
+        to,
+        count: count - 1,
+    };
+    carry_by_cells(game, position, others, &cells[1..], moves)?;
     step(game, position, aside, target, moves)
 }
 
@@ -161,16 +188,6 @@ fn is_sequence<G: Game>(game: &G, cards: &[Card]) -> bool
         }
     }
     true
-}
-
-// Whether a card may go to a column with these cards.
-fn may_land<G: Game>(game: &G, cards: &[Card], card: Card) -> bool
-    ensures value { IsTrue result ↔ MayLand (G.game game.now) cards.now card }
-{
-    match cards.last() {
-        Some(last) => game.stands(card, *last),
-        None => game.opens(card),
-    }
 }
 
 // Whether there are enough free cells and spare columns for cards that are to lie on a column.

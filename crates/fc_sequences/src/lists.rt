@@ -5,7 +5,7 @@ ghost use Rattle.fc_position.specs.Board.{Board};
 ghost use Rattle.fc_position.specs.Position.{IsWon};
 ghost use Rattle.fc_moves.specs.GameRules.{GameRules, IsPositionOf};
 ghost use Rattle.fc_sequences.specs.Following.{Expands, Follows, LeadsToMany, IsListFault};
-ghost use Rattle.fc_sequences.specs.Tree.{IsGrownTo, IsTree, Leads, boards_of};
+ghost use Rattle.fc_sequences.specs.inner.Tree.{IsGrownTo, IsTree, Leads, boards_of};
 ghost use Rattle.fc_sequences.specs.declared.trees.Node.{Node};
 ghost use Rattle.fc_sequences.specs.declared.pairs.Pair.{Pair};
 

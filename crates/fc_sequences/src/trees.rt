@@ -5,7 +5,7 @@ ghost use Rattle.fc_position.specs.Board.{Board};
 ghost use Rattle.fc_moves.specs.GameRules.{GameRules, IsPositionOf};
 ghost use Rattle.fc_sequences.specs.declared.pairs.Pair.{Pair};
 ghost use Rattle.fc_sequences.specs.Pair.{PlaysBy};
-ghost use Rattle.fc_sequences.specs.Tree.{IsChild, IsGrown, IsGrowing, boards_of};
+ghost use Rattle.fc_sequences.specs.inner.Tree.{IsChild, IsGrown, IsGrowing, boards_of, growth};
 
 use crate::pairs::{Pair, may_play, play_pair};
 use fc_moves::Game;
@@ -53,57 +53,62 @@ pub(crate) fn add_layer<G: Game>(
 {
     let layer = nodes.len();
     for parent in start..layer {
-        add_children(alloc, game, pair, nodes, parent, layer)?;
+        add_children(alloc, game, Layer { pair, first: layer }, nodes, parent)?;
     }
     Ok(())
 }
 
-// Adds the boards to which an entry leads from the board of a number, that aren't there from the number `layer` on.
+// A layer of boards that grows: the entry by which they are reached, and the number of the first of them.
+#[derive(Clone, Copy)]
+struct Layer {
+    pair: Pair,
+    first: usize,
+}
+
+// Adds the boards to which an entry leads from the board of a number, that aren't there in the next layer.
 fn add_children<G: Game>(
     alloc: Global,
     game: &G,
-    pair: Pair,
+    layer: Layer,
     nodes: &mut Vec<Node>,
     parent: usize,
-    layer: usize,
 ) -> Result<(), AllocError>
     requires growing { (b : Board) × (ps : List Pair) × (depth : ℕ) × (start : ℕ)
-        × (IsGrowing (G.game game.now) b ps pair nodes.old.items depth start layer parent 1 × (start ≤ parent) × (length ps < 2 ^ 32)) }
-    requires there { parent < layer }
+        × (IsGrowing (G.game game.now) b ps layer.pair nodes.old.items (growth depth start layer.first parent 1) × (start ≤ parent) × (length ps < 2 ^ 32)) }
+    requires there { parent < layer.first }
     ensures grown { OnOk result ((b : Board) (ps : List Pair) (depth start : ℕ)
-        → IsGrowing (G.game game.now) b ps pair nodes.old.items depth start layer parent 1 → start ≤ parent
-        → IsGrowing (G.game game.now) b ps pair nodes.new.items depth start layer (parent + 1) 1) }
+        → IsGrowing (G.game game.now) b ps layer.pair nodes.old.items (growth depth start layer.first parent 1) → start ≤ parent
+        → IsGrowing (G.game game.now) b ps layer.pair nodes.new.items (growth depth start layer.first (parent + 1) 1)) }
 {
     for count in 1..14 {
-        add_child(alloc, game, pair, nodes, parent, layer, count)?;
+        add_child(alloc, game, layer, nodes, parent, count)?;
     }
     Ok(())
 }
 
-// Adds the board to which an entry leads from the board of a number by so many cards, if it does to one that isn't there from
-// the number `layer` on.
+// Adds the board to which an entry leads from the board of a number by so many cards, if it does to one that isn't there
+// in the next layer.
 fn add_child<G: Game>(
     alloc: Global,
     game: &G,
-    pair: Pair,
+    layer: Layer,
     nodes: &mut Vec<Node>,
     parent: usize,
-    layer: usize,
     count: u8,
 ) -> Result<(), AllocError>
     requires growing { (b : Board) × (ps : List Pair) × (depth : ℕ) × (start : ℕ)
-        × (IsGrowing (G.game game.now) b ps pair nodes.old.items depth start layer parent count × (start ≤ parent) × (length ps < 2 ^ 32)) }
-    requires there { parent < layer }
+        × (IsGrowing (G.game game.now) b ps layer.pair nodes.old.items (growth depth start layer.first parent count) × (start ≤ parent) × (length ps < 2 ^ 32)) }
+    requires there { parent < layer.first }
     ensures grown { OnOk result ((b : Board) (ps : List Pair) (depth start : ℕ)
-        → IsGrowing (G.game game.now) b ps pair nodes.old.items depth start layer parent count → start ≤ parent
-        → IsGrowing (G.game game.now) b ps pair nodes.new.items depth start layer parent (count + 1)) }
+        → IsGrowing (G.game game.now) b ps layer.pair nodes.old.items (growth depth start layer.first parent count) → start ≤ parent
+        → IsGrowing (G.game game.now) b ps layer.pair nodes.new.items (growth depth start layer.first parent (count + 1))) }
 {
     let node = &nodes[parent];
-    if !may_play(game, &node.position, pair, count) {
+    if !may_play(game, &node.position, layer.pair, count) {
         return Ok(());
     }
-    let child = child_of(alloc, game, node, parent, pair, count)?;
-    if !is_there(nodes.as_slice(), layer, &child.position) {
+    let child = child_of(alloc, game, node, parent, layer.pair, count)?;
+    if !is_there(nodes.as_slice(), layer.first, &child.position) {
         nodes.push(child)?;
     }
     Ok(())

@@ -1,13 +1,9 @@
 -- A board as it is drawn: rows of entries, each of three letters but for what colours it.
-use Rattle.std.specs.Prelude.{ℕ, zero, suc, ◌+◌, ◌*◌, ◌==◌, ◌||◌, ◌&&◌, Bool, cond, List, [], ◌∷◌, ◌++◌, Option, Some, None, max, take, length, codes, slice_get}
+use Rattle.std.specs.Prelude.{ℕ, zero, suc, ◌+◌, ◌*◌, ◌&&◌, Bool, cond, List, [], ◌∷◌, ◌++◌, Option, Some, None, max, take, length, codes, slice_get}
 use Rattle.std.specs.List.{flat_map}
-use Rattle.fc_cards.specs.Card.{suit}
+use Rattle.fc_cards.specs.Card.{is_red}
 use Rattle.fc_cards.specs.Texts.{card_text}
 use Rattle.fc_position.specs.Board.{Board, home}
-
--- the suits in red are diamonds and hearts
-abbrev pub is_red : ℕ → Bool
-is_red c = (suit c == 1) || (suit c == 2)
 
 -- a card has a blank before it; where colours are shown, what a terminal takes for red stands around one of a red suit
 abbrev pub card_entry : Bool → ℕ → List ℕ

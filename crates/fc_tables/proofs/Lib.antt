@@ -1,5 +1,4 @@
-pub mod BoundLemmas
-pub mod EveryLemmas
+pub mod GreaterLemmas
 pub mod LookLemmas
 pub mod RowLemmas
 pub mod TableLemmas

@@ -10,9 +10,11 @@ use Rattle.fc_canonical.specs.Class.{SameClass}
 use Rattle.fc_canonical.proofs.ClassLemmas.{class-refl, class-sym, class-trans, class_step}
 use Rattle.fc_home.specs.Settles.{Settles}
 use Rattle.fc_home.proofs.MateLemmas.{class_settle}
-use Rattle.fc_home.proofs.WayLemmas.{settles_all, settles_once}
+use Rattle.fc_home.proofs.EveryLemmas.{every_settles}
+use Rattle.fc_home.proofs.WayLemmas.{settles_once}
 use Rattle.fc_tables.specs.Laws.{OneBoardOfAClassIsEnough, OneBoardIsEnoughWithoutBound, ClosedBelowIsSeen, ClosedIsSeen}
-use Rattle.fc_tables.specs.Table.{IsLowerBound, Table, ListsClass, Covered}
+use Rattle.fc_tables.specs.Table.{Table, ListsClass, Covered}
+use Rattle.fc_bound.specs.LowerBound.{IsLowerBound}
 
 -- what is listed, or covered, is so for its whole class
 class-listed : (T : Table) (x y : Board) → SameClass x y → ListsClass T x → ListsClass T y
@@ -54,7 +56,7 @@ shown : (P : ℕ → Board → Type 0) (g : GameRules) (rule : ℕ) (x y : Board
 shown P g rule x y mates px py s all m u step =
     let mate = class_step g x y u m px py s step in
     let pu = step_keeps g x u m px step in
-    let way = settles_all g rule u pu.position in
+    let way = every_settles g rule u in
     let other = class_settle g rule u mate.1 way.1 way.0 mate.3 way.2 in
     let holds = all mate.0 mate.1 other.0 way.0 mate.2 other.1 in
     (m, u, way.1, way.0, step, class-refl u, way.2, mates way.0 other.0 way.1 (class-sym way.1 other.0 other.2) holds)
@@ -86,7 +88,7 @@ seen_below low g rule p n T lower pp fitting = (
   },
   λ closed. record {
     not_won = closed.not_won;
-    start = let way = settles_all g rule p pp.position in (way.1, way.0, way.2, closed.start way.1 way.0 way.2);
+    start = let way = every_settles g rule p in (way.1, way.0, way.2, closed.start way.1 way.0 way.2);
     steps = λ e listed pe inside.
         (one_enough low g rule n T e.0 e.0 e.1 lower pe pe (class-refl e.0)).1 (closed.steps e e.0 listed pe (class-refl e.0) inside);
   },
@@ -106,7 +108,7 @@ seen_closed g rule p T pp fitting = (
   },
   λ closed. record {
     not_won = closed.not_won;
-    start = let way = settles_all g rule p pp.position in (way.1, way.0, way.2, closed.start way.1 way.0 way.2);
+    start = let way = every_settles g rule p in (way.1, way.0, way.2, closed.start way.1 way.0 way.2);
     steps = λ e listed pe.
         (one_enough_listed g rule T e.0 e.0 pe pe (class-refl e.0)).1 (closed.steps e e.0 listed pe (class-refl e.0));
   },

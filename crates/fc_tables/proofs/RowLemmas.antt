@@ -4,8 +4,9 @@ use Rattle.std.specs.Prelude.{Contains}
 use Rattle.std.proofs.lemmas.Bool.{cases_lt}
 use Rattle.fc_position.specs.Board.{Board}
 use Rattle.fc_tables.specs.Laws.{RowsInsideAreClosedBelow, ClosedInsideAllIsClosed, CostsOfClosedTablesAreFree, NoEmptyTableIsClosed}
-use Rattle.fc_tables.specs.Table.{IsLowerBound, Table, ListsClass, Covered}
-use Rattle.fc_tables.proofs.EveryLemmas.{every_settles}
+use Rattle.fc_tables.specs.Table.{Table, ListsClass, Covered}
+use Rattle.fc_bound.specs.LowerBound.{IsLowerBound}
+use Rattle.fc_home.proofs.EveryLemmas.{every_settles}
 
 -- what a table covers is covered by its pairs whose cost and bound are below n
 rows-covered : (low : Board → ℕ) (n : ℕ) (S T : Table) (x : Board) (d : ℕ) → IsLowerBound low

@@ -4,14 +4,14 @@ use Rattle.std.proofs.lemmas.Bool.{cases_lt}
 use Rattle.fc_position.specs.Board.{Board}
 use Rattle.fc_moves.specs.GameRules.{GameRules, IsPositionOf}
 use Rattle.fc_moves.proofs.StepLemmas.{step_keeps}
-use Rattle.fc_home.specs.Laws.{WinsWithin}
+use Rattle.fc_moves.specs.Run.{WinsWithin}
 use Rattle.fc_home.specs.Settles.{Settles}
 use Rattle.fc_home.proofs.LossLemmas.{settle_loses_nothing}
 use Rattle.fc_home.proofs.SettleLemmas.{settles_keep}
-use Rattle.fc_home.proofs.WayLemmas.{settles_all}
 use Rattle.fc_tables.specs.Laws.{ClosedInsideLeavesNoShorterList, ClosedBelowIsClosedInside, ClosedBelowLeavesNoShorterList, ClosedLeavesNoList, ClosedByAnySettlingLeavesNoList}
-use Rattle.fc_tables.specs.Table.{IsLowerBound, Table, ListsClass, Lists, Covered, IsClosedInside, SettlesTo, SettlesEach, IsLossless, IsClosedBy}
-use Rattle.fc_tables.proofs.EveryLemmas.{every_settles}
+use Rattle.fc_tables.specs.Table.{Table, ListsClass, Lists, Covered, IsClosedInside, SettlesTo, SettlesEach, IsLossless, IsClosedBy}
+use Rattle.fc_bound.specs.LowerBound.{IsLowerBound}
+use Rattle.fc_home.proofs.EveryLemmas.{every_settles}
 
 -- a board from which so many moves win has no greater bound
 within_bound : (low : Board → ℕ) (g : GameRules) (x : Board) (most : ℕ) → IsLowerBound low → IsPositionOf g x → WinsWithin g x most
@@ -32,7 +32,7 @@ covered_long low g n T x d most lower long p covered wins =
 settled_long : (low : Board → ℕ) (g : GameRules) (rule : ℕ) (n : ℕ) (T : Table) (x : Board) (d most : ℕ) → IsLowerBound low → ((less : ℕ) → less ≤ most → Long g n T less)
     → IsPositionOf g x → ((q : Board) (k : ℕ) → Settles g rule x k q → Covered low n T q (d + k)) → WinsWithin g x most → n ≤ d + most
 settled_long low g rule n T x d most lower long p covered wins =
-    let way = settles_all g rule x p.position in
+    let way = every_settles g rule x in
     let k = way.0 in
     let q = way.1 in
     let left = (settle_loses_nothing g rule x q k most p.position way.2).0 wins in

@@ -10,7 +10,7 @@ use Rattle.fc_cards.specs.declared.places.Place.TheVariants.{Column, Cell, Home}
 use Rattle.fc_position.specs.Board.{Board, IsNext, playable, places, placed, lifted, last_of}
 use Rattle.fc_position.specs.Position.{IsPosition, IsWon}
 use Rattle.fc_moves.specs.declared.steps.Move.{Move}
-use Rattle.fc_moves.specs.GameLaws.{Contains-cases, Contains-first}
+use Rattle.fc_moves.specs.inner.GameLaws.{Contains-cases, Contains-first}
 use Rattle.fc_moves.specs.GameRules.{GameRules, Opens, IsPositionOf}
 use Rattle.fc_moves.specs.Run.{Wins}
 use Rattle.fc_moves.specs.Step.{Step}

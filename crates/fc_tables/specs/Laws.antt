@@ -6,18 +6,8 @@ use Rattle.fc_moves.specs.declared.steps.Move.{Move}
 use Rattle.fc_moves.specs.GameRules.{GameRules, Opens, IsPositionOf}
 use Rattle.fc_moves.specs.Run.{Wins, CannotWin}
 use Rattle.fc_canonical.specs.Class.{SameClass}
-use Rattle.fc_home.specs.Settles.{Settles}
-use Rattle.fc_bound.specs.declared.kinds.BoundKind.{BoundKind}
-use Rattle.fc_bound.specs.Kinds.{guide_of, low_of}
-use Rattle.fc_tables.specs.Table.{IsLowerBound, Table, StepsCovered, StepsListed, ClassesCovered, ClassesListed, ListsFitting, IsClosedBelow, IsClosedInside, IsClosed, IsSeenClosedBelow, IsSeenClosed, SettlesEach, IsLossless, IsClosedBy}
-
--- the bound that a search goes by and the one that a table is closed by are lower bounds, of each kind
-abbrev pub TheBoundsAreLowerBounds : Type 0
-TheBoundsAreLowerBounds = (kind : BoundKind) → IsLowerBound (guide_of kind) × IsLowerBound (low_of kind)
-
--- of a position the bound that a search goes by is nowhere greater than the one that a table is closed by
-abbrev pub GuidesAreNoGreater : Type 0
-GuidesAreNoGreater = (kind : BoundKind) (b : Board) → IsPosition b → guide_of kind b ≤ low_of kind b
+use Rattle.fc_bound.specs.LowerBound.{IsLowerBound}
+use Rattle.fc_tables.specs.Table.{Table, Covered, StepsCovered, StepsListed, ClassesCovered, ClassesListed, ListsFitting, IsClosedBelow, IsClosedInside, IsClosed, IsSeenClosedBelow, IsSeenClosed, SettlesEach, IsLossless, IsClosedBy}
 
 -- a table that is closed below n by a bound is so by each bound that is nowhere less of a position
 abbrev pub GreaterBoundsCloseToo : Type 0
@@ -77,7 +67,7 @@ ClosedBelowIsClosedInside = (low : Board → ℕ) (g : GameRules) (rule : ℕ) (
 -- once, exactly where the steps of the other are covered
 abbrev pub OneBoardOfAClassIsEnough : Type 0
 OneBoardOfAClassIsEnough = (low : Board → ℕ) (g : GameRules) (rule : ℕ) (n : ℕ) (T : Table) (x y : Board) (d : ℕ) → IsLowerBound low → IsPositionOf g x → IsPositionOf g y
-    → SameClass x y → ClassesCovered low g rule n T x d ↔ StepsCovered low g rule n T y d
+    → SameClass x y → ClassesCovered (Covered low n T) g rule x d ↔ StepsCovered (Covered low n T) g rule y d
 
 -- the same of being listed
 abbrev pub OneBoardIsEnoughWithoutBound : Type 0
@@ -109,10 +99,6 @@ ClosedInsideAllIsClosed = (low : Board → ℕ) (g : GameRules) (rule : ℕ) (p 
 abbrev pub CostsOfClosedTablesAreFree : Type 0
 CostsOfClosedTablesAreFree = (g : GameRules) (rule : ℕ) (p : Board) (S T : Table) → IsClosed g rule p T
     → ((x : Board) → ((d : ℕ) × Contains S (x, d)) ↔ ((d : ℕ) × Contains T (x, d))) → IsClosed g rule p S
-
--- every board settles by every home rule, whether or not it is a position
-abbrev pub EveryBoardSettles : Type 0
-EveryBoardSettles = (g : GameRules) (rule : ℕ) (b : Board) → (count : ℕ) × (q : Board) × Settles g rule b count q
 
 -- so no empty table is closed
 abbrev pub NoEmptyTableIsClosed : Type 0

@@ -1,20 +1,14 @@
 -- Tables of classes and costs, and when such a table is a proof that no winning list is short, or that there is none.
-use Rattle.std.specs.Prelude.{◌≡◌, ℕ, ◌+◌, ◌-◌, ◌<◌, ◌≤◌, ◌⊎◌, List, length, map, Option, Some, Contains}
+use Rattle.std.specs.Prelude.{◌≡◌, ℕ, ◌+◌, ◌-◌, ◌<◌, ◌≤◌, ◌⊎◌, List, map, Option, Some, Contains}
 use Rattle.fc_position.specs.Board.{Board}
-use Rattle.fc_position.specs.Position.{IsPosition, IsWon}
+use Rattle.fc_position.specs.Position.{IsWon}
 use Rattle.fc_moves.specs.declared.steps.Move.{Move}
 use Rattle.fc_moves.specs.GameRules.{GameRules, IsPositionOf}
-use Rattle.fc_moves.specs.Run.{Wins}
+use Rattle.fc_moves.specs.Run.{WinsWithin}
 use Rattle.fc_moves.specs.Step.{Step}
 use Rattle.fc_canonical.specs.Class.{SameClass}
 use Rattle.fc_canonical.specs.Spelled.{spelled}
-use Rattle.fc_home.specs.Laws.{WinsWithin}
 use Rattle.fc_home.specs.Settles.{Settles}
-
--- a lower bound: in every game no list of moves that wins from a position is shorter, and boards of one class have the same
-pub record IsLowerBound (low : Board → ℕ) : Type 0 where
-  pub needed : (g : GameRules) (b : Board) (ms : List Move) → IsPosition b → Wins g b ms → low b ≤ length ms
-  pub alike : (b c : Board) → SameClass b c → low b ≡ low c
 
 -- a table is a list of pairs: a board, which stands for its class, and a cost, in moves from the start; what is said here
 -- of a table holds as well where a class is listed twice
@@ -33,10 +27,10 @@ Lists T x d = (e : Board × ℕ) × Contains T e × SameClass x e.0 × (e.1 ≤ 
 abbrev pub Covered : (Board → ℕ) → ℕ → Table → Board → ℕ → Type 0
 Covered low n T x d = (n ≤ d + low x) ⊎ Lists T x d
 
--- of a board that d moves lead to: where each of its steps leads, once settled, is covered
-abbrev pub StepsCovered : (Board → ℕ) → GameRules → ℕ → ℕ → Table → Board → ℕ → Type 0
-StepsCovered low g rule n T x d =
-    (m : Move) (y z : Board) (k : ℕ) → Step g x m y → Settles g rule y k z → Covered low n T z (d + 1 + k)
+-- of a board that d moves lead to: where each of its steps leads, once settled, is covered in this sense
+abbrev pub StepsCovered : (Board → ℕ → Type 0) → GameRules → ℕ → Board → ℕ → Type 0
+StepsCovered IsCovered g rule x d =
+    (m : Move) (y z : Board) (k : ℕ) → Step g x m y → Settles g rule y k z → IsCovered z (d + 1 + k)
 
 -- where each step of the board leads, once settled, is listed
 abbrev pub StepsListed : GameRules → ℕ → Table → Board → Type 0
@@ -48,14 +42,14 @@ pub record IsClosedBelow (low : Board → ℕ) (g : GameRules) (rule : ℕ) (p :
   pub not_won : (e : Board × ℕ) → Contains T e → IsWon e.0 → ⊥
   pub start : (q : Board) (k : ℕ) → Settles g rule p k q → Covered low n T q k
   pub steps : (e : Board × ℕ) (x : Board) → Contains T e → IsPositionOf g x → SameClass x e.0 → e.1 + low x < n
-      → StepsCovered low g rule n T x e.1
+      → StepsCovered (Covered low n T) g rule x e.1
 
 -- the same while a search runs: a won class may be listed where its cost and its bound reach n
 pub record IsClosedInside (low : Board → ℕ) (g : GameRules) (rule : ℕ) (p : Board) (n : ℕ) (T : Table) : Type 0 where
   pub not_won : (e : Board × ℕ) → Contains T e → e.1 + low e.0 < n → IsWon e.0 → ⊥
   pub start : (q : Board) (k : ℕ) → Settles g rule p k q → Covered low n T q k
   pub steps : (e : Board × ℕ) (x : Board) → Contains T e → IsPositionOf g x → SameClass x e.0 → e.1 + low x < n
-      → StepsCovered low g rule n T x e.1
+      → StepsCovered (Covered low n T) g rule x e.1
 
 -- no listed board is won; the start, once settled, is listed; and so is all that steps from positions of listed classes
 -- lead to, once settled: the costs don't matter
@@ -90,11 +84,11 @@ pub record IsClosedBy (settle : Board → Option (ℕ × Board)) (g : GameRules)
 abbrev pub ListsFitting : GameRules → Table → Type 0
 ListsFitting g T = (e : Board × ℕ) (x : Board) → Contains T e → IsPositionOf g x → SameClass x e.0 → IsPositionOf g e.0
 
--- of a board that d moves lead to: of each class that its steps lead to, one board that a step leads to is covered, once
--- settled
-abbrev pub ClassesCovered : (Board → ℕ) → GameRules → ℕ → ℕ → Table → Board → ℕ → Type 0
-ClassesCovered low g rule n T x d = (m : Move) (y : Board) → Step g x m y
-    → (l : Move) × (w z : Board) × (k : ℕ) × Step g x l w × SameClass y w × Settles g rule w k z × Covered low n T z (d + 1 + k)
+-- of a board that d moves lead to: of each class that its steps lead to, one board that a step leads to is covered in this
+-- sense, once settled
+abbrev pub ClassesCovered : (Board → ℕ → Type 0) → GameRules → ℕ → Board → ℕ → Type 0
+ClassesCovered IsCovered g rule x d = (m : Move) (y : Board) → Step g x m y
+    → (l : Move) × (w z : Board) × (k : ℕ) × Step g x l w × SameClass y w × Settles g rule w k z × IsCovered z (d + 1 + k)
 
 -- of each class that the board's steps lead to, one board that a step leads to is listed, once settled
 abbrev pub ClassesListed : GameRules → ℕ → Table → Board → Type 0
@@ -105,7 +99,7 @@ ClassesListed g rule T x = (m : Move) (y : Board) → Step g x m y
 pub record IsSeenClosedBelow (low : Board → ℕ) (g : GameRules) (rule : ℕ) (p : Board) (n : ℕ) (T : Table) : Type 0 where
   pub not_won : (e : Board × ℕ) → Contains T e → IsWon e.0 → ⊥
   pub start : (q : Board) × (k : ℕ) × Settles g rule p k q × Covered low n T q k
-  pub steps : (e : Board × ℕ) → Contains T e → IsPositionOf g e.0 → e.1 + low e.0 < n → ClassesCovered low g rule n T e.0 e.1
+  pub steps : (e : Board × ℕ) → Contains T e → IsPositionOf g e.0 → e.1 + low e.0 < n → ClassesCovered (Covered low n T) g rule e.0 e.1
 
 -- what is looked at to see that a table is closed
 pub record IsSeenClosed (g : GameRules) (rule : ℕ) (p : Board) (T : Table) : Type 0 where

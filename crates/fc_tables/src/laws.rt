@@ -1,16 +1,6 @@
-//! Laws of lower bounds and of closed tables, each the contract of a function that does nothing.
+//! Laws of closed tables, each the contract of a function that does nothing.
 
-ghost use Rattle.fc_tables.specs.Laws.{TheBoundsAreLowerBounds, GuidesAreNoGreater, GreaterBoundsCloseToo, ClosedBelowLeavesNoShorterList, ClosedLeavesNoList, ClosedByAnySettlingLeavesNoList, ClosedTablesNeedSettling, ClosedTablesNeedFitting, ClosedTablesNeedPositions, ClosedInsideLeavesNoShorterList, ClosedBelowIsClosedInside, OneBoardOfAClassIsEnough, OneBoardIsEnoughWithoutBound, ClosedBelowIsSeen, ClosedIsSeen, RowsInsideAreClosedBelow, ClosedInsideAllIsClosed, CostsOfClosedTablesAreFree, EveryBoardSettles, NoEmptyTableIsClosed};
-
-/// The bounds of each kind are lower bounds: no list that wins is shorter, and boards of one class have the same.
-pub fn the_bounds_are_lower_bounds()
-    ensures { TheBoundsAreLowerBounds }
-{}
-
-/// Of a position the bound that a search goes by is nowhere greater than the one that a table is closed by.
-pub fn guides_are_no_greater()
-    ensures { GuidesAreNoGreater }
-{}
+ghost use Rattle.fc_tables.specs.Laws.{GreaterBoundsCloseToo, ClosedBelowLeavesNoShorterList, ClosedLeavesNoList, ClosedByAnySettlingLeavesNoList, ClosedTablesNeedSettling, ClosedTablesNeedFitting, ClosedTablesNeedPositions, ClosedInsideLeavesNoShorterList, ClosedBelowIsClosedInside, OneBoardOfAClassIsEnough, OneBoardIsEnoughWithoutBound, ClosedBelowIsSeen, ClosedIsSeen, RowsInsideAreClosedBelow, ClosedInsideAllIsClosed, CostsOfClosedTablesAreFree, NoEmptyTableIsClosed};
 
 /// A table that is closed below n by a bound is so by each bound that is nowhere less of a position.
 pub fn greater_bounds_close_too()
@@ -100,11 +90,6 @@ pub fn closed_inside_all_is_closed()
 /// A table with the boards of a closed one is closed, whatever its costs are.
 pub fn costs_of_closed_tables_are_free()
     ensures { CostsOfClosedTablesAreFree }
-{}
-
-/// Every board settles by every home rule, in every game, whether or not each card has one place.
-pub fn every_board_settles()
-    ensures { EveryBoardSettles }
 {}
 
 /// No empty table is closed, for any board, since every board settles.

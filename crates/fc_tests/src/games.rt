@@ -2,7 +2,7 @@
 
 ghost use Rattle.std.specs.Prelude.{true};
 ghost use Rattle.std.proofs.Common.{lit<, lit≤};
-ghost use Rattle.fc_moves.specs.GameLaws.{built_game_is_game};
+ghost use Rattle.fc_moves.specs.inner.GameLaws.{built_game_is_game};
 ghost use Rattle.fc_moves.specs.GameRules.{built_game};
 
 use arrayvec::ArrayVec;

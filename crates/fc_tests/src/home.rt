@@ -5,7 +5,7 @@ ghost use Rattle.std.specs.Prelude.{◌≤◌};
 use crate::boards::{ONE_COLUMN, THIRTY_MOVES};
 use crate::given::{bakers_game, board, card, free_cell, listed_moves};
 use fc_cards::{Card, Place};
-use fc_home::{forced, free, goes_home_from, settle};
+use fc_home::{HomeRule, forced, free, goes_home_from, settle};
 use fc_moves::{Game, Kings, read_move};
 use fc_position::Position;
 use std::process::Abort;
@@ -129,7 +129,9 @@ fn settles_the_least_card_first(rt: HostRuntime) {
 fn check_goes<G: Game>(rt: &impl Abort, game: &G, text: &str, rule: u8, place: Place, goes: bool)
     requires { rule ≤ 2 }
 {
-    assert!(rt; goes_home_from(game, &board(rt, text), rule, place) == goes);
+    assert!(rt;
+        goes_home_from(game, &board(rt, text), HomeRule::new(rule).unwrap(), place) == goes
+    );
 }
 
 #[test]

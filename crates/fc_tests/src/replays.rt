@@ -8,10 +8,8 @@ use arrayvec::ArrayString;
 use fc_cards::Place;
 use fc_io::testing::Failing;
 use fc_io::{Sink, ToArray};
-use fc_moves::{Game, Kings, Move};
-use fc_replay::{
-    Ended, Page, Refusal, ReplayFault, first_stop, play, refusal_of, replay, replay_as,
-};
+use fc_moves::{Game, Kings, Move, Refusal, refusal_of};
+use fc_replay::{Ended, Page, ReplayFault, first_stop, play, replay, replay_as};
 use std::fmt::Write;
 use std::process::Abort;
 

@@ -8,7 +8,8 @@ use Rattle.fc_text.specs.declared.faults.BoardFault.{BoardFault}
 use Rattle.fc_text.specs.Line.{board_lines}
 use Rattle.fc_text.specs.Spelling.{SpellsBoard}
 use Rattle.fc_text.specs.Fault.{AreSound}
-use Rattle.fc_text.specs.Board.{HasCardFault, IsBoardFault, card_fault}
+use Rattle.fc_text.specs.Board.{HasCardFault, IsBoardFault}
+use Rattle.fc_text.specs.inner.Board.{card_fault}
 
 one_fault : (n : ℕ) (text : List ℕ) (fault : PartsFault) → HasCardFault n text fault → IsBoardFault n text (card_fault fault)
 one_fault n text (Repeated c) here = here

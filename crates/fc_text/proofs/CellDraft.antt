@@ -13,8 +13,8 @@ use Rattle.fc_text.specs.declared.drafts.Draft.{Draft}
 use Rattle.fc_text.specs.Line.{Line, tokens_of}
 use Rattle.fc_text.specs.Fault.{HasBadCard, IsLineFault, IsSound}
 use Rattle.fc_text.specs.Spelling.{SpellsBoard, SpellsCard, SpellsCell, SpellsCellAt, SpellsHomeIn, IsMark, is_kind, tokens_at}
-use Rattle.fc_text.specs.Reading.{ReadsCells}
-use Rattle.fc_text.specs.Draft.{IsDraftOf, dealt_places, cells_line}
+use Rattle.fc_text.specs.inner.Reading.{ReadsCells}
+use Rattle.fc_text.specs.inner.Draft.{IsDraftOf, dealt_places, cells_line}
 use Rattle.fc_text.proofs.DraftLemmas.{tokens_at-other, tokens_at-next, tokens_at-past, kind_more, kind_same}
 
 -- no card stands in empty cells

@@ -14,8 +14,8 @@ use Rattle.fc_text.specs.declared.lines.LineKind.TheVariants.{Foundations, Freec
 use Rattle.fc_text.specs.declared.drafts.Draft.{Draft}
 use Rattle.fc_text.specs.Line.{Line, tokens_of}
 use Rattle.fc_text.specs.Spelling.{SpellsBoard, SpellsCard, SpellsCellAt, SpellsHomeIn, is_kind, tokens_at}
-use Rattle.fc_text.specs.Reading.{ReadsColumn}
-use Rattle.fc_text.specs.Draft.{IsDraftOf, dealt_places, column_line}
+use Rattle.fc_text.specs.inner.Reading.{ReadsColumn}
+use Rattle.fc_text.specs.inner.Draft.{IsDraftOf, dealt_places, column_line}
 use Rattle.fc_text.specs.Fault.{IsLineFault, IsSound}
 use Rattle.fc_text.specs.declared.faults.LineFault.TheVariants.{TooManyColumns}
 use Rattle.fc_text.proofs.FaultLemmas.{column_sound, no_bad_card}

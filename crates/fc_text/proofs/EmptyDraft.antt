@@ -7,7 +7,7 @@ use Rattle.std.proofs.lemmas.List.Elements.{All-map}
 use Rattle.fc_position.specs.Board.{Board, column}
 use Rattle.fc_text.specs.declared.drafts.Draft.{Draft}
 use Rattle.fc_text.specs.Spelling.{SpellsBoard, SpellsCard}
-use Rattle.fc_text.specs.Draft.{IsDraftOf, dealt_places}
+use Rattle.fc_text.specs.inner.Draft.{IsDraftOf, dealt_places}
 
 abbrev pub empty_board : Board
 empty_board = record {

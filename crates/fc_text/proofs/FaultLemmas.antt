@@ -7,7 +7,7 @@ use Rattle.fc_text.specs.declared.lines.LineKind.TheVariants.{Column}
 use Rattle.fc_text.specs.Line.{tokens_of}
 use Rattle.fc_text.specs.Spelling.{SpellsCard}
 use Rattle.fc_text.specs.Fault.{HasBadCard, HasTooManyColumns, IsSound}
-use Rattle.fc_text.specs.Draft.{column_line}
+use Rattle.fc_text.specs.inner.Draft.{column_line}
 
 spelled_at : (tokens : List (List ℕ)) (cards : List ℕ) → AllZip SpellsCard tokens cards → (k : ℕ) (d : List ℕ) → k < length tokens
     → (c : ℕ) × SpellsCard (get_or tokens k d) c

@@ -6,7 +6,8 @@ use Rattle.std.proofs.lemmas.List.{ext_get_or, length-map, take_all}
 use Rattle.std.proofs.lemmas.Option.{slice_get-get_or}
 use Rattle.fc_position.specs.Board.{Board, board_of, column, cell, places, count_at_home}
 use Rattle.fc_position.specs.Position.{IsPosition}
-use Rattle.fc_position.specs.Tally.{Adds, AllCards, IsOfCards, IsFaultOf, EachOnce}
+use Rattle.fc_position.specs.Tally.{Adds, AllCards, IsFaultOf, EachOnce}
+use Rattle.fc_position.specs.inner.Tally.{IsOfCards}
 use Rattle.fc_position.specs.declared.faults.PartsFault.{PartsFault}
 use Rattle.fc_position.proofs.TallyLemmas.{adds_more, adds_same, fault-tally, position-tally}
 use Rattle.fc_position.proofs.BoardLemmas.{column_most}
@@ -14,7 +15,7 @@ use Rattle.fc_text.specs.declared.drafts.Draft.{Draft}
 use Rattle.fc_text.specs.declared.lines.LineKind.TheVariants.{Freecells, Column}
 use Rattle.fc_text.specs.Line.{Line}
 use Rattle.fc_text.specs.Spelling.{SpellsBoard, SpellsCard, SpellsCellAt, tokens_at}
-use Rattle.fc_text.specs.Draft.{IsDraftOf, dealt_places}
+use Rattle.fc_text.specs.inner.Draft.{IsDraftOf, dealt_places}
 
 -- inside a list the default doesn't matter
 get_or-any : {A : Type 0} (xs : List A) (i : ℕ) (d e : A) → i < length xs → get_or xs i d ≡ get_or xs i e

@@ -7,8 +7,8 @@ use Rattle.fc_text.specs.declared.lines.LineKind.TheVariants.{Foundations, Freec
 use Rattle.fc_text.specs.declared.drafts.Draft.{Draft}
 use Rattle.fc_text.specs.Line.{Line, tokens_of}
 use Rattle.fc_text.specs.Spelling.{SpellsBoard, SpellsCard, SpellsCellAt, SpellsHomeIn, is_kind}
-use Rattle.fc_text.specs.Reading.{ReadsHomes}
-use Rattle.fc_text.specs.Draft.{IsDraftOf, homes_line}
+use Rattle.fc_text.specs.inner.Reading.{ReadsHomes}
+use Rattle.fc_text.specs.inner.Draft.{IsDraftOf, homes_line}
 use Rattle.fc_text.proofs.DraftLemmas.{tokens_at-other, tokens_at-next, kind_more, kind_same}
 use Rattle.fc_text.proofs.CellDraft.{unset}
 

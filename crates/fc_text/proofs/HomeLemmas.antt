@@ -9,7 +9,7 @@ use Rattle.std.proofs.lemmas.Bool.{cases_eq, cases_Bool}
 use Rattle.fc_cards.proofs.TextLemmas.{suit_letter_once}
 use Rattle.fc_text.specs.Fault.{IsNoHome, NamesSuitTwice, HasBadFoundation}
 use Rattle.fc_text.specs.Line.{tokens_of}
-use Rattle.fc_text.specs.Reading.{ReadsHomes}
+use Rattle.fc_text.specs.inner.Reading.{ReadsHomes}
 use Rattle.fc_text.specs.Spelling.{SpellsHome}
 use Rattle.fc_text.specs.declared.lines.LineKind.TheVariants.{Foundations}
 use Rattle.fc_text.proofs.ReaderLemmas.{at_push}

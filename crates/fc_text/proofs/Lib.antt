@@ -12,9 +12,11 @@ pub mod LineLoop
 pub mod OnceLemmas
 pub mod OneFault
 pub mod PartLemmas
+pub mod PassLemmas
 pub mod PieceLemmas
 pub mod PrintLemmas
 pub mod PrintedLines
+pub mod PrintedPieces
 pub mod ReaderLemmas
 pub mod SpotLemmas
 pub mod TokenLemmas

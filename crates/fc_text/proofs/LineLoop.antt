@@ -7,8 +7,8 @@ use Rattle.fc_text.specs.declared.faults.LineFault.{LineFault}
 use Rattle.fc_text.specs.Line.{Line, parts_of, is_line_end, without_return, line_of, lines_of, board_lines}
 use Rattle.fc_text.specs.Spelling.{is_kind}
 use Rattle.fc_text.specs.Fault.{IsLineFault, IsSound, AreSound, IsFirstFault}
-use Rattle.fc_text.specs.Reading.{IsTally}
-use Rattle.fc_text.specs.Draft.{IsDraftOf}
+use Rattle.fc_text.specs.inner.Reading.{IsTally}
+use Rattle.fc_text.specs.inner.Draft.{IsDraftOf}
 use Rattle.fc_text.proofs.PartLemmas.{length-parts_of}
 
 -- a list with one more element, parted at an element

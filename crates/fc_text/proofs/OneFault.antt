@@ -15,7 +15,8 @@ use Rattle.fc_text.specs.declared.lines.LineKind.TheVariants.{Foundations, Freec
 use Rattle.fc_text.specs.Line.{Line, board_lines}
 use Rattle.fc_text.specs.Spelling.{is_kind}
 use Rattle.fc_text.specs.Fault.{HasBadCard, HasBadFoundation, HasTooManyCells, HasTooManyColumns, IsRepeated, IsLineFault, IsFirstFault}
-use Rattle.fc_text.specs.Board.{HasLineFault, HasCardFault, IsBoardFault, line_fault, card_fault}
+use Rattle.fc_text.specs.Board.{HasLineFault, HasCardFault, IsBoardFault}
+use Rattle.fc_text.specs.inner.Board.{card_fault, line_fault}
 use Rattle.fc_text.specs.Laws.{TextsHaveOneFault}
 use Rattle.fc_text.proofs.OnceLemmas.{no_twice, board_once}
 
@@ -76,11 +77,12 @@ line_fault_once n before line RepeatedLine TooManyCells p q = absurd (p.2 q.1)
 line_fault_once n before line RepeatedLine TooManyColumns p q = absurd (columns_or_repeated before line.kind line.tokens q.1 p.3)
 line_fault_once n before line RepeatedLine RepeatedLine p q = refl
 
--- of two lines of a text the one stands before the other, or they are one
-abbrev Stands : List Line → Line → List Line → Type 0
-Stands front line later = (rest : List Line) × (later ≡ front ++ line ∷ rest)
+-- a line stands before what is later, with these lines in front of it
+abbrev StandsBefore : List Line → Line → List Line → Type 0
+StandsBefore front line later = (rest : List Line) × (later ≡ front ++ line ∷ rest)
 
-compared : (f g r s : List Line) (l m : Line) → f ++ l ∷ r ≡ g ++ m ∷ s → Stands f l g ⊎ (Stands g m f ⊎ ((f ≡ g) × (l ≡ m)))
+-- of two lines of a text the one stands before the other, or they are one
+compared : (f g r s : List Line) (l m : Line) → f ++ l ∷ r ≡ g ++ m ∷ s → StandsBefore f l g ⊎ (StandsBefore g m f ⊎ ((f ≡ g) × (l ≡ m)))
 compared [] [] r s l m same = inr (inr (refl, cc same))
 compared [] (y ∷ g) r s l m same = inl (g, cc same)
 compared (x ∷ f) [] r s l m same = inr (inl (f, cc same))

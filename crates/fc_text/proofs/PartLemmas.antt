@@ -3,7 +3,8 @@ use Rattle.std.proofs.Common.{◌≡◌, ℕ, suc, ◌+◌, ◌≤◌, ◌<◌, 
 use Rattle.std.specs.Prelude.{filter}
 use Rattle.std.specs.List.{position_or_len}
 use Rattle.std.proofs.lemmas.List.Sums.{length-filter, count_by-le-length}
-use Rattle.fc_text.specs.Line.{parts_of, begin_part, is_token, tokens_between, SplitsToken}
+use Rattle.fc_text.specs.Line.{parts_of, begin_part, is_token, tokens_between}
+use Rattle.fc_text.specs.inner.Line.{SplitsToken}
 
 -- a text begins with its first part, and the other parts stand behind the byte that ends it
 pub parts_of-first : (p : ℕ → Bool) (b : ℕ) (bytes : List ℕ)

@@ -1,7 +1,7 @@
 -- A printed board is read as the board.
-use Rattle.std.proofs.Common.{true, false, Bool, ◌==◌, ◌≡◌, ℕ, zero, suc, ◌+◌, ◌-◌, ◌≤◌, ◌<◌, Option, Some, None, List, [], ◌∷◌, ◌++◌, length, take, map, cond, inl, inr, refl, sym, ◌∙◌, ap, subst, ⊎_elim, append_assoc, arith, rules}
+use Rattle.std.proofs.Common.{◌==◌, ◌≡◌, ℕ, zero, suc, ◌+◌, ◌≤◌, ◌<◌, Option, Some, None, List, [], ◌∷◌, ◌++◌, length, take, map, cond, inl, inr, refl, sym, ◌∙◌, ap, subst, ⊎_elim, append_assoc, arith, rules}
 use Rattle.std.specs.Prelude.{Contains, codes, filter, slice_get, slice_index, slice_index_or, sum_by, count_by}
-use Rattle.std.specs.List.{AllZip, flat_map}
+use Rattle.std.specs.List.{AllZip}
 use Rattle.std.proofs.lemmas.List.{append-nil, get_or_past, get_or-take, length-map, length-take, take_all}
 use Rattle.std.proofs.lemmas.List.Sums.{sum_by-cons}
 use Rattle.std.proofs.lemmas.Option.{slice_get-get_or, slice_get_within}
@@ -16,110 +16,19 @@ use Rattle.fc_position.specs.Position.{IsPosition, Fits}
 use Rattle.fc_position.proofs.BoardLemmas.{home_most}
 use Rattle.fc_text.specs.declared.faults.LineFault.TheVariants.{BadCard, BadFoundation, TooManyCells, TooManyColumns, RepeatedLine}
 use Rattle.fc_text.specs.declared.lines.LineKind.TheVariants.{Foundations, Freecells, Column}
-use Rattle.fc_text.specs.Line.{Line, parts_of, begin_part, is_line_end, is_blank, is_token, tokens_of, without_return, lines_of, line_of, board_lines}
-use Rattle.fc_text.specs.Draft.{homes_line, cells_line, column_line}
+use Rattle.fc_text.specs.Line.{Line, tokens_of, line_of, board_lines}
+use Rattle.fc_text.specs.inner.Draft.{homes_line, cells_line, column_line}
 use Rattle.fc_text.specs.Spelling.{SpellsCard, SpellsCellAt, SpellsCount, SpellsHome, SpellsHomeIn, SpellsBoard, is_kind}
 use Rattle.fc_text.specs.Fault.{IsNoHome, NamesSuitTwice, HasBadCard, HasBadFoundation, IsSound, AreSound}
 use Rattle.fc_text.specs.Board.{Spells}
-use Rattle.fc_text.specs.Printed.{count_letter, home_text, cell_text, entries_text, foundations_text, cells_text, column_text, ended, board_text}
-use Rattle.fc_text.proofs.PartLemmas.{tokens-gap}
+use Rattle.fc_text.specs.Printed.{count_letter, home_text, cell_text, entries_text, foundations_text, cells_text, column_text, board_text}
 use Rattle.fc_text.proofs.CellDraft.{spelled_not_bad}
 use Rattle.fc_text.proofs.FaultLemmas.{column_sound}
 use Rattle.fc_text.proofs.DraftLemmas.{kind_more}
 use Rattle.fc_text.proofs.HomeLemmas.{home_suit_once}
 use Rattle.fc_text.proofs.LineLoop.{no_line_sound, sound_push}
 use Rattle.fc_text.proofs.PrintLemmas.{lines_text, length-board_text}
-
--- each byte is above the bound
-abbrev AllAbove : ℕ → List ℕ → Type 0
-AllAbove k [] = Unit {0}
-AllAbove k (b ∷ bytes) = (k < b) × AllAbove k bytes
-
-above-append : (k : ℕ) (xs ys : List ℕ) → AllAbove k xs → AllAbove k ys → AllAbove k (xs ++ ys)
-above-append k [] ys p q = q
-above-append k (x ∷ xs) ys p q = (p.0, above-append k xs ys p.1 q)
-
-above-lower : (xs : List ℕ) → AllAbove 32 xs → AllAbove 31 xs
-above-lower [] p = tt
-above-lower (x ∷ xs) p = let here = p.0 in (omega arith, above-lower xs p.1)
-
--- a part that holds no end, and the end behind it
-parts_of-end : (p : ℕ → Bool) (k : ℕ) → ((b : ℕ) → k < b → p b ≡ false) → (part : List ℕ) (e : ℕ) (rest : List ℕ) → AllAbove k part
-    → p e ≡ true → parts_of p (part ++ e ∷ rest) ≡ part ∷ parts_of p rest
-parts_of-end p k other [] e rest above here = rw here refl
-parts_of-end p k other (b ∷ bytes) e rest above here =
-    ap (λ t. cond t ([] ∷ parts_of p (bytes ++ e ∷ rest)) (begin_part b (parts_of p (bytes ++ e ∷ rest)))) (other b above.0)
-    ∙ ap (begin_part b) (parts_of-end p k other bytes e rest above.1 here)
-
--- a last part that holds no end
-parts_of-last : (p : ℕ → Bool) (k : ℕ) → ((b : ℕ) → k < b → p b ≡ false) → (b : ℕ) (bytes : List ℕ) → AllAbove k (b ∷ bytes)
-    → parts_of p (b ∷ bytes) ≡ (b ∷ bytes) ∷ []
-parts_of-last p k other b [] above = ap (λ t. cond t ([] ∷ []) ((b ∷ []) ∷ [])) (other b above.0)
-parts_of-last p k other b (d ∷ bytes) above =
-    ap (λ t. cond t ([] ∷ parts_of p (d ∷ bytes)) (begin_part b (parts_of p (d ∷ bytes)))) (other b above.0)
-    ∙ ap (begin_part b) (parts_of-last p k other d bytes above.1)
-
-no_blank : (b : ℕ) → 32 < b → is_blank b ≡ false
-no_blank b above = grind (arith, nat_tests)
-
-no_line_end : (b : ℕ) → 31 < b → is_line_end b ≡ false
-no_line_end b above = grind (arith, nat_tests)
-
--- printed tokens have no blank, and aren't empty
-abbrev IsPrinted : List ℕ → Type 0
-IsPrinted [] = ⊥
-IsPrinted (b ∷ bytes) = AllAbove 32 (b ∷ bytes)
-
-abbrev ArePrinted : List (List ℕ) → Type 0
-ArePrinted [] = Unit {0}
-ArePrinted (token ∷ tokens) = IsPrinted token × ArePrinted tokens
-
-tokens_of-first : (token : List ℕ) (tokens : List (List ℕ)) → IsPrinted token → ArePrinted tokens
-    → tokens_of (token ++ entries_text tokens) ≡ token ∷ tokens
-tokens_of-first [] tokens p q = absurd p
-tokens_of-first (b ∷ bytes) [] p q =
-    ap tokens_of (append-nil (b ∷ bytes)) ∙ ap (filter is_token) (parts_of-last is_blank 32 no_blank b bytes p)
-tokens_of-first (b ∷ bytes) (u ∷ us) p q =
-    ap (filter is_token) (parts_of-end is_blank 32 no_blank (b ∷ bytes) 32 (u ++ entries_text us) p refl)
-    ∙ ap (λ ts. (b ∷ bytes) ∷ ts) (tokens_of-first u us q.0 q.1)
-
--- the tokens of printed entries
-tokens_of-entries : (tokens : List (List ℕ)) → ArePrinted tokens → tokens_of (entries_text tokens) ≡ tokens
-tokens_of-entries [] p = refl
-tokens_of-entries (token ∷ tokens) p =
-    tokens-gap is_blank 32 (token ++ entries_text tokens) refl ∙ tokens_of-first token tokens p.0 p.1
-
-entries-above : (tokens : List (List ℕ)) → ArePrinted tokens → AllAbove 31 (entries_text tokens)
-entries-above [] p = tt
-entries-above ([] ∷ tokens) p = absurd p.0
-entries-above ((b ∷ bytes) ∷ tokens) p =
-    (omega arith, above-append 31 (b ∷ bytes) (entries_text tokens) (above-lower (b ∷ bytes) p.0) (entries-above tokens p.1))
-
--- lines that hold no end of a line
-abbrev AreLines : List (List ℕ) → Type 0
-AreLines [] = Unit {0}
-AreLines (line ∷ lines) = AllAbove 31 line × AreLines lines
-
-parts_of-lines : (lines : List (List ℕ)) → AreLines lines → parts_of is_line_end (flat_map ended lines) ≡ lines
-parts_of-lines [] p = refl
-parts_of-lines (line ∷ lines) p =
-    ap (parts_of is_line_end) (append_assoc line (10 ∷ []) (flat_map ended lines))
-    ∙ parts_of-end is_line_end 31 no_line_end line 10 (flat_map ended lines) p.0 refl
-    ∙ ap (λ ls. line ∷ ls) (parts_of-lines lines p.1)
-
-no_return : (line : List ℕ) (i : ℕ) → AllAbove 31 line → (slice_index line i == 13) ≡ false
-no_return [] i p = refl
-no_return (b ∷ bytes) zero p = let above = p.0 in grind (arith, nat_tests)
-no_return (b ∷ bytes) (suc i) p = no_return bytes i p.1
-
-without_return-lines : (lines : List (List ℕ)) → AreLines lines → map without_return lines ≡ lines
-without_return-lines [] p = refl
-without_return-lines (line ∷ lines) p =
-    let same : without_return line ≡ line = rw (no_return line (length line - 1) p.0) refl in
-    ap (λ l. l ∷ map without_return lines) same ∙ ap (λ ls. line ∷ ls) (without_return-lines lines p.1)
-
-lines_of-lines : (lines : List (List ℕ)) → AreLines lines → lines_of (flat_map ended lines) ≡ lines
-lines_of-lines lines p = ap (map without_return) (parts_of-lines lines p) ∙ without_return-lines lines p
+use Rattle.fc_text.proofs.PrintedPieces.{AllAbove, above-append, IsPrinted, ArePrinted, tokens_of-entries, entries-above, AreLines, lines_of-lines}
 
 -- each kind of line is told by its name
 line_of-foundations : (rest : List ℕ) → line_of (codes "Foundations:" ++ rest) ≡ homes_line rest

@@ -10,7 +10,7 @@ use Rattle.fc_position.specs.Board.{count_in_column, count_in_cell}
 use Rattle.fc_position.specs.Tally.{Adds}
 use Rattle.fc_position.proofs.TallyLemmas.{adds_more, adds_same}
 use Rattle.fc_text.specs.Line.{tokens_of}
-use Rattle.fc_text.specs.Reading.{ReadsCells, ReadsColumn, IsTally}
+use Rattle.fc_text.specs.inner.Reading.{ReadsCells, ReadsColumn, IsTally}
 use Rattle.fc_text.specs.Spelling.{SpellsCard, SpellsCell}
 
 -- what a clause says of an `Ok`, where the result is one

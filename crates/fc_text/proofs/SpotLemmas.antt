@@ -1,7 +1,7 @@
 -- Where in a text its fault lies, and where a card is told.
-use Rattle.std.proofs.Common.{◌≡◌, ◌↔◌, ℕ, zero, suc, ◌+◌, ◌≤◌, ◌<◌, Bool, true, false, eqb, Option, Some, None, MatchOption, IfSome, IfNone, IsTrue, List, [], ◌∷◌, ◌++◌, length, map, take, drop, get_or, set, ◌⊎◌, inl, inr, refl, sym, ◌∙◌, ap, subst, ⊎_elim, arith}
+use Rattle.std.proofs.Common.{◌≡◌, ◌↔◌, ℕ, zero, suc, ◌+◌, ◌<◌, Bool, true, false, eqb, IsTrue, List, [], ◌∷◌, ◌++◌, length, take, drop, get_or, set, ◌⊎◌, inl, inr, refl, sym, ◌∙◌, ap, subst, ⊎_elim, arith}
 use Rattle.std.specs.Prelude.{Contains, slice_index_or}
-use Rattle.std.proofs.lemmas.List.{append_assoc, append-nil, drop_more, get_or_at, get_or-set_same, get_or-set_other, get_or-take, length-append, length-map, length-take, same_from_push, take-append-drop}
+use Rattle.std.proofs.lemmas.List.{append_assoc, drop_more, get_or_at, get_or-set_same, get_or-set_other, get_or-take, length-take, same_from_push, take-append-drop}
 use Rattle.std.proofs.lemmas.List.Elements.{Contains-push, Contains-push_cases, Contains-append_left}
 use Rattle.std.proofs.lemmas.Option.{slice_get_within, get_or_from_slice_get}
 use Rattle.std.proofs.lemmas.Bool.{cases_eq, eqb-true, eq-eqb}
@@ -11,84 +11,15 @@ use Rattle.fc_text.specs.declared.faults.LineFault.{LineFault}
 use Rattle.fc_text.specs.declared.faults.LineFault.TheVariants.{BadCard, BadFoundation, TooManyCells, TooManyColumns, RepeatedLine}
 use Rattle.fc_text.specs.declared.lines.LineKind.{LineKind}
 use Rattle.fc_text.specs.declared.lines.LineKind.TheVariants.{Foundations, Freecells, Column}
-use Rattle.fc_text.specs.Line.{Line, parts_of, is_line_end, without_return, line_of, lines_of, board_lines}
+use Rattle.fc_text.specs.Line.{Line, board_lines}
 use Rattle.fc_text.specs.Spelling.{SpellsCard, SpellsHome}
 use Rattle.fc_text.specs.Fault.{NamesSuitTwice, HasBadCard, HasBadFoundation, HasTooManyCells, HasTooManyColumns, IsLineFault}
-use Rattle.fc_text.specs.Board.{HasLineFault, IsBoardFault, line_fault}
-use Rattle.fc_text.specs.Spot.{AreNamed, AreNoted, HasCard, HasLine, HasNamed, HasSpelled, IsBadHome, IsBadToken, IsFirstBad, IsFirstSpelled, IsLastIn, IsLastOf, IsLastSpelled, IsSpot, IsSpotIn, LiesAtNone, NamesSuit, NoneHasCard, NoneIsBad}
+use Rattle.fc_text.specs.Board.{HasLineFault, IsBoardFault}
+use Rattle.fc_text.specs.inner.Board.{line_fault}
+use Rattle.fc_text.specs.Spot.{HasCard, HasLine, HasNamed, HasSpelled, IsBadHome, IsBadToken, IsFirstBad, IsFirstSpelled, IsLastIn, IsLastOf, IsLastSpelled, IsSpot, IsSpotIn, LiesAtNone, NamesSuit, NoneHasCard, NoneIsBad}
+use Rattle.fc_text.specs.inner.Spot.{AreNoted, AreNamed}
 use Rattle.fc_text.proofs.HomeLemmas.{home_suit_once}
-use Rattle.fc_text.proofs.LineLoop.{lines_left}
-use Rattle.fc_text.proofs.PartLemmas.{length-parts_of}
-
--- a loop over a list passed so many of its elements, of which a fact holds; the others are left
-pub record Passed {A : Type 0} (P : List A → Type 0) (all left : List A) (count : ℕ) : Type 0 where
-  pub front : List A
-  pub parts : front ++ left ≡ all
-  pub size : count ≡ length front
-  pub so : P front
-
--- at first nothing is passed
-pub pass_none : {A : Type 0} (P : List A → Type 0) (all left : List A) → left ≡ all → P [] → Passed P all left 0
-pass_none P all left same so = record {
-  front = [];
-  parts = same;
-  size = refl;
-  so = so;
-}
-
--- the next element is passed
-pub pass_next : {A : Type 0} (P Q : List A → Type 0) (all left after : List A) (x : A) (count : ℕ) → Passed P all left count
-    → left ≡ x ∷ after → ((front : List A) → count ≡ length front → P front → Q (front ++ x ∷ [])) → Passed Q all after (count + 1)
-pass_next P Q all left after x count p first more = record {
-  front = p.front ++ x ∷ [];
-  parts = append_assoc p.front (x ∷ []) after ∙ ap (λ xs. p.front ++ xs) (sym first) ∙ p.parts;
-  size = ap (λ k. k + 1) p.size ∙ sym (length-append p.front (x ∷ []));
-  so = more p.front p.size p.so;
-}
-
--- the next element stands behind those that were passed
-pub pass_here : {A : Type 0} (P : List A → Type 0) (all left after : List A) (x : A) (count : ℕ) (p : Passed P all left count)
-    → left ≡ x ∷ after → all ≡ p.front ++ x ∷ after
-pass_here P all left after x count p first = sym p.parts ∙ ap (λ xs. p.front ++ xs) first
-
--- there is room to count the next element
-pub pass_room : {A : Type 0} (P : List A → Type 0) (all left after : List A) (x : A) (count : ℕ) → Passed P all left count
-    → left ≡ x ∷ after → count + 1 ≤ length all
-pass_room P all left after x count p first =
-    let size = ap length (pass_here P all left after x count p first) in
-    omega (arith, size, length-append p.front (x ∷ after), p.size)
-
--- all elements are passed
-pub pass_all : {A : Type 0} (P : List A → Type 0) (all left : List A) (count : ℕ) → Passed P all left count → left ≡ []
-    → P all × (count ≡ length all)
-pass_all P all left count p none =
-    let whole : p.front ≡ all = sym (append-nil p.front) ∙ ap (λ xs. p.front ++ xs) (sym none) ∙ p.parts in
-    (subst P whole p.so, p.size ∙ ap length whole)
-
--- a text has at most as many lines as bytes
-pub lines_few : (text : List ℕ) → length (board_lines text) ≤ length text
-lines_few text =
-    let one = length-map (lines_of text) line_of in
-    let two = length-map (parts_of is_line_end text) without_return in
-    omega (arith, length-parts_of is_line_end text, one, two)
-
--- the first of the lines that are left
-pub left_first : (rest after piece : List ℕ) → parts_of is_line_end rest ≡ piece ∷ parts_of is_line_end after
-    → lines_left rest ≡ line_of (without_return piece) ∷ lines_left after
-left_first rest after piece first = ap (λ ps. map line_of (map without_return ps)) first
-
--- the next line has the next number
-pub line_here : (P : List Line → Type 0) (lines left after : List Line) (line : Line) (count : ℕ) → Passed P lines left count
-    → left ≡ line ∷ after → (there : HasLine lines (count + 1) line) × P there.above
-line_here P lines left after line count p first = (
-  record {
-    above = p.front;
-    below = after;
-    parts = pass_here P lines left after line count p first;
-    place = ap (λ k. k + 1) p.size;
-  },
-  p.so,
-)
+use Rattle.fc_text.proofs.PassLemmas.{Passed, pass_here}
 
 -- one line has a number
 line_once : (lines : List Line) (number : ℕ) (l m : Line) → HasLine lines number l → HasLine lines number m → l ≡ m
@@ -370,26 +301,6 @@ last_line_push c lines next number place token (line, last, (there, none)) other
     card_push c there.below next none other,
   ),
 )
-
--- what holds of each case of an option
-pub cases_then : {A : Type 0} (r : Option A) (P Q : Type 0) (R S : A → Type 0) → MatchOption r P R → (P → Q) → ((x : A) → R x → S x)
-    → MatchOption r Q S
-cases_then None P Q R S given f g = f given
-cases_then (Some x) P Q R S given f g = g x given
-
--- what holds of the value, where there is one
-pub some_case : {A : Type 0} (r : Option A) (P : Type 0) (R : A → Type 0) → MatchOption r P R → IfSome r R
-some_case None P R given = tt
-some_case (Some x) P R given = given
-
--- what holds where there is no value
-pub none_case : {A : Type 0} (r : Option A) (P : Type 0) (R : A → Type 0) → MatchOption r P R → IfNone r P
-none_case None P R given = given
-none_case (Some x) P R given = tt
-
--- no line is left
-pub left_none : (rest : List ℕ) → parts_of is_line_end rest ≡ [] → lines_left rest ≡ []
-left_none rest none = ap (λ ps. map line_of (map without_return ps)) none
 
 -- of no tokens none is bad
 pub none_bad : (n : ℕ) (fault : LineFault) (kind : LineKind) → NoneIsBad n fault kind []

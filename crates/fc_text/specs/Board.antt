@@ -42,16 +42,3 @@ IsBoardFault n text (TooManyColumns k) = HasLineFault n text k LineFault.TooMany
 IsBoardFault n text (RepeatedLine k) = HasLineFault n text k LineFault.RepeatedLine
 IsBoardFault n text (RepeatedCard c) = HasCardFault n text (Repeated c)
 IsBoardFault n text (MissingCard c) = HasCardFault n text (Missing c)
-
--- the fault of a line as a fault of the text
-abbrev pub line_fault : ℕ → LineFault → BoardFault
-line_fault k LineFault.BadCard = BadCard k
-line_fault k LineFault.BadFoundation = BadFoundation k
-line_fault k LineFault.TooManyCells = TooManyCells k
-line_fault k LineFault.TooManyColumns = TooManyColumns k
-line_fault k LineFault.RepeatedLine = RepeatedLine k
-
--- the fault of cards as a fault of the text
-abbrev pub card_fault : PartsFault → BoardFault
-card_fault (Repeated c) = RepeatedCard c
-card_fault (Missing c) = MissingCard c

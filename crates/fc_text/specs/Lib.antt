@@ -1,9 +1,8 @@
 pub mod Board
-pub mod Draft
 pub mod Fault
 pub mod Laws
 pub mod Line
 pub mod Printed
-pub mod Reading
 pub mod Spelling
 pub mod Spot
+pub mod inner

@@ -1,5 +1,5 @@
 -- Board texts as lines, and lines as their kind and their tokens.
-use Rattle.std.specs.Prelude.{◌≡◌, ℕ, ◌==◌, ◌-◌, ◌||◌, Bool, true, false, not, cond, List, [], ◌∷◌, length, take, drop, map, filter, Option, Some, None, slice_index, codes}
+use Rattle.std.specs.Prelude.{ℕ, ◌==◌, ◌-◌, ◌||◌, Bool, true, false, not, cond, List, [], ◌∷◌, length, take, drop, map, filter, Option, Some, None, slice_index, codes}
 use Rattle.std.specs.Char.{to_ascii_lowercase}
 use Rattle.std.specs.List.{position_or_len}
 use Rattle.std.specs.Str.{bytes_eq}
@@ -45,11 +45,6 @@ tokens_between is_gap text = filter is_token (parts_of is_gap text)
 -- the tokens of a piece of a line: what stands between blanks
 abbrev pub tokens_of : List ℕ → List (List ℕ)
 tokens_of piece = filter is_token (parts_of is_blank piece)
-
--- a text is parted into its first token and the rest; an empty token stands for none
-abbrev pub SplitsToken : (ℕ → Bool) → List ℕ → List ℕ → List ℕ → Type 0
-SplitsToken is_gap text [] rest = (tokens_between is_gap text ≡ []) × (tokens_between is_gap rest ≡ [])
-SplitsToken is_gap text (b ∷ bytes) rest = tokens_between is_gap text ≡ (b ∷ bytes) ∷ tokens_between is_gap rest
 
 -- a line without the blanks that it begins with
 abbrev pub after_blanks : List ℕ → List ℕ

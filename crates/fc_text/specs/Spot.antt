@@ -1,5 +1,5 @@
 -- Where in a text its fault lies: the line and the token.
-use Rattle.std.specs.Prelude.{◌≡◌, ◌≢◌, ◌↔◌, ℕ, ◌+◌, ◌<◌, ◌⊎◌, Bool, false, IsTrue, List, [], ◌∷◌, ◌++◌, length, slice_index_or, Contains}
+use Rattle.std.specs.Prelude.{◌≡◌, ◌≢◌, ℕ, ◌+◌, ◌<◌, ◌⊎◌, List, [], ◌∷◌, ◌++◌, length, Contains}
 use Rattle.fc_text.specs.Line.{Line, board_lines}
 use Rattle.fc_text.specs.Fault.{IsNoCard, IsNoHome}
 use Rattle.fc_text.specs.Spelling.{SpellsCard, SpellsHome, IsMark}
@@ -16,10 +16,6 @@ NamesSuit s token = (n : ℕ) × SpellsHome token s n
 -- one of the tokens names the suit
 abbrev pub HasNamed : ℕ → List (List ℕ) → Type 0
 HasNamed s tokens = (token : List ℕ) × Contains tokens token × NamesSuit s token
-
--- index s is true exactly where one of the tokens names suit s
-abbrev pub AreNamed : List (List ℕ) → List Bool → Type 0
-AreNamed tokens named = (s : ℕ) → s < 4 → IsTrue (slice_index_or named s false) ↔ HasNamed s tokens
 
 -- the token is no foundation, or names a suit that one of those before names too
 abbrev pub IsBadHome : List (List ℕ) → List ℕ → Type 0
@@ -40,10 +36,6 @@ IsBadToken n LineFault.BadFoundation Column before token = ⊥
 IsBadToken n LineFault.TooManyCells kind before token = (kind ≡ Freecells) × (length before ≡ n)
 IsBadToken n LineFault.TooManyColumns kind before token = (kind ≡ Column) × (before ≡ [])
 IsBadToken n LineFault.RepeatedLine kind before token = ⊥
-
--- where foundations are read for a fault of theirs, the suits that these tokens name are noted
-abbrev pub AreNoted : LineFault → LineKind → List (List ℕ) → List Bool → Type 0
-AreNoted fault kind tokens named = (fault ≡ LineFault.BadFoundation) → (kind ≡ Foundations) → AreNamed tokens named
 
 -- by none of these tokens a line has the fault
 abbrev pub NoneIsBad : ℕ → LineFault → LineKind → List (List ℕ) → Type 0

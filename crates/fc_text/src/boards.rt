@@ -1,10 +1,11 @@
 ghost use Rattle.std.specs.Prelude.{◌≡◌, ◌≤◌, length, IfOk, OnOk, IfErr};
 ghost use Rattle.fc_position.specs.Position.{Fits};
-ghost use Rattle.fc_text.specs.Board.{Spells, IsBoardFault, card_fault, line_fault};
+ghost use Rattle.fc_text.specs.Board.{Spells, IsBoardFault};
+ghost use Rattle.fc_text.specs.inner.Board.{card_fault, line_fault};
 ghost use Rattle.fc_text.specs.Line.{board_lines};
 ghost use Rattle.fc_text.specs.Fault.{AreSound, IsFirstFault};
-ghost use Rattle.fc_text.specs.Reading.{IsTally};
-ghost use Rattle.fc_text.specs.Draft.{IsDraftOf};
+ghost use Rattle.fc_text.specs.inner.Reading.{IsTally};
+ghost use Rattle.fc_text.specs.inner.Draft.{IsDraftOf};
 
 use crate::drafts::Draft;
 use crate::faults::{BoardFault, LineFault};

@@ -4,7 +4,7 @@ ghost use Rattle.fc_position.specs.Position.{IsPosition};
 ghost use Rattle.fc_position.specs.Tally.{IsFaultOf};
 ghost use Rattle.fc_text.specs.Line.{Line, line_of, tokens_of};
 ghost use Rattle.fc_text.specs.Fault.{IsLineFault, IsSound};
-ghost use Rattle.fc_text.specs.Reading.{IsTally};
+ghost use Rattle.fc_text.specs.inner.Reading.{IsTally};
 ghost use Rattle.fc_text.specs.Spelling.{is_kind, SpellsBoard};
 
 use crate::faults::LineFault;
@@ -27,7 +27,7 @@ pub(crate) struct Draft {
 }
 
 impl Draft {
-    ghost use Rattle.fc_text.specs.Draft.{IsDraftOf, cells_line, column_line, homes_line};
+    ghost use Rattle.fc_text.specs.inner.Draft.{IsDraftOf, cells_line, column_line, homes_line};
 
     // An empty board.
     pub fn new() -> Draft

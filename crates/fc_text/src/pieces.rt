@@ -1,7 +1,8 @@
 ghost use Rattle.std.specs.Prelude.{◌≡◌, ℕ, ◌<◌, ◌≤◌, ◌∷◌, Bool, length, not};
 ghost use Rattle.std.specs.List.{position_or_len};
 ghost use Rattle.std.specs.Iterator.{YieldsFirstRef, item_count};
-ghost use Rattle.fc_text.specs.Line.{is_blank, is_line_end, parts_of, tokens_between, SplitsToken};
+ghost use Rattle.fc_text.specs.Line.{is_blank, is_line_end, parts_of, tokens_between};
+ghost use Rattle.fc_text.specs.inner.Line.{SplitsToken};
 
 /// The lines of a text, each without the LF that ends it.
 #[derive(Debug, Drop)]

@@ -1,6 +1,6 @@
 ghost use Rattle.std.specs.Prelude.{◌≡◌, ℕ, ◌≤◌, ◌<◌, IfOk, OnOk, IfErr};
 ghost use Rattle.fc_text.specs.Line.{tokens_of};
-ghost use Rattle.fc_text.specs.Reading.{ReadsCells, ReadsColumn, ReadsHomes, IsTally};
+ghost use Rattle.fc_text.specs.inner.Reading.{ReadsCells, ReadsColumn, ReadsHomes, IsTally};
 ghost use Rattle.fc_text.specs.Fault.{HasBadCard, HasBadFoundation};
 
 use crate::faults::LineFault;

@@ -1,8 +1,10 @@
 ghost use Rattle.std.specs.Prelude.{◌≡◌, ◌≢◌, ℕ, ◌↔◌, List, [], ◌∷◌, ◌++◌, length, IfSome, IfNone, IsTrue};
-ghost use Rattle.fc_text.specs.Board.{IsBoardFault, line_fault};
+ghost use Rattle.fc_text.specs.Board.{IsBoardFault};
+ghost use Rattle.fc_text.specs.inner.Board.{line_fault};
 ghost use Rattle.fc_text.specs.Line.{Line, board_lines, line_of, tokens_of, without_return};
 ghost use Rattle.fc_text.specs.Spelling.{SpellsCard};
-ghost use Rattle.fc_text.specs.Spot.{AreNamed, AreNoted, HasCard, HasLine, HasSpelled, IsBadHome, IsBadToken, IsFirstBad, IsFirstIn, IsFirstSpelled, IsFirstSpot, IsLastIn, IsLastSpelled, IsLastSpot, IsSpot, LiesAtNone, NoneIsBad, TellsNowhere};
+ghost use Rattle.fc_text.specs.Spot.{HasCard, HasLine, HasSpelled, IsBadHome, IsBadToken, IsFirstBad, IsFirstIn, IsFirstSpelled, IsFirstSpot, IsLastIn, IsLastSpelled, IsLastSpot, IsSpot, LiesAtNone, NoneIsBad, TellsNowhere};
+ghost use Rattle.fc_text.specs.inner.Spot.{AreNoted, AreNamed};
 
 use crate::faults::{BoardFault, LineFault};
 use crate::lines::{LineKind, sorted_line, without_return};

@@ -1,5 +1,5 @@
 use Rattle.std.proofs.Common.{rules, ◌≡◌, Ok, IsTrue, sym, ap, subst, ⊎_elim}
-use Rattle.fc_replay.specs.Played.{ReplaysAs, BeginsWithStep}
+use Rattle.fc_replay.specs.Played.{ReplaysAs, BeginsWithStep, sink_change}
 use Rattle.fc_replay.specs.Token.{move_tokens}
 use Rattle.fc_board_runs.specs.Devices.{Device, GivesWhole, change}
 use Rattle.fc_board_runs.specs.Runs.{IsReplayAs}
@@ -10,7 +10,7 @@ pub returns-in-Ok-replay_as-clause-replayed : goal.returns-in-Ok-replay_as-claus
 returns-in-Ok-replay_as-clause-replayed g c =
     let moves : Device = change g.M.Source.told g.M.Source.has_failed c.args.moves.now c.read_to_vec.new.source in
     let sink : Device = change g.K.Sink.held g.K.Sink.has_failed c.args.out.now c.replay_as.new.sink in
-    let replayed : ReplaysAs c.args.page (g.G.Game.game c.args.game.now) c.args.start.now (move_tokens c.in-Ok.text.items) sink.old sink.new (Ok c.in-Ok-replay_as.ended) =
+    let replayed : ReplaysAs c.args.page (g.G.Game.game c.args.game.now) c.args.start.now (move_tokens c.in-Ok.text.items) (sink_change sink.old sink.new) (Ok c.in-Ok-replay_as.ended) =
     search rules in
     let read : GivesWhole moves c.in-Ok.text.items = search rules in
     let whole : IsReplayAs c.args.page (g.G.Game.game c.args.game.now) c.args.start.now moves sink (Ok c.in-Ok-replay_as.ended) = record {

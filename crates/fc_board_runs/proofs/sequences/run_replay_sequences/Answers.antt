@@ -2,7 +2,7 @@ use Rattle.std.proofs.Common.{rules, ◌<◌, length, Ok, refl, sym, subst}
 use Rattle.std.specs.Prelude.{IfErr, IsTrue}
 use Rattle.fc_moves.specs.Run.{Run}
 use Rattle.fc_sequences.proofs.RunLemmas.{expands_run}
-use Rattle.fc_replay.specs.Played.{PlaysAs}
+use Rattle.fc_replay.specs.Played.{PlaysAs, sink_change}
 use Rattle.fc_replay.specs.Token.{move_tokens}
 use Rattle.fc_replay.proofs.ReplayLoop.{err_is}
 use Rattle.fc_board_runs.specs.Devices.{Device, GivesWhole, change}
@@ -38,8 +38,8 @@ returns-in-Ok-play-clause-played g c =
     let expanded : IsExpanded (g.G.Game.game c.args.game.now) c.args.start.now (move_tokens c.in-Ok.text.items) c.in_ok-steps.steps.items =
     subst (λ l. IsExpanded (g.G.Game.game c.args.game.now) c.args.start.now (move_tokens l) c.in_ok-steps.steps.items)
     c.as_slice.ensures.value c.in_ok-steps.ensures.expanded in
-    let played : PlaysAs c.args.page (g.G.Game.game c.args.game.now) c.args.start.now c.in_ok-steps.steps.items sink.old sink.new (Ok c.in-Ok-play.ended) =
-    subst (λ l. PlaysAs c.args.page (g.G.Game.game c.args.game.now) c.args.start.now l sink.old sink.new (Ok c.in-Ok-play.ended))
+    let played : PlaysAs c.args.page (g.G.Game.game c.args.game.now) c.args.start.now c.in_ok-steps.steps.items (sink_change sink.old sink.new) (Ok c.in-Ok-play.ended) =
+    subst (λ l. PlaysAs c.args.page (g.G.Game.game c.args.game.now) c.args.start.now l (sink_change sink.old sink.new) (Ok c.in-Ok-play.ended))
     c.as_slice-2.ensures.value c.in-Ok-play.ensures.played in
     record {
       play = record {

@@ -2,7 +2,7 @@ use Rattle.std.proofs.Common.{◌≤◌, sym, ◌∙◌, ap, subst, take, arith}
 use Rattle.std.specs.Prelude.{count_by}
 use Rattle.std.specs.List.{list_any}
 use Rattle.fc_position.specs.Board.{count_in_column}
-use Rattle.fc_moves.specs.GameRules.{all_cards}
+use Rattle.fc_cards.specs.Card.{all_cards}
 use Rattle.fc_bound.specs.Bound.{is_above_lower, is_away}
 use Rattle.fc_bound.proofs.CountLemmas.{count-most}
 use Rattle.fc_bound.proofs.HeldLemmas.{column_once, held-none, held-more, held-all}

@@ -1,6 +1,6 @@
 use Rattle.std.proofs.Common.{◌≡◌, ◌+◌, take}
 use Rattle.std.specs.Prelude.{count_by}
-use Rattle.fc_moves.specs.GameRules.{all_cards}
+use Rattle.fc_cards.specs.Card.{all_cards}
 use Rattle.fc_bound.specs.Bound.{is_away}
 use Rattle.fc_bound.proofs.HeldLemmas.{held_in}
 use Rattle.fc_bound.proofs.bounds.bound.Given as goal

@@ -1,5 +1,5 @@
 use Rattle.std.proofs.Common.{◌+◌, ◌-◌, refl, arith}
-use Rattle.fc_canonical.specs.Parts.{times_in}
+use Rattle.fc_canonical.specs.inner.Parts.{times_in}
 use Rattle.fc_canonical.proofs.CheckLemmas.{none_first, early_first, over_first, columns_more, refused}
 use Rattle.fc_canonical.proofs.checks.are_columns.Goals as goal
 

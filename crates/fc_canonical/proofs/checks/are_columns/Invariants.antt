@@ -1,5 +1,5 @@
 use Rattle.std.proofs.Common.{◌-◌, ◌↔◌}
-use Rattle.fc_canonical.specs.Parts.{times_in, AreColumns}
+use Rattle.fc_canonical.specs.inner.Parts.{times_in, AreColumns}
 use Rattle.fc_canonical.proofs.checks.are_columns.Given as goal
 
 -- the bytes are such columns exactly where the rest is those that are left

@@ -1,6 +1,6 @@
 use Rattle.std.proofs.Common.{refl}
 use Rattle.std.proofs.lemmas.Bool.{false≢true}
-use Rattle.fc_canonical.specs.Parts.{times_in}
+use Rattle.fc_canonical.specs.inner.Parts.{times_in}
 use Rattle.fc_canonical.proofs.CheckLemmas.{refused}
 use Rattle.fc_canonical.proofs.PartLemmas.{are_split, parts_of_key, key_told, key_refused}
 use Rattle.fc_canonical.proofs.checks.is_key.Goals as goal

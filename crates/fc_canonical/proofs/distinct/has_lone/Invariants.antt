@@ -1,4 +1,4 @@
-use Rattle.fc_canonical.specs.Distinct.{IsLoneBelow}
+use Rattle.fc_canonical.specs.inner.Distinct.{IsLoneBelow}
 use Rattle.fc_canonical.proofs.distinct.has_lone.Given as goal
 
 -- none of the columns so far has one card alone, which may go to an empty column

@@ -1,6 +1,6 @@
 use Rattle.std.proofs.Common.{◌∙◌, ap, subst}
 use Rattle.fc_moves.proofs.StepLemmas.{source_there}
-use Rattle.fc_canonical.specs.Distinct.{IsCellOf}
+use Rattle.fc_canonical.specs.inner.Distinct.{IsCellOf}
 use Rattle.fc_canonical.proofs.ListingLemmas.{cell_adds, cell_passes}
 use Rattle.fc_canonical.proofs.distinct.list_from.Goals as goal
 use Rattle.fc_canonical.proofs.distinct.list_from.Goals.{in-Some, in_default}
@@ -9,8 +9,8 @@ pub list_to_home-requires-clause-before : goal.list_to_home-requires-clause-befo
 list_to_home-requires-clause-before g c =
     let game = g.G.Game.game c.args.game.now in
     let b = c.args.position.now in
-    let from = c.args.from in
-    let source = source_there b from c.args.card c.requires.whole c.requires.card in
+    let from = c.args.source.from in
+    let source = source_there b from c.args.source.card c.requires.whole c.requires.card in
     let before = c.list_to_columns.new.list.items in
     elim c.match-cell.branch [
       | in-Some w ↦

@@ -1,6 +1,6 @@
 use Rattle.std.proofs.Common.{◌≡◌, ◌+◌, ◌*◌, sym, ◌∙◌, subst, arith}
 use Rattle.fc_cards.specs.declared.places.Place.TheVariants.{Cell}
-use Rattle.fc_canonical.specs.Distinct.{ListsBelow}
+use Rattle.fc_canonical.specs.inner.Distinct.{ListsDistinctBelow}
 use Rattle.fc_canonical.proofs.ListingLemmas.{source_passes}
 use Rattle.fc_canonical.proofs.distinct.list_from_cells.Goals as goal
 use Rattle.fc_canonical.proofs.distinct.list_from_cells.Goals.{in-Some, in_default}
@@ -13,11 +13,11 @@ loop-i-preserved g c =
     let next : (8 + i) * 13 + 13 ≡ (8 + (i + 1)) * 13 = omega arith in
     elim c.match-cell.branch [
       | in-Some w ↦ rw w.list-is (record {
-        listed = subst (λ k. ListsBelow game b k w.list_from.new.list.items) next w.list_from.ensures.after;
+        listed = subst (λ k. ListsDistinctBelow game b k w.list_from.new.list.items) next w.list_from.ensures.after;
         count = omega (arith, c.loop-i.invariant.count, w.list_from.ensures.count);
       })
       | in_default w ↦ rw w.list-is (record {
-        listed = subst (λ k. ListsBelow game b k c.loop-i.list.items) next
+        listed = subst (λ k. ListsDistinctBelow game b k c.loop-i.list.items) next
             (source_passes game b (Cell i) c.loop-i.list.items c.requires.whole c.loop-i-test.true
             (sym c.cell.ensures.value ∙ w.in_default.is) c.loop-i.invariant.listed);
         count = omega (arith, c.loop-i.invariant.count);

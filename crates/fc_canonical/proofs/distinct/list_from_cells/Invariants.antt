@@ -1,11 +1,11 @@
 use Rattle.std.proofs.Common.{◌+◌, ◌*◌, ◌≤◌}
 use Rattle.arrayvec.specs.ArrayVec.{array_vec_len}
-use Rattle.fc_canonical.specs.Distinct.{ListsBelow}
+use Rattle.fc_canonical.specs.inner.Distinct.{ListsDistinctBelow}
 use Rattle.fc_canonical.proofs.distinct.list_from_cells.Given as goal
 
 -- the moves of the columns and of the cells before this one are listed, at most ten of each
 abbrev pub invariant-loop-i : goal.invariant-loop-i
 invariant-loop-i g l = record {
-  listed : ListsBelow (g.G.Game.game l.game) l.position ((8 + l.i) * 13) l.list.items;
+  listed : ListsDistinctBelow (g.G.Game.game l.game) l.position ((8 + l.i) * 13) l.list.items;
   count : array_vec_len l.list ≤ 80 + 10 * l.i;
 }

@@ -2,7 +2,7 @@ use Rattle.std.proofs.Common.{◌≡◌, ◌+◌, ◌*◌, Some, None, ap, subst
 use Rattle.std.specs.Option.{option_copied}
 use Rattle.fc_cards.specs.declared.places.Place.TheVariants.{Column}
 use Rattle.fc_position.specs.Board.{column, last_of}
-use Rattle.fc_canonical.specs.Distinct.{ListsBelow}
+use Rattle.fc_canonical.specs.inner.Distinct.{ListsDistinctBelow}
 use Rattle.fc_canonical.proofs.ListingLemmas.{last_is, source_passes, cell_of_column}
 use Rattle.fc_canonical.proofs.distinct.list_from_columns.Goals as goal
 use Rattle.fc_canonical.proofs.distinct.list_from_columns.Goals.{in-Some, in_default}
@@ -23,7 +23,7 @@ loop-i-preserved g c =
     let next : i * 13 + 13 ≡ (i + 1) * 13 = omega arith in
     elim c.match-last.branch [
       | in-Some w ↦ rw w.list-is (record {
-        listed = subst (λ k. ListsBelow game b k w.list_from.new.list.items) next w.list_from.ensures.after;
+        listed = subst (λ k. ListsDistinctBelow game b k w.list_from.new.list.items) next w.list_from.ensures.after;
         count = omega (arith, c.loop-i.invariant.count, w.list_from.ensures.count);
       })
       | in_default w ↦
@@ -31,7 +31,7 @@ loop-i-preserved g c =
           last_is c.column.result.now (column b i) (option_copied c.last.result) None c.column.ensures.value c.last.ensures.value
           (ap option_copied w.in_default.is) in
           rw w.list-is (record {
-            listed = subst (λ k. ListsBelow game b k c.loop-i.list.items) next
+            listed = subst (λ k. ListsDistinctBelow game b k c.loop-i.list.items) next
                 (source_passes game b (Column i) c.loop-i.list.items c.requires.whole c.loop-i-test.true
                 none c.loop-i.invariant.listed);
             count = omega (arith, c.loop-i.invariant.count);

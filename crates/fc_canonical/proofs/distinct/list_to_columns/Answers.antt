@@ -5,7 +5,7 @@ use Rattle.fc_cards.specs.declared.places.Place.TheVariants.{Column}
 use Rattle.fc_position.specs.Board.{column}
 use Rattle.fc_moves.specs.declared.steps.Move.{Move}
 use Rattle.fc_moves.proofs.StepLemmas.{source_there}
-use Rattle.fc_canonical.specs.Distinct.{IsListed, GoesTo}
+use Rattle.fc_canonical.specs.inner.Distinct.{GoesTo, IsListed}
 use Rattle.fc_canonical.proofs.ListingLemmas.{equal_is, goes_listed, place_adds, place_passes}
 use Rattle.fc_canonical.proofs.distinct.list_to_columns.Goals as goal
 use Rattle.fc_canonical.proofs.distinct.list_to_columns.Goals.{then-goes_to, else-goes_to}

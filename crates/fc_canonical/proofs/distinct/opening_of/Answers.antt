@@ -1,5 +1,5 @@
 use Rattle.std.proofs.Common.{sym, ◌∙◌, subst}
-use Rattle.fc_canonical.specs.Distinct.{IsFirstColumn}
+use Rattle.fc_canonical.specs.inner.Distinct.{IsFirstColumn}
 use Rattle.fc_canonical.proofs.ListingLemmas.{opening_first}
 use Rattle.fc_canonical.proofs.distinct.opening_of.Goals as goal
 

@@ -1,7 +1,7 @@
 use Rattle.std.proofs.Common.{take, ap, ◌∙◌, ◌+◌, ◌∷◌, [], ◌++◌, length, sym, arith, length-take, length-append, append_assoc}
 use Rattle.std.specs.Prelude.{slice_index_or, slice_set}
 use Rattle.fc_canonical.specs.Key.{padded}
-use Rattle.fc_canonical.proofs.KeyLemmas.{padded_more}
+use Rattle.fc_canonical.proofs.WrittenLemmas.{padded_more}
 use Rattle.fc_canonical.proofs.keys.write_column.Goals as goal
 
 pub loop-i-preserved : goal.loop-i-preserved

@@ -1,6 +1,6 @@
 use Rattle.std.proofs.Common.{◌<◌, length, ap, arith}
 use Rattle.std.proofs.lemmas.List.Sorted.{length_permutation}
-use Rattle.fc_canonical.proofs.KeyLemmas.{eight_numbers, numbers_below, room_for_column}
+use Rattle.fc_canonical.proofs.WrittenLemmas.{eight_numbers, numbers_below, room_for_column}
 use Rattle.fc_canonical.proofs.keys.write_columns.Goals as goal
 
 pub column-requires : goal.column-requires

@@ -1,6 +1,6 @@
 use Rattle.std.proofs.Common.{take, ap, ◌∙◌, ◌+◌, arith, length-take}
 use Rattle.std.specs.Prelude.{slice_index, slice_set}
-use Rattle.fc_canonical.proofs.KeyLemmas.{padded_more}
+use Rattle.fc_canonical.proofs.WrittenLemmas.{padded_more}
 use Rattle.fc_canonical.proofs.keys.write_four.Goals as goal
 
 pub loop-i-preserved : goal.loop-i-preserved

@@ -2,7 +2,7 @@ use Rattle.std.proofs.Common.{map, ap, ◌∙◌, ◌++◌, sym, rules, arith, l
 use Rattle.std.specs.List.{flat_map}
 use Rattle.fc_position.specs.Board.{column}
 use Rattle.fc_canonical.specs.Key.{column_bytes, padded}
-use Rattle.fc_canonical.proofs.KeyLemmas.{key_spells, front_written}
+use Rattle.fc_canonical.proofs.WrittenLemmas.{key_spells, front_written}
 use Rattle.fc_canonical.proofs.keys.written.Goals as goal
 
 pub write_columns-length-requires-clause-zeros : goal.write_columns-length-requires-clause-zeros

@@ -1,7 +1,8 @@
 use Rattle.std.proofs.Common.{length, sym, ap, subst, arith}
 use Rattle.std.specs.List.Sorted.{IsNonDecreasingBy}
 use Rattle.fc_position.specs.Board.{lifted}
-use Rattle.fc_canonical.specs.Moved.{MayMove, moved, SpellWith}
+use Rattle.fc_canonical.specs.Moved.{MayMove, moved}
+use Rattle.fc_canonical.specs.inner.Moved.{SpellWith}
 use Rattle.fc_canonical.specs.Order.{column_order}
 use Rattle.fc_canonical.proofs.MovedLemmas.{put_has_room, put_ends, put_spelled, order_put}
 use Rattle.fc_canonical.proofs.moved.put_in.Goals as goal

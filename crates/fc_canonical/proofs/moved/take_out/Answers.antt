@@ -2,7 +2,7 @@ use Rattle.std.proofs.Common.{◌≡◌, length, Some, sym, ap, subst, arith}
 use Rattle.std.specs.List.Sorted.{IsNonDecreasingBy}
 use Rattle.fc_position.specs.Board.{playable, lifted}
 use Rattle.fc_position.proofs.BoardLemmas.{column_there}
-use Rattle.fc_canonical.specs.Moved.{SpellWith}
+use Rattle.fc_canonical.specs.inner.Moved.{SpellWith}
 use Rattle.fc_canonical.specs.Order.{column_order}
 use Rattle.fc_canonical.proofs.MovedLemmas.{column_room, order_taken, taken_spelled}
 use Rattle.fc_canonical.proofs.moved.take_out.Goals as goal

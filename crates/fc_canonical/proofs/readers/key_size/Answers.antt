@@ -1,4 +1,4 @@
-use Rattle.std.proofs.Common.{◌+◌, ◌≤◌, sym, ◌∙◌, ap, arith, take}
+use Rattle.std.proofs.Common.{◌∙◌, ap, arith, take}
 use Rattle.fc_canonical.proofs.SizeLemmas.{size_told}
 use Rattle.fc_canonical.proofs.readers.key_size.Goals as goal
 

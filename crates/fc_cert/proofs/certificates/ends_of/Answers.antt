@@ -1,7 +1,7 @@
 use Rattle.std.proofs.Common.{◌+◌, ◌-◌, ◌++◌, sym, ◌∙◌, ap, subst}
 use Rattle.std.specs.List.{flat_map}
 use Rattle.fc_cert.specs.Content.{record_bytes}
-use Rattle.fc_cert.specs.Layout.{AreRecords}
+use Rattle.fc_cert.specs.inner.Layout.{AreRecords}
 use Rattle.fc_cert.proofs.RecordLemmas.{end_of_first, first_left, no_longer}
 use Rattle.fc_cert.proofs.certificates.ends_of.Goals as goal
 

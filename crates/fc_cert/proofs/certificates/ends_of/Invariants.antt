@@ -1,5 +1,5 @@
 use Rattle.std.proofs.Common.{◌≡◌, ◌-◌, ◌≤◌, ℕ, List, length, ◌++◌}
-use Rattle.fc_cert.specs.Layout.{AreRecords, ends_from}
+use Rattle.fc_cert.specs.inner.Layout.{AreRecords, ends_from}
 use Rattle.fc_cert.proofs.certificates.ends_of.Given as goal
 
 -- of the records those that are left follow, and where the others end was noted

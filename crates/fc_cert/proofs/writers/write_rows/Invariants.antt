@@ -1,7 +1,7 @@
 use Rattle.std.proofs.Common.{◌++◌, length, take}
 use Rattle.std.specs.List.{flat_map}
 use Rattle.fc_cert.specs.Content.{four_bytes, record_bytes}
-use Rattle.fc_cert.specs.Writing.{Gathers}
+use Rattle.fc_cert.specs.inner.Writing.{Gathers}
 use Rattle.fc_cert.proofs.writers.write_rows.Given as goal
 
 -- the count and the records so far are written or gathered

@@ -1,7 +1,7 @@
 use Rattle.std.proofs.Common.{subst}
 use Rattle.std.proofs.lemmas.Result.{IfErr-weaker, on_ok_weaker}
 use Rattle.fc_home.proofs.RuleLemmas.{refuted}
-use Rattle.fc_checker.specs.Steps.{IsFaultOf, IsFaultOfRecords, SettledHolds}
+use Rattle.fc_checker.specs.inner.Steps.{IsFaultOf, IsFaultOfRecords, SettledHolds}
 use Rattle.fc_checker.proofs.FaultLemmas.{passed_on}
 use Rattle.fc_checker.proofs.StepLemmas.{start_holds}
 use Rattle.fc_checker.proofs.checks.check_content.Goals as goal

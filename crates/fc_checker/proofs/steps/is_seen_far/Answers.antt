@@ -1,6 +1,6 @@
 use Rattle.std.proofs.Common.{◌≡◌, ◌+◌, ℕ, IsTrue, ◌∙◌, ap, subst, nat_le}
 use Rattle.fc_bound.specs.Kinds.{guide_of, low_of}
-use Rattle.fc_tables.proofs.BoundLemmas.{guides_under}
+use Rattle.fc_bound.proofs.KindLemmas.{guides_under}
 use Rattle.fc_checker.proofs.ListedLemmas.{seen_reach}
 use Rattle.fc_checker.proofs.steps.is_seen_far.Goals as goal
 

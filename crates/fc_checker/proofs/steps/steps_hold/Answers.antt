@@ -9,7 +9,7 @@ use Rattle.fc_position.specs.Position.{IsPosition}
 use Rattle.fc_canonical.specs.Key.{BeginsWithBoard}
 use Rattle.fc_canonical.proofs.MoveLemmas.{one_more}
 use Rattle.fc_home.proofs.RuleLemmas.{refuted}
-use Rattle.fc_checker.specs.Steps.{StepHolds}
+use Rattle.fc_checker.specs.inner.Steps.{StepHolds}
 use Rattle.fc_checker.proofs.StepLemmas.{one_each}
 use Rattle.fc_checker.proofs.steps.steps_hold.Goals as goal
 

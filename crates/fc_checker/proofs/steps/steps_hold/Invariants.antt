@@ -1,6 +1,6 @@
 use Rattle.std.proofs.Common.{◌≡◌, ℕ, ◌<◌, get_or}
 use Rattle.fc_moves.specs.declared.steps.Move.{Move}
-use Rattle.fc_checker.specs.Steps.{StepHolds}
+use Rattle.fc_checker.specs.inner.Steps.{StepHolds}
 use Rattle.fc_checker.proofs.steps.steps_hold.Given as goal
 
 -- the position is as it was, and where the moves so far lead, it holds

@@ -4,7 +4,7 @@ use Rattle.fc_position.specs.Board.{IsHome}
 use Rattle.fc_moves.specs.GameRules.{Stands}
 use Rattle.fc_home.specs.HomeRule.{IsFree}
 use Rattle.fc_cards.specs.Suit.{suit_index}
-use Rattle.fc_home.specs.Known.{answer_of}
+use Rattle.fc_home.specs.inner.Known.{answer_of}
 use Rattle.fc_home.proofs.KnownLemmas.{known_tells, known_keep, level_free}
 use Rattle.fc_home.proofs.RuleLemmas.{host_lower, not_free, free_by_hosts, all_looked_at}
 use Rattle.fc_home.proofs.rules.+is_free.Goals as goal

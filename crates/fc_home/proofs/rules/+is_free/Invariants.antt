@@ -2,7 +2,7 @@ use Rattle.std.proofs.Common.{ℕ, ◌<◌, ◌⊎◌, get_or}
 use Rattle.fc_cards.specs.Card.{rank}
 use Rattle.fc_position.specs.Board.{IsHome}
 use Rattle.fc_home.specs.HomeRule.{IsFree}
-use Rattle.fc_home.specs.Known.{IsKnown}
+use Rattle.fc_home.specs.inner.Known.{IsKnown}
 use Rattle.fc_home.proofs.rules.+is_free.Given as goal
 
 -- a card that may stand on another is of a lower rank

@@ -1,7 +1,7 @@
 use Rattle.std.proofs.Common.{◌<◌}
 use Rattle.fc_position.specs.Board.{IsNext}
 use Rattle.fc_position.specs.Position.{IsPosition}
-use Rattle.fc_home.specs.Nexts.{HasNexts}
+use Rattle.fc_home.specs.inner.Nexts.{HasNexts}
 use Rattle.fc_home.proofs.settling.add_columns.Given as goal
 
 -- the next cards of the columns so far; looking at one has told that the position is one

@@ -4,7 +4,7 @@ use Rattle.fc_cards.specs.Card.{suit}
 use Rattle.fc_position.specs.Board.{IsNext}
 use Rattle.fc_moves.specs.Step.{place_number}
 use Rattle.fc_home.specs.declared.settling.Goer.{Goer}
-use Rattle.fc_home.specs.Nexts.{HasNexts}
+use Rattle.fc_home.specs.inner.Nexts.{HasNexts}
 use Rattle.fc_home.proofs.NextLemmas.{nexts_pass, nexts_more}
 use Rattle.fc_home.proofs.RuleLemmas.{refuted}
 use Rattle.fc_home.proofs.settling.add_next.Goals as goal

@@ -2,7 +2,7 @@ use Rattle.std.proofs.Common.{◌≡◌, None, sym, ◌∙◌, subst}
 use Rattle.std.specs.Prelude.{slice_set}
 use Rattle.fc_cards.specs.Card.{suit}
 use Rattle.fc_home.specs.HomeRule.{GoesHome}
-use Rattle.fc_home.specs.Nexts.{HasNexts}
+use Rattle.fc_home.specs.inner.Nexts.{HasNexts}
 use Rattle.fc_home.proofs.NextLemmas.{nexts_struck, least_first, least_none}
 use Rattle.fc_home.proofs.RuleLemmas.{refuted}
 use Rattle.fc_home.proofs.settling.first_home.Goals as goal

@@ -1,7 +1,7 @@
 use Rattle.std.proofs.Common.{is_some, count_by}
 use Rattle.fc_home.specs.HomeRule.{GoesHome}
-use Rattle.fc_home.specs.Known.{IsKnown}
-use Rattle.fc_home.specs.Nexts.{HasNexts}
+use Rattle.fc_home.specs.inner.Known.{IsKnown}
+use Rattle.fc_home.specs.inner.Nexts.{HasNexts}
 use Rattle.fc_home.proofs.settling.first_home.Given as goal
 
 -- each playable card that goes home is still in the list, and what is known holds

@@ -1,4 +1,4 @@
-use Rattle.fc_home.specs.Nexts.{IsLeastBelow}
+use Rattle.fc_home.specs.inner.Nexts.{IsLeastBelow}
 use Rattle.fc_home.proofs.settling.least.Given as goal
 
 -- the first of the cards so far

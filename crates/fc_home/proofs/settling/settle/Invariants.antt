@@ -1,6 +1,6 @@
 use Rattle.std.proofs.Common.{◌≡◌, ◌+◌, ◌-◌, length}
 use Rattle.fc_position.specs.Position.{Fits}
-use Rattle.fc_home.specs.Known.{IsKnown}
+use Rattle.fc_home.specs.inner.Known.{IsKnown}
 use Rattle.fc_home.proofs.SettleLemmas.{total, SettlesAfter}
 use Rattle.fc_home.proofs.settling.settle.Given as goal
 

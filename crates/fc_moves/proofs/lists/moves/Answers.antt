@@ -1,5 +1,6 @@
 use Rattle.std.proofs.Common.{◌≡◌, ◌+◌, ◌*◌, sym, ◌∙◌, subst, arith}
-use Rattle.fc_moves.specs.Step.{ListsBelow, place_number}
+use Rattle.fc_moves.specs.Step.{place_number}
+use Rattle.fc_moves.specs.inner.Step.{ListsBelow}
 use Rattle.fc_moves.proofs.ListLemmas.{lists_all, lists_empty, most_before-next}
 use Rattle.fc_moves.proofs.lists.moves.Goals as goal
 use Rattle.fc_moves.proofs.lists.moves.Goals.{in-Some, in_default}

@@ -1,7 +1,7 @@
 use Rattle.std.proofs.Common.{◌*◌, ◌<◌, ◌≤◌}
 use Rattle.arrayvec.specs.ArrayVec.{array_vec_len}
 use Rattle.fc_position.specs.Position.{IsPosition}
-use Rattle.fc_moves.specs.Step.{ListsBelow}
+use Rattle.fc_moves.specs.inner.Step.{ListsBelow}
 use Rattle.fc_moves.proofs.ListLemmas.{most_before}
 use Rattle.fc_moves.proofs.lists.moves.Given as goal
 

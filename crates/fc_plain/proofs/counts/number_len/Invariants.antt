@@ -1,5 +1,5 @@
 use Rattle.std.proofs.Common.{ℕ, ◌<◌, get_or}
-use Rattle.fc_plain.specs.Count.{IsNumberByte}
+use Rattle.fc_plain.specs.inner.Count.{IsNumberByte}
 use Rattle.fc_plain.proofs.counts.number_len.Given as goal
 
 -- what was passed may stand in a number

@@ -1,5 +1,5 @@
 use Rattle.std.proofs.Common.{◌≡◌, ◌++◌, OnOk, sym, ap, subst, ◌∙◌}
-use Rattle.fc_io.specs.Moves.{Takes}
+use Rattle.fc_io.specs.Moves.{TakesBytes}
 use Rattle.fc_replay.specs.Page.{header, page_text}
 use Rattle.fc_replay.proofs.pages.write_page.Goals as goal
 
@@ -8,7 +8,7 @@ returns-in-Board-clause-whole g c =
     let bytes = c.as_bytes.ensures.value ∙ c.deref.ensures.0 ∙ c.print_board.ensures.text in
     let text : c.as_bytes.result.now ≡ page_text c.args.page c.args.cells c.args.step c.args.m c.args.position.now =
     bytes ∙ ap (λ page. page_text page c.args.cells c.args.step c.args.m c.args.position.now) (sym c.in-Board.is) in
-    subst (λ t. OnOk c.write_all.result (Takes (g.K.Sink.held c.args.sink.now) (g.K.Sink.held c.write_all.new.sink) t)) text
+    subst (λ t. OnOk c.write_all.result (TakesBytes (g.K.Sink.held c.args.sink.now) (g.K.Sink.held c.write_all.new.sink) t)) text
     c.write_all.ensures.whole
 
 pub returns-in-Numbered-clause-whole : goal.returns-in-Numbered-clause-whole
@@ -19,5 +19,5 @@ returns-in-Numbered-clause-whole g c =
     ap (λ l. l ++ c.as_bytes-in-Numbered.result.now) line
     ∙ ap (λ l. header c.args.step c.args.m ++ l) bytes
     ∙ ap (λ page. page_text page c.args.cells c.args.step c.args.m c.args.position.now) (sym c.in-Numbered.is) in
-    subst (λ t. OnOk c.write_both.result (Takes (g.K.Sink.held c.args.sink.now) (g.K.Sink.held c.write_both.new.sink) t)) text
+    subst (λ t. OnOk c.write_both.result (TakesBytes (g.K.Sink.held c.args.sink.now) (g.K.Sink.held c.write_both.new.sink) t)) text
     c.write_both.ensures.whole

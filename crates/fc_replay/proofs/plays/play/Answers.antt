@@ -1,7 +1,7 @@
 use Rattle.std.proofs.Common.{subst}
 use Rattle.fc_io.proofs.MoveLemmas.{sound_at_ok}
 use Rattle.fc_moves.proofs.StepLemmas.{allowed_has_text}
-use Rattle.fc_replay.specs.Played.{PlaysAs}
+use Rattle.fc_replay.specs.Played.{PlaysAs, sink_change}
 use Rattle.fc_replay.proofs.ListLoop.{moves_from, way_allowed, way_next, way_failed}
 use Rattle.fc_replay.proofs.ReplayLoop.{err_is}
 use Rattle.fc_replay.proofs.plays.play.Goals as goal
@@ -17,7 +17,7 @@ write_page-requires-clause-has_text g c =
 
 pub returns-in_err-write_page-clause-played : goal.returns-in_err-write_page-clause-played
 returns-in_err-write_page-clause-played g c =
-    subst (PlaysAs c.args.page (g.G.Game.game c.args.game.now) c.args.position.now c.args.moves.now (g.K.Sink.held c.args.sink.now) (g.K.Sink.held c.write_page.new.sink))
+    subst (PlaysAs c.args.page (g.G.Game.game c.args.game.now) c.args.position.now c.args.moves.now (sink_change (g.K.Sink.held c.args.sink.now) (g.K.Sink.held c.write_page.new.sink)))
     (err_is _ _ c.from_residual.result c.from_residual.ensures)
     (way_failed _ _ _ _ _ _ _ _ _ _ _ _ _ _ _ _ _ c.loop-m.invariant (moves_from _ _ _ c.loop-m-test.true) c.apply.ensures.step
     c.cells.ensures.value c.in_err-write_page.ensures.front)

@@ -1,6 +1,6 @@
 use Rattle.std.proofs.Common.{◌≡◌, ◌∙◌, ◌+◌, Some, ap, arith, subst}
 use Rattle.fc_batch.specs.Batch.{OthersStay, search_at}
-use Rattle.fc_runs.specs.Batches.{HoldsDeals}
+use Rattle.fc_runs.specs.inner.Batches.{HoldsDeals}
 use Rattle.fc_runs.proofs.BatchLemmas.{held_more}
 use Rattle.fc_runs.proofs.batches.begin.Goals as goal
 

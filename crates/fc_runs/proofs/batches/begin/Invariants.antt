@@ -1,5 +1,5 @@
 use Rattle.std.proofs.Common.{◌≡◌}
-use Rattle.fc_runs.specs.Batches.{HoldsDeals}
+use Rattle.fc_runs.specs.inner.Batches.{HoldsDeals}
 use Rattle.fc_runs.proofs.batches.begin.Given as goal
 
 -- so many searches were added

@@ -1,7 +1,7 @@
 use Rattle.std.proofs.Common.{◌≡◌, ◌≤◌, ◌<◌, ℕ, true, false}
 use Rattle.fc_methods.specs.Method.{Asked}
 use Rattle.fc_batch.specs.Batch.{work_left}
-use Rattle.fc_runs.specs.Batches.{HaveEnded, HoldsDeals}
+use Rattle.fc_runs.specs.inner.Batches.{HaveEnded, HoldsDeals}
 use Rattle.fc_runs.proofs.batches.run_each.Given as goal
 
 -- the searches so far had their turn

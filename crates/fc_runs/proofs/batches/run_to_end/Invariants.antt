@@ -1,7 +1,7 @@
 use Rattle.std.proofs.Common.{ℕ}
 use Rattle.fc_methods.specs.Method.{Asked}
 use Rattle.fc_batch.specs.Batch.{work_left}
-use Rattle.fc_runs.specs.Batches.{HoldsDeals}
+use Rattle.fc_runs.specs.inner.Batches.{HoldsDeals}
 use Rattle.fc_runs.proofs.batches.run_to_end.Given as goal
 
 -- the searches are of the deals of which they were

@@ -1,6 +1,6 @@
 use Rattle.std.proofs.Common.{◌≤◌, IsTrue}
 use Rattle.fc_methods.specs.Method.{Asked}
-use Rattle.fc_runs.specs.Batches.{HaveEnded, HoldsDeals}
+use Rattle.fc_runs.specs.inner.Batches.{HaveEnded, HoldsDeals}
 use Rattle.fc_runs.proofs.BatchLemmas.{AreWritten}
 use Rattle.fc_runs.proofs.batches.write_lines.Given as goal
 

@@ -1,5 +1,4 @@
-use Rattle.std.proofs.Common.{refl, subst}
-use Rattle.fc_home.specs.Settles.{PlayableGoesHome}
+use Rattle.std.proofs.Common.{refl}
 use Rattle.fc_home.proofs.RuleLemmas.{refuted}
 use Rattle.fc_search.proofs.StayLemmas.{settled_here}
 use Rattle.fc_search.proofs.positions.settled_already.Goals as goal
@@ -8,8 +7,7 @@ pub returns : goal.returns
 returns g c =
     let b = c.args.position.now in
     let game = g.G.Game.game c.args.rules.now.game in
-    let stays = subst (λ r. PlayableGoesHome r game b c.args.from → ⊥) c.get.ensures.value
-    (refuted c.goes_home_from.result c.goes_home_from.ensures.value c.if-goes_home_from.false) in
+    let stays = refuted c.goes_home_from.result c.goes_home_from.ensures.value c.if-goes_home_from.false in
     record {
       settled = (
         b,

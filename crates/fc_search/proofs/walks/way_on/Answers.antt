@@ -3,7 +3,7 @@ use Rattle.std.specs.Prelude.{Contains}
 use Rattle.fc_cards.specs.declared.places.Place.TheVariants.{Column}
 use Rattle.fc_moves.specs.declared.steps.Move.{Move}
 use Rattle.fc_canonical.proofs.MoveLemmas.{one_more}
-use Rattle.fc_search.specs.Walk.{LeadsWithin}
+use Rattle.fc_search.specs.inner.Walk.{LeadsWithin}
 use Rattle.fc_search.proofs.WalkLemmas.{not_there}
 use Rattle.fc_search.proofs.walks.way_on.Goals as goal
 

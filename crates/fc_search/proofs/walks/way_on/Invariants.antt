@@ -1,6 +1,6 @@
 use Rattle.std.proofs.Common.{ℕ, ◌<◌, get_or}
 use Rattle.fc_moves.specs.declared.steps.Move.{Move}
-use Rattle.fc_search.specs.Walk.{LeadsWithin}
+use Rattle.fc_search.specs.inner.Walk.{LeadsWithin}
 use Rattle.fc_search.proofs.walks.way_on.Given as goal
 
 -- none of the moves so far leads there

@@ -5,9 +5,10 @@ use Rattle.fc_best_first.specs.declared.turns.Status.TheVariants.{Running}
 use Rattle.fc_best_first.specs.declared.searches.SearchFault.{SearchFault}
 use Rattle.fc_best_first.specs.Search.{FloorAfter, Turns}
 use Rattle.fc_best_first.specs.Turn.{work_left}
-use Rattle.fc_search.specs.Problem.{Problem, classes_of}
+use Rattle.fc_search.specs.Problem.{Problem, task_of_problem}
 use Rattle.fc_search.specs.Search.{State}
-use Rattle.fc_search.specs.Watch.{TurnsMany, stage_of}
+use Rattle.fc_search.specs.Watch.{TurnsMany}
+use Rattle.fc_search.specs.inner.Watch.{stage_of}
 use Rattle.fc_search.proofs.TurnLemmas.{one_turn, replies_running, turn_replies, turns_more}
 use Rattle.fc_search.proofs.watches.run_on.Goals as goal
 
@@ -17,7 +18,7 @@ begun q s before = ap (λ (n : ℕ). stage_of s n) (add-zero before)
 
 -- the turns so far, and one more
 more : (q : Problem) (made : ℕ) (first now next : State) (before : ℕ) (reply : Result Step SearchFault) → now.problem ≡ q
-    → Turns (classes_of now.problem) now.problem.method.weight now.problem.method.budget now.status now.store next.store next.status reply
+    → Turns (task_of_problem now.problem) now.status now.store next.store next.status reply
     → FloorAfter now.status now.store.waiting now.floor next.floor → TurnsMany made q (stage_of first before) (stage_of now (before + made))
     → TurnsMany (made + 1) q (stage_of first before) (stage_of next (before + (made + 1)))
 more q made first now next before reply asked turn floor some =
@@ -45,14 +46,14 @@ loop-made-preserved g c =
     let now = c.loop-made.search in
     let next = c.turn.new.self in
     let more_to_do : c.turn.result ≡ Ok running = c.in-Ok-Running.is ∙ ap Ok c.in-Ok-Running.field-0-is in
-    let replied = turn_replies (classes_of now.problem) now.problem.method.weight now.problem.method.budget next.status now.store next.store (Ok running)
-    (subst (λ r. Turns (classes_of now.problem) now.problem.method.weight now.problem.method.budget Running now.store next.store next.status r) more_to_do
-    (subst (λ s. Turns (classes_of now.problem) now.problem.method.weight now.problem.method.budget s now.store next.store next.status c.turn.result)
+    let replied = turn_replies (task_of_problem now.problem) next.status now.store next.store (Ok running)
+    (subst (λ r. Turns (task_of_problem now.problem) Running now.store next.store next.status r) more_to_do
+    (subst (λ s. Turns (task_of_problem now.problem) s now.store next.store next.status c.turn.result)
     c.loop-made.invariant.status c.turn.ensures.turns)) in
     let falls = subst (λ (p : Problem). work_left p.method.budget next.store < work_left p.method.budget now.store) c.loop-made.invariant.problem (c.turn.ensures.falls more_to_do) in
     record {
       problem = c.turn.ensures.problem ∙ c.loop-made.invariant.problem;
-      status = replies_running (classes_of now.problem) now.problem.method.weight now.problem.method.budget next.status replied;
+      status = replies_running (task_of_problem now.problem) next.status replied;
       turned = λ before. more first.problem c.loop-made.made first now next before c.turn.result c.loop-made.invariant.problem
           c.turn.ensures.turns c.turn.ensures.floor (c.loop-made.invariant.turned before);
       falls = omega (arith, falls, c.loop-made.invariant.falls);

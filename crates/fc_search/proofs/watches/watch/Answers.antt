@@ -1,16 +1,16 @@
 use Rattle.std.proofs.Common.{◌≡◌, ℕ, ◌+◌, ◌≤◌, [], ◌∷◌, ◌++◌, Ok, refl, sym, ◌∙◌, ap, subst, arith}
 use Rattle.std.specs.Prelude.{MatchResult, max}
 use Rattle.fc_bound.specs.Kinds.{guide_of}
-use Rattle.fc_tables.proofs.BoundLemmas.{bounds_lower}
+use Rattle.fc_bound.proofs.KindLemmas.{bounds_lower}
 use Rattle.fc_best_first.specs.declared.searches.SearchFault.TheVariants.{Memory}
 use Rattle.fc_best_first.specs.declared.searches.Step.TheVariants.{Running as running, Done}
 use Rattle.fc_best_first.specs.declared.turns.Status.TheVariants.{Stopped}
 use Rattle.fc_best_first.specs.Search.{Runs, reply_of}
 use Rattle.fc_best_first.specs.Turn.{work_left}
 use Rattle.fc_classes.proofs.TableLemmas.{lawful}
-use Rattle.fc_search.specs.Problem.{Problem, classes_of}
+use Rattle.fc_search.specs.Problem.{Problem, classes_of, task_of_problem}
 use Rattle.fc_search.specs.declared.listeners.Progress.{Progress}
-use Rattle.fc_search.specs.Watch.{stage_of}
+use Rattle.fc_search.specs.inner.Watch.{stage_of}
 use Rattle.fc_search.proofs.FarLemmas.{heard_stopped, heard_then, heard_to, is_first, tells_floor, turned_on}
 use Rattle.fc_search.proofs.HearLemmas.{hears_on, most_of-append, most_of-none, stopped_runs}
 use Rattle.fc_search.proofs.TurnLemmas.{begun_work, ended_stopped, replies_going, replies_running}
@@ -42,7 +42,7 @@ returns-in_default-clause-runs g c =
     let (heard, hears, most, told) = c.loop-step.invariant.heard in
     let turned = turned_on first.problem now next c.loop-step.turns c.run_on-made.result.0 c.loop-step.invariant.problem
     (c.run_on-made.ensures.turned c.loop-step.turns) in
-    subst (λ s. Runs (classes_of first.problem) first.problem.method.weight first.problem.method.budget s first.store next.store next.status) c.requires.running
+    subst (λ s. Runs (task_of_problem first.problem) s first.store next.store next.status) c.requires.running
     (stopped_runs first.problem (stage_of first 0) (stage_of now c.loop-step.turns) (stage_of next (c.loop-step.turns + c.run_on-made.result.0)) 0
     c.run_on-made.result.0 heard told turned)
 
@@ -83,7 +83,7 @@ returns-in-Done-clause-runs g c =
     let (heard, hears, most, told) = c.loop-step.invariant.heard in
     let turned = turned_on first.problem now next c.loop-step.turns c.run_on-made.result.0 c.loop-step.invariant.problem
     (c.run_on-made.ensures.turned c.loop-step.turns) in
-    subst (λ s. Runs (classes_of first.problem) first.problem.method.weight first.problem.method.budget s first.store next.store next.status) c.requires.running
+    subst (λ s. Runs (task_of_problem first.problem) s first.store next.store next.status) c.requires.running
     (stopped_runs first.problem (stage_of first 0) (stage_of now c.loop-step.turns) (stage_of next (c.loop-step.turns + c.run_on-made.result.0)) 0
     c.run_on-made.result.0 heard told turned)
 
@@ -112,7 +112,7 @@ returns-in-Done-clause-heard g c =
     let replied = subst (λ r. MatchResult r (λ step. reply_of next.status ≡ Ok step) (λ f. (f ≡ Memory) × (next.status ≡ Stopped))) done
     c.run_on-made.ensures.reply in
     let greatest : far.most_open ≡ max c.loop-step.most_open far.open = omega (arith, c.max-most_open.ensures) in
-    let going = replies_going (classes_of q) q.method.weight q.method.budget next.status Done replied in
+    let going = replies_going (task_of_problem q) next.status Done replied in
     let begins = is_first q first refl c.requires.running c.requires.begins c.requires.floor in
     let heard_now = heard_then q first now next c.loop-step.turns c.run_on-made.result.0 c.loop-step.most_open heard far told c.run_on-made.ensures.some
     turned floor going c.len.ensures.size c.open-open.ensures.size most greatest in (
@@ -146,13 +146,13 @@ loop-step-preserved g c =
     let replied = subst (λ r. MatchResult r (λ step. reply_of next.status ≡ Ok step) (λ f. (f ≡ Memory) × (next.status ≡ Stopped))) more
     c.run_on-made.ensures.reply in
     let greatest : far.most_open ≡ max c.loop-step.most_open far.open = omega (arith, c.max-most_open.ensures) in
-    let going = replies_going (classes_of q) q.method.weight q.method.budget next.status running replied in
+    let going = replies_going (task_of_problem q) next.status running replied in
     let falls = subst (λ (p : Problem). c.run_on-made.result.0 + work_left p.method.budget next.store ≤ work_left p.method.budget now.store)
     c.loop-step.invariant.problem
     (c.run_on-made.ensures.falls more) in
     record {
       problem = c.run_on-made.ensures.problem ∙ c.loop-step.invariant.problem;
-      status = replies_running (classes_of q) q.method.weight q.method.budget next.status replied;
+      status = replies_running (task_of_problem q) next.status replied;
       falls = omega (arith, falls, c.loop-step.invariant.falls);
       heard = (
         heard ++ far ∷ [],

@@ -1,7 +1,7 @@
 use Rattle.std.proofs.Common.{length, sym, ◌∙◌, ap, subst, arith}
 use Rattle.std.specs.Prelude.{slice_get}
 use Rattle.std.proofs.lemmas.Option.{slice_get_within}
-use Rattle.fc_sequences.specs.Tree.{IsTree, Leads}
+use Rattle.fc_sequences.specs.inner.Tree.{IsTree, Leads}
 use Rattle.fc_sequences.proofs.EndLemmas.{expanded_whole}
 use Rattle.fc_sequences.proofs.lists.expand.Goals as goal
 

@@ -3,7 +3,7 @@ use Rattle.std.specs.Prelude.{Contains, slice_get}
 use Rattle.fc_position.specs.Board.{Board}
 use Rattle.fc_position.specs.Position.{IsWon}
 use Rattle.fc_sequences.specs.declared.trees.Node.{Node}
-use Rattle.fc_sequences.specs.Tree.{IsGrown, boards_of}
+use Rattle.fc_sequences.specs.inner.Tree.{IsGrown, boards_of}
 use Rattle.fc_sequences.proofs.EndLemmas.{ends_refused, ends_wide, ends_grown, few_so_far, entry_at, some_node}
 use Rattle.fc_sequences.proofs.lists.grow.Goals as goal
 

@@ -1,6 +1,6 @@
 use Rattle.std.proofs.Common.{◌+◌, ◌<◌, length}
 use Rattle.fc_sequences.specs.Following.{LeadToFewBefore}
-use Rattle.fc_sequences.specs.Tree.{IsGrown}
+use Rattle.fc_sequences.specs.inner.Tree.{IsGrown}
 use Rattle.fc_sequences.proofs.lists.grow.Given as goal
 
 -- the boards to which the entries so far lead, of which there are some, and never too many

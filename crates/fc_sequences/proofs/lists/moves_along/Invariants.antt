@@ -1,7 +1,7 @@
 use Rattle.std.proofs.Common.{ℕ, drop}
 use Rattle.fc_position.specs.Board.{Board}
 use Rattle.fc_moves.specs.GameRules.{IsPositionOf}
-use Rattle.fc_sequences.specs.Tree.{IsTree, Leads}
+use Rattle.fc_sequences.specs.inner.Tree.{IsTree, Leads}
 use Rattle.fc_sequences.proofs.PathLemmas.{IsAlong}
 use Rattle.fc_sequences.proofs.lists.moves_along.Given as goal
 

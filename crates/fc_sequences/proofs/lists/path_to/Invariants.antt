@@ -1,5 +1,5 @@
 use Rattle.std.proofs.Common.{◌<◌, length, reverse}
-use Rattle.fc_sequences.specs.Tree.{Leads}
+use Rattle.fc_sequences.specs.inner.Tree.{Leads}
 use Rattle.fc_sequences.proofs.lists.path_to.Given as goal
 
 -- from the board of the number the path so far leads on

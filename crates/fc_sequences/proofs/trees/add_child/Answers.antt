@@ -1,7 +1,7 @@
 use Rattle.std.proofs.Common.{◌≡◌, ◌+◌, length, refl, sym, ap, subst, arith}
 use Rattle.std.specs.Prelude.{drop, Any}
 use Rattle.std.proofs.lemmas.Bool.{false≢true}
-use Rattle.fc_sequences.specs.Tree.{IsGrowing}
+use Rattle.fc_sequences.specs.inner.Tree.{IsGrowing, growth}
 use Rattle.fc_sequences.proofs.GrowLemmas.{growing_skip, growing_held, growing_new, node_at}
 use Rattle.fc_sequences.proofs.trees.add_child.Goals as goal
 
@@ -29,11 +29,11 @@ pub returns-in_ok-push : goal.returns-in_ok-push
 returns-in_ok-push g c = record {
   grown = λ b ps depth start growing first.
       let stands = node_at _ b ps _ _ depth start _ _ _ _ _ growing c.requires.there c.index-node.ensures in
-      subst (λ l. IsGrowing (g.G.Game.game c.args.game.now) b ps c.args.pair l depth start c.args.layer c.args.parent (c.args.count + 1))
+      subst (λ l. IsGrowing (g.G.Game.game c.args.game.now) b ps c.args.layer.pair l (growth depth start c.args.layer.first c.args.parent (c.args.count + 1)))
       (sym c.in_ok-push.ensures.items)
       (growing_new _ b ps _ _ depth start _ _ _ c.index-node.result.now c.in_ok-child.child growing first c.requires.there stands
       c.in_ok-child.ensures.child c.in_ok-child.ensures.whole
-      (λ held. false≢true (c.if-not-is_there.ensures.value.1 (subst (λ l. Any (λ n. n.position ≡ c.in_ok-child.child.position) (drop c.args.layer l)) (sym c.as_slice.ensures.value) held))));
+      (λ held. false≢true (c.if-not-is_there.ensures.value.1 (subst (λ l. Any (λ n. n.position ≡ c.in_ok-child.child.position) (drop c.args.layer.first l)) (sym c.as_slice.ensures.value) held))));
 }
 
 pub returns-else-not-is_there : goal.returns-else-not-is_there
@@ -41,7 +41,7 @@ returns-else-not-is_there g c = record {
   grown = λ b ps depth start growing first.
       let stands = node_at _ b ps _ _ depth start _ _ _ _ _ growing c.requires.there c.index-node.ensures in
       growing_held _ b ps _ _ depth start _ _ _ c.index-node.result.now c.in_ok-child.child growing stands c.in_ok-child.ensures.child
-      (subst (λ l. Any (λ n. n.position ≡ c.in_ok-child.child.position) (drop c.args.layer l)) c.as_slice.ensures.value (c.if-not-is_there.ensures.value.0 refl));
+      (subst (λ l. Any (λ n. n.position ≡ c.in_ok-child.child.position) (drop c.args.layer.first l)) c.as_slice.ensures.value (c.if-not-is_there.ensures.value.0 refl));
 }
 
 pub is_there-requires : goal.is_there-requires

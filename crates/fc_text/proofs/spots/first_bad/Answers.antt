@@ -1,7 +1,8 @@
 use Rattle.std.proofs.Common.{sym, ◌∙◌, ap, refl, arith}
 use Rattle.fc_text.specs.Line.{is_blank, tokens_of}
 use Rattle.fc_text.proofs.PartLemmas.{length-tokens_between}
-use Rattle.fc_text.proofs.SpotLemmas.{bad_here, none_bad, none_named, none_push, pass_next, pass_none, pass_room}
+use Rattle.fc_text.proofs.PassLemmas.{pass_next, pass_none, pass_room}
+use Rattle.fc_text.proofs.SpotLemmas.{bad_here, none_bad, none_named, none_push}
 use Rattle.fc_text.proofs.spots.first_bad.Goals as goal
 
 pub loop-token-init : goal.loop-token-init

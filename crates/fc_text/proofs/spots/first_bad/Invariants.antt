@@ -1,6 +1,7 @@
 use Rattle.fc_text.specs.Line.{tokens_of}
-use Rattle.fc_text.specs.Spot.{AreNoted, NoneIsBad}
-use Rattle.fc_text.proofs.SpotLemmas.{Passed}
+use Rattle.fc_text.specs.Spot.{NoneIsBad}
+use Rattle.fc_text.specs.inner.Spot.{AreNoted}
+use Rattle.fc_text.proofs.PassLemmas.{Passed}
 use Rattle.fc_text.proofs.spots.first_bad.Given as goal
 
 -- none of the tokens so far is bad, their suits are noted, and the other tokens are left

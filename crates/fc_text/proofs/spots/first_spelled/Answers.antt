@@ -1,7 +1,8 @@
 use Rattle.std.proofs.Common.{sym, ◌∙◌, arith}
 use Rattle.fc_text.specs.Line.{is_blank}
 use Rattle.fc_text.proofs.PartLemmas.{length-tokens_between}
-use Rattle.fc_text.proofs.SpotLemmas.{first_here, pass_next, pass_room, spelled_push}
+use Rattle.fc_text.proofs.PassLemmas.{pass_next, pass_room}
+use Rattle.fc_text.proofs.SpotLemmas.{first_here, spelled_push}
 use Rattle.fc_text.proofs.spots.first_spelled.Goals as goal
 
 pub overflow_add-place : goal.overflow_add-place

@@ -1,6 +1,6 @@
 use Rattle.fc_text.specs.Line.{tokens_of}
 use Rattle.fc_text.specs.Spot.{HasSpelled}
-use Rattle.fc_text.proofs.SpotLemmas.{Passed}
+use Rattle.fc_text.proofs.PassLemmas.{Passed}
 use Rattle.fc_text.proofs.spots.first_spelled.Given as goal
 
 -- none of the tokens so far spells the card, and the others are left

@@ -1,6 +1,7 @@
 use Rattle.std.proofs.Common.{arith}
 use Rattle.fc_text.specs.Line.{line_of, without_return}
-use Rattle.fc_text.proofs.SpotLemmas.{card_push, left_first, left_none, line_here, lines_few, pass_all, pass_next, pass_room}
+use Rattle.fc_text.proofs.PassLemmas.{left_first, left_none, line_here, lines_few, pass_all, pass_next, pass_room}
+use Rattle.fc_text.proofs.SpotLemmas.{card_push}
 use Rattle.fc_text.proofs.spots.first_spot_of.Goals as goal
 
 pub overflow_add-number : goal.overflow_add-number

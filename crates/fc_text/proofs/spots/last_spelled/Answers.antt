@@ -2,7 +2,8 @@ use Rattle.std.proofs.Common.{◌∷◌, ◌++◌, [], sym, ◌∙◌, arith}
 use Rattle.fc_text.specs.Line.{is_blank}
 use Rattle.fc_text.specs.Spot.{HasSpelled, IsLastSpelled}
 use Rattle.fc_text.proofs.PartLemmas.{length-tokens_between}
-use Rattle.fc_text.proofs.SpotLemmas.{cases_then, last_here, last_push, pass_all, pass_next, pass_room, some_case, spelled_push}
+use Rattle.fc_text.proofs.PassLemmas.{cases_then, pass_all, pass_next, pass_room, some_case}
+use Rattle.fc_text.proofs.SpotLemmas.{last_here, last_push, spelled_push}
 use Rattle.fc_text.proofs.spots.last_spelled.Goals as goal
 
 pub overflow_add-place : goal.overflow_add-place

@@ -1,7 +1,7 @@
 use Rattle.std.proofs.Common.{MatchOption}
 use Rattle.fc_text.specs.Line.{tokens_of}
 use Rattle.fc_text.specs.Spot.{HasSpelled, IsLastSpelled}
-use Rattle.fc_text.proofs.SpotLemmas.{Passed}
+use Rattle.fc_text.proofs.PassLemmas.{Passed}
 use Rattle.fc_text.proofs.spots.last_spelled.Given as goal
 
 -- the last of the tokens so far that spells the card is kept, and the other tokens are left

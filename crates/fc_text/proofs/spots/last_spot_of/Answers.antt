@@ -1,7 +1,8 @@
 use Rattle.std.proofs.Common.{◌∷◌, ◌++◌, [], arith}
 use Rattle.fc_text.specs.Line.{line_of, without_return}
 use Rattle.fc_text.specs.Spot.{IsLastOf, NoneHasCard}
-use Rattle.fc_text.proofs.SpotLemmas.{card_push, cases_then, last_line_here, last_line_push, left_first, left_none, lines_few, none_case, pass_all, pass_next, pass_room, some_case}
+use Rattle.fc_text.proofs.PassLemmas.{cases_then, left_first, left_none, lines_few, none_case, pass_all, pass_next, pass_room, some_case}
+use Rattle.fc_text.proofs.SpotLemmas.{card_push, last_line_here, last_line_push}
 use Rattle.fc_text.proofs.spots.last_spot_of.Goals as goal
 
 pub overflow_add-number : goal.overflow_add-number

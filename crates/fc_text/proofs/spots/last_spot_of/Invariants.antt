@@ -2,7 +2,7 @@ use Rattle.std.proofs.Common.{MatchOption}
 use Rattle.fc_text.specs.Line.{board_lines}
 use Rattle.fc_text.specs.Spot.{IsLastOf, NoneHasCard}
 use Rattle.fc_text.proofs.LineLoop.{lines_left}
-use Rattle.fc_text.proofs.SpotLemmas.{Passed}
+use Rattle.fc_text.proofs.PassLemmas.{Passed}
 use Rattle.fc_text.proofs.spots.last_spot_of.Given as goal
 
 -- the last spot in the lines so far is kept, and the other lines are left

@@ -1,7 +1,7 @@
 use Rattle.std.proofs.Common.{arith}
 use Rattle.std.proofs.lemmas.List.{length_push}
 use Rattle.fc_text.specs.Line.{line_of, without_return}
-use Rattle.fc_text.proofs.SpotLemmas.{left_first, lines_few, pass_next, pass_room}
+use Rattle.fc_text.proofs.PassLemmas.{left_first, lines_few, pass_next, pass_room}
 use Rattle.fc_text.proofs.spots.nth_line.Goals as goal
 
 pub overflow_add-count : goal.overflow_add-count

@@ -1,7 +1,7 @@
 use Rattle.std.proofs.Common.{◌<◌, length}
 use Rattle.fc_text.specs.Line.{board_lines}
 use Rattle.fc_text.proofs.LineLoop.{lines_left}
-use Rattle.fc_text.proofs.SpotLemmas.{Passed}
+use Rattle.fc_text.proofs.PassLemmas.{Passed}
 use Rattle.fc_text.proofs.spots.nth_line.Given as goal
 
 -- the lines so far have lower numbers, and the others are left

@@ -12,7 +12,7 @@ invariant_of-result c =
     let pair : Row → List ℕ × ℕ = λ r. (r.key.items, r.cost) in
     let moved = IsPermutation-map pair old new c.sort_unstable.ensures.permutation in
     let long = c.sort_unstable.ensures.len in (
-      c.requires.known,
+      omega (arith, c.get.ensures.value, c.get.ensures.known),
       omega (arith, long, c.requires.few),
       rising new c.sort_unstable.ensures.sorted (once_rearranged (pairs_of old) (pairs_of new) moved c.requires.once),
     )

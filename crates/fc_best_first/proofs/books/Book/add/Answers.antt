@@ -1,6 +1,6 @@
 use Rattle.std.proofs.Common.{◌≡◌, ◌++◌, ◌∷◌, [], length, sym, ap, subst, ◌∙◌, arith}
 use Rattle.indexmap.proofs.CallerLemmas.{insert_entry-new}
-use Rattle.fc_best_first.specs.Store.{Stands}
+use Rattle.fc_best_first.specs.Store.{IsStored}
 use Rattle.fc_best_first.proofs.StoreLemmas.{none_found, adds_along}
 use Rattle.fc_best_first.proofs.books.Book.add.Goals as goal
 
@@ -11,7 +11,7 @@ returns g c =
     let stored : c.self-2.inside.table.entries ≡ c.args.self.now.stored = ap (λ s. s.stored) same in
     let before : c.self.inside.table.entries ≡ c.args.self.now.stored = ap (λ s. s.stored) c.self.view_is in
     let fresh = none_found (test c.args.key) c.args.self.now.stored
-    (λ i x v at q. c.requires.new i v (subst (λ y. Stands c.args.self.now i y v) (sym (g.met.K.ExactKey.exact c.args.key x q)) at)) in
+    (λ i x v at q. c.requires.new i v (subst (λ y. IsStored c.args.self.now i y v) (sym (g.met.K.ExactKey.exact c.args.key x q)) at)) in
     let size : length c.self.inside.table.entries ≡ length c.args.self.now.stored = ap length before in
     let waiting : g.F.Frontier.pairs c.self-2.inside.queue ≡ c.args.self.now.waiting = ap (λ s. s.waiting) same in
     let number : c.len-number.result ≡ length c.args.self.now.stored = omega arith in

@@ -1,6 +1,6 @@
 use Rattle.std.proofs.Common.{ℕ, ◌≤◌, sym, subst, refl}
 use Rattle.fc_best_first.specs.declared.books.Mark.{Mark}
-use Rattle.fc_best_first.proofs.SearchLemmas.{first_offered, begins_kept, begins_floor}
+use Rattle.fc_best_first.proofs.BeginLemmas.{first_offered, begins_kept, begins_floor}
 use Rattle.fc_best_first.proofs.searches.Search.new.Goals as goal
 
 pub invariant_of-result : goal.invariant_of-result
@@ -12,7 +12,7 @@ invariant_of-result g c =
     let weight = c.args.weight in
     let f : ℕ = c.f_of-f.result in
     let some_room : 1 ≤ c.args.budget = c.get-2.ensures.range.least in
-    let first = first_offered c.args.budget c.new-book.result c.add.new.self key mark f c.in_ok-_offered._offered
+    let first = first_offered c.args.budget c.new-book.result c.add.new.self (record { key = key; mark = mark; f = f }) c.in_ok-_offered._offered
     c.new-book.ensures.stored c.new-book.ensures.waiting some_room c.in_ok-_offered.ensures.offers in
     let kept = begins_kept graph weight c.args.budget c.add.new.self key mark f first.0 first.1
     (g.met.S.Space.lawful c.args.space) some_room

@@ -1,5 +1,5 @@
 use Rattle.std.proofs.Common.{Ok, ◌∙◌, subst}
-use Rattle.fc_best_first.specs.Search.{Turns}
+use Rattle.fc_best_first.specs.Search.{Turns, task_of}
 use Rattle.fc_best_first.proofs.RunLemmas.{runs_on, runs_none, running_stays, turns_along}
 use Rattle.fc_best_first.proofs.searches.Search.run.Goals as goal
 
@@ -12,12 +12,12 @@ loop-preserved g c =
       space = c.in_ok-turn.ensures.space ∙ c.loop.invariant.space;
       weight = c.in_ok-turn.ensures.weight ∙ c.loop.invariant.weight;
       budget = c.in_ok-turn.ensures.budget ∙ c.loop.invariant.budget;
-      status = running_stays (g.S.Space.graph now.space) now.weight now.budget now.status next.status now.store next.store
-          (subst (λ s. Turns (g.S.Space.graph now.space) now.weight now.budget now.status now.store next.store next.status (Ok s)) c.in-Running.is
+      status = running_stays (task_of g.S.Space.graph now) now.status next.status now.store next.store
+          (subst (λ s. Turns (task_of g.S.Space.graph now) now.status now.store next.store next.status (Ok s)) c.in-Running.is
           c.in_ok-turn.ensures.turns) ∙ c.loop.invariant.status;
       onward = λ new after runs. c.loop.invariant.onward new after
-          (runs_on (g.S.Space.graph first.space) first.weight first.budget now.status next.status after now.store next.store new _
-          (turns_along g.S.Space.graph now.space first.space now.weight first.weight now.budget first.budget now.status next.status now.store next.store
+          (runs_on (task_of g.S.Space.graph first) now.status next.status after now.store next.store new _
+          (turns_along g.S.Space.graph now first now.status next.status now.store next.store
           _ c.loop.invariant.space c.loop.invariant.weight c.loop.invariant.budget c.in_ok-turn.ensures.turns) runs);
     }
 
@@ -27,7 +27,7 @@ returns-clause-runs g c =
     let now = c.loop.self in
     let next = c.turn.new.self in
     c.loop.invariant.onward next.store next.status
-    (runs_on (g.S.Space.graph first.space) first.weight first.budget now.status next.status next.status now.store next.store next.store _
-    (turns_along g.S.Space.graph now.space first.space now.weight first.weight now.budget first.budget now.status next.status now.store next.store
+    (runs_on (task_of g.S.Space.graph first) now.status next.status next.status now.store next.store next.store _
+    (turns_along g.S.Space.graph now first now.status next.status now.store next.store
     _ c.loop.invariant.space c.loop.invariant.weight c.loop.invariant.budget c.in_ok-turn.ensures.turns)
-    (runs_none (g.S.Space.graph first.space) first.weight first.budget next.status next.store))
+    (runs_none (task_of g.S.Space.graph first) next.status next.store))

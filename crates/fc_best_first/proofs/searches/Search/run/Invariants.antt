@@ -1,6 +1,6 @@
 use Rattle.std.proofs.Common.{◌≡◌}
 use Rattle.fc_best_first.specs.declared.turns.Status.{Status}
-use Rattle.fc_best_first.specs.Search.{Runs}
+use Rattle.fc_best_first.specs.Search.{Runs, task_of}
 use Rattle.fc_best_first.specs.Store.{Store}
 use Rattle.fc_best_first.specs.Turn.{work_left}
 use Rattle.fc_best_first.proofs.searches.Search.run.Given as goal
@@ -12,8 +12,8 @@ invariant-loop g l = record {
   budget : l.self.budget ≡ l.initial.self.budget;
   status : l.self.status ≡ l.initial.self.status;
   onward : (new : Store g.row.K.Denot) (after : Status g.row.K.Denot)
-      → Runs (g.S.Space.graph l.initial.self.space) l.initial.self.weight l.initial.self.budget l.self.status l.self.store new after
-      → Runs (g.S.Space.graph l.initial.self.space) l.initial.self.weight l.initial.self.budget l.initial.self.status l.initial.self.store new after;
+      → Runs (task_of g.S.Space.graph l.initial.self) l.self.status l.self.store new after
+      → Runs (task_of g.S.Space.graph l.initial.self) l.initial.self.status l.initial.self.store new after;
 }
 
 abbrev pub decreases-loop : goal.decreases-loop

@@ -1,9 +1,11 @@
 use Rattle.std.proofs.Common.{◌≡◌, ◌<◌, Ok, ◌∙◌, ap, subst}
+use Rattle.fc_best_first.specs.Graph.{Task}
 use Rattle.fc_best_first.specs.Shown.{Holds}
-use Rattle.fc_best_first.specs.Search.{Turns, reply_of}
-use Rattle.fc_best_first.specs.Turn.{Takes, work_left}
+use Rattle.fc_best_first.specs.Search.{Turns, reply_of, task_of}
+use Rattle.fc_best_first.specs.Turn.{Advances, work_left}
 use Rattle.fc_best_first.proofs.RunLemmas.{done_replies, taken_turns}
-use Rattle.fc_best_first.proofs.SearchLemmas.{takes_floor, takes_holds, takes_less}
+use Rattle.fc_best_first.proofs.ClosedLemmas.{takes_floor}
+use Rattle.fc_best_first.proofs.SearchLemmas.{takes_holds, takes_less}
 use Rattle.fc_best_first.proofs.searches.Search.turn.Goals as goal
 use Rattle.fc_best_first.proofs.searches.Search.turn.Goals.{in-Running-status, in_default-status}
 
@@ -40,7 +42,7 @@ returns-after-status-clause-falls g c =
       | in-Running-status w ↦ λ e. subst (λ p. work_left p.budget c.advance.new.book < work_left p.budget p.store) c.self.view_is
           (takes_less graph c.self.inside.weight c.self.inside.budget (g.met.S.Space.lawful c.self.inside.space) c.self.invariant.0.least c.self.inside.book c.advance.new.book
           (subst (Holds graph c.self.inside.weight c.self.inside.budget c.self.inside.book) c.in-Running.is c.self.invariant.2)
-          (subst (Takes graph c.self.inside.weight c.self.inside.budget c.self.inside.book c.advance.new.book) w.in-Running-status.is c.in-Ok.ensures.takes))
+          (subst (Advances (record { graph = graph; weight = c.self.inside.weight; budget = c.self.inside.budget }) c.self.inside.book c.advance.new.book) w.in-Running-status.is c.in-Ok.ensures.takes))
       | in_default-status w ↦ λ e. absurd (cc)
     ]
 
@@ -50,11 +52,12 @@ returns-after-status-clause-turns g c =
     let old = c.self.inside.book in
     let new = c.advance.new.book in
     let after = c.in-Ok.status in
+    let task : Task g.row.K.Denot = record { graph = graph; weight = c.self.inside.weight; budget = c.self.inside.budget } in
     let replies : Ok c.match-status.step ≡ reply_of after = elim c.match-status.branch [
       | in-Running-status w ↦ cc
-      | in_default-status w ↦ ap Ok w.step-is ∙ done_replies graph c.self.inside.weight c.self.inside.budget after old new
+      | in_default-status w ↦ ap Ok w.step-is ∙ done_replies task after old new
           w.in_default-status.not-Running c.in-Ok.ensures.takes
     ] in
-    subst (λ p. Turns (g.S.Space.graph p.space) p.weight p.budget p.status p.store new after (Ok c.match-status.step)) c.self.view_is
-    (taken_turns graph c.self.inside.weight c.self.inside.budget c.self.inside.status after old new c.match-status.step
+    subst (λ p. Turns (task_of g.S.Space.graph p) p.status p.store new after (Ok c.match-status.step)) c.self.view_is
+    (taken_turns task c.self.inside.status after old new c.match-status.step
     c.in-Running.is c.in-Ok.ensures.takes replies)

@@ -1,6 +1,6 @@
 use Rattle.std.proofs.Common.{subst, arith}
 use Rattle.std.proofs.lemmas.List.{take_all}
-use Rattle.fc_bound.specs.Fronts.{Tells}
+use Rattle.fc_bound.specs.inner.Fronts.{Tells}
 use Rattle.fc_bound.proofs.BitLemmas.{tells_first, tells_column}
 use Rattle.fc_bound.proofs.columns.Left.cards.Goals as goal
 

@@ -1,5 +1,5 @@
 use Rattle.std.proofs.Common.{◌≡◌, length, take}
-use Rattle.fc_bound.specs.Fronts.{Tells}
+use Rattle.fc_bound.specs.inner.Fronts.{Tells}
 use Rattle.fc_bound.proofs.columns.Left.cards.Given as goal
 
 -- what the columns so far tell

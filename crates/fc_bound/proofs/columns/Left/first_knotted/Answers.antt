@@ -1,7 +1,7 @@
 use Rattle.std.proofs.Common.{◌≡◌, ℕ, List, [], cond, length, get_or, min, sym, ◌∙◌, ap, subst, arith}
 use Rattle.std.specs.List.{list_any}
 use Rattle.std.proofs.lemmas.List.{take_all}
-use Rattle.fc_bound.specs.Fronts.{IsFront, no_front}
+use Rattle.fc_bound.specs.inner.Fronts.{IsFront, no_front}
 use Rattle.fc_bound.specs.Knots.{are_knotted, least_last}
 use Rattle.fc_bound.proofs.BitLemmas.{least_kept, least_taken, least_small}
 use Rattle.fc_bound.proofs.FrontLemmas.{last_none, last_more, left_at, left_eight}

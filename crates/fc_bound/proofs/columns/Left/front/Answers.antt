@@ -1,5 +1,5 @@
 use Rattle.std.proofs.Common.{ℕ, List, [], length, get_or, sym, ◌∙◌, ap, subst}
-use Rattle.fc_bound.specs.Fronts.{IsFront, no_front}
+use Rattle.fc_bound.specs.inner.Fronts.{IsFront, no_front}
 use Rattle.fc_bound.proofs.FrontLemmas.{left_at, left_eight}
 use Rattle.fc_bound.proofs.columns.Left.front.Goals as goal
 

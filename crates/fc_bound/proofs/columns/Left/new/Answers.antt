@@ -3,7 +3,7 @@ use Rattle.std.proofs.lemmas.Bool.{cases_eq}
 use Rattle.std.proofs.lemmas.List.{get_or-set_same, get_or-set_other, length-set, take_all}
 use Rattle.fc_position.specs.Board.{column}
 use Rattle.fc_position.proofs.BoardLemmas.{column_most}
-use Rattle.fc_bound.specs.Fronts.{IsFront, no_front}
+use Rattle.fc_bound.specs.inner.Fronts.{IsFront, no_front}
 use Rattle.fc_bound.proofs.FrontLemmas.{lowest_all}
 use Rattle.fc_bound.proofs.columns.Left.new.Goals as goal
 

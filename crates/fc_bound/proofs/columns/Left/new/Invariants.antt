@@ -1,7 +1,7 @@
 use Rattle.std.proofs.Common.{◌≡◌, ℕ, ◌<◌, length, get_or}
 use Rattle.fc_position.specs.Board.{column}
 use Rattle.fc_position.specs.Position.{IsPosition}
-use Rattle.fc_bound.specs.Fronts.{IsFront, no_front}
+use Rattle.fc_bound.specs.inner.Fronts.{IsFront, no_front}
 use Rattle.fc_bound.proofs.columns.Left.new.Given as goal
 
 abbrev pub invariant-loop-i : goal.invariant-loop-i

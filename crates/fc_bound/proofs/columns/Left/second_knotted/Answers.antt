@@ -3,7 +3,7 @@ use Rattle.std.specs.Prelude.{◌&&◌}
 use Rattle.std.specs.List.{list_any}
 use Rattle.std.proofs.lemmas.List.{take_all}
 use Rattle.fc_position.specs.Board.{last_of}
-use Rattle.fc_bound.specs.Fronts.{IsFront, no_front}
+use Rattle.fc_bound.specs.inner.Fronts.{IsFront, no_front}
 use Rattle.fc_bound.specs.Knots.{ends_with, are_knotted, least_last}
 use Rattle.fc_bound.proofs.FrontLemmas.{last_never, partners_yes, partners_no, left_at, left_eight}
 use Rattle.fc_bound.proofs.columns.Left.second_knotted.Goals.{then-ends_with, else-ends_with}

@@ -1,6 +1,6 @@
 use Rattle.std.proofs.Common.{set, refl, sym, ◌∙◌, ap, arith}
 use Rattle.fc_bound.specs.Clearing.{without}
-use Rattle.fc_bound.specs.Fronts.{lowest}
+use Rattle.fc_bound.specs.inner.Fronts.{lowest}
 use Rattle.fc_bound.proofs.FrontLemmas.{lowest-without, left_less}
 use Rattle.fc_bound.proofs.columns.Left.take.Goals as goal
 

@@ -4,7 +4,7 @@ use Rattle.std.specs.List.{list_any}
 use Rattle.std.proofs.lemmas.List.Folds.{list_any_more}
 use Rattle.std.proofs.lemmas.List.Sums.{sum_by_more}
 use Rattle.fc_bound.specs.Clearing.{without}
-use Rattle.fc_bound.specs.Fronts.{IsFront}
+use Rattle.fc_bound.specs.inner.Fronts.{IsFront}
 use Rattle.fc_bound.specs.Knots.{is_loose, waits_above}
 use Rattle.fc_bound.proofs.AboveLemmas.{or-true, or-false}
 use Rattle.fc_bound.proofs.FrontLemmas.{ShedTo, shed_one, shed_not, shed_whole}

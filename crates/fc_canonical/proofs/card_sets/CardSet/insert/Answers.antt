@@ -1,5 +1,5 @@
 use Rattle.std.proofs.Common.{◌+◌, ◌<◌, cond, eqb, ap, subst, ◌∙◌}
-use Rattle.fc_canonical.specs.Parts.{times_in, due}
+use Rattle.fc_canonical.specs.inner.Parts.{times_in, due}
 use Rattle.fc_canonical.proofs.SetLemmas.{no_card, was_there, set_more, set_below}
 use Rattle.fc_canonical.proofs.card_sets.CardSet.insert.Goals as goal
 

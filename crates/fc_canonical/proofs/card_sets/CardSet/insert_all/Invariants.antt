@@ -1,6 +1,6 @@
 use Rattle.std.proofs.Common.{◌≡◌, ℕ, ◌+◌, take}
 use Rattle.fc_position.specs.Board.{count_in_column}
-use Rattle.fc_canonical.specs.Parts.{times_in}
+use Rattle.fc_canonical.specs.inner.Parts.{times_in}
 use Rattle.fc_canonical.proofs.card_sets.CardSet.insert_all.Given as goal
 
 -- the cards so far are added

@@ -1,5 +1,5 @@
 use Rattle.std.proofs.Common.{◌≡◌, ℕ, ◌+◌, take}
-use Rattle.fc_canonical.specs.Parts.{times_in, count_in_cells}
+use Rattle.fc_canonical.specs.inner.Parts.{times_in, count_in_cells}
 use Rattle.fc_canonical.proofs.card_sets.CardSet.insert_cells.Given as goal
 
 -- the cards of the cells so far are added

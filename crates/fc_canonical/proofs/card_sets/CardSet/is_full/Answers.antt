@@ -1,6 +1,6 @@
 use Rattle.std.proofs.Common.{IsTrue, ◌≡◌, ℕ, subst}
 use Rattle.std.specs.Prelude.{nat_eq}
-use Rattle.fc_canonical.specs.Parts.{times_in, due}
+use Rattle.fc_canonical.specs.inner.Parts.{times_in, due}
 use Rattle.fc_canonical.proofs.SetLemmas.{full_set}
 use Rattle.fc_canonical.proofs.card_sets.CardSet.is_full.Goals as goal
 

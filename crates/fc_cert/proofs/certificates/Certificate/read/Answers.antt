@@ -1,6 +1,7 @@
 use Rattle.std.proofs.Common.{◌<◌, sym, subst}
 use Rattle.fc_cert.specs.Content.{IsSpelled}
-use Rattle.fc_cert.specs.Layout.{AreParts, content_of}
+use Rattle.fc_cert.specs.Layout.{content_of}
+use Rattle.fc_cert.specs.inner.Layout.{AreParts}
 use Rattle.fc_cert.proofs.LawLemmas.{read_spelled}
 use Rattle.fc_cert.proofs.LayoutLemmas.{content_back, parts_back}
 use Rattle.fc_cert.proofs.PartsLemmas.{form_fault, parts_of, records_of, records_short}

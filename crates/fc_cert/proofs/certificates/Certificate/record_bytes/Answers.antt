@@ -1,7 +1,8 @@
 use Rattle.std.proofs.Common.{◌≡◌, ◌-◌, ◌<◌, ◌≤◌, ℕ, List, [], length, take, drop, get_or, Some, sym, ◌∙◌, ap, subst, arith}
 use Rattle.std.specs.Prelude.{slice_get}
 use Rattle.std.proofs.lemmas.Option.{slice_get-get_or}
-use Rattle.fc_cert.specs.Layout.{content_of, start_of}
+use Rattle.fc_cert.specs.Layout.{content_of}
+use Rattle.fc_cert.specs.inner.Layout.{start_of}
 use Rattle.fc_cert.proofs.LayoutLemmas.{cost_at, places_many, record_at_places}
 use Rattle.fc_cert.proofs.certificates.Certificate.record_bytes.Goals as goal
 

@@ -1,5 +1,6 @@
 use Rattle.std.proofs.Common.{◌∷◌, ◌∙◌, ap, sym, subst}
-use Rattle.fc_frontier.specs.Queue.{IsLeast, IsPlaceOfNext, in_order}
+use Rattle.fc_frontier.specs.Queue.{IsLeast, in_order}
+use Rattle.fc_frontier.specs.inner.Queue.{IsPlaceOfNext}
 use Rattle.fc_frontier.proofs.QueueLemmas.{in_order-remove, in_order-least, first-added}
 use Rattle.fc_frontier.proofs.lists.ListFrontierFrontier.pop_least.Goals as goal
 

@@ -1,6 +1,7 @@
 use Rattle.std.proofs.Common.{sym, subst}
 use Rattle.std.specs.List.Sorted.{IsPermutation}
-use Rattle.fc_frontier.specs.Stack.{nodes_of, stacked}
+use Rattle.fc_frontier.specs.Stack.{nodes_of}
+use Rattle.fc_frontier.specs.inner.Stack.{stacked}
 use Rattle.fc_frontier.specs.Walk.{walked}
 use Rattle.fc_frontier.proofs.WalkLemmas.{walked-stacked}
 use Rattle.fc_frontier.proofs.stacks.Stacks.as_slice.Goals as goal

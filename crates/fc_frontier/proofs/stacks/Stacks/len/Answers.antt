@@ -1,7 +1,8 @@
 use Rattle.std.proofs.Common.{◌+◌, sym, ◌∙◌, ap, arith, length}
 use Rattle.std.specs.Prelude.{sum_by}
 use Rattle.std.proofs.lemmas.List.{take_all}
-use Rattle.fc_frontier.specs.Stack.{nodes_of, stacked}
+use Rattle.fc_frontier.specs.Stack.{nodes_of}
+use Rattle.fc_frontier.specs.inner.Stack.{stacked}
 use Rattle.fc_frontier.proofs.StackLemmas.{length-more, length-nodes_of, length-stacked}
 use Rattle.fc_frontier.proofs.stacks.Stacks.len.Goals as goal
 

@@ -1,5 +1,5 @@
 use Rattle.std.proofs.Common.{◌<◌, sym, ◌∙◌, ap, subst, length, arith}
-use Rattle.fc_frontier.specs.Stack.{AreStacks, stacked}
+use Rattle.fc_frontier.specs.inner.Stack.{AreStacks, stacked}
 use Rattle.fc_frontier.specs.Queue.{inserted}
 use Rattle.fc_frontier.proofs.StackLemmas.{AreReady, on_err, made_ready, kept_ready, changed, put_back, pushed_on}
 use Rattle.fc_frontier.specs.declared.stacks.Stacks.TheInside.{Inside}

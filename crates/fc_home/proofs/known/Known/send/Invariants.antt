@@ -1,5 +1,5 @@
 use Rattle.std.proofs.Common.{◌≡◌, ℕ, ◌<◌, ◌≤◌, None, get_or}
-use Rattle.fc_home.specs.Known.{lasting}
+use Rattle.fc_home.specs.inner.Known.{lasting}
 use Rattle.fc_home.proofs.known.Known.send.Given as goal
 
 -- of the answers so far what lasts stands there, and the others are unchanged

@@ -7,7 +7,7 @@ use Rattle.fc_moves.proofs.free_cell.FreeCellGame.stands.Goals as goal
 pub returns-then-rank : goal.returns-then-rank
 returns-then-rank c = record {
   value =
-      free_cell-stands c.args.self.now.cells c.args.upper c.args.lower c.is_red.result c.is_red-then-rank.result (omega (arith, c.rank.ensures.within.greatest)) (omega (arith, c.rank-2.ensures.within.greatest)) c.is_red.ensures c.is_red-then-rank.ensures (omega arith);
+      free_cell-stands c.args.self.now.cells c.args.upper c.args.lower c.is_red.result c.is_red-then-rank.result (omega (arith, c.rank.ensures.within.greatest)) (omega (arith, c.rank-2.ensures.within.greatest)) c.is_red.ensures.value c.is_red-then-rank.ensures.value (omega arith);
 }
 
 pub returns-else-rank : goal.returns-else-rank

@@ -6,7 +6,8 @@ use Rattle.fc_moves.specs.GameRules.{IsPositionOf}
 use Rattle.fc_moves.specs.Step.{Allows}
 use Rattle.fc_home.specs.Settles.{NoneGoesHome}
 use Rattle.fc_bound.specs.Kinds.{guide_of}
-use Rattle.fc_search.specs.Children.{AreAllowed, AreChildrenBy, Spells}
+use Rattle.fc_search.specs.Children.{AreChildrenBy}
+use Rattle.fc_search.specs.inner.Children.{AreAllowed, Spells}
 use Rattle.fc_search.proofs.ChildLemmas.{children_exist, next_child}
 use Rattle.fc_search.proofs.positions.PositionsSpaceClassKey.next.Goals as goal
 

@@ -1,5 +1,5 @@
 use Rattle.std.proofs.Common.{subst}
-use Rattle.fc_search.specs.Children.{IsSettled}
+use Rattle.fc_search.specs.Children.{IsSettledChild}
 use Rattle.fc_search.proofs.ChildLemmas.{child_bound, settled_starts, start_alone}
 use Rattle.fc_search.proofs.positions.PositionsSpaceClassKey.start.Goals as goal
 
@@ -9,7 +9,7 @@ walk-walk-requires g c =
     let rule = c.args.self.now.rules.rule in
     let kind = c.args.self.now.rules.kind in
     let child = c.settled-child.result in
-    let settled = subst (λ b. IsSettled game rule kind b 0 child) c.copy.ensures.value c.settled-child.ensures.settled in
+    let settled = subst (λ b. IsSettledChild game rule kind b 0 child) c.copy.ensures.value c.settled-child.ensures.settled in
     record { reached = (child.cost, (0, settled_starts game rule kind c.args.self.now.start child settled)) }
 
 pub returns-clause-starts : goal.returns-clause-starts
@@ -18,7 +18,7 @@ returns-clause-starts g c =
     let rule = c.args.self.now.rules.rule in
     let kind = c.args.self.now.rules.kind in
     let child = c.settled-child.result in
-    let settled = subst (λ b. IsSettled game rule kind b 0 child) c.copy.ensures.value c.settled-child.ensures.settled in
+    let settled = subst (λ b. IsSettledChild game rule kind b 0 child) c.copy.ensures.value c.settled-child.ensures.settled in
     settled_starts game rule kind c.args.self.now.start child settled
 
 pub returns-clause-alone : goal.returns-clause-alone
@@ -27,7 +27,7 @@ returns-clause-alone g c =
     let rule = c.args.self.now.rules.rule in
     let kind = c.args.self.now.rules.kind in
     let child = c.settled-child.result in
-    let settled = subst (λ b. IsSettled game rule kind b 0 child) c.copy.ensures.value c.settled-child.ensures.settled in
+    let settled = subst (λ b. IsSettledChild game rule kind b 0 child) c.copy.ensures.value c.settled-child.ensures.settled in
     start_alone game rule kind c.args.self.now.start child c.args.self.now.fits settled
 
 pub returns-clause-told : goal.returns-clause-told
@@ -36,5 +36,5 @@ returns-clause-told g c =
     let rule = c.args.self.now.rules.rule in
     let kind = c.args.self.now.rules.kind in
     let child = c.settled-child.result in
-    let settled = subst (λ b. IsSettled game rule kind b 0 child) c.copy.ensures.value c.settled-child.ensures.settled in
+    let settled = subst (λ b. IsSettledChild game rule kind b 0 child) c.copy.ensures.value c.settled-child.ensures.settled in
     child_bound game rule kind c.args.self.now.start 0 child c.args.self.now.fits settled

@@ -6,7 +6,8 @@ use Rattle.fc_canonical.specs.Order.{IsCanonical}
 use Rattle.fc_home.specs.Settles.{NoneGoesHome}
 use Rattle.fc_canonical.specs.Spelled.{spelled}
 use Rattle.fc_classes.proofs.PathLemmas.{reached_of_positions}
-use Rattle.fc_search.specs.Children.{AreAllowed, AreChildrenBy}
+use Rattle.fc_search.specs.Children.{AreChildrenBy}
+use Rattle.fc_search.specs.inner.Children.{AreAllowed}
 use Rattle.fc_search.proofs.ChildLemmas.{children_all}
 use Rattle.fc_search.proofs.StayLemmas.{none_goes}
 use Rattle.fc_search.proofs.positions.PositionsSpaceClassKey.visit.Goals as goal

@@ -1,5 +1,5 @@
 use Rattle.std.proofs.Common.{ℕ, length, reverse}
-use Rattle.fc_search.specs.Walk.{IsAtClass, IsWay}
+use Rattle.fc_search.specs.inner.Walk.{IsAtClass, IsWay}
 use Rattle.fc_search.proofs.searches.Search.moves_to.Given as goal
 
 -- the walk is at a class from which the rest of the way leads to the one that is sought

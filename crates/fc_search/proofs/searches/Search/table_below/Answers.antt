@@ -5,8 +5,9 @@ use Rattle.fc_bound.specs.Kinds.{guide_of}
 use Rattle.fc_classes.specs.Classes.{classes}
 use Rattle.fc_canonical.specs.Spelled.{spelled}
 use Rattle.fc_answers.specs.declared.tables.Row.{Row}
-use Rattle.fc_answers.specs.Table.{inside, pairs_of, HaveKeysOnce}
-use Rattle.fc_search.specs.Stored.{costs_of}
+use Rattle.fc_answers.specs.Table.{pairs_of, HaveKeysOnce}
+use Rattle.fc_answers.specs.inner.Table.{inside}
+use Rattle.fc_search.specs.inner.Stored.{costs_of}
 use Rattle.fc_answers.proofs.RowLemmas.{inside_few, inside_once}
 use Rattle.fc_search.proofs.RowLemmas.{listed, passed_over, stored_once, looked, stored_long}
 use Rattle.fc_search.specs.Problem.{classes_of}

@@ -1,7 +1,8 @@
 use Rattle.std.proofs.Common.{◌≡◌, take}
 use Rattle.fc_bound.specs.Kinds.{guide_of}
-use Rattle.fc_answers.specs.Table.{inside, pairs_of}
-use Rattle.fc_search.specs.Stored.{costs_of}
+use Rattle.fc_answers.specs.Table.{pairs_of}
+use Rattle.fc_answers.specs.inner.Table.{inside}
+use Rattle.fc_search.specs.inner.Stored.{costs_of}
 use Rattle.fc_search.proofs.searches.Search.table_below.Given as goal
 
 -- the rows so far are those of the first stored keys that are inside n

@@ -1,8 +1,9 @@
 use Rattle.std.proofs.Common.{◌≤◌, length, refl, sym, ◌∙◌, ap, subst, arith}
 use Rattle.std.specs.List.Sorted.{IsPermutation}
 use Rattle.fc_answers.specs.declared.tables.Row.{Row}
-use Rattle.fc_answers.specs.Table.{at_no_cost, pairs_of, HaveKeysOnce}
-use Rattle.fc_search.specs.Stored.{costs_of}
+use Rattle.fc_answers.specs.Table.{pairs_of, HaveKeysOnce}
+use Rattle.fc_answers.specs.inner.Table.{at_no_cost}
+use Rattle.fc_search.specs.inner.Stored.{costs_of}
 use Rattle.fc_answers.proofs.RowLemmas.{all_few, no_cost_once}
 use Rattle.fc_search.proofs.RowLemmas.{listed_free, stored_once, looked, stored_long}
 use Rattle.fc_search.specs.Problem.{classes_of}

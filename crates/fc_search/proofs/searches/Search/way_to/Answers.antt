@@ -1,7 +1,7 @@
 use Rattle.std.proofs.Common.{◌≡◌, ◌∷◌, [], reverse, sym, ◌∙◌, ap, subst}
 use Rattle.std.proofs.lemmas.List.{reverse-append}
 use Rattle.fc_best_first.proofs.KeptLemmas.{stands_within}
-use Rattle.fc_search.specs.Walk.{IsWay}
+use Rattle.fc_search.specs.inner.Walk.{IsWay}
 use Rattle.fc_search.proofs.WalkLemmas.{parent_less}
 use Rattle.fc_search.proofs.searches.Search.way_to.Goals as goal
 

@@ -1,5 +1,5 @@
 use Rattle.std.proofs.Common.{◌<◌, length, reverse, get_or, []}
-use Rattle.fc_search.specs.Walk.{IsWay}
+use Rattle.fc_search.specs.inner.Walk.{IsWay}
 use Rattle.fc_search.proofs.searches.Search.way_to.Given as goal
 
 -- from the class that was come to, the way so far leads to the first one

@@ -2,9 +2,9 @@ use Rattle.std.proofs.Common.{◌≡◌, ◌∙◌, ◌≤◌, ap, subst, arith}
 use Rattle.std.specs.List.Sorted.{IsPermutation}
 use Rattle.fc_best_first.specs.Shown.{Holds}
 use Rattle.fc_answers.specs.declared.answers.Verdict.TheVariants as verdict
-use Rattle.fc_answers.specs.Table.{inside}
+use Rattle.fc_answers.specs.inner.Table.{inside}
 use Rattle.fc_search.specs.Search.{IsOfStatus}
-use Rattle.fc_search.specs.Stored.{costs_of}
+use Rattle.fc_search.specs.inner.Stored.{costs_of}
 use Rattle.fc_search.proofs.AnswerLemmas.{backed_below, backed_shortest, floor_holds}
 use Rattle.fc_search.specs.Problem.{classes_of}
 use Rattle.fc_search.proofs.searches.Search.won.Goals as goal

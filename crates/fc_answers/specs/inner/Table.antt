@@ -1,0 +1,13 @@
+-- Tables of answers: rows of a key's bytes and a cost, within the crate.
+use Rattle.std.specs.Prelude.{ℕ, ◌+◌, List, map, nat_lt}
+use Rattle.std.specs.List.{filter}
+use Rattle.fc_position.specs.Board.{Board}
+use Rattle.fc_canonical.specs.Spelled.{spelled}
+
+-- the rows whose cost and bound are below n, by a lower bound
+abbrev pub inside : (Board → ℕ) → ℕ → List (List ℕ × ℕ) → List (List ℕ × ℕ)
+inside low n rows = filter (λ e. nat_lt (e.1 + low (spelled e.0)) n) rows
+
+-- the same keys, each at no cost
+abbrev pub at_no_cost : List (List ℕ × ℕ) → List (List ℕ × ℕ)
+at_no_cost rows = map (λ e. (e.0, 0)) rows

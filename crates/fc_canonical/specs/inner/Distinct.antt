@@ -1,0 +1,73 @@
+-- Which moves from a position lead to boards of one class, and which of them is listed, within the crate.
+use Rattle.std.specs.Prelude.{◌≡◌, ◌<◌, ◌⊎◌, ◌↔◌, ℕ, Option, Some, None, length, List, [], ◌∷◌, Contains}
+use Rattle.fc_cards.specs.declared.places.Place.{Place}
+use Rattle.fc_cards.specs.declared.places.Place.TheVariants.{Column, Cell, Home}
+use Rattle.fc_position.specs.Board.{Board, column, cell, last_of}
+use Rattle.fc_moves.specs.declared.steps.Move.{Move}
+use Rattle.fc_moves.specs.GameRules.{GameRules, Stands, Opens}
+use Rattle.fc_moves.specs.Step.{Allows, place_number, move_number}
+use Rattle.fc_canonical.specs.Distinct.{AreInOrder, AreInOrder}
+
+-- the move takes a column's only card to an empty column
+abbrev pub Stays : Board → Place → Place → Type 0
+Stays b (Column i) (Column j) = (length (column b i) ≡ 1) × (column b j ≡ [])
+Stays b (Column i) (Cell j) = ⊥
+Stays b (Column i) Home = ⊥
+Stays b (Cell i) to = ⊥
+Stays b Home to = ⊥
+
+-- where this place is empty, no column, or no cell, before it is: a cell that takes a card is
+abbrev pub IsFirstEmpty : Board → Place → Type 0
+IsFirstEmpty b (Column j) = column b j ≡ [] → (k : ℕ) → k < j → column b k ≡ [] → ⊥
+IsFirstEmpty b (Cell j) = (k : ℕ) → k < j → cell b k ≡ None → ⊥
+IsFirstEmpty b Home = Unit {0}
+
+-- a column's cards are one card, which may go to an empty column
+abbrev pub IsLone : GameRules → List ℕ → Type 0
+IsLone g cards = (u : ℕ) × (cards ≡ u ∷ []) × Opens g u
+
+-- some column below this number has one card alone, which may go to an empty column
+abbrev pub IsLoneBelow : GameRules → Board → ℕ → Type 0
+IsLoneBelow g b n = (k : ℕ) × (k < n) × IsLone g (column b k)
+
+-- the place is a column of one card, and an earlier column has one card alone, which may go to an empty column
+abbrev pub IsLaterLone : GameRules → Board → Place → Type 0
+IsLaterLone g b (Column i) = (i < 8) × (length (column b i) ≡ 1) × IsLoneBelow g b i
+IsLaterLone g b (Cell i) = ⊥
+IsLaterLone g b Home = ⊥
+
+-- the move is the first allowed one that leads to its class
+pub record IsListed (g : GameRules) (b : Board) (m : Move) : Type 0 where
+  pub allowed : Allows g b m
+  pub first : IsFirstEmpty b m.to
+  pub stays : Stays b m.from m.to → IsLoneBelow g b (place_number m.from) → ⊥
+
+-- of the moves to be listed, the list has exactly those with numbers below n, by rising number
+pub record ListsDistinctBelow (g : GameRules) (b : Board) (n : ℕ) (moves : List Move) : Type 0 where
+  pub listed : (m : Move) → Contains moves m → IsListed g b m × (move_number m < n)
+  pub complete : (m : Move) → IsListed g b m → move_number m < n → Contains moves m
+  pub rising : AreInOrder moves
+
+-- the first empty column of eight, if there is one
+abbrev pub IsFirstColumn : Board → Option ℕ → Type 0
+IsFirstColumn b None = (k : ℕ) → k < 8 → column b k ≡ [] → ⊥
+IsFirstColumn b (Some j) = (j < 8) × (column b j ≡ []) × ((k : ℕ) → k < j → column b k ≡ [] → ⊥)
+
+-- the first empty cell of n, if there is one
+abbrev pub IsFirstCell : Board → ℕ → Option ℕ → Type 0
+IsFirstCell b n None = (k : ℕ) → k < n → cell b k ≡ None → ⊥
+IsFirstCell b n (Some j) = (j < n) × (cell b j ≡ None) × ((k : ℕ) → k < j → cell b k ≡ None → ⊥)
+
+-- the card is listed to a column with these cards: to an empty one where it is listed to that, else where it stands on
+-- the last
+abbrev pub GoesTo : GameRules → List ℕ → ℕ → Type 0 → Type 0
+GoesTo g cards u opens = ((cards ≡ []) × opens) ⊎ ((l : ℕ) × (last_of cards ≡ Some l) × Stands g u l)
+
+-- the number is that of the empty column to which the move of the place's card is listed, if it is
+abbrev pub IsOpening : GameRules → Board → Place → Option ℕ → Type 0
+IsOpening g b from opening = (j : ℕ) → column b j ≡ []
+    → (opening ≡ Some j) ↔ IsListed g b (record { from = from; to = Column j })
+
+-- the number is that of the cell to which the move of the place's card is listed, if it is
+abbrev pub IsCellOf : GameRules → Board → Place → Option ℕ → Type 0
+IsCellOf g b from held = (j : ℕ) → (held ≡ Some j) ↔ IsListed g b (record { from = from; to = Cell j })

@@ -1,5 +1,0 @@
-use Rattle.fc_tables.proofs.EveryLemmas.{every_settles}
-use Rattle.fc_tables.proofs.laws.every_board_settles.Goals as goal
-
-pub returns : goal.returns
-returns c = every_settles

@@ -1,0 +1,111 @@
+#!/usr/bin/env python3
+"""Holds the tree to its limits of size, which docs/MAP.md states, and says what is past one.
+
+usage, at the top of the repository:  limits.py
+
+The last line is 'N passed, M failed'.
+"""
+import re
+import sys
+
+sys.dont_write_bytecode = True
+from contracts import files_below, heads_of, text_of
+
+MOST_PARAMETERS = 6
+MOST_LINES = 400
+# The product's definition writes these calls out, with a game, a home rule and a budget one by one.
+WRITTEN_OUT = {"run_solve", "run_batch"}
+TESTS = re.compile(r"crates/\w+_tests/")
+
+
+def parted(words, at):
+    """The words parted at a sign, but for where it stands in brackets."""
+    depth, parts = 0, [""]
+    for it in words.replace("->", "  "):
+        depth += (it in "([{<") - (it in ")]}>")
+        if it == at and depth == 0:
+            parts.append("")
+        else:
+            parts[-1] += it
+    return [it.strip() for it in parts if it.strip()]
+
+
+def enclosed(text, start):
+    """What stands in the round brackets that open at this place."""
+    depth = 0
+    for at in range(start, len(text)):
+        depth += (text[at] == "(") - (text[at] == ")")
+        if depth == 0:
+            return text[start + 1 : at]
+    return text[start + 1 :]
+
+
+def functions(path):
+    """Each function of a source file with the number of its parameters, but for `self`."""
+    text = text_of(path)
+    for it in re.finditer(r"^ *(?:pub(?:\(crate\))? )?fn (\w+)(<.*>)?\(", text, re.M):
+        given = parted(enclosed(text, it.end() - 1), ",")
+        yield it[1], sum(not re.fullmatch(r"(&('\w+ )?)?(mut )?self", one) for one in given)
+
+
+def definitions(path):
+    """Each definition of a file of specs/ with the number of its parameters, but for those in braces."""
+    for block in re.split(r"\n\s*\n", text_of(path)):
+        names = {name for is_lemma, name in heads_of(block) if not is_lemma}
+        lines = [it for it in block.split("\n") if not it.lstrip().startswith("--")]
+        for at, line in enumerate(lines):
+            head = re.match(r"\s*(?:(?:pub|abbrev|record|data|unfoldable|opaque) )+(\S+)\s(.*)", line)
+            if head and head[1] in names:
+                said = head[2]
+                for more in lines[at + 1 :]:
+                    if not more.startswith(" " * (len(line) - len(line.lstrip()) + 4)) or said.endswith("where"):
+                        break
+                    said += " " + more.strip()
+                yield head[1], parameters(re.sub(r"\bwhere$", "", said))
+
+
+def parameters(said):
+    """How many parameters stand before the colon of a definition's head and before its last arrow."""
+    before, _, kind = said.partition(":") if not said.startswith("(") else split_at_colon(said)
+    named = sum(len(it.split()) for it in re.findall(r"\(([^():]*) :", before))
+    for part in parted(kind.replace("→", ";"), ";")[:-1]:
+        bound = re.match(r"\(([^():]*) :", part)
+        if not part.startswith("{"):
+            named += len(bound[1].split()) if bound else 1
+    return named
+
+
+def split_at_colon(said):
+    """The words before the colon that stands outside of brackets, and those behind it."""
+    depth = 0
+    for at, it in enumerate(said):
+        depth += (it in "([{") - (it in ")]}")
+        if it == ":" and depth == 0:
+            return said[:at], ":", said[at + 1 :]
+    return said, "", ""
+
+
+def past_limits():
+    for path in files_below("crates", ".rt"):
+        for name, count in functions(path):
+            if count > MOST_PARAMETERS and name not in WRITTEN_OUT and not TESTS.match(path):
+                yield f"{path}: the function {name} has {count} parameters"
+    for path in files_below("crates", ".antt"):
+        if "/specs/" in path:
+            for name, count in definitions(path):
+                if count > MOST_PARAMETERS:
+                    yield f"{path}: the definition {name} has {count} parameters"
+    for path in [*files_below("crates", ".rt"), *files_below("crates", ".antt")]:
+        lines = text_of(path).count("\n")
+        if lines > MOST_LINES and not TESTS.match(path):
+            yield f"{path}: {lines} lines"
+
+
+def main():
+    wrong = list(past_limits())
+    print("\n".join([*wrong, f"{int(not wrong)} passed, {len(wrong)} failed"]))
+    return 1 if wrong else 0
+
+
+if __name__ == "__main__":
+    sys.exit(main())
