@@ -11,7 +11,7 @@ use Rattle.std.proofs.lemmas.List.Sorted.{IsPermutation-sym, list_any-IsPermutat
 use Rattle.fc_cards.specs.Card.{rank, suit, all_cards}
 use Rattle.fc_position.specs.Board.{last_of, front_of}
 use Rattle.fc_position.proofs.BoardLemmas.{front_last}
-use Rattle.fc_canonical.proofs.Rearrange.{renaming, IsPermutation-set}
+use Rattle.fc_moves.proofs.Rearrange.{renaming, IsPermutation-set}
 use Rattle.fc_bound.specs.Bound.{is_lower, is_away}
 use Rattle.fc_bound.specs.Clearing.{waits, fee, without, cards_in, order_cost, clearing_cost, clearing_bound}
 use Rattle.fc_bound.specs.Laws.{ClassMatesHaveOneClearingBound, FreeCardsGoFirst}

@@ -9,7 +9,7 @@ use Rattle.fc_cards.specs.declared.places.Place.TheVariants.{Column, Cell, Home}
 use Rattle.fc_position.specs.Board.{Board, column, cell, playable, last_of, front_of, count_in_column, count_in_cell}
 use Rattle.fc_position.specs.Position.{IsPosition}
 use Rattle.fc_position.proofs.BoardLemmas.{front_last, last_counted, places_most, column_there, cell_there}
-use Rattle.fc_canonical.proofs.KeyLemmas.{two_of_sum}
+use Rattle.fc_position.proofs.PlaceLemmas.{two_of_sum}
 use Rattle.fc_bound.specs.Bound.{is_held_back, is_above_lower, is_lower, PlayableIsHeldBack}
 use Rattle.fc_bound.proofs.AboveLemmas.{above-one, above-top, stands-counted, not_true, or-false}
 

@@ -8,7 +8,7 @@ use Rattle.fc_moves.specs.declared.steps.Move.{Move}
 use Rattle.fc_moves.specs.GameRules.{GameRules}
 use Rattle.fc_moves.specs.Run.{Wins}
 use Rattle.fc_moves.specs.Step.{Step}
-use Rattle.fc_canonical.specs.Class.{SameClass}
+use Rattle.fc_moves.specs.Class.{SameClass}
 use Rattle.fc_bound.specs.declared.bounds.TheConstants.{GREATEST_BOUND}
 use Rattle.fc_bound.specs.Bound.{bound, is_away, is_held_back, stands_in, StandsAboveLower}
 use Rattle.fc_bound.specs.Clearing.{waits, without, order_cost, clearing_cost, clearing_bound}

@@ -5,7 +5,7 @@ use Rattle.fc_position.specs.Position.{IsPosition}
 use Rattle.fc_moves.specs.declared.steps.Move.{Move}
 use Rattle.fc_moves.specs.GameRules.{GameRules}
 use Rattle.fc_moves.specs.Run.{Wins}
-use Rattle.fc_canonical.specs.Class.{SameClass}
+use Rattle.fc_moves.specs.Class.{SameClass}
 
 -- a lower bound: in every game no list of moves that wins from a position is shorter, and boards of one class have the same
 pub record IsLowerBound (low : Board → ℕ) : Type 0 where

@@ -15,14 +15,15 @@ use Rattle.fc_cards.specs.declared.places.Place.TheVariants.{Column, Cell, Home}
 use Rattle.fc_position.specs.Board.{Board, column, cell, playable, lifted, placed, last_of, front_of, count_in_column, count_in_cell, IsNext}
 use Rattle.fc_position.specs.Position.{IsPosition}
 use Rattle.fc_position.proofs.BoardLemmas.{column_there, cell_there, columns-lifted, homes-lifted, front_last, last_counted, places_most}
+use Rattle.fc_position.proofs.PlaceLemmas.{one_itself, one_column, in_column, source_once}
 use Rattle.fc_moves.specs.declared.steps.Move.{Move}
 use Rattle.fc_moves.specs.GameRules.{GameRules}
 use Rattle.fc_moves.specs.Step.{Step, Joins, Takes}
 use Rattle.fc_moves.proofs.StepLemmas.{other_column}
-use Rattle.fc_canonical.specs.Class.{SameClass}
+use Rattle.fc_moves.specs.Class.{SameClass}
 use Rattle.fc_canonical.specs.inner.Distinct.{Stays}
-use Rattle.fc_canonical.proofs.ClassLemmas.{class-refl, class-sym, class-trans, class-placed, Alike}
-use Rattle.fc_canonical.proofs.KeyLemmas.{two_of_sum, no_more}
+use Rattle.fc_moves.proofs.ClassLemmas.{class-refl, class-sym, class-trans, class-placed, Alike}
+use Rattle.fc_canonical.proofs.KeyLemmas.{no_more}
 
 -- the two are the same column or two empty ones, two cells, or both home
 abbrev pub IsSameKind : Board → Place → Place → Type 0
@@ -40,9 +41,6 @@ IsSameKind b Home (Cell j) = ⊥
 abbrev pub IsAlike : Board → Move → Move → Type 0
 IsAlike b m n = ((m.from ≡ n.from) × IsSameKind b m.to n.to) ⊎ (Stays b m.from m.to × Stays b n.from n.to)
 
-one_itself : (u : ℕ) → ◌≡◌ {A = ℕ} (cond (eqb u u) 1 0) 1
-one_itself u = grind (arith, nat_tests)
-
 -- the front of a column has its last card once less
 front_once : (cards : List ℕ) (u : ℕ) → last_of cards ≡ Some u → count_in_column u (front_of cards) + 1 ≡ count_in_column u cards
 front_once cards u last =
@@ -59,57 +57,12 @@ count-pushed cards u = omega (arith, sum_by_push (λ x. cond (eqb x u) 1 0) card
 count-first : (c : ℕ) (rest : List ℕ) → 1 ≤ count_in_column c (c ∷ rest)
 count-first c rest = omega (arith, sum_by-cons (λ x. cond (eqb x c) 1 0) c rest, one_itself c)
 
--- a card that stands in two columns stands in one
-one_column : (b : Board) (c i j : ℕ) → IsPosition b → i < length b.columns → j < length b.columns
-    → 1 ≤ count_in_column c (column b i) → 1 ≤ count_in_column c (column b j) → i ≡ j
-one_column b c i j p one two x y =
-    ⊎_elim (λ e. e)
-    (λ ne. absurd (omega (arith, two_of_sum (count_in_column c) b.columns i j [] refl ne one two, places_most b c p)))
-    (cases_eq i j)
-
 -- two columns that hold the same cards are one, or empty
 one_or_empty : (b : Board) (i j : ℕ) (cards : List ℕ) → IsPosition b → i < length b.columns → j < length b.columns
     → column b i ≡ cards → column b j ≡ cards → (i ≡ j) ⊎ ((column b i ≡ []) × (column b j ≡ []))
 one_or_empty b i j [] p one two x y = inr (x, y)
 one_or_empty b i j (c ∷ rest) p one two x y =
     inl (one_column b c i j p one two (rw x (count-first c rest)) (rw y (count-first c rest)))
-
--- a playable card that stands in a column is playable there
-in_column : (b : Board) (from : Place) (u k : ℕ) → IsPosition b → playable b from ≡ Some u → k < length b.columns
-    → 1 ≤ count_in_column u (column b k) → from ≡ Column k
-in_column b (Column i) u k p there inside some =
-    ap (λ (n : ℕ). Column n) (one_column b u i k p (column_there b i u there) inside (last_counted (column b i) u there) some)
-in_column b (Cell i) u k p there inside some =
-    let held : count_in_cell u (cell b i) ≡ 1 = ap (count_in_cell u) there ∙ one_itself u in
-    absurd (omega (
-      arith,
-      held,
-      get_or-le-sum_by (count_in_cell u) b.cells i None (cell_there b i u there),
-      get_or-le-sum_by (count_in_column u) b.columns k [] inside,
-      places_most b u p,
-    ))
-in_column b Home u k p there inside some = absurd (cc there)
-
--- a card is playable at one place
-pub source_once : (b : Board) (from to : Place) (u : ℕ) → IsPosition b → playable b from ≡ Some u → playable b to ≡ Some u → from ≡ to
-source_once b from (Column j) u p x y =
-    in_column b from u j p x (column_there b j u y) (last_counted (column b j) u y)
-source_once b (Column i) (Cell j) u p x y =
-    sym (in_column b (Cell j) u i p y (column_there b i u x) (last_counted (column b i) u x))
-source_once b (Cell i) (Cell j) u p x y =
-    let one : count_in_cell u (cell b i) ≡ 1 = ap (count_in_cell u) x ∙ one_itself u in
-    let two : count_in_cell u (cell b j) ≡ 1 = ap (count_in_cell u) y ∙ one_itself u in
-    ⊎_elim (λ e. ap (λ (n : ℕ). Cell n) e)
-    (λ ne. absurd (omega (
-      arith,
-      one,
-      two,
-      two_of_sum (count_in_cell u) b.cells i j None refl ne (cell_there b i u x) (cell_there b j u y),
-      places_most b u p,
-    )))
-    (cases_eq i j)
-source_once b Home (Cell j) u p x y = absurd (cc x)
-source_once b from Home u p x y = absurd (cc y)
 
 -- the front of a column has no card more often
 count-front_le : (cards : List ℕ) (u : ℕ) → count_in_column u (front_of cards) ≤ count_in_column u cards

@@ -9,8 +9,8 @@ use Rattle.fc_position.specs.Position.{IsPosition}
 use Rattle.fc_position.proofs.BoardLemmas.{cell_there, playable_below}
 use Rattle.fc_canonical.specs.Order.{IsCanonical, cell_byte}
 use Rattle.fc_canonical.specs.Spelled.{spelled}
-use Rattle.fc_canonical.proofs.ClassLemmas.{class_positions}
-use Rattle.fc_canonical.proofs.Rearrange.{one_full, full_most}
+use Rattle.fc_moves.proofs.ClassLemmas.{class_positions}
+use Rattle.fc_moves.proofs.Rearrange.{one_full, full_most}
 use Rattle.fc_canonical.specs.Laws.{CanonicalBoardsFit, CanonicalBoardsFitByCount, KeysOfGamesByCells}
 
 -- where the first n are full, at least n are

@@ -12,12 +12,13 @@ use Rattle.fc_position.specs.Board.{Board, count_in_column, count_in_cell}
 use Rattle.fc_position.specs.Position.{IsPosition}
 use Rattle.fc_position.proofs.LayoutLemmas.{eight}
 use Rattle.fc_position.proofs.BoardLemmas.{places_most, column_most}
-use Rattle.fc_canonical.specs.Class.{SameClass}
+use Rattle.fc_position.proofs.PlaceLemmas.{two_of_sum}
+use Rattle.fc_moves.specs.Class.{SameClass}
 use Rattle.fc_canonical.specs.Key.{column_bytes, board_bytes, IsKeyOf}
 use Rattle.fc_canonical.specs.Laws.{ClassesHaveOneCanonicalBoard, KeysTellClasses, BytesBeginWithOneKey, KeysHaveExtents}
 use Rattle.fc_canonical.specs.Order.{column_order, cell_byte, IsCanonical}
 use Rattle.fc_canonical.specs.inner.Parts.{IsSmall, IsHolding}
-use Rattle.fc_canonical.proofs.ClassLemmas.{class-sym, class-trans, class_positions}
+use Rattle.fc_moves.proofs.ClassLemmas.{class-sym, class-trans, class_positions}
 use Rattle.fc_canonical.proofs.OrderLemmas.{ordered_once}
 use Rattle.fc_canonical.proofs.WrittenLemmas.{bytes_most}
 
@@ -142,16 +143,6 @@ no_such_card b p i c rest inside e above =
       get_or-le-sum_by (count_in_column c) b.columns i [] inside,
       p.no_other c above,
     )
-
--- two places with one number each add up
-pub two_of_sum : {X : Type 0} (f : X → ℕ) (xs : List X) (i j : ℕ) (d : X) → f d ≡ 0 → i ≢ j → i < length xs → j < length xs
-    → f (get_or xs i d) + f (get_or xs j d) ≤ sum_by f xs
-two_of_sum f xs i j d none other one two =
-    let gone = set xs i d in
-    let long : length gone ≡ length xs = length-set xs i d in
-    let changed = sum_by-set f xs i d d one in
-    let kept = ap f (get_or-set_other xs i j d d (λ e. other (sym e))) in
-    omega (arith, none, changed, kept, get_or-le-sum_by f gone j d (omega (arith, long)))
 
 -- no card stands deepest in two columns
 twice : (b : Board) → IsPosition b → (i j c : ℕ) (rest others : List ℕ) → i ≢ j → i < length b.columns → j < length b.columns

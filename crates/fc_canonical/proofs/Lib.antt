@@ -1,6 +1,5 @@
 pub mod BackLemmas
 pub mod CheckLemmas
-pub mod ClassLemmas
 pub mod DistinctLemmas
 pub mod FitLemmas
 pub mod KeyLemmas
@@ -11,7 +10,6 @@ pub mod MovedLemmas
 pub mod OrderLemmas
 pub mod PartLemmas
 pub mod ReadLemmas
-pub mod Rearrange
 pub mod SetLemmas
 pub mod SizeLemmas
 pub mod SortLemmas

@@ -12,10 +12,10 @@ use Rattle.fc_moves.specs.inner.GameLaws.{Contains-cases, Contains-first, Contai
 use Rattle.fc_moves.specs.GameRules.{GameRules, Opens}
 use Rattle.fc_moves.specs.Step.{Allows, Joins, Takes, MayLand, place_number, move_number}
 use Rattle.fc_moves.proofs.StepLemmas.{allowed_has_text, move_same, place_most, source_most}
-use Rattle.fc_canonical.specs.Class.{SameClass}
+use Rattle.fc_moves.specs.Class.{SameClass}
 use Rattle.fc_canonical.specs.Distinct.{ListsClasses, AreFirst}
 use Rattle.fc_canonical.specs.inner.Distinct.{ListsDistinctBelow, IsListed, IsLone, IsFirstEmpty, Stays}
-use Rattle.fc_canonical.proofs.ClassLemmas.{class-sym, class-trans}
+use Rattle.fc_moves.proofs.ClassLemmas.{class-sym, class-trans}
 use Rattle.fc_canonical.proofs.DistinctLemmas.{IsSameKind, IsAlike, only_card, alike_class}
 
 -- of two numbers of which a fact holds first, each is the other

@@ -9,7 +9,7 @@ use Rattle.fc_moves.specs.GameRules.{GameRules}
 use Rattle.fc_moves.specs.Step.{Step}
 use Rattle.fc_moves.proofs.StepLemmas.{step_once}
 use Rattle.fc_canonical.specs.Key.{IsKeyOf}
-use Rattle.fc_canonical.proofs.ClassLemmas.{class-refl}
+use Rattle.fc_moves.proofs.ClassLemmas.{class-refl}
 use Rattle.fc_canonical.proofs.KeyLemmas.{keys_tell}
 
 -- a move whose result has another key doesn't lead to this one

@@ -4,7 +4,7 @@ use Rattle.fc_position.specs.Board.{Board}
 use Rattle.fc_moves.specs.declared.steps.Move.{Move}
 use Rattle.fc_moves.specs.GameRules.{GameRules}
 use Rattle.fc_moves.specs.Step.{Step, Allows, move_number}
-use Rattle.fc_canonical.specs.Class.{SameClass}
+use Rattle.fc_moves.specs.Class.{SameClass}
 
 -- the list has allowed moves alone, to each class that a move leads to exactly one
 pub record ListsClasses (g : GameRules) (b : Board) (moves : List Move) : Type 0 where

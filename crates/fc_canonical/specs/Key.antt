@@ -3,7 +3,7 @@ use Rattle.std.specs.Prelude.{◌≡◌, ℕ, ◌+◌, ◌-◌, length, map, rep
 use Rattle.std.specs.List.{flat_map}
 use Rattle.fc_position.specs.Board.{Board}
 use Rattle.fc_position.specs.Position.{IsPosition}
-use Rattle.fc_canonical.specs.Class.{SameClass}
+use Rattle.fc_moves.specs.Class.{SameClass}
 use Rattle.fc_canonical.specs.Order.{IsCanonical, cell_byte}
 
 -- a column is spelled as the number of its cards and the cards, deepest first

@@ -1,4 +1,3 @@
-pub mod Class
 pub mod Distinct
 pub mod Key
 pub mod KeyOrder

@@ -1,27 +1,6 @@
 //! Laws of the definitions, each the contract of a function that does nothing.
 
-ghost use Rattle.fc_canonical.specs.Laws.{ClassesAreEquivalences, ClassMatesArePositions, ClassMatesStepAlike, ClassMatesWinAlike, ClassesHaveOneCanonicalBoard, KeysTellClasses, BytesBeginWithOneKey, KeysHaveExtents, ExtentsAreOne, FrontsHaveTheirExtent, KeysAreShort, PositionsHaveKeys, KeysSpellPositions, KeysBeginThemselves, FrontKeysSpellTheirBoard, CanonicalBoardsFit, CanonicalBoardsFitByCount, KeysOfGamesByCells};
-
-/// A board is of its own class, and to be of one class may be turned round and joined.
-pub fn classes_are_equivalences()
-    ensures { ClassesAreEquivalences }
-{}
-
-/// A board of a position's class is a position.
-pub fn class_mates_are_positions()
-    ensures { ClassMatesArePositions }
-{}
-
-/// Two positions of one class, both of which fit the game, step to positions of the same classes.
-pub fn class_mates_step_alike()
-    ensures { ClassMatesStepAlike }
-{}
-
-/// Some list of so many moves wins from the one of two positions of one class, both of which fit the game, exactly
-/// where some list of as many wins from the other.
-pub fn class_mates_win_alike()
-    ensures { ClassMatesWinAlike }
-{}
+ghost use Rattle.fc_canonical.specs.Laws.{ClassesHaveOneCanonicalBoard, KeysTellClasses, BytesBeginWithOneKey, KeysHaveExtents, ExtentsAreOne, FrontsHaveTheirExtent, KeysAreShort, PositionsHaveKeys, KeysSpellPositions, KeysBeginThemselves, FrontKeysSpellTheirBoard, CanonicalBoardsFit, CanonicalBoardsFitByCount, KeysOfGamesByCells};
 
 /// A position's class has one canonical board.
 pub fn classes_have_one_canonical_board()

@@ -1,6 +1,4 @@
-//! Classes of positions: positions that differ in the order of their columns and cells alone.
-//!
-//! A class is known by its canonical position, or by that position's bytes, its key. No call allocates.
+//! What stands for a class of positions: its canonical position, and that position's bytes, its key. No call allocates.
 #![tactic(auto)]
 
 pub use checks::is_key;

@@ -16,7 +16,7 @@ use Rattle.fc_tables.specs.Table.{IsClosed, IsClosedBelow, ListsFitting, Covered
 use Rattle.fc_bound.proofs.KindLemmas.{bounds_lower}
 use Rattle.fc_home.proofs.EveryLemmas.{every_settles}
 use Rattle.fc_tables.proofs.LookLemmas.{one_enough, one_enough_listed, seen_below, seen_closed}
-use Rattle.fc_canonical.proofs.ClassLemmas.{class-refl}
+use Rattle.fc_moves.proofs.ClassLemmas.{class-refl}
 use Rattle.fc_cert.specs.declared.contents.Kind.{Kind}
 use Rattle.fc_cert.specs.declared.contents.Kind.TheVariants.{Shortest, CannotWin, Between}
 use Rattle.fc_cert.specs.Claim.{Shows, IsCertificate}

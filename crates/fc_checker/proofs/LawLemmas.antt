@@ -9,7 +9,7 @@ use Rattle.fc_moves.specs.GameRules.{GameRules}
 use Rattle.fc_moves.specs.Run.{Run}
 use Rattle.fc_moves.proofs.StepLemmas.{run_once}
 use Rattle.fc_canonical.specs.Spelled.{spelled}
-use Rattle.fc_canonical.proofs.ClassLemmas.{class-refl}
+use Rattle.fc_moves.proofs.ClassLemmas.{class-refl}
 use Rattle.fc_cert.specs.declared.claims.Claim.{Claim}
 use Rattle.fc_cert.specs.declared.claims.Claim.TheVariants as claim
 use Rattle.fc_cert.specs.declared.contents.Kind.TheVariants as kind

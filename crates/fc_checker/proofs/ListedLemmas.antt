@@ -7,10 +7,10 @@ use Rattle.std.proofs.lemmas.List.Elements.{All-contains, Contains-append_right}
 use Rattle.std.proofs.lemmas.Option.{get_or_from_slice_get, slice_get-get_or}
 use Rattle.fc_position.specs.Board.{Board}
 use Rattle.fc_position.specs.Position.{IsPosition}
-use Rattle.fc_canonical.specs.Class.{SameClass}
+use Rattle.fc_moves.specs.Class.{SameClass}
 use Rattle.fc_canonical.specs.Key.{IsKeyOf}
 use Rattle.fc_canonical.specs.Spelled.{IsKeyFor, spelled}
-use Rattle.fc_canonical.proofs.ClassLemmas.{class-refl}
+use Rattle.fc_moves.proofs.ClassLemmas.{class-refl}
 use Rattle.fc_canonical.proofs.KeyLemmas.{keys_tell}
 use Rattle.fc_tables.specs.Table.{ListsClass, Lists, as_boards}
 use Rattle.fc_answers.proofs.RisingLemmas.{keys_once}

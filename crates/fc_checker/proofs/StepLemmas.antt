@@ -8,10 +8,10 @@ use Rattle.fc_moves.specs.declared.steps.Move.{Move}
 use Rattle.fc_moves.specs.GameRules.{GameRules}
 use Rattle.fc_moves.specs.Step.{Step}
 use Rattle.fc_moves.proofs.StepLemmas.{step_once}
-use Rattle.fc_canonical.specs.Class.{SameClass}
+use Rattle.fc_moves.specs.Class.{SameClass}
 use Rattle.fc_canonical.specs.Distinct.{ListsClasses}
 use Rattle.fc_canonical.specs.Spelled.{spelled}
-use Rattle.fc_canonical.proofs.ClassLemmas.{class-trans}
+use Rattle.fc_moves.proofs.ClassLemmas.{class-trans}
 use Rattle.fc_home.specs.Settles.{Settles, SettlesBy}
 use Rattle.fc_home.proofs.MateLemmas.{class_settle}
 use Rattle.fc_home.proofs.WayLemmas.{settles_once}

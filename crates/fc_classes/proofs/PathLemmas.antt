@@ -7,8 +7,8 @@ use Rattle.fc_moves.specs.declared.steps.Move.{Move}
 use Rattle.fc_moves.specs.GameRules.{GameRules, IsPositionOf}
 use Rattle.fc_moves.specs.Run.{Run, WinsIn}
 use Rattle.fc_moves.proofs.StepLemmas.{step_keeps, run_keeps}
-use Rattle.fc_canonical.specs.Class.{SameClass}
-use Rattle.fc_canonical.proofs.ClassLemmas.{class-sym, class-trans, class_step}
+use Rattle.fc_moves.specs.Class.{SameClass}
+use Rattle.fc_moves.proofs.ClassLemmas.{class-sym, class-trans, class_step}
 use Rattle.fc_home.specs.Settles.{Settles, SettlesBy, sent_home}
 use Rattle.fc_home.proofs.MateLemmas.{class_settle}
 use Rattle.fc_home.proofs.SettleLemmas.{settles_keep, settles_run, settled_stays, sent_position, total, total-most, turn_total}

@@ -5,8 +5,8 @@ use Rattle.std.proofs.lemmas.List.Elements.{Contains-append_right}
 use Rattle.fc_position.specs.Board.{Board}
 use Rattle.fc_moves.specs.GameRules.{GameRules, IsPositionOf}
 use Rattle.fc_moves.proofs.StepLemmas.{step_keeps}
-use Rattle.fc_canonical.specs.Class.{SameClass}
-use Rattle.fc_canonical.proofs.ClassLemmas.{class-refl, class-sym}
+use Rattle.fc_moves.specs.Class.{SameClass}
+use Rattle.fc_moves.proofs.ClassLemmas.{class-refl, class-sym}
 use Rattle.fc_home.specs.Settles.{Settles}
 use Rattle.fc_home.proofs.SettleLemmas.{settles_keep}
 use Rattle.fc_home.proofs.EveryLemmas.{every_settles}

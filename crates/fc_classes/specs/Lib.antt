@@ -1,3 +1,4 @@
+pub mod Children
 pub mod Classes
 pub mod Key
 pub mod Laws

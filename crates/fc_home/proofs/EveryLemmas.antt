@@ -9,7 +9,7 @@ use Rattle.fc_position.specs.Board.{Board, column, cell, playable, front_of}
 use Rattle.fc_position.proofs.BoardLemmas.{front_last, column_there, cell_there}
 use Rattle.fc_moves.specs.declared.steps.Move.{Move}
 use Rattle.fc_moves.specs.GameRules.{GameRules}
-use Rattle.fc_canonical.proofs.Rearrange.{one_full}
+use Rattle.fc_moves.proofs.Rearrange.{one_full}
 use Rattle.fc_home.specs.HomeRule.{GoesHome}
 use Rattle.fc_home.specs.Settles.{IsFirstHome, NoneGoesHome, SettlesBy, sent_home}
 use Rattle.fc_home.proofs.WayLemmas.{decide_goes}

@@ -6,9 +6,9 @@ use Rattle.fc_position.specs.Board.{Board, playable, last_of, lifted}
 use Rattle.fc_position.proofs.BoardLemmas.{column_there, cell_there}
 use Rattle.fc_moves.specs.declared.steps.Move.{Move}
 use Rattle.fc_moves.specs.GameRules.{GameRules}
-use Rattle.fc_canonical.specs.Class.{SameClass}
-use Rattle.fc_canonical.proofs.ClassLemmas.{Alike, class-sym, class-lifted, class-placed}
-use Rattle.fc_canonical.proofs.Rearrange.{renaming}
+use Rattle.fc_moves.specs.Class.{SameClass}
+use Rattle.fc_moves.proofs.ClassLemmas.{Alike, class-sym, class-lifted, class-placed}
+use Rattle.fc_moves.proofs.Rearrange.{renaming}
 use Rattle.fc_home.specs.HomeRule.{GoesHome}
 use Rattle.fc_home.specs.Laws.{ClassMatesSettleAlike}
 use Rattle.fc_home.specs.Settles.{IsFirstHome, NoneGoesHome, SettlesBy, sent_home}

@@ -7,7 +7,7 @@ use Rattle.fc_position.specs.Board.{IsHome, IsNext}
 use Rattle.fc_moves.specs.inner.GameLaws.{Contains-cases, Contains-first, Contains-later}
 use Rattle.fc_moves.specs.GameRules.{GameRules, Stands}
 use Rattle.fc_moves.proofs.StepLemmas.{move_same}
-use Rattle.fc_canonical.proofs.DistinctLemmas.{source_once}
+use Rattle.fc_position.proofs.PlaceLemmas.{source_once}
 use Rattle.fc_home.specs.HomeRule.{IsFreeWithin, GoesHome}
 use Rattle.fc_home.specs.Laws.{PositionsSettleInOneWay, SettlingMovesAreOne}
 use Rattle.fc_home.specs.Settles.{SettlesBy, sent_home}

@@ -6,7 +6,7 @@ use Rattle.fc_position.specs.Position.{IsPosition}
 use Rattle.fc_moves.specs.declared.steps.Move.{Move}
 use Rattle.fc_moves.specs.GameRules.{GameRules, IsGame, IsPositionOf, Stands}
 use Rattle.fc_moves.specs.Run.{Run, WinsWithin}
-use Rattle.fc_canonical.specs.Class.{SameClass}
+use Rattle.fc_moves.specs.Class.{SameClass}
 use Rattle.fc_home.specs.HomeRule.{IsForced, IsFree, GoesHome}
 use Rattle.fc_home.specs.Settles.{SettlesBy, Settles}
 

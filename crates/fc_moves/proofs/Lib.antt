@@ -1,3 +1,5 @@
+pub mod ClassLemmas
 pub mod GameLemmas
 pub mod ListLemmas
+pub mod Rearrange
 pub mod StepLemmas

@@ -1,3 +1,4 @@
+pub mod Class
 pub mod GameRules
 pub mod Laws
 pub mod MoveText

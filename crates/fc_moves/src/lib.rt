@@ -1,4 +1,5 @@
-//! What the rules allow, and why they refuse a move: games, one-card moves, and what lists of moves lead to.
+//! What the rules allow, and why they refuse a move: games, one-card moves, what lists of moves lead to, and classes of
+//! positions, which differ in the order of their columns and cells alone and so step and win alike.
 //!
 //! A game is plain data to contracts: which cards may stand on which, which may go to an empty column, how many cells
 //! there are. Everything here is generic over it. No call allocates.

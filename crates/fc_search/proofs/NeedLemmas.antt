@@ -8,9 +8,9 @@ use Rattle.fc_position.specs.Board.{Board}
 use Rattle.fc_moves.specs.GameRules.{IsPositionOf}
 use Rattle.fc_moves.specs.Run.{CanReach, ReachesMore}
 use Rattle.fc_moves.proofs.StepLemmas.{step_keeps, run_keeps}
-use Rattle.fc_canonical.specs.Class.{SameClass}
+use Rattle.fc_moves.specs.Class.{SameClass}
 use Rattle.fc_canonical.specs.Key.{IsKeyOf}
-use Rattle.fc_canonical.proofs.ClassLemmas.{class-refl, class-sym, class_step}
+use Rattle.fc_moves.proofs.ClassLemmas.{class-refl, class-sym, class_step}
 use Rattle.fc_canonical.proofs.KeyLemmas.{keys_tell}
 use Rattle.fc_home.specs.Settles.{Settles}
 use Rattle.fc_home.proofs.MateLemmas.{class_settle}

@@ -1,4 +1,3 @@
-pub mod Children
 pub mod Need
 pub mod Problem
 pub mod Search

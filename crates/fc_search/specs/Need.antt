@@ -4,7 +4,7 @@ use Rattle.fc_position.specs.Board.{Board}
 use Rattle.fc_moves.specs.declared.steps.Move.{Move}
 use Rattle.fc_moves.specs.Run.{Run, Wins}
 use Rattle.fc_moves.specs.Step.{Step}
-use Rattle.fc_canonical.specs.Class.{SameClass}
+use Rattle.fc_moves.specs.Class.{SameClass}
 use Rattle.fc_home.specs.Settles.{Settles}
 use Rattle.fc_bound.specs.Kinds.{guide_of}
 use Rattle.fc_search.specs.Problem.{Problem}

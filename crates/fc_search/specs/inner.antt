@@ -1,5 +1,4 @@
 -- What this crate's own functions and proofs speak of, and no public promise.
-pub mod Children
 pub mod Search
 pub mod Stored
 pub mod Walk

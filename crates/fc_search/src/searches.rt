@@ -13,11 +13,10 @@ ghost use Rattle.fc_search.specs.Problem.{classes_of, problem_of, shortest_from,
 ghost use Rattle.fc_search.specs.Search.{Answers, IsVerdict, IsOfStatus, IsRefused, IsUnanswered};
 ghost use Rattle.fc_search.specs.inner.Search.{IsFloorOf};
 
-use crate::positions::Positions;
 use fc_answers::{Answer, MoveList, Verdict};
 use fc_best_first as best_first;
 use fc_best_first::{Mark, SearchFault, Status, Step};
-use fc_classes::ClassKey;
+use fc_classes::{ClassKey, Positions};
 use fc_frontier::Frontier;
 use fc_home::GREATEST_RULE;
 use fc_methods::{Budget, HomeRule, Method, Question};

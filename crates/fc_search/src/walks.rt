@@ -14,11 +14,10 @@ ghost use Rattle.fc_canonical.specs.Key.{IsKeyOf};
 ghost use Rattle.fc_search.specs.Problem.{classes_of};
 ghost use Rattle.fc_search.specs.inner.Walk.{IsStart, IsWay, IsAtClass, LeadsWithin, LeadsOn};
 
-use crate::positions::Positions;
 use crate::searches::Search;
 use arrayvec::ArrayVec;
 use fc_answers::MoveList;
-use fc_classes::ClassKey;
+use fc_classes::{ClassKey, Positions};
 use fc_frontier::Frontier;
 use fc_home::settle;
 use fc_moves::{Game, Move, apply, moves};

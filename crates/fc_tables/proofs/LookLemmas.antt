@@ -6,8 +6,8 @@ use Rattle.fc_moves.specs.declared.steps.Move.{Move}
 use Rattle.fc_moves.specs.GameRules.{GameRules, IsPositionOf}
 use Rattle.fc_moves.specs.Step.{Step}
 use Rattle.fc_moves.proofs.StepLemmas.{step_keeps}
-use Rattle.fc_canonical.specs.Class.{SameClass}
-use Rattle.fc_canonical.proofs.ClassLemmas.{class-refl, class-sym, class-trans, class_step}
+use Rattle.fc_moves.specs.Class.{SameClass}
+use Rattle.fc_moves.proofs.ClassLemmas.{class-refl, class-sym, class-trans, class_step}
 use Rattle.fc_home.specs.Settles.{Settles}
 use Rattle.fc_home.proofs.MateLemmas.{class_settle}
 use Rattle.fc_home.proofs.EveryLemmas.{every_settles}

@@ -14,9 +14,9 @@ use Rattle.fc_moves.specs.inner.GameLaws.{Contains-cases, Contains-first}
 use Rattle.fc_moves.specs.GameRules.{GameRules, Opens, IsPositionOf}
 use Rattle.fc_moves.specs.Run.{Wins}
 use Rattle.fc_moves.specs.Step.{Step}
-use Rattle.fc_canonical.specs.Class.{SameClass}
-use Rattle.fc_canonical.proofs.ClassLemmas.{class-refl, class_positions}
-use Rattle.fc_canonical.proofs.Rearrange.{one_full, full_most}
+use Rattle.fc_moves.specs.Class.{SameClass}
+use Rattle.fc_moves.proofs.ClassLemmas.{class-refl, class_positions}
+use Rattle.fc_moves.proofs.Rearrange.{one_full, full_most}
 use Rattle.fc_home.specs.HomeRule.{GoesHome}
 use Rattle.fc_home.specs.Settles.{Settles, NoneGoesHome, sent_home}
 use Rattle.fc_home.proofs.SettleLemmas.{goes_next, home_step}

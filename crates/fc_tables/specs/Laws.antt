@@ -5,7 +5,7 @@ use Rattle.fc_position.specs.Position.{IsShaped, IsPosition, Fits}
 use Rattle.fc_moves.specs.declared.steps.Move.{Move}
 use Rattle.fc_moves.specs.GameRules.{GameRules, Opens, IsPositionOf}
 use Rattle.fc_moves.specs.Run.{Wins, CannotWin}
-use Rattle.fc_canonical.specs.Class.{SameClass}
+use Rattle.fc_moves.specs.Class.{SameClass}
 use Rattle.fc_bound.specs.LowerBound.{IsLowerBound}
 use Rattle.fc_tables.specs.Table.{Table, Covered, StepsCovered, StepsListed, ClassesCovered, ClassesListed, ListsFitting, IsClosedBelow, IsClosedInside, IsClosed, IsSeenClosedBelow, IsSeenClosed, SettlesEach, IsLossless, IsClosedBy}
 

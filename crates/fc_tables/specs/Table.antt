@@ -6,7 +6,7 @@ use Rattle.fc_moves.specs.declared.steps.Move.{Move}
 use Rattle.fc_moves.specs.GameRules.{GameRules, IsPositionOf}
 use Rattle.fc_moves.specs.Run.{WinsWithin}
 use Rattle.fc_moves.specs.Step.{Step}
-use Rattle.fc_canonical.specs.Class.{SameClass}
+use Rattle.fc_moves.specs.Class.{SameClass}
 use Rattle.fc_canonical.specs.Spelled.{spelled}
 use Rattle.fc_home.specs.Settles.{Settles}
 

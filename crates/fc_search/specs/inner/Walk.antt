@@ -8,7 +8,7 @@ use Rattle.fc_moves.specs.Step.{Step}
 use Rattle.fc_home.specs.Settles.{SettlesBy}
 use Rattle.fc_best_first.specs.declared.books.Mark.{Mark}
 use Rattle.fc_best_first.specs.Store.{Store, IsStored}
-use Rattle.fc_canonical.specs.Class.{SameClass}
+use Rattle.fc_moves.specs.Class.{SameClass}
 use Rattle.fc_canonical.specs.Key.{IsKeyOf}
 use Rattle.fc_classes.specs.Classes.{SettlesTo}
 use Rattle.fc_canonical.specs.Spelled.{spelled}

@@ -2,7 +2,7 @@ use Rattle.std.proofs.Common.{sym, subst, ap, ◌∙◌}
 use Rattle.fc_position.proofs.BoardLemmas.{position-moved}
 use Rattle.fc_canonical.specs.Key.{padded, IsKeyOf}
 use Rattle.fc_canonical.specs.Moved.{moved}
-use Rattle.fc_canonical.proofs.ClassLemmas.{class_positions}
+use Rattle.fc_moves.proofs.ClassLemmas.{class_positions}
 use Rattle.fc_classes.proofs.PaddedLemmas.{is_padded, front_padded}
 use Rattle.fc_classes.proofs.keys.ClassKey.moved.Goals as goal
 

@@ -1,6 +1,6 @@
 use Rattle.std.proofs.Common.{sym, subst}
 use Rattle.fc_canonical.specs.Key.{IsKeyOf}
-use Rattle.fc_canonical.proofs.ClassLemmas.{class_positions}
+use Rattle.fc_moves.proofs.ClassLemmas.{class_positions}
 use Rattle.fc_classes.proofs.PaddedLemmas.{is_padded, front_padded}
 use Rattle.fc_classes.proofs.keys.ClassKey.of.Goals as goal
 

@@ -1,5 +1,0 @@
-use Rattle.fc_canonical.proofs.ClassLemmas.{class_step}
-use Rattle.fc_canonical.proofs.laws.class_mates_step_alike.Goals as goal
-
-pub returns : goal.returns
-returns c = class_step

@@ -1,5 +1,0 @@
-use Rattle.fc_canonical.proofs.ClassLemmas.{class_win}
-use Rattle.fc_canonical.proofs.laws.class_mates_win_alike.Goals as goal
-
-pub returns : goal.returns
-returns c = class_win
