@@ -14,7 +14,7 @@ use Rattle.fc_cards.specs.declared.places.Place.{Place}
 use Rattle.fc_cards.specs.declared.places.Place.TheVariants.{Column, Cell, Home}
 use Rattle.fc_position.specs.Board.{Board, column, cell, playable, lifted, placed, last_of, front_of, count_in_column, count_in_cell, IsNext}
 use Rattle.fc_position.specs.Position.{IsPosition}
-use Rattle.fc_position.proofs.BoardLemmas.{column_there, cell_there, columns-lifted, homes-lifted, front_last, last_counted, places_most}
+use Rattle.fc_position.proofs.BoardLemmas.{column_there, columns-lifted, homes-lifted, front_last, places_most}
 use Rattle.fc_position.proofs.PlaceLemmas.{one_itself, one_column, in_column, source_once}
 use Rattle.fc_moves.specs.declared.steps.Move.{Move}
 use Rattle.fc_moves.specs.GameRules.{GameRules}

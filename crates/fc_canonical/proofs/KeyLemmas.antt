@@ -1,16 +1,15 @@
 -- Keys: how long they are, what they spell, and that they tell classes apart.
-use Rattle.std.proofs.Common.{◌≡◌, ◌≢◌, ℕ, ◌+◌, ◌-◌, ◌<◌, ◌≤◌, Option, Some, None, List, [], ◌∷◌, ◌++◌, length, map, take, drop, set, get_or, cond, eqb, refl, sym, ◌∙◌, ap, subst, ⊎_elim, append_assoc, arith}
-use Rattle.std.specs.Prelude.{All, sum_by}
+use Rattle.std.proofs.Common.{◌≡◌, ◌≢◌, ℕ, ◌+◌, ◌<◌, ◌≤◌, Option, Some, None, List, [], ◌∷◌, ◌++◌, length, map, take, drop, get_or, cond, eqb, refl, sym, ◌∙◌, ap, subst, ⊎_elim, append_assoc, arith}
+use Rattle.std.specs.Prelude.{All}
 use Rattle.std.specs.List.{flat_map}
-use Rattle.std.proofs.lemmas.List.{append-nil, take_at, drop_at, length-map, length-append, get_or-set_other, get_or_default, length-set}
+use Rattle.std.proofs.lemmas.List.{append-nil, take_at, drop_at, length-map, length-append, get_or_default}
 use Rattle.std.proofs.lemmas.List.Concat.{length-flat_map}
 use Rattle.std.proofs.lemmas.List.Elements.{All-head, All-tail}
-use Rattle.std.proofs.lemmas.List.Sums.{sum_by-cons, sum_by-set, get_or-le-sum_by}
+use Rattle.std.proofs.lemmas.List.Sums.{sum_by-cons, get_or-le-sum_by}
 use Rattle.std.proofs.lemmas.Bool.{cases_lt, cases_eq}
 use Rattle.std.proofs.lemmas.Bool.Decides.{nat_tests}
 use Rattle.fc_position.specs.Board.{Board, count_in_column, count_in_cell}
 use Rattle.fc_position.specs.Position.{IsPosition}
-use Rattle.fc_position.proofs.LayoutLemmas.{eight}
 use Rattle.fc_position.proofs.BoardLemmas.{places_most, column_most}
 use Rattle.fc_position.proofs.PlaceLemmas.{two_of_sum}
 use Rattle.fc_moves.specs.Class.{SameClass}

@@ -1,5 +1,5 @@
 -- How long a key is, by the cards that are home and the cells that are full.
-use Rattle.std.proofs.Common.{◌≡◌, ◌==◌, ℕ, zero, suc, ◌+◌, ◌-◌, ◌*◌, ◌/◌, ◌%◌, ◌<◌, ◌≤◌, true, false, cond, nat_le, min, Option, Some, None, List, [], ◌∷◌, ◌++◌, length, refl, ◌∙◌, ap, ⊎_elim, arith}
+use Rattle.std.proofs.Common.{◌≡◌, ◌==◌, ℕ, zero, suc, ◌+◌, ◌*◌, ◌/◌, ◌%◌, ◌<◌, ◌≤◌, true, false, cond, nat_le, min, Option, Some, None, List, [], ◌∷◌, ◌++◌, length, refl, ◌∙◌, ap, ⊎_elim, arith}
 use Rattle.std.specs.Prelude.{All, slice_index, sum_by, count_by, is_some, not, map, take, drop}
 use Rattle.std.specs.List.{flat_map}
 use Rattle.std.proofs.lemmas.Bool.{cases_lt}

@@ -1,6 +1,3 @@
-mod ChildLemmas
 pub mod PaddedLemmas
 pub mod PathLemmas
-mod ShiftLemmas
-mod StayLemmas
 pub mod TableLemmas

@@ -1,4 +1,3 @@
-pub mod Children
 pub mod Classes
 pub mod Key
 pub mod Laws

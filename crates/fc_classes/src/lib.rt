@@ -5,8 +5,6 @@
 #![tactic(auto)]
 
 pub use keys::ClassKey;
-pub use positions::{Children, ClassRules, Positions};
 
 mod keys;
 pub mod laws;
-mod positions;

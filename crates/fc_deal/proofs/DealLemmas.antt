@@ -11,6 +11,7 @@ use Rattle.std.proofs.lemmas.Bool.{cases_eq}
 use Rattle.std.proofs.lemmas.Bool.Decides.{nat_tests}
 use Rattle.fc_cards.specs.Card.{suit, all_cards}
 use Rattle.fc_position.specs.Board.{Board, places, count_in_column, count_at_home}
+use Rattle.fc_position.specs.Position.{Fits}
 use Rattle.fc_position.specs.Tally.{IsFaultOf}
 use Rattle.fc_position.proofs.TallyLemmas.{no_fault}
 use Rattle.fc_position.specs.declared.faults.PartsFault.{PartsFault}
@@ -201,3 +202,12 @@ pub board_same : (n : ℕ) (b : Board) (reply : Result Board PartsFault) → b �
     → IfOk reply (λ p. p ≡ b) → IfSome (result_ok reply) (λ p. p ≡ dealt_board n)
 board_same n b (Ok p) e same = same ∙ e
 board_same n b (Err f) e same = tt
+
+-- a numbered deal has no card in a cell, and so fits every game
+pub dealt_fits : (n deal : ℕ) → Fits n (dealt_board deal)
+unfolding dealt_board
+dealt_fits n deal zero past = refl
+dealt_fits n deal (suc zero) past = refl
+dealt_fits n deal (suc (suc zero)) past = refl
+dealt_fits n deal (suc (suc (suc zero))) past = refl
+dealt_fits n deal (suc (suc (suc (suc i)))) past = refl

@@ -27,15 +27,6 @@ use Rattle.fc_board_runs.specs.Devices.{Device}
 use Rattle.fc_runs.specs.Batches.{AreCutShort, AreLines, AreTold, IsRightOf, Line, greatest_status, line_text, told_status}
 use Rattle.fc_runs.specs.inner.Batches.{HaveEnded, HoldsDeals, IsSearchOf}
 
--- no card of a deal stands in a cell, so it is of every game
-pub dealt_fits : (n deal : ℕ) → Fits n (dealt_board deal)
-unfolding dealt_board
-dealt_fits n deal zero past = refl
-dealt_fits n deal (suc zero) past = refl
-dealt_fits n deal (suc (suc zero)) past = refl
-dealt_fits n deal (suc (suc (suc zero))) past = refl
-dealt_fits n deal (suc (suc (suc (suc i)))) past = refl
-
 module _ {K : Type 0} (task : Task K) where
   -- one more turn after some
   turns_more : (turns : ℕ) (before between after : Status K) (old mid new : Store K) (reply : Result Step SearchFault)

@@ -7,4 +7,3 @@ mod NeedLemmas
 mod RowLemmas
 pub mod TurnLemmas
 mod WalkLemmas
-mod WonLemmas

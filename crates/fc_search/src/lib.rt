@@ -7,10 +7,10 @@
 
 pub use fc_answers::{Answer, MoveList, Table, Verdict};
 pub use fc_best_first::{SearchFault, Step};
-pub use fc_classes::{Children, ClassRules, Positions};
 pub use fc_methods::{
     BoundKind, Budget, HomeRule, MOST_BUDGET, MOST_WEIGHT, Method, Question, Weight,
 };
+pub use fc_space::{Children, ClassRules, Positions};
 pub use listeners::{Listener, Progress, Unheard};
 pub use searches::Search;
 pub use solving::{decide_by, solve, solve_by};

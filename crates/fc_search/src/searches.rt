@@ -16,12 +16,13 @@ ghost use Rattle.fc_search.specs.inner.Search.{IsFloorOf};
 use fc_answers::{Answer, MoveList, Verdict};
 use fc_best_first as best_first;
 use fc_best_first::{Mark, SearchFault, Status, Step};
-use fc_classes::{ClassKey, Positions};
+use fc_classes::ClassKey;
 use fc_frontier::Frontier;
 use fc_home::GREATEST_RULE;
 use fc_methods::{Budget, HomeRule, Method, Question};
 use fc_moves::Game;
 use fc_position::Position;
+use fc_space::Positions;
 use std::alloc::{AllocError, Global};
 use std::marker::Model;
 

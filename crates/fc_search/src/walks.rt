@@ -17,11 +17,12 @@ ghost use Rattle.fc_search.specs.inner.Walk.{IsStart, IsWay, IsAtClass, LeadsWit
 use crate::searches::Search;
 use arrayvec::ArrayVec;
 use fc_answers::MoveList;
-use fc_classes::{ClassKey, Positions};
+use fc_classes::ClassKey;
 use fc_frontier::Frontier;
 use fc_home::settle;
 use fc_moves::{Game, Move, apply, moves};
 use fc_position::Position;
+use fc_space::Positions;
 use std::alloc::AllocError;
 
 impl<F: Frontier + Drop, G: Game + Drop> Search<F, G> {

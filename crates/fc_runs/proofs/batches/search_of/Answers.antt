@@ -1,7 +1,8 @@
 use Rattle.std.proofs.Common.{◌≡◌, ◌∙◌, ap, rules}
 use Rattle.fc_deal.specs.Deal.{dealt_board}
 use Rattle.fc_search.specs.Problem.{problem_of}
-use Rattle.fc_runs.proofs.BatchLemmas.{dealt_fits, search_begun}
+use Rattle.fc_deal.proofs.DealLemmas.{dealt_fits}
+use Rattle.fc_runs.proofs.BatchLemmas.{search_begun}
 use Rattle.fc_runs.proofs.batches.search_of.Goals as goal
 
 pub new_by-requires : goal.new_by-requires

@@ -1,0 +1,103 @@
+//! How the program ends early, and what it says of it on standard error: the line of the fault, and then perhaps one more,
+//! which tells where it lies and why. Where a line can't be written, the status still tells the fault.
+
+use crate::notes::add_note;
+use fc_board_runs::{Input, ProgramFault};
+use fc_text::BoardFault;
+use std::alloc::AllocError;
+use std::{fs, io};
+
+/// Why the program ends early.
+#[derive(Clone, Copy)]
+pub enum Ending {
+    /// A fault that is still to be told.
+    Fault(ProgramFault),
+    /// What was wrong is told; the status.
+    Told(u8),
+}
+
+impl From<ProgramFault> for Ending {
+    ghost use Rattle.std.specs.Prelude.{◌≡◌};
+    ghost use Rattle.fc_console.specs.declared.endings.Ending.TheVariants.{Fault};
+
+    ghost from_gives = { λ fault ending. ending ≡ Fault fault };
+
+    fn from(fault: ProgramFault) -> Ending {
+        Ending::Fault(fault)
+    }
+}
+
+impl From<AllocError> for Ending {
+    ghost use Rattle.std.specs.Prelude.{◌≡◌};
+    ghost use Rattle.fc_console.specs.declared.endings.Ending.TheVariants.{Fault};
+    ghost use Rattle.fc_board_runs.specs.declared.faults.ProgramFault.TheVariants.{Memory};
+
+    ghost from_gives = { λ _ ending. ending ≡ Fault Memory };
+
+    fn from(_refused: AllocError) -> Ending {
+        Ending::Fault(ProgramFault::Memory)
+    }
+}
+
+/// Says what the fault is.
+pub fn tell(rt: &HostRuntime, fault: &ProgramFault) -> u8 {
+    let _told = eprintln!(rt; "fc_solve: {fault}");
+    fault.status()
+}
+
+/// Says that a file can't be opened or made, and why.
+pub fn tell_of_file(rt: &HostRuntime, fault: ProgramFault, path: &str, error: io::Error) -> Ending {
+    if error.kind() == io::ErrorKind::OutOfMemory {
+        return Ending::Fault(ProgramFault::Memory);
+    }
+    let status = tell(rt, &fault);
+    let _told = eprintln!(rt; "fc_solve: {path}: {error}");
+    Ending::Told(status)
+}
+
+/// Says that a file was opened and can't be read.
+pub fn tell_of_reading(rt: &HostRuntime, input: Input, path: &str) -> Ending {
+    let status = tell(rt, &ProgramFault::Read(input));
+    let is_folder = match fs::metadata(rt, path) {
+        Ok(metadata) => metadata.is_dir(),
+        Err(_) => false,
+    };
+    let why = if is_folder {
+        "it is a folder"
+    } else {
+        "it can't be read to its end"
+    };
+    let _told = eprintln!(rt; "fc_solve: {path}: {why}");
+    Ending::Told(status)
+}
+
+/// Says that the text of a board is too long, and what to do.
+pub fn tell_of_length(rt: &HostRuntime) -> Ending {
+    let status = tell(rt, &ProgramFault::Board(BoardFault::TooLong));
+    add_note(rt, BoardFault::TooLong, &[], 0);
+    Ending::Told(status)
+}
+
+/// Ends as a run did.
+pub fn of_run(ran: Result<u8, ProgramFault>) -> Result<u8, Ending> {
+    match ran {
+        Ok(status) => Ok(status),
+        Err(fault) => Err(Ending::Fault(fault)),
+    }
+}
+
+// What is said of a text with nothing in it.
+const NO_BOARD: &str = "the board is empty: its text has nothing but blanks";
+
+/// Says what is wrong with a board's text, read for a game with so many cells, and where it lies.
+pub fn tell_of_board(rt: &HostRuntime, fault: ProgramFault, text: &[u8], cells: u8) -> Ending {
+    let status = tell(rt, &fault);
+    if let ProgramFault::Board(fault) = fault {
+        if text.iter().all(|byte| byte.is_ascii_whitespace()) {
+            let _told = eprintln!(rt; "fc_solve: {NO_BOARD}");
+        } else {
+            add_note(rt, fault, text, cells);
+        }
+    }
+    Ending::Told(status)
+}

@@ -1,0 +1,193 @@
+//! Lists of moves: how they are read and replayed, and what is said of one that is refused or ends.
+ghost use Rattle.fc_position.specs.Position.{Fits};
+ghost use Rattle.fc_moves.specs.GameRules.{IsPositionOf};
+
+use crate::boards::open;
+use crate::endings::{Ending, tell};
+use crate::shown::{front_of, rest_of};
+use fc_board_runs::{Input, LONGEST_MOVES, ProgramFault, run_replay_as, run_replay_sequences};
+use fc_io::{FromReader, FromSlice, ReadFault, ToWriter, read_to_vec};
+use fc_moves::Game;
+use fc_position::Position;
+use fc_replay::{Ended, MoveGaps, Page, ReplayFault, Stop, first_stop};
+use fc_text::Tokens;
+use fc_words::MovesWord;
+use std::fs::File;
+
+/// Where a list of moves comes from.
+#[derive(Drop)]
+pub enum MovesSource {
+    /// A file.
+    File(FromReader<File>),
+    /// Standard input.
+    Input,
+}
+
+/// Where the list of moves comes from that a word names; a file is opened.
+pub fn find_moves(rt: &HostRuntime, word: &MovesWord<'_>) -> Result<MovesSource, Ending> {
+    match *word {
+        MovesWord::Input => Ok(MovesSource::Input),
+        MovesWord::File(path) => Ok(MovesSource::File(open(rt, path, Input::Moves)?)),
+    }
+}
+
+/// The text of a list of moves.
+pub fn read_moves(rt: &HostRuntime, source: MovesSource) -> Result<Vec<u8>, Ending> {
+    let read = match source {
+        MovesSource::File(mut file) => read_to_vec(rt.alloc(), &mut file, LONGEST_MOVES),
+        MovesSource::Input => {
+            read_to_vec(rt.alloc(), &mut FromReader::new(rt.stdin()), LONGEST_MOVES)
+        }
+    };
+    match read {
+        Ok(text) => Ok(text),
+        Err(ReadFault::Failed) => Err(Ending::Fault(ProgramFault::Read(Input::Moves))),
+        Err(ReadFault::TooLong) => Err(Ending::Fault(ProgramFault::TooLong(Input::Moves))),
+        Err(ReadFault::Memory) => Err(Ending::Fault(ProgramFault::Memory)),
+    }
+}
+
+/// Replays the one-card moves of a text, and says how they ended or which is refused, and why.
+pub fn replay_moves<G: Game>(
+    rt: &HostRuntime,
+    game: &G,
+    start: &Position,
+    text: &[u8],
+    page: Page,
+) -> Result<u8, Ending>
+    requires fits { Fits (G.game game.now).cells start.now }
+{
+    let list = without_answer(text);
+    let mut out = ToWriter::new(rt.stdout());
+    let mut moves = FromSlice::new(list);
+    match run_replay_as(rt.alloc(), game, start, &mut moves, page, &mut out) {
+        Ok(ended) => {
+            tell_end(rt, ended);
+            Ok(0)
+        }
+        Err(fault) => {
+            let status = tell(rt, &fault);
+            if let ProgramFault::Moves(_) = fault {
+                tell_stop(rt, game, start, list);
+            }
+            Err(Ending::Told(status))
+        }
+    }
+}
+
+/// Replays the entries of a text, which may move sequences, and says how they ended or which is refused, and why.
+pub fn replay_sequences<G: Game>(
+    rt: &HostRuntime,
+    game: &G,
+    start: &Position,
+    text: &[u8],
+    page: Page,
+) -> Result<u8, Ending>
+    requires position { IsPositionOf (G.game game.now) start.now }
+{
+    let list = without_rulers(text);
+    let mut out = ToWriter::new(rt.stdout());
+    let mut entries = FromSlice::new(list);
+    match run_replay_sequences(rt.alloc(), game, start, &mut entries, page, &mut out) {
+        Ok(ended) => {
+            tell_end(rt, ended);
+            Ok(0)
+        }
+        Err(fault) => {
+            let status = tell(rt, &fault);
+            tell_entry(rt, fault, list);
+            Err(Ending::Told(status))
+        }
+    }
+}
+
+// The moves of a text: all of it, but for the first line of what `solve` prints.
+fn without_answer(text: &[u8]) -> &[u8] {
+    if !text.starts_with(b"shortest ") && !text.starts_with(b"won ") {
+        return text;
+    }
+    match text.iter().position(|byte| *byte == b'\n') {
+        Some(end) => &text[end..],
+        None => &[],
+    }
+}
+
+// The entries of a list: all of its text, but for what Freecell Solver prints above its moves, up to a ruled line of `-=`,
+// and below them, from one of `==` on, or from where it says that the game is solved.
+fn without_rulers(text: &[u8]) -> &[u8] {
+    let mut start = 0;
+    let mut at = 0;
+    for line in text.split_inclusive(|byte| *byte == b'\n') {
+        if line.starts_with(b"===") || line.starts_with(b"This game is ") {
+            return text.get(start..at).unwrap_or(text);
+        }
+        at = at.saturating_add(line.len());
+        if line.starts_with(b"-=-=") {
+            start = at;
+        }
+    }
+    text.get(start..).unwrap_or(text)
+}
+
+// Says how a list of moves ended.
+fn tell_end(rt: &HostRuntime, ended: Ended) {
+    let moves = ended.moves;
+    let word = if moves == 1 { "move" } else { "moves" };
+    let _told = if ended.is_won {
+        eprintln!(rt; "fc_solve: won in {moves} {word}")
+    } else {
+        eprintln!(rt; "fc_solve: not won after {moves} {word}")
+    };
+}
+
+// Says which token of a list is refused, and why.
+fn tell_stop<G: Game>(rt: &HostRuntime, game: &G, start: &Position, text: &[u8])
+    requires fits { Fits (G.game game.now).cells start.now }
+{
+    if text.len() > LONGEST_MOVES {
+        // (the run has refused these)
+        return;
+    }
+    let Some(Stop { token, refusal, .. }) = first_stop(game, start, text) else {
+        return;
+    };
+    let (shown, more) = (front_of(token).escape_ascii(), rest_of(token));
+    let _told = match refusal {
+        Some(refusal) => eprintln!(rt; "fc_solve: '{shown}{more}': {refusal}"),
+        None => eprintln!(rt;
+            "fc_solve: '{shown}{more}' is no move: a move is two letters, from where to where: columns 1 to 8, cells a to d, home h"
+        ),
+    };
+}
+
+// Says which entry of a list that may move sequences is refused, and why.
+fn tell_entry(rt: &HostRuntime, fault: ProgramFault, text: &[u8]) {
+    let (step, reason) = match fault {
+        ProgramFault::Moves(ReplayFault::BadMove(step)) => (
+            step,
+            "is no entry: a move's two letters, and perhaps v and how many cards, as 24 or 24v2",
+        ),
+        ProgramFault::Moves(ReplayFault::NotAllowed(step)) => (
+            step,
+            "can't be played: no cards may go that way, with the free cells and the empty columns that there are",
+        ),
+        ProgramFault::TooManyWays(step) => (step, "is where there are more than 1000 boards"),
+        _ => return,
+    };
+    if let Some(token) = token_of(text, step) {
+        let (shown, more) = (front_of(token).escape_ascii(), rest_of(token));
+        let _told = eprintln!(rt; "fc_solve: '{shown}{more}' {reason}");
+    }
+}
+
+// The token of a step, which counts from 1.
+fn token_of(text: &[u8], step: u32) -> Option<&[u8]> {
+    let mut left = step;
+    for token in Tokens::new(text, MoveGaps) {
+        if left <= 1 {
+            return Some(token);
+        }
+        left -= 1;
+    }
+    None
+}

@@ -1,0 +1,4 @@
+mod ChildLemmas
+mod ShiftLemmas
+mod StayLemmas
+mod WonLemmas

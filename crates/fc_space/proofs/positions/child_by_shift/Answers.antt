@@ -1,0 +1,32 @@
+use Rattle.std.proofs.Common.{rules, ◌≡◌, ◌≢◌, true, ◌∙◌}
+use Rattle.fc_cards.specs.declared.places.Place.TheVariants.{Home}
+use Rattle.fc_canonical.proofs.BackLemmas.{taken_back}
+use Rattle.fc_space.proofs.ShiftLemmas.{child_of_step}
+use Rattle.fc_space.proofs.StayLemmas.{others_stay}
+use Rattle.fc_space.proofs.positions.child_by_shift.Goals as goal
+
+pub shift-bound-requires-clause-away : goal.shift-bound-requires-clause-away
+shift-bound-requires-clause-away g c = λ e. let is : c.eq.result ≡ true = search rules in cc
+
+pub settled_already-child-requires-clause-others : goal.settled_already-child-requires-clause-others
+settled_already-child-requires-clause-others g c =
+    let other : c.args.m.to ≢ Home = λ e. let is : c.eq.result ≡ true = search rules in cc in
+    others_stay c.args.rules.now.rule (g.G.Game.game c.args.rules.now.game) c.args.position.now c.shift-bound.new.position c.args.m c.shift-bound.ensures.step other
+    c.requires.settled
+
+pub shift-requires : goal.shift-requires
+shift-requires g c =
+    let other : c.args.m.to ≢ Home = λ e. let is : c.eq.result ≡ true = search rules in cc in
+    let back = taken_back (g.G.Game.game c.args.rules.now.game) c.args.position.now c.shift-bound.new.position c.args.m c.shift-bound.ensures.step other in
+    record { moves = (c.shift-bound.ensures.step.card, back.there, back.receives) }
+
+pub returns-clause-same : goal.returns-clause-same
+returns-clause-same g c =
+    let other : c.args.m.to ≢ Home = λ e. let is : c.eq.result ≡ true = search rules in cc in
+    let back = taken_back (g.G.Game.game c.args.rules.now.game) c.args.position.now c.shift-bound.new.position c.args.m c.shift-bound.ensures.step other in
+    c.shift.ensures.after c.shift-bound.ensures.step.card back.there ∙ back.back
+
+pub returns-clause-child : goal.returns-clause-child
+returns-clause-child g c =
+    child_of_step (g.G.Game.game c.args.rules.now.game) c.args.rules.now.rule c.args.rules.now.kind c.args.position.now c.shift-bound.new.position c.args.m
+    c.settled_already-child.result c.shift-bound.ensures.step c.settled_already-child.ensures.settled
