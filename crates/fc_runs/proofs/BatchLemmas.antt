@@ -24,7 +24,8 @@ use Rattle.fc_batch.specs.Batch.{Batch, HasTurn, HasTurns, OthersStay, TurnFor, 
 use Rattle.fc_batch.proofs.BatchLemmas.{stays_self}
 use Rattle.fc_batch.proofs.LawLemmas.{turn_alone}
 use Rattle.fc_board_runs.specs.Devices.{Device}
-use Rattle.fc_runs.specs.Batches.{AreCutShort, AreLines, AreTold, IsRightOf, Line, greatest_status, line_text, told_status}
+use Rattle.fc_runs.specs.Batches.{AreCutShort, AreLines, AreTold, IsRightOf, greatest_status}
+use Rattle.fc_answer_text.specs.AnswerText.{Line, line_text, told_status}
 use Rattle.fc_runs.specs.inner.Batches.{HaveEnded, HoldsDeals, IsSearchOf}
 
 module _ {K : Type 0} (task : Task K) where

@@ -20,7 +20,7 @@ use Rattle.fc_board_runs.specs.Devices.{Device}
 use Rattle.fc_search.specs.Search.{IsRunToEnd}
 use Rattle.fc_board_runs.specs.declared.faults.Output.TheVariants.{Answer as of_answer, Cert as of_certificate}
 use Rattle.fc_board_runs.specs.declared.faults.ProgramFault.TheVariants.{Write as unwritten}
-use Rattle.fc_runs.specs.AnswerText.{answer_text, status_of}
+use Rattle.fc_answer_text.specs.AnswerText.{answer_text, status_of}
 use Rattle.fc_runs.specs.Solving.{IsAnswered, IsCertificateOf, IsCertified, IsCutShort, IsUnanswered, TakesCertificate}
 
 -- the form is the one of the bound that was searched by

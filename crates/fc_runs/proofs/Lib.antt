@@ -1,6 +1,5 @@
 pub mod BatchLemmas
 pub mod CertificateLemmas
-pub mod ListTextLemmas
 pub mod RefusalLemmas
 pub mod SolveLemmas
 pub mod TablingLemmas

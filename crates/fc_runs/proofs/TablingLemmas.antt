@@ -18,7 +18,8 @@ use Rattle.fc_board_runs.specs.Devices.{Device}
 use Rattle.fc_runs.specs.declared.tabling.Last.{Last}
 use Rattle.fc_runs.specs.declared.tabling.Row.{Row}
 use Rattle.fc_methods.specs.Method.{Asked}
-use Rattle.fc_runs.specs.Batches.{IsToldOf, greatest_status, told_status}
+use Rattle.fc_runs.specs.Batches.{IsToldOf, greatest_status}
+use Rattle.fc_answer_text.specs.AnswerText.{told_status}
 use Rattle.fc_runs.specs.Tabling.{AreRows, IsDealFloor, IsTableCutShort, floor_of, line_of, names_text, row_text, table_text, told_floor}
 use Rattle.fc_runs.proofs.BatchLemmas.{greatest_more}
 

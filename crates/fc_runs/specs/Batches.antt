@@ -17,28 +17,9 @@ use Rattle.fc_board_runs.specs.declared.faults.ProgramFault.{ProgramFault}
 use Rattle.fc_board_runs.specs.declared.faults.ProgramFault.TheVariants.{Number, Range, Budget, Write, Memory}
 use Rattle.fc_board_runs.specs.Devices.{Device, IsUntouched}
 use Rattle.fc_runs.specs.declared.batches.TheConstants.{MOST_DEALS}
-use Rattle.fc_runs.specs.AnswerText.{outcome_text, outcome_status}
+use Rattle.fc_answer_text.specs.AnswerText.{Line, told_status, line_text}
 use Rattle.fc_runs.specs.Solving.{IsDecided}
 use Rattle.fc_board_runs.specs.declared.faults.Output.TheVariants.{Answer as of_answer}
-
--- a line of a batch: the number of its deal, and what is told of it; `None` where memory was wanted
-pub record Line : Type 0 where
-  pub deal : ℕ
-  pub told : Option Outcome
-
--- what is told of a deal, or that memory was wanted, and the end of the line
-abbrev pub told_text : Option Outcome → List ℕ
-told_text (Some outcome) = outcome_text outcome
-told_text None = codes "want of memory\n"
-
--- a line as it is printed: the number of the deal, a blank, and what is told
-abbrev pub line_text : Line → List ℕ
-line_text line = decimal line.deal ++ codes " " ++ told_text line.told
-
--- the exit status that goes with what is told: that of the answer, or 4 for want of memory
-abbrev pub told_status : Option Outcome → ℕ
-told_status (Some outcome) = outcome_status outcome
-told_status None = 4
 
 -- the greatest status of some lines
 abbrev pub greatest_status : List Line → ℕ

@@ -10,7 +10,7 @@ use Rattle.fc_checker.specs.Check.{IsCheckFault}
 use Rattle.fc_board_runs.specs.declared.faults.ProgramFault.{ProgramFault}
 use Rattle.fc_board_runs.specs.declared.faults.ProgramFault.TheVariants.{Cert, TooLong, Read, Write, Memory, Board as bad_board}
 use Rattle.fc_board_runs.specs.Devices.{Device, GivesBoard, GivesFault, GivesWhole, IsUntouched}
-use Rattle.fc_runs.specs.AnswerText.{accepted_text}
+use Rattle.fc_answer_text.specs.AnswerText.{accepted_text}
 use Rattle.fc_checker.specs.declared.faults.CheckFault.TheVariants.{Memory as refused}
 use Rattle.fc_board_runs.specs.declared.faults.Input.TheVariants.{Board as of_board, Cert as of_certificate}
 use Rattle.fc_board_runs.specs.declared.faults.Output.TheVariants.{Answer as of_answer}

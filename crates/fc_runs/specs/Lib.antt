@@ -1,4 +1,3 @@
-pub mod AnswerText
 pub mod Batches
 pub mod Checking
 pub mod Solving

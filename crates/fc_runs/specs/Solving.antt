@@ -20,7 +20,7 @@ use Rattle.fc_board_runs.specs.declared.faults.Output.TheVariants.{Answer as of_
 use Rattle.fc_board_runs.specs.declared.faults.ProgramFault.{ProgramFault}
 use Rattle.fc_board_runs.specs.declared.faults.ProgramFault.TheVariants.{Budget, Board as bad_board, Read, Write, Memory}
 use Rattle.fc_board_runs.specs.Devices.{Device, GivesBoard, GivesFault, IsUntouched}
-use Rattle.fc_runs.specs.AnswerText.{answer_text, status_of}
+use Rattle.fc_answer_text.specs.AnswerText.{answer_text, status_of}
 
 -- the verdict is right for the problem, and that of a search of it that ran to its end
 pub record IsDecided (p : Problem) (verdict : Verdict) : Type 0 where

@@ -15,7 +15,8 @@ use Rattle.fc_board_runs.specs.declared.faults.ProgramFault.{ProgramFault}
 use Rattle.fc_board_runs.specs.declared.faults.ProgramFault.TheVariants.{Write}
 use Rattle.fc_board_runs.specs.Devices.{Device, IsUntouched}
 use Rattle.fc_runs.specs.declared.tabling.Row.{Row}
-use Rattle.fc_runs.specs.Batches.{IsAsked, IsToldOf, IsUnasked, Line, greatest_status}
+use Rattle.fc_runs.specs.Batches.{IsAsked, IsToldOf, IsUnasked, greatest_status}
+use Rattle.fc_answer_text.specs.AnswerText.{Line}
 
 -- the names of the columns
 abbrev pub names_text : List ℕ

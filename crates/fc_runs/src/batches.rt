@@ -9,8 +9,8 @@ ghost use Rattle.fc_board_runs.specs.Devices.{change};
 ghost use Rattle.fc_runs.specs.Batches.{AreCutShort, AreTold, IsAsked, IsBatched, IsBatchFault, IsRightOf, IsUnasked};
 ghost use Rattle.fc_runs.specs.inner.Batches.{HaveEnded, HoldsDeals, IsSearchOf};
 
-use crate::answers::{line_text, outcome_of, told_status};
 use crate::solving::shortest;
+use fc_answer_text::{line_text, outcome_of, told_status};
 use fc_answers::Outcome;
 use fc_batch::Batch;
 use fc_best_first::{Status, Step};

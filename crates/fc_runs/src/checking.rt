@@ -7,7 +7,7 @@ ghost use Rattle.fc_board_runs.specs.Devices.{change};
 ghost use Rattle.fc_runs.specs.Checking.{IsChecked, IsCheckedOf, IsRefusal, IsRefusalOf};
 ghost use Rattle.fc_runs.specs.inner.Checking.{check_fault};
 
-use crate::answers::accepted_text;
+use fc_answer_text::accepted_text;
 use fc_board_runs::{Input, LONGEST_BOARD, Output, ProgramFault, read_fault, read_position};
 use fc_cert::LONGEST_CERTIFICATE;
 use fc_checker::{CheckFault, check};

@@ -11,7 +11,6 @@ pub use fc_board_runs::{
 pub use solving::{run_solve, run_solve_by};
 pub use tabling::run_table;
 
-mod answers;
 mod batches;
 mod checking;
 mod solving;

@@ -14,7 +14,7 @@ ghost use Rattle.fc_search.specs.Watch.{HearsAll, IsHeardAtMost};
 ghost use Rattle.fc_board_runs.specs.Devices.{IsHandedBack, change, lent};
 ghost use Rattle.fc_runs.specs.Solving.{IsAnswered, IsCertified, IsCutShort, IsHeardAnswered, IsSolved, IsSolveFault, IsUnanswered};
 
-use crate::answers::{verdict_status, verdict_text};
+use fc_answer_text::{verdict_status, verdict_text};
 use fc_board_runs::{LONGEST_BOARD, Output, ProgramFault, read_position};
 use fc_cert::{CertFault, write_answer};
 use fc_home::GREATEST_RULE;

@@ -10,9 +10,9 @@ ghost use Rattle.fc_board_runs.specs.Devices.{change};
 ghost use Rattle.fc_runs.specs.Batches.{IsToldOf};
 ghost use Rattle.fc_runs.specs.Tabling.{AreTabled, IsDealFloor, IsTabled, IsTableCutShort, IsTableFault, answer_name, far_text, floor_of, moves_of, number_text, row_text};
 
-use crate::answers::{outcome_of, told_status};
 use crate::batches::deals_of;
 use arrayvec::ArrayString;
+use fc_answer_text::{outcome_of, told_status};
 use fc_answers::Outcome;
 use fc_board_runs::{Output, ProgramFault};
 use fc_deal::deal;

@@ -5,7 +5,7 @@ use Rattle.std.specs.List.{flat_map}
 use Rattle.std.proofs.lemmas.List.{append-nil, append_assoc, take_all}
 use Rattle.fc_moves.specs.declared.steps.Move.{Move}
 use Rattle.fc_moves.specs.MoveText.{HasText, move_text}
-use Rattle.fc_runs.specs.AnswerText.{list_text}
+use Rattle.fc_answer_text.specs.AnswerText.{list_text}
 
 -- a move that follows another is printed with a blank before it
 abbrev pub next_text : Move → List ℕ

@@ -3,8 +3,8 @@ use Rattle.std.specs.List.{flat_map}
 use Rattle.std.proofs.lemmas.List.{append-nil}
 use Rattle.fc_cards.specs.declared.places.Place.TheVariants.{Column}
 use Rattle.fc_moves.specs.declared.steps.Move.{Move}
-use Rattle.fc_runs.proofs.ListTextLemmas.{next_text, all_written, rest_texts}
-use Rattle.fc_runs.proofs.answers.push_moves.Goals as goal
+use Rattle.fc_answer_text.proofs.ListTextLemmas.{next_text, all_written, rest_texts}
+use Rattle.fc_answer_text.proofs.answers.push_moves.Goals as goal
 
 pub loop-m-init : goal.loop-m-init
 loop-m-init c = sym (append-nil c.extend_from_slice.new.self.items)

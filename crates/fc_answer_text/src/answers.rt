@@ -1,17 +1,15 @@
-//! How a verdict and a claim are printed, and the exit status that goes with it.
+//! How a verdict, a claim and what a batch tells of a deal are printed, and the exit status that goes with it.
 
 ghost use Rattle.std.specs.Prelude.{◌≡◌, ◌≤◌, ◌++◌, length, IfOk, OnOk, All};
 ghost use Rattle.fc_moves.specs.MoveText.{HasText};
 ghost use Rattle.fc_answers.specs.Verdict.{CanBeWritten, outcome_of};
 ghost use Rattle.arrayvec.specs.ArrayString.{array_string_len};
-ghost use Rattle.fc_runs.specs.Batches.{line_text, told_status, told_text};
-ghost use Rattle.fc_runs.specs.AnswerText.{accepted_text, answer_text, list_text, moves_line, shortest_line, won_line, gave_up_text, status_of};
+ghost use Rattle.fc_answer_text.specs.AnswerText.{line_text, told_status, told_text, accepted_text, answer_text, list_text, moves_line, shortest_line, won_line, gave_up_text, status_of};
 
 use arrayvec::ArrayString;
-use fc_answers::Outcome;
+use fc_answers::{Outcome, Verdict};
 use fc_cert::Claim;
 use fc_moves::{Move, move_text};
-use fc_search::Verdict;
 use itoa::Buffer;
 use std::alloc::{AllocError, Global};
 

@@ -1,7 +1,7 @@
 use Rattle.std.proofs.Common.{◌≡◌, ◌++◌, take}
 use Rattle.std.specs.List.{flat_map}
-use Rattle.fc_runs.proofs.ListTextLemmas.{next_text}
-use Rattle.fc_runs.proofs.answers.push_moves.Given as goal
+use Rattle.fc_answer_text.proofs.ListTextLemmas.{next_text}
+use Rattle.fc_answer_text.proofs.answers.push_moves.Given as goal
 
 -- the moves so far are written
 abbrev pub invariant-loop-m : goal.invariant-loop-m

@@ -1,5 +1,5 @@
--- How an answer and a claim are printed.
-use Rattle.std.specs.Prelude.{ℕ, List, ◌++◌, length, map, codes, decimal}
+-- How an answer, a claim and a line of a batch are printed.
+use Rattle.std.specs.Prelude.{ℕ, List, Option, Some, None, ◌++◌, length, map, codes, decimal}
 use Rattle.std.specs.List.{join_with_byte}
 use Rattle.fc_moves.specs.declared.steps.Move.{Move}
 use Rattle.fc_moves.specs.MoveText.{move_text}
@@ -63,3 +63,22 @@ abbrev pub accepted_text : Claim → List ℕ
 accepted_text (claim.Shortest n) = codes "accepted: " ++ shortest_line n
 accepted_text claim.CannotWin = codes "accepted: " ++ codes "can't be won\n"
 accepted_text (claim.Between floor n) = codes "accepted: " ++ won_line n floor
+
+-- a line of a batch: the number of its deal, and what is told of it; `None` where memory was wanted
+pub record Line : Type 0 where
+  pub deal : ℕ
+  pub told : Option Outcome
+
+-- what is told of a deal, or that memory was wanted, and the end of the line
+abbrev pub told_text : Option Outcome → List ℕ
+told_text (Some outcome) = outcome_text outcome
+told_text None = codes "want of memory\n"
+
+-- a line as it is printed: the number of the deal, a blank, and what is told
+abbrev pub line_text : Line → List ℕ
+line_text line = decimal line.deal ++ codes " " ++ told_text line.told
+
+-- the exit status that goes with what is told: that of the answer, or 4 for want of memory
+abbrev pub told_status : Option Outcome → ℕ
+told_status (Some outcome) = outcome_status outcome
+told_status None = 4
