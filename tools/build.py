@@ -7,9 +7,11 @@ It says on standard error how far it is, and leaves the program in crates/NAME/o
 check said of it goes to standard output, and the status is 1.
 """
 import os
+import subprocess
 import sys
 import tempfile
 import threading
+from concurrent.futures import FIRST_COMPLETED, ThreadPoolExecutor, wait
 
 sys.dont_write_bytecode = True
 from kit import crates_of_gate, rt, rtlib
@@ -27,22 +29,27 @@ class Progress:
             print(f"{self.program}: proved crate {self.done} of {self.count}: {crate.name}", file=sys.stderr, flush=True)
 
 
-def build_program(crate, flags):
+def prove(crate, words):
+    """Proves and builds a crate by the prover alone: what else `rt` asks of a crate, the gate asks. Returns the status."""
+    how = {"cwd": crate.folder, "stdin": subprocess.DEVNULL, "stdout": crate.out, "stderr": subprocess.STDOUT}
+    status = subprocess.run([*rtlib.guarded(), rtlib.RATTLE, "build", *words], check=False, **how).returncode
+    again = rtlib.with_one_job(words, status, crate.out)
+    return prove(crate, again) if again else status
+
+
+def build_program(crate, words):
     """Proves and compiles a program, and links it to out/NAME."""
     to = f"out/{crate.name}"
-    words = [*crate.words(flags, keeps=False), "--toolchain", f"{rt.KIT}/toolchain", "--backend", "llvm"]
-    status = crate.prove(["build", *words, "-o", f"{to}.o"])
+    status = prove(crate, [*words, "--toolchain", f"{rt.KIT}/toolchain", "--backend", "llvm", "-o", f"{to}.o"])
     return status or crate.link(f"{to}.o", to)
 
 
-def build(crate, given, jobs, progress):
-    """Proves and builds a crate over those below it. Returns whether it is proved."""
-    if not all(given[it.name, "proof"] for it in crate.below()):
-        return False
-    flags = ["--jobs", str(jobs)]
-    os.makedirs(f"{crate.folder}/out", exist_ok=True)
+def build(crate, jobs, progress):
+    """Proves and builds a crate over those below it, which are built. Returns whether it is proved."""
+    words = crate.words(["--jobs", str(jobs)], keeps=False)
+    os.makedirs(f"{crate.folder}/out/rlib", exist_ok=True)
     with tempfile.TemporaryFile("w+", errors="replace") as crate.out:
-        status = build_program(crate, flags) if crate.is_program else crate.build_rlib(flags, anew=True)
+        status = build_program(crate, words) if crate.is_program else prove(crate, [*words, "--statements", "-o", crate.rlib])
         if status:
             crate.out.seek(0)
             print(f"{crate.name} is not proved:\n{crate.out.read()}", flush=True)
@@ -51,21 +58,46 @@ def build(crate, given, jobs, progress):
     return not status
 
 
+def longest_chains(crates):
+    """How many lines stand in the longest chain of crates that begins with each."""
+    lines = {}
+    for crate in reversed(crates):
+        above = [lines[it.name] for it in crates if crate in it.below()]
+        lines[crate.name] = crate.count(rb"\n") + max(above, default=0)
+    return lines
+
+
+def build_all(crates, lanes, progress):
+    """Builds each crate once those below it are built, first those with the longest chain above them. A check that no other waits
+    beside has two jobs: they take two thirds of the time, and a seventh more work. Returns whether all are proved."""
+    chains = longest_chains(crates)
+    left, running, built = sorted(crates, key=lambda it: -chains[it.name]), {}, set()
+    with ThreadPoolExecutor(lanes) as pool:
+        while left or running:
+            ready = [it for it in left if all(below.name in built for below in it.below())]
+            for waiting, crate in enumerate(ready):
+                idle = lanes - sum(jobs for _, jobs in running.values())
+                if idle > 0:
+                    jobs = 2 if idle > len(ready) - waiting else 1
+                    running[pool.submit(build, crate, jobs, progress)] = crate, jobs
+                    left.remove(crate)
+            for done in wait(running, return_when=FIRST_COMPLETED).done:
+                crate, _ = running.pop(done)
+                if not done.result():
+                    return False
+                built.add(crate.name)
+    return True
+
+
 def main(name):
     program = next((it for it in crates_of_gate() if it.name == name), None)
     if not program or not program.is_program:
         print(f"build: crates.txt names no program {name}", file=sys.stderr)
         return 2
-    # One job a check, and as many checks as processors and memory allow: with more jobs a check takes up to twice the time of them.
-    os.environ.setdefault("RT_JOBS", str(max(1, min(rt.processors(), rt.free() // 3_000_000_000))))
-    crates = [*program.below(), program]
-    progress = Progress(name, len(crates))
-    tasks = {}
-    for crate in crates:
-        waits = [(it.name, "proof") for it in crate.below()]
-        call = lambda given, jobs, it=crate: build(it, given, jobs, progress)
-        tasks[crate.name, "proof"] = (waits, crate.count(rb"\n"), rt.need(crate), call)
-    return 0 if all(rt.in_lanes(tasks).values()) else 1
+    crates = sorted([*program.below(), program], key=lambda it: len(it.below()))
+    # A check holds at most 3 GB.
+    lanes = max(1, min(rt.processors(), rt.free() // 3_000_000_000))
+    return 0 if build_all(crates, lanes, Progress(name, len(crates))) else 1
 
 
 if __name__ == "__main__":

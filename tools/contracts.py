@@ -23,7 +23,7 @@ OPENING = """# What each public call promises
 Written by `tools/contracts.py` from the sources, crate by crate, lowest first; `./test` says where it is stale. Each call has the first sentence of its doc comment and its clauses as the prover reads them: `requires` is the caller's to show, `ensures` is proved. A law is the contract of a call that does nothing: here stands what it states. The words are those of `specs/` in the same crate or in one below. [PROVED.md](PROVED.md) says the same for readers.
 """
 # Crates whose public calls serve the repository alone.
-OURS = re.compile(r"_tests$|^fc_bench$|^fc_console$")
+OURS = re.compile(r"_tests$|^fc_bench$")
 NAME = re.compile(r"[^\s(){}\[\],.;:]+")
 
 

@@ -1,7 +1,7 @@
 //! `batch`: several numbered deals are solved.
 
+use crate::endings::{Ending, of_run};
 use crate::games::InGame;
-use fc_console::{Ending, of_run};
 use fc_io::ToWriter;
 use fc_methods::Question;
 use fc_moves::Game;

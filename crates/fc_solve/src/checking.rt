@@ -1,7 +1,8 @@
 //! `check`: a certificate is checked for a board.
 
+use crate::boards::{find_board, open, read_start};
+use crate::endings::{Ending, of_run};
 use crate::games::InGame;
-use fc_console::{Ending, find_board, of_run, open, read_start};
 use fc_io::ToWriter;
 use fc_moves::Game;
 use fc_runs::{Input, run_check_of};

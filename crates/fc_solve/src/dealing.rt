@@ -1,6 +1,6 @@
 //! `deal`: a numbered deal is printed.
 
-use fc_console::{Ending, of_run};
+use crate::endings::{Ending, of_run};
 use fc_io::ToWriter;
 use fc_runs::run_deal;
 use fc_words::DealWords;

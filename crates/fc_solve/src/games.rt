@@ -1,7 +1,7 @@
 //! Which game a command is of.
 ghost use Rattle.std.specs.Prelude.{◌≤◌};
 
-use fc_console::Ending;
+use crate::endings::Ending;
 use fc_moves::{BakersGame, FreeCell, Game, Kings};
 use fc_words::{GameName, GameWords};
 

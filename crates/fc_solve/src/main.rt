@@ -2,22 +2,30 @@
 #![tactic(auto)]
 
 mod batching;
+mod boards;
 mod checking;
 mod dealing;
+mod endings;
 mod games;
+mod moves;
+mod notes;
 mod pages;
 mod replaying;
 mod showing;
+mod shown;
 mod solving;
+mod streams;
+mod watching;
 
 ghost use Rattle.fc_words.specs.Sound.{IsSound};
 
-use fc_console::{Ending, StandIns, tell};
+use endings::{Ending, tell};
 use fc_runs::ProgramFault;
 use fc_words::{Command, WordsFault, is_number, is_subcommand, mean_solving, read};
 use games::in_game;
 use std::process::ExitCode;
 use std::{env, fs, io};
+use streams::StandIns;
 
 /// The exit status of a command line that is refused.
 const REFUSED: u8 = 3;

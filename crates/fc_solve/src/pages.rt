@@ -2,7 +2,7 @@
 ghost use Rattle.fc_position.specs.Position.{Fits};
 ghost use Rattle.fc_moves.specs.GameRules.{IsPositionOf};
 
-use fc_console::Teller;
+use crate::watching::Teller;
 use fc_io::{Sink, ToArray, ToWriter, write_all};
 use fc_methods::Question;
 use fc_moves::Game;

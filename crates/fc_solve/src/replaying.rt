@@ -1,11 +1,18 @@
 //! `replay`: the moves of a list are played on a board.
+ghost use Rattle.fc_position.specs.Position.{Fits};
+ghost use Rattle.fc_moves.specs.GameRules.{IsPositionOf};
 
+use crate::boards::{find_board, read_start};
+use crate::endings::{Ending, tell};
 use crate::games::InGame;
-use fc_console::{
-    Ending, find_board, find_moves, read_moves, read_start, replay_moves, replay_sequences,
+use crate::moves::{
+    find_moves, read_moves, tell_end, tell_entry, tell_stop, without_answer, without_rulers,
 };
+use fc_io::{FromSlice, ToWriter};
 use fc_moves::Game;
+use fc_position::Position;
 use fc_replay::Page;
+use fc_runs::{ProgramFault, run_replay_as, run_replay_sequences};
 use fc_words::ReplayWords;
 
 impl InGame for ReplayWords<'_> {
@@ -24,6 +31,60 @@ impl InGame for ReplayWords<'_> {
             replay_sequences(rt, game, &start, list.as_slice(), page)
         } else {
             replay_moves(rt, game, &start, list.as_slice(), page)
+        }
+    }
+}
+
+// Replays the one-card moves of a text.
+fn replay_moves<G: Game>(
+    rt: &HostRuntime,
+    game: &G,
+    start: &Position,
+    text: &[u8],
+    page: Page,
+) -> Result<u8, Ending>
+    requires fits { Fits (G.game game.now).cells start.now }
+{
+    let list = without_answer(text);
+    let mut out = ToWriter::new(rt.stdout());
+    let mut moves = FromSlice::new(list);
+    match run_replay_as(rt.alloc(), game, start, &mut moves, page, &mut out) {
+        Ok(ended) => {
+            tell_end(rt, ended);
+            Ok(0)
+        }
+        Err(fault) => {
+            let status = tell(rt, &fault);
+            if let ProgramFault::Moves(_) = fault {
+                tell_stop(rt, game, start, list);
+            }
+            Err(Ending::Told(status))
+        }
+    }
+}
+
+// Replays the entries of a text, which may move sequences.
+fn replay_sequences<G: Game>(
+    rt: &HostRuntime,
+    game: &G,
+    start: &Position,
+    text: &[u8],
+    page: Page,
+) -> Result<u8, Ending>
+    requires position { IsPositionOf (G.game game.now) start.now }
+{
+    let list = without_rulers(text);
+    let mut out = ToWriter::new(rt.stdout());
+    let mut entries = FromSlice::new(list);
+    match run_replay_sequences(rt.alloc(), game, start, &mut entries, page, &mut out) {
+        Ok(ended) => {
+            tell_end(rt, ended);
+            Ok(0)
+        }
+        Err(fault) => {
+            let status = tell(rt, &fault);
+            tell_entry(rt, fault, list);
+            Err(Ending::Told(status))
         }
     }
 }

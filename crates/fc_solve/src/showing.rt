@@ -1,7 +1,8 @@
 //! `show`: a board is drawn.
 
+use crate::boards::{find_board, read_start};
+use crate::endings::{Ending, of_run};
 use crate::games::InGame;
-use fc_console::{Ending, find_board, of_run, read_start};
 use fc_io::ToWriter;
 use fc_moves::Game;
 use fc_runs::{Look, run_show};

@@ -2,9 +2,11 @@
 ghost use Rattle.fc_position.specs.Position.{Fits};
 ghost use Rattle.fc_moves.specs.GameRules.{IsPositionOf};
 
+use crate::boards::{create, find_board, read_start};
+use crate::endings::{Ending, of_run};
 use crate::games::InGame;
 use crate::pages::solve_in_pages;
-use fc_console::{AfterLine, Ending, Line, Teller, create, find_board, of_run, read_start};
+use crate::watching::{AfterLine, Line, Teller};
 use fc_io::ToWriter;
 use fc_methods::{BoundKind, Method, Question, Weight};
 use fc_moves::Game;

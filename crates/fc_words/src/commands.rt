@@ -6,7 +6,7 @@ use crate::games::GameName;
 use fc_methods::{BoundKind, Budget, HomeRule, Method, Weight};
 
 /// What a command line asks for.
-#[derive(Clone, Copy, Debug, PartialEq, Eq)]
+#[derive(Clone, Copy)]
 pub enum Command<'a> {
     /// A numbered deal is printed.
     Deal(DealWords),
@@ -23,7 +23,7 @@ pub enum Command<'a> {
 }
 
 /// What is said of a game, of which a board is one.
-#[derive(Clone, Copy, Debug, PartialEq, Eq)]
+#[derive(Clone, Copy)]
 pub struct GameWords {
     /// Which cards stand on which.
     pub game: GameName,
@@ -34,7 +34,7 @@ pub struct GameWords {
 }
 
 /// What names a board.
-#[derive(Clone, Copy, Debug, PartialEq, Eq)]
+#[derive(Clone, Copy)]
 pub enum BoardWord<'a> {
     /// The numbered deal; the number is as it was told, and may be no deal's.
     Deal(u32),
@@ -45,7 +45,7 @@ pub enum BoardWord<'a> {
 }
 
 /// What names a list of moves.
-#[derive(Clone, Copy, Debug, PartialEq, Eq)]
+#[derive(Clone, Copy)]
 pub enum MovesWord<'a> {
     /// The file of this name.
     File(&'a str),
@@ -54,7 +54,7 @@ pub enum MovesWord<'a> {
 }
 
 /// How a position is to be searched.
-#[derive(Clone, Copy, Debug, PartialEq, Eq)]
+#[derive(Clone, Copy)]
 pub struct SearchWords {
     /// Which cards go home at once.
     pub rule: HomeRule,
@@ -82,14 +82,14 @@ impl SearchWords {
 }
 
 /// The words of `deal`.
-#[derive(Clone, Copy, Debug, PartialEq, Eq)]
+#[derive(Clone, Copy)]
 pub struct DealWords {
     /// The number of the deal, which may be no deal's.
     pub number: u32,
 }
 
 /// The words of `show`.
-#[derive(Clone, Copy, Debug, PartialEq, Eq)]
+#[derive(Clone, Copy)]
 pub struct ShowWords<'a> {
     pub game: GameWords,
     pub board: BoardWord<'a>,
@@ -98,7 +98,7 @@ pub struct ShowWords<'a> {
 }
 
 /// The words of `solve`.
-#[derive(Clone, Copy, Debug, PartialEq, Eq)]
+#[derive(Clone, Copy)]
 pub struct SolveWords<'a> {
     pub game: GameWords,
     pub board: BoardWord<'a>,
@@ -114,7 +114,7 @@ pub struct SolveWords<'a> {
 }
 
 /// The words of `check`.
-#[derive(Clone, Copy, Debug, PartialEq, Eq)]
+#[derive(Clone, Copy)]
 pub struct CheckWords<'a> {
     pub game: GameWords,
     pub board: BoardWord<'a>,
@@ -123,7 +123,7 @@ pub struct CheckWords<'a> {
 }
 
 /// The words of `replay`, of which the board and the moves are not both from standard input.
-#[derive(Clone, Copy, Debug, PartialEq, Eq)]
+#[derive(Clone, Copy)]
 pub struct ReplayWords<'a> {
     pub game: GameWords,
     pub board: BoardWord<'a>,
@@ -135,7 +135,7 @@ pub struct ReplayWords<'a> {
 }
 
 /// The words of `batch`.
-#[derive(Clone, Copy, Debug, PartialEq, Eq)]
+#[derive(Clone, Copy)]
 pub struct BatchWords {
     pub game: GameWords,
     /// The number of the first deal, which may be no deal's.

@@ -5,7 +5,7 @@ ghost use Rattle.fc_words.specs.declared.games.GameName.{GameName};
 use crate::places::place_of;
 
 /// A game by its name; kings alone on empty columns, and the number of cells, are words of their own.
-#[derive(Clone, Copy, Debug, PartialEq, Eq)]
+#[derive(Clone, Copy)]
 pub enum GameName {
     /// Columns in turning colours.
     FreeCell,

@@ -5,7 +5,7 @@ ghost use Rattle.fc_words.specs.declared.tasks.Task.{Task};
 use crate::places::place_of;
 
 /// What the program can be asked to do: a subcommand each.
-#[derive(Clone, Copy, Debug, PartialEq, Eq)]
+#[derive(Clone, Copy)]
 pub enum Task {
     /// Prints a numbered deal.
     Deal,

@@ -2,7 +2,7 @@
 //! which tells where it lies and why. Where a line can't be written, the status still tells the fault.
 
 use crate::notes::add_note;
-use fc_board_runs::{Input, ProgramFault};
+use fc_runs::{Input, ProgramFault};
 use fc_text::BoardFault;
 use std::alloc::AllocError;
 use std::{fs, io};
@@ -18,7 +18,7 @@ pub enum Ending {
 
 impl From<ProgramFault> for Ending {
     ghost use Rattle.std.specs.Prelude.{◌≡◌};
-    ghost use Rattle.fc_console.specs.declared.endings.Ending.TheVariants.{Fault};
+    ghost use Rattle.fc_solve.specs.declared.endings.Ending.TheVariants.{Fault};
 
     ghost from_gives = { λ fault ending. ending ≡ Fault fault };
 
@@ -29,7 +29,7 @@ impl From<ProgramFault> for Ending {
 
 impl From<AllocError> for Ending {
     ghost use Rattle.std.specs.Prelude.{◌≡◌};
-    ghost use Rattle.fc_console.specs.declared.endings.Ending.TheVariants.{Fault};
+    ghost use Rattle.fc_solve.specs.declared.endings.Ending.TheVariants.{Fault};
     ghost use Rattle.fc_board_runs.specs.declared.faults.ProgramFault.TheVariants.{Memory};
 
     ghost from_gives = { λ _ ending. ending ≡ Fault Memory };

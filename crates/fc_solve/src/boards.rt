@@ -3,11 +3,11 @@ ghost use Rattle.std.specs.Prelude.{◌≤◌, IfOk, IfSome};
 ghost use Rattle.fc_position.specs.Position.{Fits};
 
 use crate::endings::{Ending, tell_of_board, tell_of_file, tell_of_length, tell_of_reading};
-use fc_board_runs::{Input, Output, ProgramFault, read_position};
 use fc_deal::deal;
 use fc_io::{FromReader, FromSlice, ReadFault};
 use fc_plain::PlainText;
 use fc_position::Position;
+use fc_runs::{Input, Output, ProgramFault, read_position};
 use fc_words::{BoardWord, is_number};
 use std::fs::{self, File};
 use std::io::IsTerminal;

@@ -1,15 +1,14 @@
-//! Lists of moves: how they are read and replayed, and what is said of one that is refused or ends.
+//! Lists of moves: how they are read, and what is said of one that is refused or ends.
 ghost use Rattle.fc_position.specs.Position.{Fits};
-ghost use Rattle.fc_moves.specs.GameRules.{IsPositionOf};
 
 use crate::boards::open;
-use crate::endings::{Ending, tell};
+use crate::endings::Ending;
 use crate::shown::{front_of, rest_of};
-use fc_board_runs::{Input, LONGEST_MOVES, ProgramFault, run_replay_as, run_replay_sequences};
-use fc_io::{FromReader, FromSlice, ReadFault, ToWriter, read_to_vec};
+use fc_io::{FromReader, ReadFault, read_to_vec};
 use fc_moves::Game;
 use fc_position::Position;
-use fc_replay::{Ended, MoveGaps, Page, ReplayFault, Stop, first_stop};
+use fc_replay::{Ended, MoveGaps, ReplayFault, Stop, first_stop};
+use fc_runs::{Input, LONGEST_MOVES, ProgramFault};
 use fc_text::Tokens;
 use fc_words::MovesWord;
 use std::fs::File;
@@ -47,62 +46,8 @@ pub fn read_moves(rt: &HostRuntime, source: MovesSource) -> Result<Vec<u8>, Endi
     }
 }
 
-/// Replays the one-card moves of a text, and says how they ended or which is refused, and why.
-pub fn replay_moves<G: Game>(
-    rt: &HostRuntime,
-    game: &G,
-    start: &Position,
-    text: &[u8],
-    page: Page,
-) -> Result<u8, Ending>
-    requires fits { Fits (G.game game.now).cells start.now }
-{
-    let list = without_answer(text);
-    let mut out = ToWriter::new(rt.stdout());
-    let mut moves = FromSlice::new(list);
-    match run_replay_as(rt.alloc(), game, start, &mut moves, page, &mut out) {
-        Ok(ended) => {
-            tell_end(rt, ended);
-            Ok(0)
-        }
-        Err(fault) => {
-            let status = tell(rt, &fault);
-            if let ProgramFault::Moves(_) = fault {
-                tell_stop(rt, game, start, list);
-            }
-            Err(Ending::Told(status))
-        }
-    }
-}
-
-/// Replays the entries of a text, which may move sequences, and says how they ended or which is refused, and why.
-pub fn replay_sequences<G: Game>(
-    rt: &HostRuntime,
-    game: &G,
-    start: &Position,
-    text: &[u8],
-    page: Page,
-) -> Result<u8, Ending>
-    requires position { IsPositionOf (G.game game.now) start.now }
-{
-    let list = without_rulers(text);
-    let mut out = ToWriter::new(rt.stdout());
-    let mut entries = FromSlice::new(list);
-    match run_replay_sequences(rt.alloc(), game, start, &mut entries, page, &mut out) {
-        Ok(ended) => {
-            tell_end(rt, ended);
-            Ok(0)
-        }
-        Err(fault) => {
-            let status = tell(rt, &fault);
-            tell_entry(rt, fault, list);
-            Err(Ending::Told(status))
-        }
-    }
-}
-
-// The moves of a text: all of it, but for the first line of what `solve` prints.
-fn without_answer(text: &[u8]) -> &[u8] {
+/// The moves of a text: all of it, but for the first line of what `solve` prints.
+pub fn without_answer(text: &[u8]) -> &[u8] {
     if !text.starts_with(b"shortest ") && !text.starts_with(b"won ") {
         return text;
     }
@@ -112,9 +57,9 @@ fn without_answer(text: &[u8]) -> &[u8] {
     }
 }
 
-// The entries of a list: all of its text, but for what Freecell Solver prints above its moves, up to a ruled line of `-=`,
-// and below them, from one of `==` on, or from where it says that the game is solved.
-fn without_rulers(text: &[u8]) -> &[u8] {
+/// The entries of a list: all of its text, but for what Freecell Solver prints above its moves, up to a ruled line of `-=`,
+/// and below them, from one of `==` on, or from where it says that the game is solved.
+pub fn without_rulers(text: &[u8]) -> &[u8] {
     let mut start = 0;
     let mut at = 0;
     for line in text.split_inclusive(|byte| *byte == b'\n') {
@@ -129,8 +74,8 @@ fn without_rulers(text: &[u8]) -> &[u8] {
     text.get(start..).unwrap_or(text)
 }
 
-// Says how a list of moves ended.
-fn tell_end(rt: &HostRuntime, ended: Ended) {
+/// Says how a list of moves ended.
+pub fn tell_end(rt: &HostRuntime, ended: Ended) {
     let moves = ended.moves;
     let word = if moves == 1 { "move" } else { "moves" };
     let _told = if ended.is_won {
@@ -140,8 +85,8 @@ fn tell_end(rt: &HostRuntime, ended: Ended) {
     };
 }
 
-// Says which token of a list is refused, and why.
-fn tell_stop<G: Game>(rt: &HostRuntime, game: &G, start: &Position, text: &[u8])
+/// Says which token of a list is refused, and why.
+pub fn tell_stop<G: Game>(rt: &HostRuntime, game: &G, start: &Position, text: &[u8])
     requires fits { Fits (G.game game.now).cells start.now }
 {
     if text.len() > LONGEST_MOVES {
@@ -160,8 +105,8 @@ fn tell_stop<G: Game>(rt: &HostRuntime, game: &G, start: &Position, text: &[u8])
     };
 }
 
-// Says which entry of a list that may move sequences is refused, and why.
-fn tell_entry(rt: &HostRuntime, fault: ProgramFault, text: &[u8]) {
+/// Says which entry of a list that may move sequences is refused, and why.
+pub fn tell_entry(rt: &HostRuntime, fault: ProgramFault, text: &[u8]) {
     let (step, reason) = match fault {
         ProgramFault::Moves(ReplayFault::BadMove(step)) => (
             step,
