@@ -1,21 +1,16 @@
 -- The way from the start to a stored class.
 use Rattle.std.proofs.Common.{◌≡◌, ℕ, ◌+◌, ◌-◌, ◌<◌, ◌≤◌, List, [], ◌∷◌, ◌++◌, length, reverse, refl, sym, ◌∙◌, ap, subst, ⊎_elim, arith}
-use Rattle.std.specs.Prelude.{Option, Some, None, MatchOption, false, is_some}
-use Rattle.std.specs.Option.{IsSome}
 use Rattle.std.proofs.lemmas.List.{length-append, reverse-append}
 use Rattle.fc_position.specs.Board.{Board}
 use Rattle.fc_position.specs.Position.{IsPosition}
 use Rattle.fc_moves.specs.declared.steps.Move.{Move}
 use Rattle.fc_moves.specs.GameRules.{GameRules, IsPositionOf}
 use Rattle.fc_moves.specs.Run.{Run}
-use Rattle.fc_moves.specs.Step.{Step}
 use Rattle.fc_moves.proofs.StepLemmas.{run_keeps}
 use Rattle.fc_moves.specs.Class.{SameClass}
 use Rattle.fc_canonical.specs.Key.{IsKeyOf}
-use Rattle.fc_moves.proofs.ClassLemmas.{class-refl, class-sym, class-trans, class_step}
-use Rattle.fc_canonical.proofs.KeyLemmas.{keys_tell}
-use Rattle.fc_moves.proofs.StepLemmas.{step_once}
-use Rattle.fc_home.specs.Settles.{SettlesBy, Settles}
+use Rattle.fc_moves.proofs.ClassLemmas.{class-sym, class-trans, class_step}
+use Rattle.fc_home.specs.Settles.{SettlesBy}
 use Rattle.fc_home.proofs.MateLemmas.{class_settle}
 use Rattle.fc_home.proofs.SettleLemmas.{settles_keep, settles_run}
 use Rattle.fc_home.proofs.WayLemmas.{settles_once}
@@ -28,24 +23,10 @@ use Rattle.fc_canonical.specs.Spelled.{spelled}
 use Rattle.fc_canonical.proofs.SpelledLemmas.{key_spells}
 use Rattle.fc_classes.proofs.PathLemmas.{run_on}
 use Rattle.fc_search.specs.Problem.{Problem, classes_of}
-use Rattle.fc_search.specs.inner.Walk.{IsStart, IsWay, IsAtClass, LeadsWithin}
+use Rattle.fc_search.specs.inner.Walk.{IsStart, IsWay, IsAtClass}
+use Rattle.fc_space.specs.Ways.{LeadsWithin}
 use Rattle.fc_bound.specs.declared.kinds.BoundKind.{BoundKind}
 use Rattle.fc_bound.specs.Kinds.{guide_of}
-
--- a move that leads to a key leads to one key, by one number of moves
-pub leads_once : (g : GameRules) (rule : ℕ) (b z q : Board) (key : List ℕ) (m : Move) (most : ℕ) (settling : List Move)
-    → IsPosition z → IsPosition q → Step g b m z → SettlesBy g rule z settling q → LeadsWithin g rule b key most m
-    → IsKeyOf q key × (1 + length settling ≤ most)
-leads_once g rule b z q key m most settling pz pq step by (count, (x, also, (y, settles, k)), le) =
-    let same : x ≡ z = step_once g b m x z also step in
-    let here = subst (λ v. Settles g rule v count y) same settles in
-    let one = settles_once g rule z y q count (length settling) pz here (settling, refl, by) in
-    let size : count ≡ length settling = one.0 in
-    (subst (λ v. IsKeyOf v key) one.1 k, omega (arith, size, le))
-
--- two keys of one board are the same
-pub key_once : (q : Board) (k l : List ℕ) → IsPosition q → IsKeyOf q k → IsKeyOf q l → k ≡ l
-key_once q k l p a b = (keys_tell q q k l p p a b).1 (class-refl q)
 
 -- a key of a board is one of its class-mates too
 pub key_of_mate : (b c : Board) (k : List ℕ) → SameClass b c → IsKeyOf c k → IsKeyOf b k
@@ -122,16 +103,6 @@ parent_less g rule weight kind p budget s sound number parent x mark at by other
     (λ (w, was, c, stands, (kw, (m, z, count, step, to, paid)), less).
     (w, was, subst (λ n. IsStored s n w was) by stands, omega (arith, less, paid)))
     (sound.comes number x mark at)
-
--- what can't be absent is there
-pub found : {X : Type 0} (o : Option X) (P : X → Type 0) (N : Type 0) → MatchOption o N P → (N → ⊥) → IsSome o
-found None P N none never = absurd (never none)
-found (Some x) P N some never = refl
-
--- what isn't there is absent
-pub not_there : {X : Type 0} (o : Option X) (P : X → Type 0) (N : Type 0) → MatchOption o N P → false ≡ is_some o → N
-not_there None P N none lacks = none
-not_there (Some x) P N some lacks = absurd cc
 
 -- the next class on a way, and what is left of it
 pub next_on : (s : Store (List ℕ)) (at next target : ℕ) (way rest : List ℕ) → way ≡ rest ++ next ∷ []

@@ -2,3 +2,4 @@ mod ChildLemmas
 mod ShiftLemmas
 mod StayLemmas
 mod WonLemmas
+mod WayLemmas

@@ -1,6 +1,9 @@
-//! The positions of a game as a space that the search walks: settled positions, the children of each, and their bounds.
+//! The positions of a game as a space that the search walks: settled positions, the children of each, their bounds, and
+//! the ways that lead to them.
 #![tactic(auto)]
 
 pub use positions::{Children, ClassRules, Positions};
+pub use ways::follow;
 
 mod positions;
+mod ways;

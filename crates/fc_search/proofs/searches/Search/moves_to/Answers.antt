@@ -4,7 +4,8 @@ use Rattle.fc_moves.specs.Run.{Run}
 use Rattle.fc_moves.proofs.StepLemmas.{run_keeps}
 use Rattle.fc_home.specs.Settles.{SettlesBy}
 use Rattle.fc_best_first.proofs.KeptLemmas.{stands_within, same_entry}
-use Rattle.fc_search.specs.inner.Walk.{IsAtClass, LeadsWithin}
+use Rattle.fc_search.specs.inner.Walk.{IsAtClass}
+use Rattle.fc_space.specs.Ways.{LeadsWithin}
 use Rattle.fc_search.proofs.WalkLemmas.{walk_begins, walked_on, leads_on, next_on}
 use Rattle.fc_search.proofs.searches.Search.moves_to.Goals as goal
 

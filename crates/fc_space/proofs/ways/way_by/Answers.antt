@@ -3,10 +3,10 @@ use Rattle.std.specs.Cmp.Lexicographic.{bytes_decides}
 use Rattle.fc_moves.specs.Step.{Step}
 use Rattle.fc_canonical.specs.Key.{IsKeyOf}
 use Rattle.fc_home.specs.Settles.{SettlesBy}
-use Rattle.fc_search.specs.inner.Walk.{LeadsWithin}
-use Rattle.fc_search.proofs.WalkLemmas.{leads_once, key_once}
-use Rattle.fc_search.proofs.walks.way_by.Goals.{else-len-most-via-then-len-most+else-eq, else-len-most-via-else-len-most}
-use Rattle.fc_search.proofs.walks.way_by.Goals as goal
+use Rattle.fc_space.specs.Ways.{LeadsWithin}
+use Rattle.fc_space.proofs.WayLemmas.{leads_once, key_once}
+use Rattle.fc_space.proofs.ways.way_by.Goals.{else-len-most-via-then-len-most+else-eq, else-len-most-via-else-len-most}
+use Rattle.fc_space.proofs.ways.way_by.Goals as goal
 
 pub returns : goal.returns
 returns g c =

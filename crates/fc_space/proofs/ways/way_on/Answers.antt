@@ -3,9 +3,9 @@ use Rattle.std.specs.Prelude.{Contains}
 use Rattle.fc_cards.specs.declared.places.Place.TheVariants.{Column}
 use Rattle.fc_moves.specs.declared.steps.Move.{Move}
 use Rattle.fc_canonical.proofs.MoveLemmas.{one_more}
-use Rattle.fc_search.specs.inner.Walk.{LeadsWithin}
-use Rattle.fc_search.proofs.WalkLemmas.{not_there}
-use Rattle.fc_search.proofs.walks.way_on.Goals as goal
+use Rattle.fc_space.specs.Ways.{LeadsWithin}
+use Rattle.fc_space.proofs.WayLemmas.{not_there}
+use Rattle.fc_space.proofs.ways.way_on.Goals as goal
 
 pub loop-m-preserved : goal.loop-m-preserved
 loop-m-preserved g c =

@@ -3,8 +3,8 @@ use Rattle.std.proofs.lemmas.List.{append_assoc}
 use Rattle.std.proofs.lemmas.Option.{MatchOption-at_some}
 use Rattle.fc_moves.proofs.StepLemmas.{run_keeps}
 use Rattle.fc_home.proofs.SettleLemmas.{settles_run}
-use Rattle.fc_search.proofs.WalkLemmas.{found}
-use Rattle.fc_search.proofs.walks.follow.Goals as goal
+use Rattle.fc_space.proofs.WayLemmas.{found}
+use Rattle.fc_space.proofs.ways.follow.Goals as goal
 
 pub unwrap-way-requires : goal.unwrap-way-requires
 unwrap-way-requires g c = found c.way_on.result _ _ c.way_on.ensures.first (λ none. none c.requires.leads.0 c.requires.leads.1)

@@ -1,7 +1,7 @@
 use Rattle.std.proofs.Common.{ℕ, ◌<◌, get_or}
 use Rattle.fc_moves.specs.declared.steps.Move.{Move}
-use Rattle.fc_search.specs.inner.Walk.{LeadsWithin}
-use Rattle.fc_search.proofs.walks.way_on.Given as goal
+use Rattle.fc_space.specs.Ways.{LeadsWithin}
+use Rattle.fc_space.proofs.ways.way_on.Given as goal
 
 -- none of the moves so far leads there
 abbrev pub invariant-loop-m : goal.invariant-loop-m
