@@ -1,6 +1,8 @@
 //! How answers, claims and the lines of batches are printed, and the exit statuses that go with them.
 #![tactic(auto)]
 
-pub use answers::{accepted_text, line_text, outcome_of, told_status, verdict_status, verdict_text};
+pub use answers::{
+    accepted_text, line_text, outcome_of, told_status, verdict_status, verdict_text,
+};
 
 mod answers;
