@@ -1,7 +1,7 @@
 #!/usr/bin/env python3
 """Tries the wrong edits crates/NAME/breaks/*.edit, many in one check: the prover must refuse each in the function that it changes.
 
-usage, at the top of the repository:  breaks.py [--alone] [--more] [--follow LOG] [--lanes N] [NAME..]
+usage, at the top of the repository:  breaks.py [--alone] [--more] [--after LOG] [--lanes N] [NAME..]
 
 An edit is a file as `rt must-fail` reads it: a line 'file: src/lib.rt', then pairs of lines 'old: TEXT' and 'new: TEXT', each
 old TEXT standing once in that file. A line 'fn: MODULE::NAME' names the function that must be refused, where the edit changes
@@ -13,8 +13,9 @@ stands beside it under a name of its own, with the same contract and proof, and 
 function that calls itself has no copies, nor has a trait's method unless its impl states the contract again; their further edits
 go to further waves. An edit is refused where a goal of a function that it changes stays open; that the function calls one that
 isn't proved does not count. What a wave does not settle is tried alone.
---alone tries each edit by itself. --more tries the edits of breaks/more/ too, further ones of functions that have one. --follow LOG tries a crate's edits as soon as the `rt ci` that writes LOG says that the crate is
-proved, over the libraries that it builds; else those that have changed are built first. The last line is 'N passed, M failed'.
+--alone tries each edit by itself. --more tries the edits of breaks/more/ too, further ones of functions that have one. --after LOG
+tries those of the crates that the `rt ci` that wrote LOG says are proved, over the libraries that it built; else those that have
+changed are built first. The last line is 'N passed, M failed'.
 """
 import argparse
 import os
@@ -23,7 +24,6 @@ import shutil
 import subprocess
 import sys
 import tempfile
-import time
 from concurrent.futures import ThreadPoolExecutor
 from dataclasses import dataclass, field
 
@@ -393,19 +393,12 @@ def built(crates):
         yield crate, is_built(crate)
 
 
-def followed(crates, log):
-    """Each crate once the `rt ci` that writes the log says whether it is proved, now or in an earlier run that was kept, or ends."""
-    waiting = [*crates]
-    while waiting:
-        with open(log, encoding="utf-8", errors="replace") as it:
-            said = it.read()
-        has_ended = re.search(r"(?m)^\d+ passed, \d+ failed$", said)
-        for crate in [*waiting]:
-            told = re.search(rf"(?m)^rt: {crate.name} (NOT PROVED|proved$|is kept:)", said)
-            if told or has_ended:
-                waiting.remove(crate)
-                yield crate, bool(told) and told[1] != "NOT PROVED"
-        time.sleep(1)
+def proved_by(crates, log):
+    """Each crate, and whether the `rt ci` that wrote the log says that it is proved, then or in an earlier run that was kept."""
+    with open(log, encoding="utf-8", errors="replace") as it:
+        said = it.read()
+    for crate in crates:
+        yield crate, bool(re.search(rf"(?m)^rt: {crate.name} (proved$|is kept:)", said))
 
 
 def tried(crate, is_ready, is_alone, has_more):
@@ -420,7 +413,7 @@ def main():
     words = argparse.ArgumentParser(description="Tries the wrong edits of breaks/, which the prover must refuse.")
     words.add_argument("--alone", action="store_true", help="try each edit by itself")
     words.add_argument("--more", action="store_true", help="try the edits of breaks/more/ too")
-    words.add_argument("--follow", metavar="LOG", help="follow the `rt ci` that writes this file")
+    words.add_argument("--after", metavar="LOG", help="try the edits of the crates that the `rt ci` of this file says are proved, over the libraries that it built")
     words.add_argument("--lanes", type=int, default=0, help="how many crates at a time (default: one a processor, as memory allows)")
     words.add_argument("names", nargs="*", metavar="NAME", help="the crates to try (default: all)")
     given = words.parse_args()
@@ -429,11 +422,8 @@ def main():
     # The longest first, so that no lane ends late.
     crates.sort(key=lambda it: -sum(os.path.getsize(file) for file in rtlib.files_of(it.folder)))
     lanes = max(1, min(rt.processors(), rt.free() // 3_500_000_000))
-    if given.follow:
-        # The proofs that others wait for come first.
-        os.nice(5)
     with ThreadPoolExecutor(given.lanes or lanes) as pool:
-        ready = followed(crates, given.follow) if given.follow else built(crates)
+        ready = proved_by(crates, given.after) if given.after else built(crates)
         runs = [pool.submit(tried, crate, is_ready, given.alone, given.more) for crate, is_ready in ready]
         counts = [it.result() for it in runs]
     passed, failed = sum(it for it, _ in counts), sum(len(it) for _, it in counts)

@@ -99,7 +99,7 @@ MISSPELT = {
 }
 
 # What `rt ci` says of a crate, and whether its edits are tried.
-FOLLOWED = {
+VERDICTS = {
     "rt: sample proved\n": True,
     "rt: sample is kept: an earlier run on this machine proved the same files over the same libraries\n": True,
     "rt: sample NOT PROVED\n0 passed, 1 failed\n": False,
@@ -153,16 +153,16 @@ def main():
             for name, (_, want) in edits.items():
                 expect(name, re.search(want, wrong.get(f"{name}.edit", "")) if want else f"{name}.edit" not in wrong)
             expect("the refused ones are counted", passed == sum(want is None for _, want in edits.values()))
-        for told, is_ready in FOLLOWED.items():
+        for told, is_ready in VERDICTS.items():
             with open("log", "w", encoding="utf-8") as log:
                 log.write(told)
-            expect(f"followed: {told!r}", list(breaks.followed([crate], "log")) == [(crate, is_ready)])
+            expect(f"proved by: {told!r}", list(breaks.proved_by([crate], "log")) == [(crate, is_ready)])
         os.mkdir("crates/sample/breaks/more")
         os.rename("crates/sample/breaks/sum_one_more.edit", "crates/sample/breaks/more/sum_one_more.edit")
         expect("further edits are left out", breaks.names_of_edits(crate, False) == ["sum_misspelt.edit"])
         expect("further edits are found", breaks.names_of_edits(crate, True) == ["more/sum_one_more.edit", "sum_misspelt.edit"])
         os.chdir("/")
-    count = len(EDITS) + len(MISSPELT) + len(OWNERS) + len(PLACES) + len(FOLLOWED) + 5
+    count = len(EDITS) + len(MISSPELT) + len(OWNERS) + len(PLACES) + len(VERDICTS) + 5
     print(f"{count - failed} passed, {failed} failed")
     return 1 if failed else 0
 
