@@ -25,8 +25,8 @@ struct WayOn {
     position: Position,
 }
 
-/// Makes the first move that leads to the class of the key, with the home moves that follow it by the space's rule, at most so
-/// many moves in all, and notes them.
+/// Makes a move that leads to the class of the key, with the home moves that follow it by the space's rule, at most so many moves
+/// in all, and notes them.
 ///
 /// # Errors
 /// A growth was refused; the moves and the position are then unknown.
