@@ -29,7 +29,7 @@ pub not_true : (p : Bool) → (p ≡ true → ⊥) → p ≡ false
 not_true p h = elim p as (λ t. (t ≡ true → ⊥) → t ≡ false) [ true ↦ λ k. absurd (k refl) | false ↦ λ _. refl ] h
 
 -- a card that is put on others
-stands-more : (cards : List ℕ) (u c : ℕ) → stands_in (cards ++ u ∷ []) c ≡ (stands_in cards c || (u == c))
+pub stands-more : (cards : List ℕ) (u c : ℕ) → stands_in (cards ++ u ∷ []) c ≡ (stands_in cards c || (u == c))
 stands-more cards u c =
     list_any-append (λ d. d == c) cards (u ∷ []) ∙ ap (λ t. stands_in cards c || t) (or-false (u == c))
 

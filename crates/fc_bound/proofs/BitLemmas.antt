@@ -1,23 +1,23 @@
 -- Cards and tests as bits: what the bits of cards tell, and which bits the lower cards of a suit have.
-use Rattle.std.proofs.Common.{◌≡◌, ℕ, zero, suc, ◌+◌, ◌-◌, ◌*◌, ◌%◌, ◌^◌, ◌<◌, ◌≤◌, min, max, bit_and, bit_or, Bool, true, false, cond, Option, Some, None, List, [], ◌∷◌, ◌++◌, length, take, get_or, refl, sym, ◌∙◌, ap, subst, ⊎_elim, zero-mul, one-mul, true≢false, arith}
+use Rattle.std.proofs.Common.{◌≡◌, ◌↔◌, ◌⊎◌, ℕ, ◌+◌, ◌-◌, ◌*◌, ◌/◌, ◌%◌, ◌^◌, ◌<◌, ◌≤◌, min, max, bit_and, bit_or, Bool, true, false, cond, Option, Some, None, List, [], ◌∷◌, ◌++◌, length, get_or, inl, inr, refl, sym, ◌∙◌, ap, ⊎_elim, zero-mul, one-mul, add-zero, subst, w64, arith}
 use Rattle.std.specs.Prelude.{◌==◌, ◌&&◌, ◌||◌, not, nat_lt}
-use Rattle.std.specs.Int.{bit_at}
+use Rattle.std.specs.Int.{bit_at, bit_not, trailing_zeros}
 use Rattle.std.specs.List.{list_any}
-use Rattle.std.proofs.lemmas.Bool.{cases_eq, cases_lt, agree_below, agree_below_at}
+use Rattle.std.proofs.lemmas.Bool.{cases_eq, cases_lt, agree_below, agree_below_at, and_parts, eqb-true, eqb-false, ltb-true}
 use Rattle.std.proofs.lemmas.Bool.Decides.{nat_tests}
 use Rattle.std.proofs.lemmas.List.{get_or_push, length_push}
-use Rattle.std.proofs.lemmas.List.Folds.{list_any-append, list_any_more}
+use Rattle.std.proofs.lemmas.List.Folds.{list_any-append, list_any_at, Any-from_list_any}
 use Rattle.std.proofs.lemmas.Option.{slice_get-get_or}
-use Rattle.std.proofs.lemmas.Nat.{and_comm, one_shl, pow_pos}
-use Rattle.std.proofs.lemmas.Nat.Bits.{bit_at_and, bit_at_or, bit_at_ones, bit_at_ones_above, bit_at-lt, bit_at-zero, and_pow, same_from_bits}
+use Rattle.std.proofs.lemmas.Nat.{and_comm, and_le_l, and_mask, one_shl, pow_pos}
+use Rattle.std.proofs.lemmas.Nat.Bits.{bit_at_and, bit_at_or, bit_at_ones, bit_at_above, bit_at_cat_low, bit_at_cat_high, bit_at_clear_same, bit_at_clear_other, bit_at-lt, bit_at-zero, bit_at-pow_same, bit_at-pow_other, bit_at-trailing_zeros, and_pow, same_from_bits}
 use Rattle.fc_cards.specs.Card.{rank, suit}
 use Rattle.fc_position.specs.Board.{last_of}
-use Rattle.fc_bound.specs.Bound.{is_lower}
+use Rattle.fc_bound.specs.Bound.{is_lower, stands_in}
 use Rattle.fc_bound.specs.Clearing.{waits}
-use Rattle.fc_bound.specs.declared.fronts.Front.{Front}
-use Rattle.fc_bound.specs.inner.Fronts.{AreBits, Tells, IsFront, is_lower_than, number_where}
-use Rattle.fc_bound.specs.Knots.{has_last, ends_with, waits_in, waits_above, is_loose}
-use Rattle.fc_bound.proofs.AboveLemmas.{or-false}
+use Rattle.fc_bound.specs.inner.Rows.{AreBits, Tells, HasLower, is_lower_than, stands_among}
+use Rattle.fc_bound.specs.Knots.{waits_in}
+use Rattle.fc_bound.proofs.AboveLemmas.{or-false, contains-stands, stands-contains}
+use Rattle.fc_bound.proofs.HeldLemmas.{found}
 
 -- bits that are shared with none of two are shared with none of both together
 apart_first : (a b p : ℕ) → bit_and (bit_or a b) p ≡ 0 → bit_and a p ≡ 0
@@ -78,19 +78,6 @@ tells_card bits y cards tells below passing test are =
     ∙ not-or (list_any test cards) (test y)
     ∙ ap not (sym (or-false (list_any test (cards ++ y ∷ [])) ∙ list_any-append test cards (y ∷ []) ∙ ap (λ t. list_any test cards || t) (or-false (test y))))
 
-pub tells_column : (all bits : ℕ) (columns : List (List ℕ)) (i : ℕ) → i < length columns → Tells all (take i columns)
-    → Tells bits (get_or columns i [] ∷ []) → Tells (bit_or all bits) (take (i + 1) columns)
-tells_column all bits columns i inside before here passing test are =
-    apart_or all bits passing
-    ∙ ap (λ t. t && (bit_and bits passing == 0)) (before passing test are)
-    ∙ ap (λ t. not (list_any (list_any test) (take i columns)) && t) (here passing test are ∙ ap not (or-false (list_any test (get_or columns i []))))
-    ∙ not-or (list_any (list_any test) (take i columns)) (list_any test (get_or columns i []))
-    ∙ ap not (sym (list_any_more (list_any test) columns i [] inside))
-
-pub tells_first : (bits : ℕ) (columns : List (List ℕ)) → 0 < length columns → Tells bits (get_or columns 0 [] ∷ []) → Tells bits (take 1 columns)
-tells_first bits [] inside here = absurd (omega (arith, inside))
-tells_first bits (x ∷ columns) inside here = here
-
 -- what two columns' bits tell
 none_lower : (columns : List (List ℕ)) → list_any (list_any (is_lower_than None)) columns ≡ false
 none_lower [] = refl
@@ -108,77 +95,30 @@ pub apart_is : (all lower : ℕ) (columns : List (List ℕ)) (o : Option ℕ) �
     → (bit_and all lower == 0) ≡ not (waits columns o)
 apart_is all lower columns o tells are = tells lower (is_lower_than o) are ∙ ap not (waits_lower columns o)
 
--- the lower cards of the suit of a card: of the suit's bits, those below the card's
-suit_bits : (mask s c x : ℕ) → agree_below (λ y. bit_at mask y == 1) (λ y. suit y == s) 52 ≡ true → c < 52 → suit c ≡ s
-    → bit_at (bit_and mask (2 ^ c - 1)) x ≡ cond (is_lower c x) 1 0
-suit_bits mask s c x agree below of_suit =
-    let small = bit_at-lt mask x in
-    let both = bit_at_and mask (2 ^ c - 1) x in
+-- a table of the bits of the lower cards of each card's suit, looked through bit by bit
+abbrev is_right : List ℕ → ℕ → Bool
+is_right table c = agree_below (λ x. bit_at (get_or table c 0) x == 1) (is_lower c) 52 && nat_lt (get_or table c 0) (2 ^ 52)
+
+told : (n : ℕ) (t : Bool) → n < 2 → (n == 1) ≡ t → n ≡ cond t 1 0
+told n true small is = eqb-true n 1 is
+told n false small is = let other : n ≡ 1 → ⊥ = eqb-false n 1 is in omega (arith, small, other)
+
+no_higher : (sx sc rx rc : ℕ) → rc ≤ rx → ((sx == sc) && nat_lt rx rc) ≡ false
+no_higher sx sc rx rc more = grind (arith, nat_tests)
+
+pub lower_bits : (table : List ℕ) (c : ℕ) → agree_below (is_right table) (λ c. true) 52 ≡ true → c < 52
+    → AreBits (get_or table c 0) (is_lower c)
+lower_bits table c right below x =
+    let bits : ℕ = get_or table c 0 in
+    let here : is_right table c ≡ true = agree_below_at (is_right table) (λ c. true) 52 c right below in
+    let parts = and_parts (agree_below (λ x. bit_at bits x == 1) (is_lower c) 52) (nat_lt bits (2 ^ 52)) here in
     ⊎_elim
-    (λ lt. let same = agree_below_at (λ y. bit_at mask y == 1) (λ y. suit y == s) 52 x agree (omega (arith, lt, below)) in
-    let low = bit_at_ones c x lt in
-    go (bit_at mask x) (bit_at (2 ^ c - 1) x) (bit_at (bit_and mask (2 ^ c - 1)) x) s (suit x) (suit c) (rank x) (rank c) both small low same of_suit
-    (λ e. omega (arith, lt, e)))
-    (λ le. let low = bit_at_ones_above c x le in
-    above (bit_at mask x) (bit_at (2 ^ c - 1) x) (bit_at (bit_and mask (2 ^ c - 1)) x) (suit x) (suit c) (rank x) (rank c) both low
-    (omega (arith, le)))
-    (cases_lt x c)
-  where
-    go : (m l b s sx sc rx rc : ℕ) → b ≡ min m l → m < 2 → l ≡ 1 → (m == 1) ≡ (sx == s) → sc ≡ s → (sx ≡ sc → rx < rc)
-        → b ≡ cond ((sx == sc) && nat_lt rx rc) 1 0
-    go m l b s sx sc rx rc both small low same of_suit lower =
-        ⊎_elim
-        (λ e. let less = lower e in let one : (sx == s) ≡ true = grind (arith, nat_tests) in
-        let bit : m ≡ 1 = grind (arith, nat_tests) in
-        let value : b ≡ 1 = omega (arith, both, bit, low) in
-        let test : ((sx == sc) && nat_lt rx rc) ≡ true = grind (arith, nat_tests) in
-        value ∙ ap (λ t. cond t 1 0) (sym test))
-        (λ ne. let one : (sx == s) ≡ false = grind (arith, nat_tests) in
-        let bit : m ≡ 0 = grind (arith, nat_tests) in
-        let value : b ≡ 0 = omega (arith, both, bit) in
-        let test : ((sx == sc) && nat_lt rx rc) ≡ false = grind (arith, nat_tests) in
-        value ∙ ap (λ t. cond t 1 0) (sym test))
-        (cases_eq sx sc)
+    (λ lt. told (bit_at bits x) (is_lower c x) (bit_at-lt bits x) (agree_below_at (λ x. bit_at bits x == 1) (is_lower c) 52 x parts.0 lt))
+    (λ past. bit_at_above bits 52 x (ltb-true bits (2 ^ 52) parts.1) past
+    ∙ sym (ap (λ t. cond t 1 0) (no_higher (suit x) (suit c) (rank x) (rank c) (omega (arith, below, past)))))
+    (cases_lt x 52)
 
-    above : (m l b sx sc rx rc : ℕ) → b ≡ min m l → l ≡ 0 → rc ≤ rx → b ≡ cond ((sx == sc) && nat_lt rx rc) 1 0
-    above m l b sx sc rx rc both low more =
-        let value : b ≡ 0 = omega (arith, both, low) in
-        let test : ((sx == sc) && nat_lt rx rc) ≡ false = grind (arith, nat_tests) in
-        value ∙ ap (λ t. cond t 1 0) (sym test)
-
-pub lower_bits : (c s : ℕ) → c < 52 → s ≡ c % 4 → AreBits (bit_and (0x1_1111_1111_1111 * 2 ^ s % 2 ^ 64) (2 ^ c - 1)) (is_lower c)
-lower_bits c zero below is x = suit_bits 0x1_1111_1111_1111 0 c x refl below (sym is)
-lower_bits c (suc zero) below is x = suit_bits 0x2_2222_2222_2222 1 c x refl below (sym is)
-lower_bits c (suc (suc zero)) below is x = suit_bits 0x4_4444_4444_4444 2 c x refl below (sym is)
-lower_bits c (suc (suc (suc zero))) below is x = suit_bits 0x8_8888_8888_8888 3 c x refl below (sym is)
-lower_bits c (suc (suc (suc (suc s)))) below is x = absurd (omega (arith, is))
-
--- what the tests of fronts tell
-not-not : (p : Bool) → not (not p) ≡ p
-not-not true = refl
-not-not false = refl
-
-pub waits_is : (f g : Front) (cards others : List ℕ) → IsFront f cards → IsFront g others
-    → not (bit_and g.cards f.lower == 0) ≡ waits_in cards others
-waits_is f g cards others one other =
-    ap not (apart_is g.cards f.lower (others ∷ []) (last_of cards) other.tells one.lower) ∙ not-not (waits_in cards others)
-
-pub loose_is : (f : Front) (all : ℕ) (columns : List (List ℕ)) (cards : List ℕ) (above : Bool) → IsFront f cards → Tells all columns
-    → has_last (last_of cards) ≡ true → above ≡ waits_above cards → ((bit_and all f.lower == 0) || above) ≡ is_loose columns cards
-loose_is f all columns cards above one tells has is =
-    ap (λ t. t || above) (apart_is all f.lower columns (last_of cards) tells one.lower)
-    ∙ ap (λ t. not (waits columns (last_of cards)) || t) is
-    ∙ ap (λ t. t && (not (waits columns (last_of cards)) || waits_above cards)) (sym has)
-
-pub ends_is : (f : Front) (n : ℕ) (cards : List ℕ) → IsFront f cards → has_last (last_of cards) ≡ true
-    → (f.last == n) ≡ ends_with n (last_of cards)
-ends_is f n cards one has = go (last_of cards) (one.last true) has
-  where
-    go : (o : Option ℕ) → number_where true o ≡ f.last → has_last o ≡ true → (f.last == n) ≡ ends_with n o
-    go None is has = absurd (cc)
-    go (Some v) is has = ap (λ (k : ℕ). k == n) (sym is)
-
--- what so many of the lowest cards tell, one card more
+-- the last card after a push
 pub last_of-push : (cards : List ℕ) (y : ℕ) → last_of (cards ++ y ∷ []) ≡ Some y
 last_of-push cards y =
     let more = length_push cards y in
@@ -186,27 +126,204 @@ last_of-push cards y =
     slice_get-get_or (cards ++ y ∷ []) (length (cards ++ y ∷ []) - 1) 0 inside
     ∙ ap (λ (n : ℕ). Some n) (get_or_push cards y 0 (length (cards ++ y ∷ []) - 1) (omega (arith, more)))
 
-pub front_more : (f : Front) (bits y : ℕ) (cards : List ℕ) → Tells bits (cards ∷ []) → y < 52 → AreBits f.lower (is_lower y)
-    → f.cards ≡ bit_or bits (1 * 2 ^ y % 2 ^ 64) → f.last ≡ y → IsFront f (cards ++ y ∷ [])
-front_more f bits y cards tells below lower more is =
-    let last : last_of (cards ++ y ∷ []) ≡ Some y = last_of-push cards y in
-    record {
-      tells = subst (λ n. Tells n ((cards ++ y ∷ []) ∷ [])) (sym more) (tells_card bits y cards tells (omega (arith, below)));
-      lower = subst (λ o. AreBits f.lower (is_lower_than o)) (sym last) lower;
-      last = λ flag. ap (number_where flag) last ∙ ap (λ n. cond flag n 52) (sym is);
-      most = omega (arith, is, below);
-      has = let small : nat_lt f.last 52 ≡ true = grind (arith, nat_tests) in ap has_last last ∙ sym small;
-    }
+-- a bit of a number that is cut, and of one that is shifted
+min_one : (m : ℕ) → m < 2 → min m 1 ≡ m
+min_one m small = omega arith
 
--- the least of the numbers so far and of a column's, where it passes
-pub least_kept : (least last : ℕ) (flag : Bool) → least ≤ 52 → (last < least → flag ≡ false) → min least (cond flag last 52) ≡ least
-least_kept least last true most none =
-    ⊎_elim (λ lt. absurd (true≢false (none lt))) (λ le. omega arith) (cases_lt last least)
-least_kept least last false most none = omega arith
+cut_bit : (w n i : ℕ) → i < w → bit_at (n % 2 ^ w) i ≡ bit_at n i
+cut_bit w n i below =
+    ap (λ m. bit_at m i) (sym (and_mask n w)) ∙ bit_at_and n (2 ^ w - 1) i ∙ ap (min (bit_at n i)) (bit_at_ones w i below)
+    ∙ min_one (bit_at n i) (bit_at-lt n i)
 
-pub least_taken : (least last : ℕ) (flag : Bool) → flag ≡ true → last < least → last ≡ min least (cond flag last 52)
-least_taken least last flag passes less = let here : cond flag last 52 ≡ last = ap (λ t. cond t last 52) passes in omega (arith, here, less)
+shl_bit : (w a k i : ℕ) → i < w → k ≤ i → bit_at (a * 2 ^ k % 2 ^ w) i ≡ bit_at a (i - k)
+shl_bit w a k i below from =
+    cut_bit w (a * 2 ^ k) i below ∙ ap (λ n. bit_at n i) (sym (add-zero (a * 2 ^ k))) ∙ bit_at_cat_high a k 0 i (pow_pos k) from
 
-pub least_small : (last : ℕ) (flag : Bool) → last ≤ 52 → cond flag last 52 ≤ 52
-least_small last true most = most
-least_small last false most = omega arith
+shl_low : (w a k i : ℕ) → i < w → i < k → bit_at (a * 2 ^ k % 2 ^ w) i ≡ 0
+shl_low w a k i below less =
+    cut_bit w (a * 2 ^ k) i below ∙ ap (λ n. bit_at n i) (sym (add-zero (a * 2 ^ k))) ∙ bit_at_cat_low a k 0 i less ∙ bit_at-zero i
+
+-- a number that is less by so many fours at most has its bit set
+abbrev Reach : ℕ → ℕ → ℕ → Type 0
+Reach a n i = (k : ℕ) × (0 < k) × (k ≤ n) × (4 * k ≤ i) × (bit_at a (i - 4 * k) ≡ 1)
+
+abbrev Reaches : ℕ → ℕ → ℕ → Type 0
+Reaches s a n = (i : ℕ) → i < 64 → (bit_at s i ≡ 1) ↔ Reach a n i
+
+zero_one : (m : ℕ) → m ≡ 0 → m ≡ 1 → ⊥
+zero_one m none one = omega arith
+
+either_one : (x y : ℕ) → max x y ≡ 1 → x < 2 → (x ≡ 1 → ⊥) → y ≡ 1
+either_one x y one small other = omega arith
+
+one_either : (x y : ℕ) → x < 2 → y < 2 → (x ≡ 1) ⊎ (y ≡ 1) → max x y ≡ 1
+one_either x y small little (inl e) = omega arith
+one_either x y small little (inr e) = omega arith
+
+reach_first : (w a : ℕ) → w ≡ 64 → Reaches (a * 2 ^ 4 % 2 ^ w) a 1
+reach_first w a is i below = (
+  λ one. ⊎_elim (λ less. absurd (zero_one (bit_at (a * 2 ^ 4 % 2 ^ w) i) (shl_low w a 4 i (omega arith) less) one))
+      (λ from. (1, omega arith, omega arith, omega arith, sym (shl_bit w a 4 i (omega arith) from) ∙ one)) (cases_lt i 4),
+  λ (k, pos, most, from, set).
+      let e : k ≡ 1 = omega arith in
+      shl_bit w a 4 i (omega arith) (omega arith) ∙ ap (λ j. bit_at a (i - 4 * j)) (sym e) ∙ set,
+)
+
+reach_twice : (w s a n m : ℕ) → w ≡ 64 → m ≡ 4 * n → Reaches s a n → Reaches (bit_or s (s * 2 ^ m % 2 ^ w)) a (2 * n)
+reach_twice w s a n m is four reaches i below = (
+  λ one. ⊎_elim
+      (λ here. let (k, pos, most, from, set) = (reaches i below).0 here in (k, pos, omega arith, from, set))
+      (λ not_here.
+      let there : bit_at (s * 2 ^ m % 2 ^ w) i ≡ 1 =
+      either_one (bit_at s i) (bit_at (s * 2 ^ m % 2 ^ w) i) (sym (bit_at_or s (s * 2 ^ m % 2 ^ w) i) ∙ one) (bit_at-lt s i) not_here in
+      ⊎_elim (λ less. absurd (zero_one (bit_at (s * 2 ^ m % 2 ^ w) i) (shl_low w s m i (omega arith) less) there))
+      (λ above.
+      let (k, pos, most, from, set) = (reaches (i - m) (omega arith)).0 (sym (shl_bit w s m i (omega arith) above) ∙ there) in
+      let place : i - 4 * (k + n) ≡ i - m - 4 * k = omega arith in
+      (k + n, omega arith, omega arith, omega arith, ap (bit_at a) place ∙ set))
+      (cases_lt i m))
+      (cases_eq (bit_at s i) 1),
+  λ (k, pos, most, from, set).
+      bit_at_or s (s * 2 ^ m % 2 ^ w) i ∙ one_either (bit_at s i) (bit_at (s * 2 ^ m % 2 ^ w) i) (bit_at-lt s i) (bit_at-lt (s * 2 ^ m % 2 ^ w) i)
+      (⊎_elim
+      (λ more.
+      let place : i - m - 4 * (k - n) ≡ i - 4 * k = omega arith in
+      inr (shl_bit w s m i (omega arith) (omega arith)
+      ∙ (reaches (i - m) (omega arith)).1 (k - n, omega arith, omega arith, omega arith, ap (bit_at a) place ∙ set)))
+      (λ few. inl ((reaches i below).1 (k, pos, few, from, set)))
+      (cases_lt n k)),
+)
+
+reach_all : (bits r : ℕ) → Reaches r bits 16 → (c : ℕ) → c < 64 → (bit_at r c ≡ 1) ↔ HasLower bits c
+reach_all bits r reaches c below = (
+  λ one. let (k, pos, most, from, set) = (reaches c below).0 one in (k, pos, from, set),
+  λ (k, pos, from, set). (reaches c below).1 (k, pos, omega arith, from, set),
+)
+
+abbrev spread : ℕ → ℕ → ℕ
+spread s m = bit_or s (s * 2 ^ m % 2 ^ 64)
+
+pub above_is : (bits : ℕ) (c : ℕ) → c < 64
+    → (bit_at (spread (spread (spread (spread (bits * 2 ^ 4 % 2 ^ 64) 4) 8) 16) 32) c ≡ 1) ↔ HasLower bits c
+above_is bits =
+    let one = reach_first 64 bits refl in
+    let two = reach_twice 64 (bits * 2 ^ 4 % 2 ^ 64) bits 1 4 refl refl one in
+    let four = reach_twice 64 (spread (bits * 2 ^ 4 % 2 ^ 64) 4) bits 2 8 refl refl two in
+    let eight = reach_twice 64 (spread (spread (bits * 2 ^ 4 % 2 ^ 64) 4) 8) bits 4 16 refl refl four in
+    reach_all bits (spread (spread (spread (spread (bits * 2 ^ 4 % 2 ^ 64) 4) 8) 16) 32)
+    (reach_twice 64 (spread (spread (spread (bits * 2 ^ 4 % 2 ^ 64) 4) 8) 16) bits 8 32 refl refl eight)
+
+-- the cards that have a lower card of their suit in some column are those above a bit of its suit
+pub is_one : (t : Bool) → ◌≡◌ {A = ℕ} (cond t 1 0) 1 → t ≡ true
+is_one true e = refl
+is_one false e = absurd (omega arith)
+
+lower_parts : (c d : ℕ) → is_lower c d ≡ true → (suit d ≡ suit c) × (rank d < rank c)
+lower_parts c d low = go (suit d) (suit c) (rank d) (rank c) low
+  where
+    go : (s t q r : ℕ) → ((s == t) && nat_lt q r) ≡ true → (s ≡ t) × (q < r)
+    go s t q r low = (grind (arith, nat_tests), grind (arith, nat_tests))
+
+lower_from : (c d : ℕ) → suit d ≡ suit c → rank d < rank c → is_lower c d ≡ true
+lower_from c d suits ranks = go (suit d) (suit c) (rank d) (rank c) suits ranks
+  where
+    go : (s t q r : ℕ) → s ≡ t → q < r → ((s == t) && nat_lt q r) ≡ true
+    go s t q r suits ranks = grind (arith, nat_tests)
+
+pub waits_bits : (all : ℕ) (columns : List (List ℕ)) (u : ℕ) → AreBits all (stands_among columns)
+    → HasLower all u ↔ (list_any (list_any (is_lower u)) columns ≡ true)
+waits_bits all columns u are = (
+  λ (k, pos, from, set).
+      let d : ℕ = u - 4 * k in
+      let low : is_lower u d ≡ true = lower_from u d (omega arith) (omega arith) in
+      let f = found (λ column. stands_in column d) columns (is_one (stands_among columns d) (sym (are d) ∙ set)) in
+      let (j, below, e) = stands-contains (get_or columns f.place []) d f.passes in
+      list_any_at (list_any (is_lower u)) columns f.place [] f.inside
+      (list_any_at (is_lower u) (get_or columns f.place []) j d below (ap (is_lower u) e ∙ low)),
+  λ waiting.
+      let f = found (list_any (is_lower u)) columns waiting in
+      let (j, d, below, e, low) = Any-from_list_any (is_lower u) (get_or columns f.place []) f.passes in
+      let parts = lower_parts u d low in
+      let stands = list_any_at (λ column. stands_in column d) columns f.place [] f.inside
+      (contains-stands (get_or columns f.place []) d (j, below, e)) in
+      let k : ℕ = u / 4 - d / 4 in
+      let place : u - 4 * (u / 4 - d / 4) ≡ d = lower_place u d parts.0 parts.1 in
+      (k, omega (arith, parts.1), lower_fits u d parts.0 parts.1, ap (bit_at all) place ∙ are d ∙ ap (λ t. cond t 1 0) stands),
+)
+  where
+    lower_place : (u d : ℕ) → suit d ≡ suit u → rank d < rank u → u - 4 * (u / 4 - d / 4) ≡ d
+    lower_place u d suits ranks = omega arith
+
+    lower_fits : (u d : ℕ) → suit d ≡ suit u → rank d < rank u → 4 * (u / 4 - d / 4) ≤ u
+    lower_fits u d suits ranks = omega arith
+
+-- one bit less
+pub bit_removed : (n k : ℕ) → n < 2 ^ 64 → k < 64 → (d : ℕ)
+    → bit_at (bit_and n (bit_not w64 (1 * 2 ^ k % 2 ^ 64))) d ≡ cond (d == k) 0 (bit_at n d)
+bit_removed n k small below d =
+    ⊎_elim
+    (λ e. let test : (d == k) ≡ true = grind (arith, nat_tests) in
+    ap (bit_at (bit_and n (bit_not w64 (1 * 2 ^ k % 2 ^ 64)))) e ∙ bit_at_clear_same w64 n k below ∙ sym (ap (λ t. cond t 0 (bit_at n d)) test))
+    (λ ne. let test : (d == k) ≡ false = grind (arith, nat_tests) in
+    let kept : bit_at (bit_and n (bit_not w64 (1 * 2 ^ k % 2 ^ 64))) d ≡ bit_at n d =
+    ⊎_elim (λ inside. bit_at_clear_other w64 n k below d inside ne)
+    (λ past. let less = and_le_l n (bit_not w64 (1 * 2 ^ k % 2 ^ 64)) in
+    bit_at_above (bit_and n (bit_not w64 (1 * 2 ^ k % 2 ^ 64))) 64 d (le_lt (bit_and n (bit_not w64 (1 * 2 ^ k % 2 ^ 64))) n (2 ^ 64) less small) past
+    ∙ sym (bit_at_above n 64 d small past)) (cases_lt d 64) in
+    kept ∙ sym (ap (λ t. cond t 0 (bit_at n d)) test))
+    (cases_eq d k)
+  where
+    le_lt : (a b c : ℕ) → a ≤ b → b < c → a < c
+    le_lt a b c le lt = omega arith
+
+pub less_removed : (n m k : ℕ) → m ≤ n → bit_at n k ≡ 1 → bit_at m k ≡ 0 → m < n
+less_removed n m k most set gone =
+    ⊎_elim (λ e. absurd (zero_one (bit_at m k) gone (ap (λ x. bit_at x k) e ∙ set)))
+    (λ ne. omega (arith, most, ne)) (cases_eq m n)
+
+pub gone : (n m k : ℕ) → ((d : ℕ) → bit_at m d ≡ cond (d == k) 0 (bit_at n d)) → bit_at m k ≡ 0
+gone n m k is = let test : (k == k) ≡ true = grind (arith, nat_tests) in is k ∙ ap (λ t. cond t 0 (bit_at n k)) test
+
+-- the bit of one number
+pub one_bit_is : (n c : ℕ) → n < 64 → bit_at (1 * 2 ^ n % 2 ^ 64) c ≡ cond (n == c) 1 0
+one_bit_is n c below =
+    ap (λ m. bit_at m c) (one_shl n 64 below) ∙ ⊎_elim
+    (λ e. let test : (n == c) ≡ true = grind (arith, nat_tests) in
+    ap (bit_at (2 ^ n)) e ∙ bit_at-pow_same n ∙ sym (ap (λ t. cond t 1 0) test))
+    (λ ne. let test : (n == c) ≡ false = grind (arith, nat_tests) in
+    bit_at-pow_other n c ne ∙ sym (ap (λ t. cond t 1 0) test))
+    (cases_eq c n)
+
+-- bits with those of two tests
+pub either_bits : (p q r : Bool) → r ≡ (p || q) → ◌≡◌ {A = ℕ} (max (cond p 1 0) (cond q 1 0)) (cond r 1 0)
+either_bits true true r is = ap (λ t. cond t 1 0) (sym is)
+either_bits true false r is = ap (λ t. cond t 1 0) (sym is)
+either_bits false true r is = ap (λ t. cond t 1 0) (sym is)
+either_bits false false r is = ap (λ t. cond t 1 0) (sym is)
+
+pub bits_or : (a b : ℕ) (p q r : ℕ → Bool) → AreBits a p → AreBits b q → ((c : ℕ) → r c ≡ (p c || q c)) → AreBits (bit_or a b) r
+bits_or a b p q r one two is c =
+    bit_at_or a b c ∙ ap (λ n. max n (bit_at b c)) (one c) ∙ ap (max (cond (p c) 1 0)) (two c) ∙ either_bits (p c) (q c) (r c) (is c)
+
+-- a number that is not 0 has a bit
+pub record Set (bits : ℕ) : Type 0 where
+  pub place : ℕ
+  pub set : bit_at bits place ≡ 1
+
+pub some_bit : (bits : ℕ) → 0 < bits → bits < 2 ^ 64 → Set bits
+some_bit bits some fits =
+    let lowest = bit_at-trailing_zeros w64 bits some fits in record { place = trailing_zeros w64 bits; set = lowest.1 }
+
+pub no_bits : (bits c : ℕ) → bits ≡ 0 → bit_at bits c ≡ 1 → ⊥
+no_bits bits c none set = zero_one (bit_at bits c) (ap (λ n. bit_at n c) none ∙ bit_at-zero c) set
+
+-- what two columns' bits tell of the last card of one
+pub not_not : (p : Bool) → not (not p) ≡ p
+not_not true = refl
+not_not false = refl
+
+pub shares : (bits lower v : ℕ) (x y : List ℕ) → Tells bits (x ∷ []) → AreBits lower (is_lower v) → last_of y ≡ Some v
+    → not (bit_and bits lower == 0) ≡ waits_in y x
+shares bits lower v x y tells are last =
+    ap not (apart_is bits lower (x ∷ []) (last_of y) tells (subst (λ o. AreBits lower (is_lower_than o)) (sym last) are))
+    ∙ not_not (waits_in y x)

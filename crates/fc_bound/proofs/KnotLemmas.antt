@@ -77,7 +77,7 @@ ends-has : (u : ℕ) (o : Option ℕ) → ends_with u o ≡ true → has_last o 
 ends-has u o ends = ap has_last (ends-is u o ends)
 
 -- a column in which a card waits has a last card, and this is a card
-in-has : (cards : List ℕ) (o : Option ℕ) → waits (cards ∷ []) o ≡ true → has_last (last_of cards) ≡ true
+pub in-has : (cards : List ℕ) (o : Option ℕ) → waits (cards ∷ []) o ≡ true → has_last (last_of cards) ≡ true
 in-has [] None waiting = waiting
 in-has [] (Some u) waiting = waiting
 in-has (c ∷ cards) o waiting =

@@ -50,7 +50,7 @@ has_waiting : (columns : List (List ℕ)) (o : Option ℕ) → waits columns o �
 has_waiting columns None waiting = waiting
 has_waiting columns (Some u) waiting = refl
 
-above_loose : (columns : List (List ℕ)) (cards : List ℕ) → waits_above cards ≡ true → is_loose columns cards ≡ true
+pub above_loose : (columns : List (List ℕ)) (cards : List ℕ) → waits_above cards ≡ true → is_loose columns cards ≡ true
 above_loose columns cards above =
     ap (λ t. t && (not (waits columns (last_of cards)) || waits_above cards)) (has_waiting (cards ∷ []) (last_of cards) above)
     ∙ ap (λ t. not (waits columns (last_of cards)) || t) above ∙ or-true (not (waits columns (last_of cards)))

@@ -1,14 +1,14 @@
-ghost use Rattle.std.specs.Prelude.{◌≡◌, ℕ, ◌<◌, ◌≤◌, ◌↔◌, ◌&&◌, false, IsTrue, All, [], length, slice_index_or};
-ghost use Rattle.fc_position.specs.Board.{last_of};
+ghost use Rattle.std.specs.Prelude.{◌≡◌, ◌≤◌, ◌↔◌, IsTrue, All};
 ghost use Rattle.fc_position.specs.Position.{IsPosition};
 ghost use Rattle.fc_position.specs.Tally.{AllCards};
 ghost use Rattle.fc_bound.specs.Clearing.{cards_in, clearing_cost, clearing_bound};
-ghost use Rattle.fc_bound.specs.Knots.{has_last, knot_count};
+ghost use Rattle.fc_bound.specs.Knots.{knot_count};
 
+use crate::bits::{least, remove};
 use crate::bounds::{GREATEST_BOUND, away};
 use crate::columns::Left;
-use crate::fronts::Table;
 use crate::knots::knot_count;
+use crate::rows::{blank, fill};
 use fc_position::Position;
 
 // Whether all cards can be taken out at so much. Loose cards go first, and are taken out in place; then some one column of
@@ -34,26 +34,17 @@ fn costs_at_most(left: &mut Left<'_>, most: u8) -> bool
         return false;
     }
     let knot = left.knot();
-    for i in 0..8 {
-        if may_go(left, knot, i) {
-            let mut rest = left.copy();
-            rest.take(i);
-            if costs_at_most(&mut rest, most - 1) {
-                return true;
-            }
+    let mut rest = knot;
+    while rest != 0 {
+        let u = least(rest);
+        rest = remove(rest, u);
+        let mut others = left.copy();
+        others.take(u);
+        if costs_at_most(&mut others, most - 1) {
+            return true;
         }
     }
     false
-}
-
-// Whether the column is flagged and has a last card.
-fn may_go(left: &Left<'_>, knot: [bool; 8], i: u8) -> bool
-    requires there { i < 8 }
-    ensures value { result ≡ (slice_index_or knot i false && has_last (last_of (slice_index_or left.now i []))) }
-    ensures eight { length left.now ≡ 8 }
-{
-    let has_last = left.has_last(i);
-    knot[i as usize] && has_last
 }
 
 // How many knots are met in the columns: taking all cards out costs no less.
@@ -62,7 +53,6 @@ fn count_knots(left: &Left<'_>) -> u8
     requires cards { All AllCards left.now }
     ensures value { result ≡ knot_count left.now }
     ensures least { result ≤ clearing_cost left.now }
-    ensures eight { length left.now ≡ 8 }
 {
     let mut copy = left.copy();
     knot_count(&mut copy)
@@ -76,10 +66,10 @@ pub fn clearing_bound(position: &Position) -> u8
     ensures most { result ≤ GREATEST_BOUND }
     ensures whole { IsPosition position.now }
 {
-    let mut table = Table::blank();
-    table.fill(position);
-    let left = Left::new(position, &table);
     let away = away(position);
+    let mut rows = blank();
+    let marks = fill(&mut rows, position);
+    let left = Left::new(position, &rows, marks);
     for cost in count_knots(&left)..52 {
         if costs_at_most(&mut left.copy(), cost) {
             return away + cost;

@@ -1,57 +1,58 @@
-ghost use Rattle.std.specs.Prelude.{◌≡◌, ℕ, ◌+◌, ◌<◌, ◌≤◌, ◌&&◌, ◌||◌, Bool, true, false, nat_lt, List, [], Some, IfSome, IfNone, length, map, count_by, slice_index_or};
+ghost use Rattle.std.specs.Prelude.{◌≡◌, ℕ, ◌<◌, ◌&&◌, false, true, [], Some, IfSome, IfNone, length, count_by, slice_index_or};
+ghost use Rattle.std.specs.Int.{bit_at};
 ghost use Rattle.std.specs.List.{list_any};
 ghost use Rattle.fc_position.specs.Board.{last_of};
 ghost use Rattle.fc_position.specs.Position.{IsPosition};
-ghost use Rattle.fc_bound.specs.Clearing.{without, cards_in};
-ghost use Rattle.fc_bound.specs.inner.Fronts.{Tells, IsFront, AreFronts};
-ghost use Rattle.fc_bound.specs.Knots.{has_last, ends_with, waits_in, waits_above, is_loose, are_knotted, least_last, first_knotted, second_knotted, is_in_knot, shed};
+ghost use Rattle.fc_bound.specs.Bound.{is_above_lower};
+ghost use Rattle.fc_bound.specs.Clearing.{without};
+ghost use Rattle.fc_bound.specs.inner.Rows.{AreBits, AreRows, Mark, AreApart, Knotted, stands_among, ends_among, ends_in};
+ghost use Rattle.fc_bound.specs.Knots.{has_last, waits_in, waits_above, is_loose, are_knotted, is_in_knot, shed};
 
-use crate::fronts::{Front, Table};
+use crate::bits::{above, least, lower_cards, remove};
+use crate::rows::{Marks, Rows};
 use fc_position::Position;
 use std::marker::Model;
 
-// The lowest cards of the columns of a position, while cards are taken out of them: how many are left of each column, and
-// what they tell.
+// The lowest cards of the columns of a position, while cards are taken out of them: the bits of those that are left, and of the
+// last ones among them.
 #[derive(Drop)]
 pub(crate) struct Left<'a> {
     position: &'a Position,
-    table: &'a Table,
-    heights: [u8; 8],
-    fronts: [Front; 8],
+    rows: &'a Rows,
+    held: u64,
+    all: u64,
+    lasts: u64,
 }
 
 impl<'a> Model for Left<'a> {
     ghost use Rattle.std.specs.Prelude.{ℕ, List};
-    ghost use Rattle.fc_bound.specs.inner.Fronts.{lowest, IsLeft};
+    ghost use Rattle.fc_bound.specs.inner.Rows.{left_in, IsLeft};
 
     ghost Value = { List (List ℕ) };
 
-    ghost view = { λ s. lowest s.heights s.position.now.columns };
+    ghost view = { λ s. left_in s.all s.position.now.columns };
 
-    ghost invariant = { λ s. IsLeft s.position.now.columns s.heights s.fronts s.table.now.starts s.table.now.rows };
+    ghost invariant = { λ s. IsLeft s.position.now s.rows.now s.held s.all s.lasts };
 }
 
 impl<'a> Left<'a> {
     // All cards of the columns.
     #[inline]
-    pub(crate) fn new(position: &'a Position, table: &'a Table) -> Left<'a>
-        requires fronts { AreFronts position.now.columns table.now.starts table.now.rows }
+    pub(crate) fn new(position: &'a Position, rows: &'a Rows, marks: Marks) -> Left<'a>
+        requires whole { IsPosition position.now }
+        requires long { length rows.now ≡ 52 }
+        requires rows { AreRows position.now.columns rows.now }
+        requires all { AreBits marks.all (stands_among position.now.columns) }
+        requires lasts { AreBits marks.lasts (ends_among position.now.columns) }
+        requires held { AreBits marks.held (λ c. list_any (is_above_lower c) position.now.columns) }
         ensures value { result ≡ position.now.columns }
-        ensures whole { IsPosition position.now }
     {
-        let mut heights = [position.column(0).len() as u8; 8];
-        let mut fronts = [table.rows[0]; 8];
-        for i in 0..8 {
-            let height = position.column(i).len() as u8;
-            let start = table.starts[i as usize];
-            heights[i as usize] = height;
-            fronts[i as usize] = table.rows[(start + height) as usize];
-        }
         Left {
             position,
-            table,
-            heights,
-            fronts,
+            rows,
+            held: marks.held,
+            all: marks.all,
+            lasts: marks.lasts,
         }
     }
 
@@ -59,47 +60,14 @@ impl<'a> Left<'a> {
     #[inline]
     pub(crate) fn copy(&self) -> Left<'a>
         ensures value { result ≡ self.now }
-        ensures eight { length self.now ≡ 8 }
     {
         Left {
             position: self.position,
-            table: self.table,
-            heights: self.heights,
-            fronts: self.fronts,
+            rows: self.rows,
+            held: self.held,
+            all: self.all,
+            lasts: self.lasts,
         }
-    }
-
-    // What the cards of a column that are left tell.
-    #[inline]
-    fn front(&self, i: u8) -> Front
-        requires there { i < 8 }
-        ensures value { IsFront result (slice_index_or self.now i []) }
-        ensures eight { length self.now ≡ 8 }
-    {
-        self.fronts[i as usize]
-    }
-
-    // Whether a card is left in the column.
-    #[inline]
-    pub(crate) fn has_last(&self, i: u8) -> bool
-        requires there { i < 8 }
-        ensures value { result ≡ has_last (last_of (slice_index_or self.now i [])) }
-        ensures eight { length self.now ≡ 8 }
-    {
-        self.front(i).has_last()
-    }
-
-    // The bits of all cards that are left.
-    #[inline]
-    fn cards(&self) -> u64
-        ensures value { Tells result self.now }
-        ensures eight { length self.now ≡ 8 }
-    {
-        let mut all = self.front(0).cards;
-        for i in 1..8 {
-            all |= self.front(i).cards;
-        }
-        all
     }
 
     // Whether a card is left.
@@ -107,32 +75,57 @@ impl<'a> Left<'a> {
     pub(crate) fn has_cards(&self) -> bool
         ensures value { result ≡ list_any (λ column. has_last (last_of column)) self.now }
     {
-        has_more(self.heights.as_slice())
+        self.all != 0
     }
 
-    // How many cards are left.
-    pub(crate) fn size(&self) -> u8
-        requires few { cards_in self.now ≤ 52 }
-        ensures value { result ≡ cards_in self.now }
-    {
-        let heights = self.heights;
-        let mut size = 0;
-        for height in &heights {
-            size += *height;
-        }
-        size
-    }
-
-    // Takes out the last card of a column, if it has one.
+    // Takes out the card with this number, the last one of a column, of which there is only one.
     #[inline]
-    pub(crate) fn take(&mut self, i: u8)
-        requires there { i < 8 }
-        ensures value { self.new ≡ without self.old i }
+    pub(crate) fn take(&mut self, u: u8)
+        requires last { ends_among self.old u ≡ true }
+        ensures value { (i : ℕ) → last_of (slice_index_or self.old i []) ≡ Some u → self.new ≡ without self.old i }
+        ensures apart { AreApart self.old }
+        ensures eight { length self.old ≡ 8 }
+        ensures below { u < 52 }
     {
-        let height = self.heights[i as usize].saturating_sub(1);
-        let start = self.table.starts[i as usize];
-        self.heights[i as usize] = height;
-        self.fronts[i as usize] = self.table.rows[(start + height) as usize];
+        let row = self.rows[u as usize];
+        self.all = remove(self.all, u);
+        self.lasts = remove(self.lasts, u) | row.beneath;
+    }
+
+    // Takes out these last cards: how many of them wait for a card beneath them.
+    #[inline]
+    pub(crate) fn shed(&mut self, bits: u64) -> u8
+        requires lasts { (u : ℕ) → bit_at bits u ≡ 1 → ends_among self.old u ≡ true }
+        ensures value { self.new ≡ shed (λ column. ends_in bits (last_of column)) self.old }
+        ensures met { result ≡ count_by (λ column. ends_in bits (last_of column) && waits_above column) self.old }
+    {
+        let mut met = 0;
+        let mut rest = bits;
+        while rest != 0 {
+            let u = least(rest);
+            rest = remove(rest, u);
+            met += self.waits_above(u) as u8;
+            self.take(u);
+        }
+        met
+    }
+
+    // Whether the last card with this number waits for a card beneath it.
+    #[inline]
+    fn waits_above(&self, u: u8) -> bool
+        requires last { ends_among self.now u ≡ true }
+        ensures value { (i : ℕ) → last_of (slice_index_or self.now i []) ≡ Some u → result ≡ waits_above (slice_index_or self.now i []) }
+        ensures eight { length self.now ≡ 8 }
+    {
+        self.held >> u & 1 != 0
+    }
+
+    // The bits of the last cards that may leave at once.
+    #[inline]
+    fn loose(&self) -> u64
+        ensures value { Mark result self.now (is_loose self.now) }
+    {
+        self.lasts & (self.held | !above(self.all))
     }
 
     // Takes out the last cards that may leave at once: how many wait for a card beneath them, `None` where there is none.
@@ -144,118 +137,70 @@ impl<'a> Left<'a> {
         ensures none_loose { IfNone result (list_any (is_loose self.old) self.old ≡ false) }
         ensures same { IfNone result (self.new ≡ self.old) }
     {
-        let all = self.cards();
-        let mut met = 0;
-        let mut any = false;
-        for i in 0..8 {
-            let front = self.front(i);
-            met += front.waits_in(front) as u8;
-            if front.is_loose(all) {
-                any = true;
-                self.take(i);
+        let loose = self.loose();
+        if loose == 0 {
+            return None;
+        }
+        Some(self.shed(loose))
+    }
+
+    // Whether the one last card waits for a card of the other's column.
+    #[inline]
+    fn waits_in(&self, u: u8, v: u8) -> bool
+        requires one { ends_among self.now u ≡ true }
+        requires two { ends_among self.now v ≡ true }
+        ensures value { (i j : ℕ) → last_of (slice_index_or self.now i []) ≡ Some u → last_of (slice_index_or self.now j []) ≡ Some v
+            → result ≡ waits_in (slice_index_or self.now i []) (slice_index_or self.now j []) }
+    {
+        self.rows[v as usize].cards & lower_cards(u) != 0
+    }
+
+    // Whether two last cards wait for cards of each other's columns.
+    #[inline]
+    fn is_knotted(&self, u: u8, v: u8) -> bool
+        requires one { ends_among self.now u ≡ true }
+        requires two { ends_among self.now v ≡ true }
+        ensures value { (i j : ℕ) → last_of (slice_index_or self.now i []) ≡ Some u → last_of (slice_index_or self.now j []) ≡ Some v
+            → result ≡ are_knotted (slice_index_or self.now i []) (slice_index_or self.now j []) }
+    {
+        self.waits_in(u, v) && self.waits_in(v, u)
+    }
+
+    // The least of these last cards that is knotted with the one of this number, if one is.
+    #[inline]
+    fn partner(&self, u: u8, others: u64) -> Option<u8>
+        requires one { ends_among self.now u ≡ true }
+        requires others { (v : ℕ) → bit_at others v ≡ 1 → ends_among self.now v ≡ true }
+        ensures set { IfSome result (λ v. bit_at others v ≡ 1) }
+        ensures knotted { IfSome result (λ v. Knotted self.now u v true) }
+        ensures least { IfSome result (λ v. (w : ℕ) → w < v → bit_at others w ≡ 1 → Knotted self.now u w false) }
+        ensures none { IfNone result ((w : ℕ) → bit_at others w ≡ 1 → Knotted self.now u w false) }
+    {
+        let mut rest = others;
+        while rest != 0 {
+            let v = least(rest);
+            if self.is_knotted(u, v) {
+                return Some(v);
+            }
+            rest = remove(rest, v);
+        }
+        None
+    }
+
+    // The bits of the last cards of the knot, where no card may leave at once.
+    #[inline]
+    pub(crate) fn knot(&self) -> u64
+        requires tight { list_any (is_loose self.now) self.now ≡ false }
+        ensures value { Mark result self.now (is_in_knot self.now) }
+    {
+        let mut rest = self.lasts;
+        while rest != 0 {
+            let u = least(rest);
+            rest = remove(rest, u);
+            if let Some(v) = self.partner(u, rest) {
+                return 1 << u | 1 << v;
             }
         }
-        if any { Some(met) } else { None }
+        self.lasts
     }
-
-    // Takes out the last card of each of these columns.
-    #[inline]
-    pub(crate) fn shed(&mut self, flags: [bool; 8])
-        ensures value { (test : List ℕ → Bool) → flags ≡ map test self.old → self.new ≡ shed test self.old }
-    {
-        for i in 0..8 {
-            if flags[i as usize] {
-                self.take(i);
-            }
-        }
-    }
-
-    // Whether the column is knotted with another.
-    #[inline]
-    fn is_knotted(&self, i: u8) -> bool
-        requires there { i < 8 }
-        ensures value { result ≡ list_any (are_knotted (slice_index_or self.now i [])) self.now }
-        ensures eight { length self.now ≡ 8 }
-    {
-        let front = self.front(i);
-        let mut knotted = front.is_knotted(self.front(0));
-        for j in 1..8 {
-            knotted = front.is_knotted(self.front(j)) || knotted;
-        }
-        knotted
-    }
-
-    // The least number of the last cards of columns that are knotted with another, 52 where there is none.
-    #[inline]
-    fn first_knotted(&self) -> u8
-        ensures value { result ≡ first_knotted self.now }
-        ensures eight { length self.now ≡ 8 }
-    {
-        let fronts = &self.fronts;
-        let mut first = 52;
-        for i in 0..8 {
-            let last = fronts[i as usize].last;
-            if last < first && self.is_knotted(i) {
-                first = last;
-            }
-        }
-        first
-    }
-
-    // The least number of the last cards of columns that are knotted with this one, 52 where there is none.
-    #[inline]
-    fn least_partner(&self, i: u8) -> u8
-        requires there { i < 8 }
-        ensures value { result ≡ least_last (are_knotted (slice_index_or self.now i [])) self.now }
-        ensures eight { length self.now ≡ 8 }
-    {
-        let front = self.front(i);
-        let mut least = 52;
-        for j in 0..8 {
-            let other = self.front(j);
-            if other.last < least && front.is_knotted(other) {
-                least = other.last;
-            }
-        }
-        least
-    }
-
-    // The least number of the last cards of columns that are knotted with the one that ends with the card of this number.
-    #[inline]
-    fn second_knotted(&self, first: u8) -> u8
-        ensures value { result ≡ least_last (λ column. list_any (λ other. ends_with first (last_of other)
-            && are_knotted other column) self.now) self.now }
-        ensures eight { length self.now ≡ 8 }
-    {
-        let fronts = &self.fronts;
-        let mut second = 52;
-        for i in 0..8 {
-            if fronts[i as usize].ends_with(first) {
-                second = self.least_partner(i).min(second);
-            }
-        }
-        second
-    }
-
-    // The columns of the knot.
-    #[inline]
-    pub(crate) fn knot(&self) -> [bool; 8]
-        ensures value { result ≡ map (is_in_knot self.now) self.now }
-    {
-        let first = self.first_knotted();
-        let second = self.second_knotted(first);
-        let mut knot = [false; 8];
-        for i in 0..8 {
-            knot[i as usize] = self.front(i).is_in_knot(first, second);
-        }
-        knot
-    }
-}
-
-// Whether one of the numbers is above zero.
-#[inline]
-fn has_more(heights: &[u8]) -> bool
-    ensures value { result ≡ list_any (λ height. nat_lt 0 height) heights.now }
-{
-    heights.iter().any(|height| *height > 0)
 }

@@ -4,7 +4,7 @@ ghost use Rattle.fc_bound.specs.Kinds.{guide_of, low_of};
 
 use crate::bounds::{GREATEST_BOUND, bound};
 use crate::clearing::clearing_bound;
-use crate::knots::knot_bound;
+use crate::knots::{knot_bound, knot_bound_within};
 use fc_position::Position;
 
 /// The lower bound that a search goes by and a table is closed by.
@@ -29,6 +29,21 @@ impl BoundKind {
         match self {
             BoundKind::Plain => bound(position),
             BoundKind::Clearing => knot_bound(position),
+        }
+    }
+
+    /// The bound by which a search of this kind goes, counted no further than asked: the bound itself where that is at most
+    /// `most`, else a number above `most` that is nowhere greater than the bound. At most 104.
+    #[inline]
+    pub fn guide_within(self, position: &Position, most: u8) -> u8
+        ensures lower { result ≤ guide_of self position.now }
+        ensures exact { result ≤ most → result ≡ guide_of self position.now }
+        ensures greatest { result ≤ GREATEST_BOUND }
+        ensures whole { IsPosition position.now }
+    {
+        match self {
+            BoundKind::Plain => bound(position),
+            BoundKind::Clearing => knot_bound_within(position, most),
         }
     }
 

@@ -3,9 +3,9 @@ ghost use Rattle.fc_position.specs.Position.{IsPosition};
 ghost use Rattle.fc_bound.specs.Clearing.{cards_in};
 ghost use Rattle.fc_bound.specs.Knots.{knots, knot_count, knot_bound};
 
-use crate::bounds::{GREATEST_BOUND, away};
+use crate::bounds::{GREATEST_BOUND, away, bound};
 use crate::columns::Left;
-use crate::fronts::Table;
+use crate::rows::{blank, fill};
 use fc_position::Position;
 
 // Takes out the loose cards, or else a knot: how many knots are met so; `None` where no card is left.
@@ -25,20 +25,34 @@ fn round(left: &mut Left<'_>) -> Option<u8>
     None
 }
 
-// How many knots are met until no card is left; it takes all cards out.
-pub(crate) fn knot_count(left: &mut Left<'_>) -> u8
+// How many knots are met until no card is left, counted no further than asked: all of them where they are at most so many,
+// else as many as were met when that was known. It takes the cards out.
+fn knots_within(left: &mut Left<'_>, most: u8) -> u8
     requires few { cards_in left.old ≤ 52 }
-    ensures value { result ≡ knot_count left.old }
-    ensures most { result ≤ 52 }
+    ensures lower { result ≤ knot_count left.old }
+    ensures exact { result ≤ most → result ≡ knot_count left.old }
+    ensures greatest { result ≤ 52 }
 {
     let mut count = 0;
-    for step in 0..left.size() {
+    for step in 0..52u8 {
+        if most < count {
+            return count;
+        }
         match round(left) {
             Some(met) => count += met,
             None => return count,
         }
     }
     count
+}
+
+// How many knots are met until no card is left; it takes all cards out.
+pub(crate) fn knot_count(left: &mut Left<'_>) -> u8
+    requires few { cards_in left.old ≤ 52 }
+    ensures value { result ≡ knot_count left.old }
+    ensures most { result ≤ 52 }
+{
+    knots_within(left, 52)
 }
 
 /// The number of cards that are not home, plus the number of knots that are met while the cards are taken out of the
@@ -48,8 +62,28 @@ pub fn knot_bound(position: &Position) -> u8
     ensures most { result ≤ GREATEST_BOUND }
     ensures whole { IsPosition position.now }
 {
-    let mut table = Table::blank();
-    table.fill(position);
-    let mut left = Left::new(position, &table);
-    away(position) + knot_count(&mut left)
+    let away = away(position);
+    let mut rows = blank();
+    let marks = fill(&mut rows, position);
+    let mut left = Left::new(position, &rows, marks);
+    away + knot_count(&mut left)
+}
+
+// The knot bound, counted no further than asked: the bound itself where it is at most so much, else a number above that which
+// is nowhere greater than the bound. No knot is counted where the plain bound alone is more.
+pub(crate) fn knot_bound_within(position: &Position, most: u8) -> u8
+    ensures lower { result ≤ knot_bound position.now }
+    ensures exact { result ≤ most → result ≡ knot_bound position.now }
+    ensures greatest { result ≤ GREATEST_BOUND }
+    ensures whole { IsPosition position.now }
+{
+    let plain = bound(position);
+    if most < plain {
+        return plain;
+    }
+    let mut rows = blank();
+    let marks = fill(&mut rows, position);
+    let mut left = Left::new(position, &rows, marks);
+    let away = away(position);
+    away + knots_within(&mut left, most - away)
 }

@@ -12,10 +12,11 @@ pub use clearing::clearing_bound;
 pub use kinds::BoundKind;
 pub use knots::knot_bound;
 
+mod bits;
 mod bounds;
 mod clearing;
 mod columns;
-mod fronts;
 mod kinds;
 mod knots;
 pub mod laws;
+mod rows;

@@ -1,5 +1,6 @@
 pub mod Laws
 pub mod Queue
 pub mod Stack
+pub mod Tie
 pub mod Walk
 pub mod inner

@@ -38,6 +38,16 @@ pub trait Frontier {
         ensures added { OnOk result (Adds (pairs self.old) (pairs self.new) (f, node)) }
         ensures refused { OnErr result (pairs self.new ≡ pairs self.old) };
 
+    /// Puts in one pair with its tie, by which a queue may tell pairs of equal `f` apart: the least tie first. A queue that
+    /// has no use for ties takes the pair as `push` does.
+    fn push_tied(&mut self, f: u32, tie: u8, node: u32) -> Result<(), Full>
+        ensures added { OnOk result (Adds (pairs self.old) (pairs self.new) (f, node)) }
+        ensures refused { OnErr result (pairs self.new ≡ pairs self.old) }
+    {
+        let _unused = tie;
+        self.push(f, node)
+    }
+
     /// Takes out a pair of least `f`; `None` exactly where there is no pair.
     fn pop_least(&mut self) -> Option<(u32, u32)>
         ensures taken { IfSome result (λ p. Adds (pairs self.new) (pairs self.old) p) }

@@ -1,8 +1,10 @@
 ghost use Rattle.std.specs.Prelude.{◌≡◌, ◌+◌, ◌≤◌, [], ◌∷◌, ◌++◌, length};
 ghost use Rattle.std.specs.Iterator.{YieldsFirst, item_count};
 ghost use Rattle.fc_frontier.specs.Stack.{nodes_of};
+ghost use Rattle.fc_frontier.specs.Tie.{pairs_of};
 ghost use Rattle.fc_frontier.specs.Walk.{walked};
 
+use crate::tied_pairs::TiedPair;
 use std::marker::Model;
 
 /// The pairs of a queue, each once for each time that it stands there, in any order. Contracts see the pairs that are
@@ -11,6 +13,7 @@ use std::marker::Model;
 pub struct Pairs<'a> {
     near: Near<'a>,
     far: &'a [(u32, u32)],
+    tied: &'a [TiedPair],
 }
 
 // Nodes of one f, and the stacks of the f that follow it.
@@ -24,11 +27,12 @@ struct Near<'a> {
 impl<'a> Model for Pairs<'a> {
     ghost use Rattle.std.specs.Prelude.{ℕ, ◌+◌, ◌≤◌, List, ◌∷◌, ◌++◌, length};
     ghost use Rattle.fc_frontier.specs.Stack.{nodes_of};
+    ghost use Rattle.fc_frontier.specs.Tie.{pairs_of};
     ghost use Rattle.fc_frontier.specs.Walk.{walked};
 
     ghost Value = { List (ℕ × ℕ) };
 
-    ghost view = { λ s. walked s.near.f (s.near.nodes.now ∷ nodes_of s.near.stacks.now) ++ s.far.now };
+    ghost view = { λ s. walked s.near.f (s.near.nodes.now ∷ nodes_of s.near.stacks.now) ++ s.far.now ++ pairs_of s.tied.now };
 
     ghost invariant = { λ s. s.near.f + length s.near.stacks.now ≤ 1024 };
 }
@@ -71,7 +75,26 @@ impl<'a> Pairs<'a> {
                 stacks,
             },
         };
-        Pairs { near, far }
+        Pairs {
+            near,
+            far,
+            tied: &[],
+        }
+    }
+
+    // The pairs of a queue that keeps all of them with their ties.
+    pub(crate) fn of_tied(tied: &'a [TiedPair]) -> Pairs<'a>
+        ensures items { result ≡ pairs_of tied.now }
+    {
+        Pairs {
+            near: Near {
+                f: 0,
+                nodes: &[],
+                stacks: &[],
+            },
+            far: &[],
+            tied,
+        }
     }
 }
 
@@ -84,16 +107,16 @@ impl<'a> Iterator for Pairs<'a> {
 
     fn next(&mut self) -> Option<(u32, u32)> {
         self.near.skip();
-        match self.near.nodes.split_first() {
-            Some((node, nodes)) => {
-                self.near.nodes = nodes;
-                Some((self.near.f, *node))
-            }
-            None => {
-                let (pair, far) = self.far.split_first()?;
-                self.far = far;
-                Some(*pair)
-            }
+        if let Some((node, nodes)) = self.near.nodes.split_first() {
+            self.near.nodes = nodes;
+            return Some((self.near.f, *node));
         }
+        if let Some((pair, far)) = self.far.split_first() {
+            self.far = far;
+            return Some(*pair);
+        }
+        let (entry, tied) = self.tied.split_first()?;
+        self.tied = tied;
+        Some(entry.pair())
     }
 }

@@ -4,7 +4,7 @@
 use crate::given::{bakers_game, free_cell};
 use crate::plain::{self, Found};
 use crate::random::{Numbers, random_board, random_board_of};
-use fc_bound::{bound, clearing_bound, knot_bound};
+use fc_bound::{BoundKind, bound, clearing_bound, knot_bound};
 use fc_cards::{Card, Suit};
 use fc_moves::{Game, Kings};
 use fc_position::Position;
@@ -70,6 +70,20 @@ fn away(position: &Position) -> u32 {
     away
 }
 
+// Asked for no further than a number, a bound that is at most the number is told, and else one that is more than it and no more
+// than the bound.
+fn check_within(rt: &impl Abort, kind: BoundKind, whole: u8, board: &Position) {
+    for most in 0..60u8 {
+        let told = kind.guide_within(board, most);
+        assert!(rt; told <= whole, "more than the bound");
+        if whole <= most {
+            assert!(rt; told == whole, "another bound");
+        } else {
+            assert!(rt; told > most, "less than what was asked about");
+        }
+    }
+}
+
 // The bounds of a board are what they should be.
 fn check_board<G: Game>(rt: &impl Abort, alloc: Global, game: &G, board: &Position) {
     let clearing = u32::from(clearing_bound(board));
@@ -85,6 +99,8 @@ fn check_board<G: Game>(rt: &impl Abort, alloc: Global, game: &G, board: &Positi
         u32::from(knot_bound(board)) <= clearing,
         "the knot bound is greater"
     );
+    check_within(rt, BoundKind::Plain, bound(board), board);
+    check_within(rt, BoundKind::Clearing, knot_bound(board), board);
     if let Found::Shortest(moves) = plain::search(rt, alloc, game, board, 300) {
         assert!(rt; clearing as usize <= moves, "greater than a list is long");
     }

@@ -2,7 +2,7 @@
 
 use crate::given::sure;
 use crate::queues::OldestFirst;
-use fc_frontier::{BucketFrontier, Frontier, ListFrontier};
+use fc_frontier::{BucketFrontier, Frontier, ListFrontier, TieFrontier};
 use std::alloc::Global;
 use std::process::Abort;
 
@@ -12,6 +12,16 @@ fn put<F: Frontier>(rt: &impl Abort, queue: &mut F, f: u32, node: u32) {
     if queue.push(f, node).is_err() {
         assert!(rt; queue.len() == before, "after a refused push");
         sure(rt, queue.push(f, node));
+    }
+    assert!(rt; queue.len() == before.saturating_add(1), "after a push");
+}
+
+// The same with a tie.
+fn put_tied<F: Frontier>(rt: &impl Abort, queue: &mut F, f: u32, tie: u8, node: u32) {
+    let before = queue.len();
+    if queue.push_tied(f, tie, node).is_err() {
+        assert!(rt; queue.len() == before, "after a refused push");
+        sure(rt, queue.push_tied(f, tie, node));
     }
     assert!(rt; queue.len() == before.saturating_add(1), "after a push");
 }
@@ -40,6 +50,7 @@ fn a_pair_of_least_f_comes_first(rt: HostRuntime) {
     least_comes_first::<ListFrontier>(&rt, rt.alloc());
     least_comes_first::<BucketFrontier>(&rt, rt.alloc());
     least_comes_first::<OldestFirst>(&rt, rt.alloc());
+    least_comes_first::<TieFrontier>(&rt, rt.alloc());
 }
 
 // The pairs come in this order, and then nothing, twice.
@@ -66,6 +77,7 @@ fn ends_of_the_stacks<F: Frontier + Drop>(rt: &impl Abort, alloc: Global) {
 fn stacks_end_at_1023(rt: HostRuntime) {
     ends_of_the_stacks::<BucketFrontier>(&rt, rt.alloc());
     ends_of_the_stacks::<ListFrontier>(&rt, rt.alloc());
+    ends_of_the_stacks::<TieFrontier>(&rt, rt.alloc());
 }
 
 // Of equal f the pair that was pushed last comes first, in the stacks and behind them; a pair stands there as often as
@@ -106,6 +118,7 @@ fn newest_comes_first<F: Frontier + Drop>(rt: &impl Abort, alloc: Global) {
 fn of_equal_f_the_newest_comes_first(rt: HostRuntime) {
     newest_comes_first::<BucketFrontier>(&rt, rt.alloc());
     newest_comes_first::<ListFrontier>(&rt, rt.alloc());
+    newest_comes_first::<TieFrontier>(&rt, rt.alloc());
 }
 
 #[test]
@@ -116,4 +129,100 @@ fn a_new_queue_is_empty(rt: HostRuntime) {
     let mut buckets = BucketFrontier::new(rt.alloc());
     assert!(rt; buckets.len() == 0);
     assert!(rt; buckets.pop_least() == None);
+    let mut ties = TieFrontier::new(rt.alloc());
+    assert!(rt; ties.len() == 0);
+    assert!(rt; ties.pop_least() == None);
+}
+
+// Pairs with ties: the greatest f and the greatest tie among them, one pair twice, and f of 1,024 and more.
+const TIED: [(u32, u8, u32); 9] = [
+    (1024, 2, 1),
+    (70, 1, 2),
+    (70, 255, 3),
+    (4294967295, 0, 4),
+    (70, 1, 5),
+    (70, 0, 6),
+    (1024, 3, 7),
+    (70, 1, 2),
+    (69, 255, 8),
+];
+
+fn filled_with_ties<F: Frontier + Drop>(rt: &impl Abort, alloc: Global) -> F {
+    let mut queue = F::new(alloc);
+    for (f, tie, node) in &TIED {
+        put_tied(rt, &mut queue, *f, *tie, *node);
+    }
+    queue
+}
+
+#[test]
+fn of_equal_f_the_least_tie_comes_first(rt: HostRuntime) {
+    let mut queue: TieFrontier = filled_with_ties(&rt, rt.alloc());
+    assert!(rt; queue.pop_least() == Some((69, 8)));
+    assert!(rt; queue.pop_least() == Some((70, 6)));
+    // A push is one with the tie 0.
+    put_tied(&rt, &mut queue, 70, 1, 9);
+    put(&rt, &mut queue, 70, 10);
+    put_tied(&rt, &mut queue, 70, 0, 11);
+    comes_in_order(
+        &rt,
+        &mut queue,
+        &[
+            (70, 11),
+            (70, 10),
+            (70, 9),
+            (70, 2),
+            (70, 5),
+            (70, 2),
+            (70, 3),
+            (1024, 1),
+            (1024, 7),
+            (4294967295, 4),
+        ],
+    );
+}
+
+// A queue that has no use for ties gives of equal f the newest, whatever its tie is.
+fn newest_whatever_the_tie<F: Frontier + Drop>(rt: &impl Abort, alloc: Global) {
+    let mut queue: F = filled_with_ties(rt, alloc);
+    comes_in_order(
+        rt,
+        &mut queue,
+        &[
+            (69, 8),
+            (70, 2),
+            (70, 6),
+            (70, 5),
+            (70, 3),
+            (70, 2),
+            (1024, 7),
+            (1024, 1),
+            (4294967295, 4),
+        ],
+    );
+}
+
+#[test]
+fn ties_of_other_queues_are_of_no_use(rt: HostRuntime) {
+    newest_whatever_the_tie::<BucketFrontier>(&rt, rt.alloc());
+    newest_whatever_the_tie::<ListFrontier>(&rt, rt.alloc());
+}
+
+// Each pair is walked over, as often as it stands there: by their number and the sums of both parts.
+fn walks_over_all<F: Frontier + Drop>(rt: &impl Abort, alloc: Global) {
+    let queue: F = filled_with_ties(rt, alloc);
+    let (mut count, mut sum_of_f, mut sum_of_nodes) = (0u32, 0u64, 0u64);
+    for (f, node) in queue.iter() {
+        count = count.saturating_add(1);
+        sum_of_f = sum_of_f.saturating_add(f as u64);
+        sum_of_nodes = sum_of_nodes.saturating_add(node as u64);
+    }
+    assert!(rt; (count, sum_of_f, sum_of_nodes) == (9, 4294969762, 38));
+}
+
+#[test]
+fn each_pair_is_walked_over(rt: HostRuntime) {
+    walks_over_all::<BucketFrontier>(&rt, rt.alloc());
+    walks_over_all::<ListFrontier>(&rt, rt.alloc());
+    walks_over_all::<TieFrontier>(&rt, rt.alloc());
 }

@@ -11,20 +11,20 @@ use Rattle.fc_bound.proofs.clearing.clearing_bound.Goals as goal
 pub count_knots-cost-requires-clause-few : goal.count_knots-cost-requires-clause-few
 count_knots-cost-requires-clause-few c =
     let all = ap cards_in c.new-left.ensures.value in
-    omega (arith, all, cards_most c.args.position.now c.new-left.ensures.whole)
+    omega (arith, all, cards_most c.args.position.now c.away-away.ensures.whole)
 
 pub count_knots-cost-requires-clause-cards : goal.count_knots-cost-requires-clause-cards
 count_knots-cost-requires-clause-cards c =
-    subst AreCards (sym c.new-left.ensures.value) (position_cards c.args.position.now c.new-left.ensures.whole)
+    subst AreCards (sym c.new-left.ensures.value) (position_cards c.args.position.now c.away-away.ensures.whole)
 
 pub costs_at_most-requires-clause-few : goal.costs_at_most-requires-clause-few
 costs_at_most-requires-clause-few c =
     let all = ap cards_in (c.copy.ensures.value ∙ c.new-left.ensures.value) in
-    omega (arith, all, cards_most c.args.position.now c.new-left.ensures.whole)
+    omega (arith, all, cards_most c.args.position.now c.away-away.ensures.whole)
 
 pub costs_at_most-requires-clause-cards : goal.costs_at_most-requires-clause-cards
 costs_at_most-requires-clause-cards c =
-    subst AreCards (sym (c.copy.ensures.value ∙ c.new-left.ensures.value)) (position_cards c.args.position.now c.new-left.ensures.whole)
+    subst AreCards (sym (c.copy.ensures.value ∙ c.new-left.ensures.value)) (position_cards c.args.position.now c.away-away.ensures.whole)
 
 pub overflow_add-result : goal.overflow_add-result
 overflow_add-result c =
@@ -56,7 +56,7 @@ returns-clause-value c =
       c.loop-cost.invariant,
       c.loop-cost-test.false,
       clearing_least c.args.position.now.columns [],
-      cards_most c.args.position.now c.new-left.ensures.whole,
+      cards_most c.args.position.now c.away-away.ensures.whole,
     )
 
 pub returns-clause-most : goal.returns-clause-most

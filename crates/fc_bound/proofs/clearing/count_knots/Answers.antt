@@ -12,5 +12,4 @@ returns c =
     record {
       value = count;
       least = omega (arith, count, count_is s, knot_cost_no_greater (cards_in s) s c.requires.cards);
-      eight = c.copy-copy.ensures.eight;
     }

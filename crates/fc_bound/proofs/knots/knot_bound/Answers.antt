@@ -9,16 +9,16 @@ use Rattle.fc_bound.proofs.knots.knot_bound.Goals as goal
 pub knot_count-requires : goal.knot_count-requires
 knot_count-requires c =
     let all = ap cards_in c.new-left.ensures.value in
-    record { few = omega (arith, all, cards_most c.args.position.now c.new-left.ensures.whole) }
+    record { few = omega (arith, all, cards_most c.args.position.now c.away-away.ensures.whole) }
 
 pub overflow_add-result : goal.overflow_add-result
-overflow_add-result c = omega (arith, c.away.ensures.value, count-most (is_away c.args.position.now), c.knot_count.ensures.most)
+overflow_add-result c = omega (arith, c.away-away.ensures.value, count-most (is_away c.args.position.now), c.knot_count.ensures.most)
 
 pub returns-clause-value : goal.returns-clause-value
 unfolding knot_bound
 returns-clause-value c =
     let all = ap knot_count c.new-left.ensures.value in
-    omega (arith, c.away.ensures.value, c.knot_count.ensures.value, all)
+    omega (arith, c.away-away.ensures.value, c.knot_count.ensures.value, all)
 
 pub returns-clause-most : goal.returns-clause-most
-returns-clause-most c = omega (arith, c.away.ensures.value, count-most (is_away c.args.position.now), c.knot_count.ensures.most)
+returns-clause-most c = omega (arith, c.away-away.ensures.value, count-most (is_away c.args.position.now), c.knot_count.ensures.most)

@@ -1,13 +1,14 @@
-use Rattle.std.proofs.Common.{sym, ◌∙◌, ap, arith}
-use Rattle.std.specs.Prelude.{nat_lt}
+use Rattle.std.proofs.Common.{◌^◌, ◌<◌, ◌∙◌, ap, arith}
 use Rattle.std.specs.List.{list_any}
 use Rattle.fc_position.specs.Board.{last_of}
 use Rattle.fc_bound.specs.Knots.{has_last}
-use Rattle.fc_bound.proofs.FrontLemmas.{some_left}
+use Rattle.fc_bound.proofs.LooseLemmas.{left_some}
 use Rattle.fc_bound.proofs.columns.Left.has_cards.Goals as goal
 
 pub returns : goal.returns
-returns c = record {
-  value = c.has_more.ensures.value ∙ ap (list_any (λ h. nat_lt 0 h)) c.as_slice.ensures ∙ some_left c.self.inside.heights c.self.inside.position.now.columns (c.self.invariant.each ∙ sym c.self.invariant.eight) (λ i inside. c.self.invariant.within i (omega (arith, inside, c.self.invariant.eight)))
-      ∙ ap (list_any (λ column. has_last (last_of column))) c.self.view_is;
-}
+returns c =
+    let fits : c.self.inside.all < 2 ^ 64 = omega arith in
+    record {
+      value = left_some c.self.inside.position.now c.self.inside.rows.now c.self.inside.held c.self.inside.all c.self.inside.lasts c.self.invariant fits
+          ∙ ap (list_any (λ column. has_last (last_of column))) c.self.view_is;
+    }

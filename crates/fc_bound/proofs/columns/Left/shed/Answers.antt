@@ -1,30 +1,79 @@
-use Rattle.std.proofs.Common.{◌<◌, ◌+◌, Bool, List, length, sym, ◌∙◌, ap, subst, arith}
+use Rattle.std.proofs.Common.{◌≡◌, ℕ, Bool, true, false, cond, List, length, refl, sym, ◌∙◌, ap, arith}
+use Rattle.std.specs.Prelude.{◌&&◌}
 use Rattle.std.proofs.lemmas.List.{length-map}
-use Rattle.fc_bound.proofs.FrontLemmas.{ShedTo, flag_at, shed_one, shed_not, shed_whole}
-use Rattle.fc_bound.proofs.columns.Left.shed.Goals.{then-flags-i, else-flags-i}
+use Rattle.fc_position.specs.Board.{last_of, front_of}
+use Rattle.fc_bound.specs.Knots.{waits_above}
+use Rattle.fc_bound.proofs.HeldLemmas.{bit_most}
+use Rattle.fc_bound.proofs.LeftLemmas.{ends_at, at_ends}
+use Rattle.fc_bound.proofs.ShedLemmas.{is_gone, Goes, stays, still, one_gone, one_met, first_gone, first_met, last_gone, last_met, met_most}
 use Rattle.fc_bound.proofs.columns.Left.shed.Goals as goal
+use mir.Val.{bool_byte}
 
-pub loop-i-preserved : goal.loop-i-preserved
-loop-i-preserved c = record {
-  so = λ test are.
-      let s = c.args.self.now in
-      let i = c.loop-i.i in
-      let so = c.loop-i.invariant.so test are in
-      let long = ap (λ (flags : List Bool). length flags) are ∙ length-map s test in
-      let inside : i < length s = omega (arith, long, c.loop-i.invariant.eight, c.loop-i-test.true) in
-      let flag = flag_at test s c.args.flags i inside are in
-      elim c.if-flags-i.branch [
-        | then-flags-i w ↦ subst (λ v. ShedTo test s v (i + 1)) (sym (w.self-is ∙ w.take.ensures.value))
-            (shed_one test s c.loop-i.self i so inside (sym flag ∙ w.if-flags-i.true))
-        | else-flags-i w ↦ subst (λ v. ShedTo test s v (i + 1)) (sym w.self-is) (shed_not test s c.loop-i.self i so (sym flag ∙ w.if-flags-i.false))
-      ];
-  eight = c.loop-i.invariant.eight;
-}
+-- a test as a number
+byte : (t : Bool) → bool_byte t ≡ cond t 1 0
+byte true = refl
+byte false = refl
+
+pub loop-rest-init : goal.loop-rest-init
+loop-rest-init c = record { some = λ u set. set; gone = first_gone c.args.self.now c.args.bits; met = sym (first_met c.args.self.now c.args.bits) }
+
+pub waits_above-requires : goal.waits_above-requires
+waits_above-requires c =
+    let s = c.args.self.now in
+    let u = c.least-u.result in
+    let e = ends_at s u (c.requires.lasts u (c.loop-rest.invariant.some u c.least-u.ensures.set)) in
+    let same = stays s c.loop-rest.self c.args.bits c.loop-rest.rest e.place u c.loop-rest.invariant.gone e.inside c.least-u.ensures.set e.last in
+    record { last = at_ends c.loop-rest.self e.place u (ap last_of same ∙ e.last) }
+
+pub overflow_add-met : goal.overflow_add-met
+overflow_add-met c =
+    let s = c.args.self.now in
+    let long : length c.loop-rest.self ≡ length s = ap (λ (v : List (List ℕ)). length v) c.loop-rest.invariant.gone
+    ∙ length-map s (λ x. cond (is_gone c.args.bits c.loop-rest.rest x) (front_of x) x) in
+    omega (
+      arith,
+      c.loop-rest.invariant.met,
+      met_most s (λ x. is_gone c.args.bits c.loop-rest.rest x && waits_above x),
+      long,
+      c.waits_above.ensures.eight,
+      byte c.waits_above.result,
+      bit_most c.waits_above.result,
+    )
+
+pub take-requires : goal.take-requires
+take-requires c =
+    let s = c.args.self.now in
+    let u = c.least-u.result in
+    let e = ends_at s u (c.requires.lasts u (c.loop-rest.invariant.some u c.least-u.ensures.set)) in
+    let same = stays s c.loop-rest.self c.args.bits c.loop-rest.rest e.place u c.loop-rest.invariant.gone e.inside c.least-u.ensures.set e.last in
+    record { last = at_ends c.loop-rest.self e.place u (ap last_of same ∙ e.last) }
+
+pub loop-rest-preserved : goal.loop-rest-preserved
+loop-rest-preserved c =
+    let s = c.args.self.now in
+    let u = c.least-u.result in
+    let kept = c.loop-rest.invariant in
+    let among = kept.some u c.least-u.ensures.set in
+    let e = ends_at s u (c.requires.lasts u among) in
+    let same = stays s c.loop-rest.self c.args.bits c.loop-rest.rest e.place u kept.gone e.inside c.least-u.ensures.set e.last in
+    let goes : Goes s c.loop-rest.self c.args.bits c.loop-rest.rest c.remove-rest.result u =
+    record { is = kept.gone; set = c.least-u.ensures.set; among = among; removed = c.remove-rest.ensures.value; apart = c.take.ensures.apart } in
+    let one = byte c.waits_above.result
+    ∙ ap (λ t. cond t 1 0) (c.waits_above.ensures.value e.place (ap last_of same ∙ e.last) ∙ ap waits_above same) in
+    record {
+      some = λ w set. kept.some w (still c.loop-rest.rest c.remove-rest.result u w c.remove-rest.ensures.value set);
+      gone = c.take.ensures.value e.place (ap last_of same ∙ e.last)
+          ∙ one_gone s c.loop-rest.self c.args.bits c.loop-rest.rest c.remove-rest.result u e.place goes e.inside e.last;
+      met = omega (
+        arith,
+        kept.met,
+        one,
+        one_met s c.loop-rest.self c.args.bits c.loop-rest.rest c.remove-rest.result u e.place goes e.inside e.last,
+      );
+    }
 
 pub returns : goal.returns
 returns c = record {
-  value = λ test are.
-      let long = ap (λ (flags : List Bool). length flags) are ∙ length-map c.args.self.now test in
-      shed_whole test c.args.self.now c.loop-i.self c.loop-i.i (c.loop-i.invariant.so test are)
-      (omega (arith, long, c.loop-i.invariant.eight, c.loop-i-test.false));
+  value = c.loop-rest.invariant.gone ∙ last_gone c.args.self.now c.args.bits c.loop-rest.rest c.loop-rest-test.false;
+  met = c.loop-rest.invariant.met ∙ last_met c.args.self.now c.args.bits c.loop-rest.rest c.loop-rest-test.false;
 }

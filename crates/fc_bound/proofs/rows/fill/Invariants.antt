@@ -1,0 +1,16 @@
+use Rattle.std.proofs.Common.{◌≡◌, ℕ, ◌<◌, [], Some, length, take, get_or}
+use Rattle.std.specs.List.{list_any}
+use Rattle.fc_position.specs.Board.{last_of}
+use Rattle.fc_bound.specs.Bound.{is_above_lower}
+use Rattle.fc_bound.specs.inner.Rows.{AreBits, IsRow, no_row, stands_among, ends_among}
+use Rattle.fc_bound.proofs.rows.fill.Given as goal
+
+abbrev pub invariant-loop-i : goal.invariant-loop-i
+invariant-loop-i l = record {
+  long : length l.rows ≡ 52;
+  each : (j h u : ℕ) → j < l.i → last_of (take h (get_or l.position.columns j [])) ≡ Some u
+      → IsRow (get_or l.rows u no_row) (take h (get_or l.position.columns j []));
+  stand : AreBits l.all (stands_among (take l.i l.position.columns));
+  ends : AreBits l.lasts (ends_among (take l.i l.position.columns));
+  above : AreBits l.held (λ c. list_any (is_above_lower c) (take l.i l.position.columns));
+}

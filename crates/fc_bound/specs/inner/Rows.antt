@@ -1,0 +1,86 @@
+-- What is left of columns while cards are taken out of them, as bits of cards.
+use Rattle.std.specs.Prelude.{◌≡◌, ℕ, ◌-◌, ◌*◌, ◌<◌, ◌≤◌, ◌==◌, ◌&&◌, Bool, true, false, not, cond, bit_and, length, take, map, List, [], ◌∷◌, Option, Some, None, slice_index_or}
+use Rattle.std.specs.Int.{bit_at}
+use Rattle.std.specs.List.{list_any}
+use Rattle.fc_position.specs.Board.{Board, last_of, front_of}
+use Rattle.fc_position.specs.Position.{IsPosition}
+use Rattle.fc_bound.specs.declared.rows.Row.{Row}
+use Rattle.fc_bound.specs.Bound.{is_lower, stands_in, is_above_lower}
+use Rattle.fc_bound.specs.Knots.{has_last, ends_with, are_knotted}
+
+-- the cards of a column up to the first whose bit is not set
+abbrev pub left_of : ℕ → List ℕ → List ℕ
+left_of bits [] = []
+left_of bits (c ∷ cards) = cond (bit_at bits c == 1) (c ∷ left_of bits cards) []
+
+-- the same of each column
+abbrev pub left_in : ℕ → List (List ℕ) → List (List ℕ)
+left_in bits columns = map (left_of bits) columns
+
+-- the bits of the numbers that pass a test
+abbrev pub AreBits : ℕ → (ℕ → Bool) → Type 0
+AreBits bits test = (x : ℕ) → bit_at bits x ≡ cond (test x) 1 0
+
+-- the bits tell of cards whether one of them passes a test: they share a bit with those of the test
+abbrev pub Tells : ℕ → List (List ℕ) → Type 0
+Tells bits columns = (passing : ℕ) (test : ℕ → Bool) → AreBits passing test
+    → (bit_and bits passing == 0) ≡ not (list_any (list_any test) columns)
+
+-- a lower card of the suit of the last card; where there is none, no card is
+abbrev pub is_lower_than : Option ℕ → ℕ → Bool
+is_lower_than None x = false
+is_lower_than (Some u) x = is_lower u x
+
+-- a number that is less by a multiple of four has its bit set
+abbrev pub HasLower : ℕ → ℕ → Type 0
+HasLower bits c = (k : ℕ) × (0 < k) × (4 * k ≤ c) × (bit_at bits (c - 4 * k) ≡ 1)
+
+-- the card stands in one of the columns; it is the last of one of them
+abbrev pub stands_among : List (List ℕ) → ℕ → Bool
+stands_among columns c = list_any (λ column. stands_in column c) columns
+
+abbrev pub ends_among : List (List ℕ) → ℕ → Bool
+ends_among columns c = list_any (λ column. ends_with c (last_of column)) columns
+
+-- a last card has its bit set
+abbrev pub ends_in : ℕ → Option ℕ → Bool
+ends_in bits None = false
+ends_in bits (Some u) = bit_at bits u == 1
+
+-- the bits are those of the last cards of the columns that pass a test
+pub record Mark (bits : ℕ) (columns : List (List ℕ)) (test : List ℕ → Bool) : Type 0 where
+  pub lasts : (u : ℕ) → bit_at bits u ≡ 1 → ends_among columns u ≡ true
+  pub each : (k : ℕ) → k < length columns
+      → ends_in bits (last_of (slice_index_or columns k [])) ≡ (test (slice_index_or columns k []) && has_last (last_of (slice_index_or columns k [])))
+
+-- no two columns have one last card
+abbrev pub AreApart : List (List ℕ) → Type 0
+AreApart columns = (i k u : ℕ) → last_of (slice_index_or columns i []) ≡ Some u → last_of (slice_index_or columns k []) ≡ Some u → i ≡ k
+
+-- whether columns that end with these cards are knotted
+abbrev pub Knotted : List (List ℕ) → ℕ → ℕ → Bool → Type 0
+Knotted columns u v so = (i j : ℕ) → last_of (slice_index_or columns i []) ≡ Some u → last_of (slice_index_or columns j []) ≡ Some v
+    → are_knotted (slice_index_or columns i []) (slice_index_or columns j []) ≡ so
+
+-- what is read past the end of rows
+abbrev pub no_row : Row
+no_row = record { cards = 0; beneath = 0 }
+
+-- what is known of the last one of these cards of a column
+pub record IsRow (row : Row) (cards : List ℕ) : Type 0 where
+  pub tells : Tells row.cards (cards ∷ [])
+  pub beneath : AreBits row.beneath (λ c. ends_with c (last_of (front_of cards)))
+
+-- the rows of each number of each column's lowest cards, by their last one
+abbrev pub AreRows : List (List ℕ) → List Row → Type 0
+AreRows columns rows = (i h u : ℕ) → last_of (take h (slice_index_or columns i [])) ≡ Some u
+    → IsRow (slice_index_or rows u no_row) (take h (slice_index_or columns i []))
+
+-- these cards are left of a position's columns, and these are the last ones
+pub record IsLeft (b : Board) (rows : List Row) (held all lasts : ℕ) : Type 0 where
+  pub whole : IsPosition b
+  pub long : length rows ≡ 52
+  pub each : AreRows b.columns rows
+  pub above : AreBits held (λ c. list_any (is_above_lower c) b.columns)
+  pub stand : AreBits all (stands_among (left_in all b.columns))
+  pub ends : AreBits lasts (ends_among (left_in all b.columns))
