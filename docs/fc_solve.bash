@@ -2,10 +2,11 @@
 
 _fc_solve() {
   local word=${COMP_WORDS[COMP_CWORD]} before=${COMP_WORDS[COMP_CWORD - 1]} words
-  local game="--game --kings --cells" search="--budget --within --bound --rule"
+  local game="--game --kings --cells" search="--budget --within --bound --expand --rule"
   case $before in
     --game) words="freecell bakers" ;;
     --bound) words="plain clearing" ;;
+    --expand) words="full partial" ;;
     --cells) words="0 1 2 3 4" ;;
     --rule) words="0 1 2" ;;
     --within) words="1 2 3 4 5 6 7 8 9 10" ;;

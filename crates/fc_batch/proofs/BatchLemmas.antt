@@ -106,8 +106,8 @@ few (Ok Done) = omega arith
 few (Err fault) = omega arith
 
 by_status : (task : Task (List ℕ)) (old new : Store (List ℕ)) (before after : Status (List ℕ))
-    (reply : Result Step SearchFault) → Turns task before old new after reply → (reply ≡ Ok Running → left_of task.budget new < left_of task.budget old)
-    → while_running after (left_of task.budget new) + running reply ≤ while_running before (left_of task.budget old)
+    (reply : Result Step SearchFault) → Turns task before old new after reply → (reply ≡ Ok Running → left_of task.strategy.budget new < left_of task.strategy.budget old)
+    → while_running after (left_of task.strategy.budget new) + running reply ≤ while_running before (left_of task.strategy.budget old)
 by_status task old new status.Running status.Running reply turn falls =
     ⊎_elim
     (λ (takes, told). let less = falls told in let one : running reply ≡ 1 = ap running told in omega (arith, less, one))
@@ -119,29 +119,29 @@ by_status task old new status.Running (status.GaveUp y n) reply turn falls = ome
 by_status task old new status.Running status.Stopped reply turn falls = omega (arith, few reply)
 by_status task old new (status.Won n) after reply (same, stays, told) falls =
     let none : running reply ≡ 0 = ap running told in
-    let nothing : while_running after (left_of task.budget new) ≡ 0 = ap (λ s. while_running s (left_of task.budget new)) stays in
+    let nothing : while_running after (left_of task.strategy.budget new) ≡ 0 = ap (λ s. while_running s (left_of task.strategy.budget new)) stays in
     omega (arith, none, nothing)
 by_status task old new status.CannotWin after reply (same, stays, told) falls =
     let none : running reply ≡ 0 = ap running told in
-    let nothing : while_running after (left_of task.budget new) ≡ 0 = ap (λ s. while_running s (left_of task.budget new)) stays in
+    let nothing : while_running after (left_of task.strategy.budget new) ≡ 0 = ap (λ s. while_running s (left_of task.strategy.budget new)) stays in
     omega (arith, none, nothing)
 by_status task old new (status.GaveUp y n) after reply (same, stays, told) falls =
     let none : running reply ≡ 0 = ap running told in
-    let nothing : while_running after (left_of task.budget new) ≡ 0 = ap (λ s. while_running s (left_of task.budget new)) stays in
+    let nothing : while_running after (left_of task.strategy.budget new) ≡ 0 = ap (λ s. while_running s (left_of task.strategy.budget new)) stays in
     omega (arith, none, nothing)
 by_status task old new status.Stopped after reply (same, stays, told) falls =
     let none : running reply ≡ 0 = ap running told in
-    let nothing : while_running after (left_of task.budget new) ≡ 0 = ap (λ s. while_running s (left_of task.budget new)) stays in
+    let nothing : while_running after (left_of task.strategy.budget new) ≡ 0 = ap (λ s. while_running s (left_of task.strategy.budget new)) stays in
     omega (arith, none, nothing)
 
 -- a turn leaves its search less to do, where it runs on, and never more
 turn_falls : (before after : State) (reply : Result Step SearchFault) → HasTurn before after reply
-    → (reply ≡ Ok Running → left_of before.problem.method.budget after.store < left_of before.problem.method.budget before.store)
+    → (reply ≡ Ok Running → left_of before.problem.method.strategy.budget after.store < left_of before.problem.method.strategy.budget before.store)
     → work_of after + running reply ≤ work_of before
 turn_falls before after reply turn falls =
     let less = by_status (task_of_problem before.problem) before.store after.store before.status after.status reply
     turn.turned falls in
-    let same = ap (λ (p : Problem). while_running after.status (left_of p.method.budget after.store)) turn.problem in
+    let same = ap (λ (p : Problem). while_running after.status (left_of p.method.strategy.budget after.store)) turn.problem in
     omega (arith, less, same)
 
 -- what a map's entries are after its search with a number was written to
@@ -174,7 +174,7 @@ module _ (i : ℕ) (es fs : List (ℕ × State)) (before after : State) (there :
 
   -- what is left to do falls where the search runs on, and never rises
   pub work_falls : (added : ℕ) (reply : Result Step SearchFault) → fs ≡ set_value (nat_eq i) es after → HasTurn before after reply
-      → (reply ≡ Ok Running → left_of before.problem.method.budget after.store < left_of before.problem.method.budget before.store)
+      → (reply ≡ Ok Running → left_of before.problem.method.strategy.budget after.store < left_of before.problem.method.strategy.budget before.store)
       → work_left (record { searches = fs; added = added }) + running reply ≤ work_left (record { searches = es; added = added })
   work_falls added reply written turn falls =
       let less = turn_falls before after reply turn falls in

@@ -87,7 +87,7 @@ while_running other left = 0
 
 -- how much a search may still do, by its status: nothing unless it runs
 abbrev pub work_of : State → ℕ
-work_of s = while_running s.status (left_of s.problem.method.budget s.store)
+work_of s = while_running s.status (left_of s.problem.method.strategy.budget s.store)
 
 -- how much the searches of a batch may still do, in all
 abbrev pub work_left : Batch → ℕ

@@ -1,37 +1,43 @@
--- Lemmas on how a search begins: what offering the first key leaves is kept.
-use Rattle.std.proofs.Common.{◌≡◌, ℕ, ◌+◌, ◌*◌, ◌<◌, ◌≤◌, suc, zero, Some, [], ◌∷◌, ◌++◌, length, refl, sym, ◌∙◌, ap, subst, inl, ⊎_elim, arith}
-use Rattle.std.specs.Prelude.{slice_get, slice_index_or, Contains}
+-- Lemmas on how a search begins: what storing the first key leaves is kept.
+use Rattle.std.proofs.Common.{◌≡◌, ℕ, ◌+◌, ◌*◌, ◌≤◌, suc, zero, Some, [], ◌∷◌, ◌++◌, length, refl, sym, ◌∙◌, ap, subst, inl, ⊎_elim, arith}
+use Rattle.std.specs.Prelude.{slice_get}
+use Rattle.std.proofs.lemmas.Bool.{cases_lt}
 use Rattle.std.proofs.lemmas.Option.{none-some, some_pair_parts}
-use Rattle.std.proofs.lemmas.List.Sorted.{All-permutation}
 use Rattle.fc_frontier.specs.Queue.{Adds}
 use Rattle.fc_best_first.specs.declared.books.Mark.{Mark}
+use Rattle.fc_best_first.specs.declared.books.Opening.{Opening}
 use Rattle.fc_best_first.specs.declared.books.Offered.{Offered}
-use Rattle.fc_best_first.specs.declared.books.Offered.TheVariants.{Known, Lowered, Added, Full}
-use Rattle.fc_best_first.specs.Graph.{Graph, Reached, IsLawful}
-use Rattle.fc_best_first.specs.Store.{Store, IsStored, Offers}
-use Rattle.fc_best_first.specs.Kept.{IsOpenOrExpanded, IsNeeded, Comes, IsKept}
+use Rattle.fc_best_first.specs.declared.books.Offered.TheVariants.{Known, Lowered, Added, Full, PutOff}
+use Rattle.fc_best_first.specs.declared.strategies.Expansion.{Expansion}
+use Rattle.fc_best_first.specs.declared.strategies.Expansion.TheVariants as expansion
+use Rattle.fc_best_first.specs.declared.strategies.Strategy.{Strategy}
+use Rattle.fc_best_first.specs.Graph.{Task, Reached, IsLawful}
+use Rattle.fc_best_first.specs.Store.{Store, Candidate, IsStored, NotesLast, Stores, opens_at}
+use Rattle.fc_best_first.specs.Turn.{opening_of}
+use Rattle.fc_best_first.specs.Kept.{AreNoted, Comes, IsKept, IsNeeded, IsOpenAt, IsOpenOrExpanded, f_of}
 use Rattle.fc_best_first.specs.Shown.{IsFloor}
 use Rattle.fc_best_first.proofs.KeptLemmas.{added_there, added_cases}
-use Rattle.fc_best_first.specs.Store.{Candidate}
-use Rattle.fc_best_first.proofs.ClosedLemmas.{least_floor}
+use Rattle.fc_best_first.proofs.ClosedLemmas.{weighed_past}
 
--- what offering the first key leaves
-pub first_offered : {K : Type 0} (budget : ℕ) (empty new : Store K) (offer : Candidate K) (o : Offered K)
-    → empty.stored ≡ [] → empty.waiting ≡ [] → 1 ≤ budget → Offers budget empty new offer o
-    → (new.stored ≡ (offer.key, offer.mark) ∷ []) × Adds [] new.waiting (offer.f, 0)
-first_offered budget empty new offer Known none quiet some_room (i, was, at, rest) =
-    absurd (none-some (offer.key, was) (subst (λ es. slice_get es i ≡ Some (offer.key, was)) none at))
-first_offered budget empty new offer Lowered none quiet some_room (i, was, at, rest) =
-    absurd (none-some (offer.key, was) (subst (λ es. slice_get es i ≡ Some (offer.key, was)) none at))
-first_offered budget empty new offer Added none quiet some_room (fresh, lt, stored, opened) = (
+-- what storing the first key leaves
+pub first_stored : {K : Type 0} (strategy : Strategy) (empty new : Store K) (offer : Candidate K) (o : Offered K)
+    → empty.stored ≡ [] → empty.waiting ≡ [] → empty.openings ≡ [] → 1 ≤ strategy.budget → Stores strategy empty new offer o
+    → (new.stored ≡ (offer.key, offer.mark) ∷ []) × Adds [] new.waiting (opens_at offer.mark offer.opening, 0)
+    × NotesLast strategy.expansion [] new.openings offer.opening
+first_stored strategy empty new offer Known none quiet unnoted some_room h = absurd h
+first_stored strategy empty new offer Lowered none quiet unnoted some_room h = absurd h
+first_stored strategy empty new offer (PutOff f) none quiet unnoted some_room h = absurd h
+first_stored strategy empty new offer Added none quiet unnoted some_room (lt, stored, opened, noted) = (
   stored ∙ ap (λ es. es ++ (offer.key, offer.mark) ∷ []) none,
-  subst (λ es. Adds [] new.waiting (offer.f, length es)) none (subst (λ ps. Adds ps new.waiting (offer.f, length empty.stored)) quiet opened),
+  subst (λ es. Adds [] new.waiting (opens_at offer.mark offer.opening, length es)) none
+      (subst (λ ps. Adds ps new.waiting (opens_at offer.mark offer.opening, length empty.stored)) quiet opened),
+  subst (λ os. NotesLast strategy.expansion os new.openings offer.opening) unnoted noted,
 )
-first_offered budget empty new offer (Full y) none quiet some_room (same, fresh, full, kept) =
+first_stored strategy empty new offer (Full y) none quiet unnoted some_room (same, full, kept) =
     absurd (let size = ap length none in omega (arith, size, full, some_room))
 
-module _ {K : Type 0} (g : Graph K) (weight budget : ℕ) (s : Store K) (x : K) (e : Mark) (f : ℕ)
-    (stored : s.stored ≡ (x, e) ∷ []) (opened : Adds [] s.waiting (f, 0)) where
+module _ {K : Type 0} (task : Task K) (s : Store K) (x : K) (e : Mark) (stored : s.stored ≡ (x, e) ∷ [])
+    (opened : Adds [] s.waiting (f_of task x e, 0)) (notes : NotesLast task.strategy.expansion [] s.openings (opening_of task x)) where
   first_alone : (i : ℕ) (y : K) (n : Mark) → IsStored s i y n → (i ≡ 0) × (x ≡ y) × (e ≡ n)
   first_alone i y n at = by i (subst (λ es. slice_get es i ≡ Some (y, n)) stored at)
     where
@@ -47,38 +53,65 @@ module _ {K : Type 0} (g : Graph K) (weight budget : ℕ) (s : Store K) (x : K) 
       let one = first_alone i y n at in
       subst (λ k. P k y n) (sym one.0) (subst (λ v. P 0 v n) one.1 (subst (λ m. P 0 x m) one.2 here))
 
-  -- a search keeps from its beginning what it keeps
-  pub begins_kept : IsLawful g → 1 ≤ budget → g.starts x e.cost → ((y : K) (d : ℕ) → g.starts y d → (y ≡ x) × (e.cost ≤ d))
-      → e.parent ≡ 0 → f ≡ e.cost + weight * g.bound x → IsKept g weight budget s
-  begins_kept lawful some_room start alone own exact =
-      let low : e.cost ≤ 53 * 0 + 53 = (let h = lawful.starts x e.cost start in omega (arith, h)) in
-      let high : e.cost + weight * g.bound x ≤ f = omega (arith, exact) in
-      record {
-        sound = record {
-          room = (let size = ap length stored in omega (arith, size, some_room));
-          once = λ i j y m n a b. (first_alone i y m a).0 ∙ sym (first_alone j y n b).0;
-          reached = first_each (λ i y n. Reached g y n.cost) (0, start);
-          low = first_each (λ i y n. n.cost ≤ 53 * i + 53) low;
-          comes = first_each (Comes g s) (inl (own, start));
-          needed = first_each (λ i y n. IsNeeded g weight y) (inl (e.cost, start));
-          starts = λ y d h. (0, e, subst (λ v. IsStored s 0 v e) (sym (alone y d h).0) first_here, (alone y d h).1);
-          pairs = λ h i there. ⊎_elim
-              (λ same.
-              let here : IsStored s i x e = subst (λ k. IsStored s k x e) (ap (λ p. p.1) same) first_here in
-              let le : e.cost + weight * g.bound x ≤ h = subst (λ k. e.cost + weight * g.bound x ≤ k) (ap (λ p. p.0) same) high in
-              (x, e, here, le))
-              (λ none. absurd (omega (arith, none.1)))
-              (added_cases [] s.waiting (f, 0) (h, i) opened there);
-        };
-        settled = first_each (IsOpenOrExpanded g weight s)
-            (inl (subst (λ h. Contains s.waiting (h, 0)) exact (added_there [] s.waiting (f, 0) opened)));
-      }
+  first_noted : (expansion : Expansion) → NotesLast expansion [] s.openings (opening_of task x) → AreNoted expansion task.graph s
+  first_noted expansion.Full same = same
+  first_noted expansion.Partial is = (
+    ap length is ∙ sym (ap length stored),
+    first_each (λ i y n. (opening : Opening) × (slice_get s.openings i ≡ Some opening) × (opening.bound ≡ task.graph.bound y))
+        (opening_of task x, ap (λ os. slice_get os 0) is, refl),
+  )
 
-  -- what a search that begins is open at is a floor
-  pub begins_floor : IsLawful g → 1 ≤ weight → IsKept g weight budget s → IsFloor g weight f
-  begins_floor lawful heavy kept = least_floor g weight budget lawful heavy s f 0 kept
-      (All-permutation (λ other. f ≤ other.0) ((f, 0) ∷ []) s.waiting opened (λ k d lt. alone k d lt))
-    where
-      alone : (k : ℕ) (d : ℕ × ℕ) → k < 1 → f ≤ (slice_index_or ((f, 0) ∷ []) k d).0
-      alone zero d lt = omega arith
-      alone (suc k) d lt = absurd (omega (arith, lt))
+  first_open : (expansion : Expansion) → NotesLast expansion [] s.openings (opening_of task x) → IsOpenAt expansion s 0 e (f_of task x e)
+  first_open expansion.Full same = added_there [] s.waiting (f_of task x e, 0) opened
+  first_open expansion.Partial is =
+      (added_there [] s.waiting (f_of task x e, 0) opened, (opening_of task x, ap (λ os. slice_get os 0) is, refl))
+
+  module _ (lawful : IsLawful task.graph) (heavy : 1 ≤ task.strategy.weight) (start : task.graph.starts x e.cost)
+      (alone : (y : K) (d : ℕ) → task.graph.starts y d → (y ≡ x) × (e.cost ≤ d)) where
+    -- no answer, times the weight, is below what the first key is open at: an empty table is closed inside it
+    pub begins_floor : IsFloor task.graph task.strategy.weight (f_of task x e)
+    begins_floor n wins = ⊎_elim
+        (λ over. absurd (
+        let past : (d : ℕ) → e.cost ≤ d → suc n ≤ d + task.graph.bound x = λ d le.
+        (let own : f_of task x e ≤ f_of task x e = omega arith in
+        let h = weighed_past task.strategy.weight e.cost (task.graph.bound x) n (f_of task x e) heavy over own in omega (arith, h, le)) in
+        let le = lawful.closed (suc n) [] (record {
+          reached = λ y d listed. absurd (omega (arith, listed.1));
+          not_won = λ y d listed. absurd (omega (arith, listed.1));
+          starts = λ y d h. inl (subst (λ v. suc n ≤ d + task.graph.bound v) (sym (alone y d h).0) (past d (alone y d h).1));
+          edges = λ y d c z listed. absurd (omega (arith, listed.1));
+        }) n wins in
+        omega (arith, le)))
+        (λ within. within)
+        (cases_lt (task.strategy.weight * n) (f_of task x e))
+
+    first_needed : (expansion : Expansion) → IsNeeded expansion task.graph task.strategy.weight x
+    first_needed expansion.Full = inl (e.cost, start)
+    first_needed expansion.Partial = (e.cost, (0, start), begins_floor)
+
+    -- a search keeps from its beginning what it keeps
+    pub begins_kept : 1 ≤ task.strategy.budget → e.parent ≡ 0 → IsKept task s
+    begins_kept some_room own =
+        let low : e.cost ≤ 53 * 0 + 53 = (let h = lawful.starts x e.cost start in omega (arith, h)) in
+        record {
+          sound = record {
+            room = (let size = ap length stored in omega (arith, size, some_room));
+            once = λ i j y m n a b. (first_alone i y m a).0 ∙ sym (first_alone j y n b).0;
+            reached = first_each (λ i y n. Reached task.graph y n.cost) (0, start);
+            low = first_each (λ i y n. n.cost ≤ 53 * i + 53) low;
+            comes = first_each (Comes task.graph s) (inl (own, start));
+            needed = first_each (λ i y n. IsNeeded task.strategy.expansion task.graph task.strategy.weight y)
+                (first_needed task.strategy.expansion);
+            starts = λ y d h. (0, e, subst (λ v. IsStored s 0 v e) (sym (alone y d h).0) first_here, (alone y d h).1);
+            pairs = λ h i there. ⊎_elim
+                (λ same.
+                let here : IsStored s i x e = subst (λ k. IsStored s k x e) (ap (λ p. p.1) same) first_here in
+                let self : f_of task x e ≤ f_of task x e = omega arith in
+                let le : f_of task x e ≤ h = subst (λ k. f_of task x e ≤ k) (ap (λ p. p.0) same) self in
+                (x, e, here, le))
+                (λ none. absurd (omega (arith, none.1)))
+                (added_cases [] s.waiting (f_of task x e, 0) (h, i) opened there);
+            noted = first_noted task.strategy.expansion notes;
+          };
+          settled = first_each (IsOpenOrExpanded task s) (inl (first_open task.strategy.expansion notes));
+        }

@@ -1,5 +1,5 @@
 -- Lemmas on what is open and what is expanded: when a pair is taken, and that the stored keys leave no answer below a floor.
-use Rattle.std.proofs.Common.{◌≡◌, ℕ, ◌+◌, ◌*◌, ◌<◌, ◌≤◌, suc, zero, Some, List, [], ◌∷◌, map, sym, ap, subst, inl, inr, ⊎_elim, arith}
+use Rattle.std.proofs.Common.{◌≡◌, ℕ, ◌+◌, ◌*◌, ◌<◌, ◌≤◌, ◌⊎◌, suc, zero, Some, List, [], ◌∷◌, length, map, refl, sym, ◌∙◌, ap, subst, inl, inr, ⊎_elim, arith}
 use Rattle.std.specs.Prelude.{slice_get, Contains}
 use Rattle.std.proofs.lemmas.Bool.{cases_lt}
 use Rattle.std.proofs.lemmas.Nat.{mul-le}
@@ -7,12 +7,15 @@ use Rattle.std.proofs.lemmas.Option.{none-some}
 use Rattle.std.proofs.lemmas.List.Elements.{Contains-append_right}
 use Rattle.fc_frontier.specs.Queue.{Adds, IsLeast}
 use Rattle.fc_best_first.specs.declared.books.Mark.{Mark}
-use Rattle.fc_best_first.specs.Graph.{Graph, Reached, IsLawful, IsClosedInside, Lists}
-use Rattle.fc_best_first.specs.Store.{Store, IsStored, IsTaken}
-use Rattle.fc_best_first.specs.Turn.{TakesFloor}
-use Rattle.fc_best_first.specs.Kept.{HasAt, IsExpanded, IsOpenOrExpanded, IsSound, IsKept}
+use Rattle.fc_best_first.specs.declared.books.Opening.{Opening}
+use Rattle.fc_best_first.specs.declared.strategies.Expansion.{Expansion}
+use Rattle.fc_best_first.specs.declared.strategies.Expansion.TheVariants.{Full, Partial}
+use Rattle.fc_best_first.specs.Graph.{Graph, Task, Reached, IsLawful, IsClosedInside, Lists}
+use Rattle.fc_best_first.specs.Store.{Store, IsStored, IsTaken, opens_at}
+use Rattle.fc_best_first.specs.Turn.{IsStale, TakesFloor}
+use Rattle.fc_best_first.specs.Kept.{AreNoted, HasAt, IsDone, IsExpanded, IsExpandedBelow, IsOpenAt, IsOpenLater, IsOpenOrExpanded, IsSound, IsKept, f_of}
 use Rattle.fc_best_first.specs.Shown.{IsFloor}
-use Rattle.fc_best_first.proofs.KeptLemmas.{front_there, front_cases, added_stays, added_cases, least_below, same_entry, taken_stands}
+use Rattle.fc_best_first.proofs.KeptLemmas.{front_there, front_cases, added_stays, added_cases, least_below, pair_high}
 
 -- a cost and a bound that come to n at most, the bound weighed, stay below what n, times the weight, is below
 weighed_below : (weight cost bound n f : ℕ) → 1 ≤ weight → cost + bound < suc n → weight * n < f → cost + weight * bound < f
@@ -21,12 +24,144 @@ weighed_below weight cost bound n f heavy lt over =
     let part : 1 * cost ≤ weight * cost = mul-le 1 cost weight cost heavy (omega arith) in
     omega (arith, all, part, over)
 
-module _ {K : Type 0} (g : Graph K) (weight budget : ℕ) where
+-- so what comes to no less, the bound weighed, comes to more than n
+pub weighed_past : (weight cost bound n f : ℕ) → 1 ≤ weight → weight * n < f → f ≤ cost + weight * bound → suc n ≤ cost + bound
+weighed_past weight cost bound n f heavy over le = ⊎_elim
+    (λ lt. absurd (let below = weighed_below weight cost bound n f heavy lt over in omega (arith, below, le)))
+    (λ past. past)
+    (cases_lt (cost + bound) (suc n))
+
+-- where a key is open, if it is: by full expansion at its cost plus weighed bound, by partial expansion where it was opened last
+abbrev pub IsAt : {K : Type 0} → Expansion → Task K → Store K → ℕ → K → Mark → ℕ → Type 0
+IsAt Full task s number x mark f = f ≡ f_of task x mark
+IsAt Partial task s number x mark f = (opening : Opening) × (slice_get s.openings number ≡ Some opening) × (f ≡ opens_at mark opening)
+
+-- a key that isn't won, and of which each edge's end is stored at no more, or can't be won below n
+abbrev pub IsCoveredBelow : {K : Type 0} → Graph K → Store K → K → ℕ → ℕ → Type 0
+IsCoveredBelow g s x cost n = (g.won x → ⊥) × ((c : ℕ) (y : _) → g.edge x c y → HasAt s y (cost + c) ⊎ (n ≤ cost + c + g.bound y))
+
+module _ {K : Type 0} where
+  pub open_waits : (expansion : Expansion) (s : Store K) (i : ℕ) (m : Mark) (f : ℕ) → IsOpenAt expansion s i m f → Contains s.waiting (f, i)
+  open_waits Full s i m f is_open = is_open
+  open_waits Partial s i m f is_open = is_open.0
+
+  -- what is open at its cost plus weighed bound is open where it is
+  own_at : (expansion : Expansion) (task : Task K) (s : Store K) (i : ℕ) (x : K) (m : Mark)
+      → IsOpenAt expansion s i m (f_of task x m) → IsAt expansion task s i x m (f_of task x m)
+  own_at Full task s i x m is_open = refl
+  own_at Partial task s i x m is_open = is_open.1
+
+  -- an older pair isn't where its key is open
+  pub stale_elsewhere : (expansion : Expansion) (task : Task K) (s : Store K) (i : ℕ) (x : K) (m : Mark) (f h : ℕ)
+      → IsStale expansion s i m (f_of task x m) f → IsAt expansion task s i x m h → h ≡ f → ⊥
+  stale_elsewhere Full task s i x m f h stale at same = omega (arith, stale, at, same)
+  stale_elsewhere Partial task s i x m f h (opening, there, other) (last, here, at) same =
+      let one : opening ≡ last = (let both = sym there ∙ here in cc) in
+      other (sym same ∙ at ∙ ap (λ o. opens_at m o) (sym one))
+
+  pub noted_same : (expansion : Expansion) (g : Graph K) (old new : Store K) → new.stored ≡ old.stored → new.openings ≡ old.openings
+      → AreNoted expansion g old → AreNoted expansion g new
+  noted_same Full g old new kept same noted = same ∙ noted
+  noted_same Partial g old new kept same noted = (
+    ap length same ∙ noted.0 ∙ sym (ap length kept),
+    λ i x m at.
+        let was = noted.1 i x m (subst (λ es. slice_get es i ≡ Some (x, m)) kept at) in
+        (was.0, ap (λ os. slice_get os i) same ∙ was.1, was.2),
+  )
+
+  pub kept_has : (old new : Store K) (x : K) (d : ℕ) → new.stored ≡ old.stored → HasAt old x d → HasAt new x d
+  kept_has old new x d kept (j, m, at, le) = (j, m, subst (λ es. slice_get es j ≡ Some (x, m)) (sym kept) at, le)
+
+  pub kept_expanded : (g : Graph K) (old new : Store K) (x : K) (d : ℕ) → new.stored ≡ old.stored → IsExpanded g old x d → IsExpanded g new x d
+  kept_expanded g old new x d kept h = (h.0, λ c y edge. kept_has old new y (d + c) kept (h.1 c y edge))
+
+  pub kept_below : (g : Graph K) (weight : ℕ) (old new : Store K) (x : K) (d n : ℕ) → new.stored ≡ old.stored
+      → IsExpandedBelow g weight old x d n → IsExpandedBelow g weight new x d n
+  kept_below g weight old new x d n kept h =
+      (h.0, λ c y edge. ⊎_elim (λ has. inl (kept_has old new y (d + c) kept has)) (λ far. inr far) (h.1 c y edge))
+
+  pub kept_done : (expansion : Expansion) (task : Task K) (old new : Store K) (x : K) (d n : ℕ) → new.stored ≡ old.stored
+      → IsDone expansion task old x d n → IsDone expansion task new x d n
+  kept_done Full task old new x d n kept h = kept_expanded task.graph old new x d kept h
+  kept_done Partial task old new x d n kept h = kept_below task.graph task.strategy.weight old new x d n kept h
+
+  pub kept_back : (old new : Store K) (i : ℕ) (x : K) (m : Mark) → new.stored ≡ old.stored → IsStored new i x m → IsStored old i x m
+  kept_back old new i x m kept at = subst (λ es. slice_get es i ≡ Some (x, m)) kept at
+
+  -- what is expanded is done with below any number
+  expanded_done : (expansion : Expansion) (task : Task K) (s : Store K) (x : K) (d n : ℕ) → IsExpanded task.graph s x d
+      → IsDone expansion task s x d n
+  expanded_done Full task s x d n h = h
+  expanded_done Partial task s x d n h = (h.0, λ c y edge. inl (h.1 c y edge))
+
+  -- by weight 1 what is done with below n is covered below n
+  pub light_covered : (expansion : Expansion) (task : Task K) (s : Store K) (x : K) (d n : ℕ) → task.strategy.weight ≡ 1
+      → IsDone expansion task s x d n → IsCoveredBelow task.graph s x d n
+  light_covered Full task s x d n light h = (h.0, λ c y edge. inl (h.1 c y edge))
+  light_covered Partial task s x d n light h = (
+    h.0,
+    λ c y edge. ⊎_elim (λ has. inl has)
+        (λ far.
+        let once : task.strategy.weight * task.graph.bound y ≡ 1 * task.graph.bound y = ap (λ w. w * task.graph.bound y) light in
+        inr (omega (arith, once, far))) (h.1 c y edge),
+  )
+
+  -- what is done with below a number is done with below each lesser one
+  pub less_done : (expansion : Expansion) (task : Task K) (s : Store K) (x : K) (d n f : ℕ) → n ≤ f
+      → IsDone expansion task s x d f → IsDone expansion task s x d n
+  less_done Full task s x d n f le h = h
+  less_done Partial task s x d n f le h =
+      (h.0, λ c y edge. ⊎_elim (λ has. inl has) (λ far. inr (omega (arith, le, far))) (h.1 c y edge))
+
+  pub expanded_covered : (g : Graph K) (s : Store K) (x : K) (d n : ℕ) → IsExpanded g s x d → IsCoveredBelow g s x d n
+  expanded_covered g s x d n h = (h.0, λ c y edge. inl (h.1 c y edge))
+
+  -- what is open later than the least f is done with below that
+  later_done : (expansion : Expansion) (task : Task K) (s : Store K) (i : ℕ) (x : K) (m : Mark) (f j : ℕ)
+      → IsLeast (f, j) s.waiting → IsOpenLater expansion task s i x m → IsDone expansion task s x m.cost f
+  later_done Full task s i x m f j least later = absurd later
+  later_done Partial task s i x m f j least (h, is_open, below) = (
+    below.0,
+    λ c y edge. ⊎_elim (λ has. inl has)
+        (λ far. let le = least_below f j h i s.waiting least is_open.0 in inr (omega (arith, le, far))) (below.1 c y edge),
+  )
+
+  -- another pair than the one that is taken stays
+  kept_waits : (old new : Store K) (p : ℕ × ℕ) (i h : ℕ) → Adds new.waiting old.waiting p → (h ≡ p.0 → i ≡ p.1 → ⊥)
+      → Contains old.waiting (h, i) → Contains new.waiting (h, i)
+  kept_waits old new p i h taken other waits = ⊎_elim
+      (λ same. absurd (other (sym (ap (λ q. q.0) same)) (sym (ap (λ q. q.1) same))))
+      (λ there. there)
+      (added_cases new.waiting old.waiting p (h, i) taken waits)
+
+  -- where a pair that isn't its own is taken, a key stays open
+  kept_open : (expansion : Expansion) (old new : Store K) (p : ℕ × ℕ) (i : ℕ) (m : Mark) (h : ℕ) → new.openings ≡ old.openings
+      → Adds new.waiting old.waiting p → (h ≡ p.0 → i ≡ p.1 → ⊥) → IsOpenAt expansion old i m h → IsOpenAt expansion new i m h
+  kept_open Full old new p i m h noted taken other waits = kept_waits old new p i h taken other waits
+  kept_open Partial old new p i m h noted taken other (waits, (last, there, at)) = (
+    kept_waits old new p i h taken other waits,
+    (last, ap (λ os. slice_get os i) noted ∙ there, at),
+  )
+
+  -- and so does one that is open later
+  kept_later : (expansion : Expansion) (task : Task K) (old new : Store K) (p : ℕ × ℕ) (i : ℕ) (x : K) (m : Mark)
+      → new.stored ≡ old.stored → new.openings ≡ old.openings → Adds new.waiting old.waiting p
+      → ((h : ℕ) → IsAt expansion task old i x m h → h ≡ p.0 → i ≡ p.1 → ⊥)
+      → IsOpenLater expansion task old i x m → IsOpenLater expansion task new i x m
+  kept_later Full task old new p i x m kept noted taken other later = later
+  kept_later Partial task old new p i x m kept noted taken other (h, is_open, below) = (
+    h,
+    kept_open Partial old new p i m h noted taken (other h is_open.1) is_open,
+    kept_below task.graph task.strategy.weight old new x m.cost h kept below,
+  )
+
+module _ {K : Type 0} (task : Task K) where
   -- the same stored keys, and fewer pairs
-  fewer_pairs : (stored : List (K × Mark)) (old new : List (ℕ × ℕ))
-      → ((p : ℕ × ℕ) → Contains new p → Contains old p)
-      → IsSound g weight budget (record { stored = stored; waiting = old }) → IsSound g weight budget (record { stored = stored; waiting = new })
-  fewer_pairs stored old new fewer h = record {
+  fewer_pairs : (stored : List (K × Mark)) (old new : List (ℕ × ℕ)) (was is : List Opening)
+      → ((p : ℕ × ℕ) → Contains new p → Contains old p) → is ≡ was
+      → IsSound task (record { stored = stored; waiting = old; openings = was })
+      → IsSound task (record { stored = stored; waiting = new; openings = is })
+  fewer_pairs stored old new was is fewer same h = record {
     room = h.room;
     once = h.once;
     reached = h.reached;
@@ -35,56 +170,49 @@ module _ {K : Type 0} (g : Graph K) (weight budget : ℕ) where
     needed = h.needed;
     starts = h.starts;
     pairs = λ f i there. h.pairs f i (fewer (f, i) there);
+    noted = noted_same task.strategy.expansion task.graph (record { stored = stored; waiting = old; openings = was })
+        (record { stored = stored; waiting = new; openings = is }) refl same h.noted;
   }
 
-  pub taken_sound : (old new : Store K) (f i : ℕ) → IsSound g weight budget old → new.stored ≡ old.stored
-      → Adds new.waiting old.waiting (f, i) → IsSound g weight budget new
-  taken_sound old new f i sound kept taken =
-      subst (λ stored. IsSound g weight budget (record { stored = stored; waiting = new.waiting })) (sym kept)
-      (fewer_pairs old.stored old.waiting new.waiting (λ p there. added_stays new.waiting old.waiting (f, i) p taken there) sound)
-
-  kept_has : (old new : Store K) (x : K) (d : ℕ) → new.stored ≡ old.stored → HasAt old x d → HasAt new x d
-  kept_has old new x d kept (j, m, at, le) = (j, m, subst (λ es. slice_get es j ≡ Some (x, m)) (sym kept) at, le)
-
-  pub kept_expanded : (old new : Store K) (x : K) (d : ℕ) → new.stored ≡ old.stored → IsExpanded g old x d → IsExpanded g new x d
-  kept_expanded old new x d kept h = (h.0, λ c y edge. kept_has old new y (d + c) kept (h.1 c y edge))
-
-  pub kept_back : (old new : Store K) (i : ℕ) (x : K) (m : Mark) → new.stored ≡ old.stored → IsStored new i x m → IsStored old i x m
-  kept_back old new i x m kept at = subst (λ es. slice_get es i ≡ Some (x, m)) kept at
+  pub taken_sound : (old new : Store K) (f i : ℕ) → IsSound task old → new.stored ≡ old.stored → new.openings ≡ old.openings
+      → Adds new.waiting old.waiting (f, i) → IsSound task new
+  taken_sound old new f i sound kept noted taken =
+      subst (λ stored. IsSound task (record { stored = stored; waiting = new.waiting; openings = new.openings })) (sym kept)
+      (fewer_pairs old.stored old.waiting new.waiting old.openings new.openings
+      (λ p there. added_stays new.waiting old.waiting (f, i) p taken there) noted sound)
 
   -- the pair that is taken has an f no less than the cost plus weighed bound of its key
-  pub taken_high : (old new : Store K) (f i : ℕ) (x : K) (m : Mark) → IsSound g weight budget old → IsTaken old new f i x m
-      → m.cost + weight * g.bound x ≤ f
-  taken_high old new f i x m sound t =
-      let there = taken_stands g weight budget old f i new.waiting sound t.taken in
-      let both = same_entry old i there.0 x there.1 m there.2 t.stands in
-      subst (λ v. m.cost + weight * g.bound v ≤ f) both.0 (subst (λ n. n.cost + weight * g.bound there.0 ≤ f) both.1 there.3)
+  pub taken_high : (old new : Store K) (f i : ℕ) (x : K) (m : Mark) → IsSound task old → IsTaken old new f i x m → f_of task x m ≤ f
+  taken_high old new f i x m sound t = pair_high task old f i new.waiting x m sound t.taken t.stands
 
-  -- a key whose cost plus weighed bound is below the least f is expanded
-  pub below_least : (s : Store K) (f i : ℕ) → IsKept g weight budget s → IsLeast (f, i) s.waiting
-      → (j : ℕ) (y : K) (l : Mark) → IsStored s j y l → l.cost + weight * g.bound y < f → IsExpanded g s y l.cost
-  below_least s f i kept least j y l at lt =
-      ⊎_elim
-      (λ waits. absurd (let le = least_below f i (l.cost + weight * g.bound y) j s.waiting least waits in omega (arith, le, lt)))
-      (λ done. done)
-      (kept.settled j y l at)
+  -- a key whose cost plus weighed bound is below the least f is done with below that
+  pub below_least : (s : Store K) (f i : ℕ) → IsKept task s → IsLeast (f, i) s.waiting
+      → (j : ℕ) (y : K) (l : Mark) → IsStored s j y l → f_of task y l < f
+      → IsDone task.strategy.expansion task s y l.cost f
+  below_least s f i kept least j y l at lt = elim (kept.settled j y l at) [
+    | inl is_open ↦ absurd (
+        let le = least_below f i (f_of task y l) j s.waiting least (open_waits task.strategy.expansion s j l (f_of task y l) is_open) in
+        omega (arith, le, lt))
+    | inr (inl done) ↦ expanded_done task.strategy.expansion task s y l.cost f done
+    | inr (inr later) ↦ later_done task.strategy.expansion task s j y l f i least later
+  ]
 
   -- a key other than the one that is taken stays open, or expanded
-  pub others_settled : (old new : Store K) (f i : ℕ) (x : K) (m : Mark) → IsKept g weight budget old → IsTaken old new f i x m
-      → (j : ℕ) (y : K) (l : Mark) → (l.cost + weight * g.bound y ≡ f → j ≡ i → ⊥) → IsStored new j y l → IsOpenOrExpanded g weight new j y l
-  others_settled old new f i x m kept t j y l other at =
-      ⊎_elim
-      (λ waits. ⊎_elim
-      (λ same. absurd (other (sym (ap (λ p. p.0) same)) (sym (ap (λ p. p.1) same))))
-      (λ there. inl there)
-      (added_cases new.waiting old.waiting (f, i) (l.cost + weight * g.bound y, j) t.taken waits))
-      (λ done. inr (kept_expanded old new y l.cost t.kept done))
-      (kept.settled j y l (kept_back old new j y l t.kept at))
+  pub others_settled : (old new : Store K) (f i : ℕ) (x : K) (m : Mark) → IsKept task old → IsTaken old new f i x m
+      → (j : ℕ) (y : K) (l : Mark) → ((h : ℕ) → IsAt task.strategy.expansion task old j y l h → h ≡ f → j ≡ i → ⊥) → IsStored new j y l
+      → IsOpenOrExpanded task new j y l
+  others_settled old new f i x m kept t j y l other at = elim (kept.settled j y l (kept_back old new j y l t.kept at)) [
+    | inl is_open ↦ inl (kept_open task.strategy.expansion old new (f, i) j l (f_of task y l) t.noted t.taken
+        (other (f_of task y l) (own_at task.strategy.expansion task old j y l is_open)) is_open)
+    | inr (inl done) ↦ inr (inl (kept_expanded task.graph old new y l.cost t.kept done))
+    | inr (inr later) ↦ inr (inr (kept_later task.strategy.expansion task old new (f, i) j y l t.kept t.noted t.taken other later))
+  ]
 
-  -- the stored keys with their costs
-  abbrev pub rows : Store K → List (K × ℕ)
-  rows s = map (λ e. (e.0, e.1.cost)) s.stored
+-- the stored keys with their costs
+abbrev pub rows : {K : Type 0} → Store K → List (K × ℕ)
+rows s = map (λ e. (e.0, e.1.cost)) s.stored
 
+module _ {K : Type 0} where
   rows_stand : (es : List (K × Mark)) (x : K) (d : ℕ) → Contains {X = K × ℕ} (map (λ e. (e.0, e.1.cost)) es) (x, d)
       → (i : ℕ) × (m : Mark) × (slice_get es i ≡ Some (x, m)) × (m.cost ≡ d)
   rows_stand [] x d (k, lt, e) = absurd (omega (arith, lt))
@@ -106,44 +234,60 @@ module _ {K : Type 0} (g : Graph K) (weight budget : ℕ) where
   has_lists : (s : Store K) (x : K) (d : ℕ) → HasAt s x d → Lists (rows s) x d
   has_lists s x d (i, m, at, le) = (m.cost, stand_rows s.stored i x m at, le)
 
-  -- where each key below n is expanded, the stored keys leave no answer below n
-  pub closed_inside : (s : Store K) (n : ℕ) → IsSound g weight budget s
-      → ((i : ℕ) (x : K) (m : Mark) → IsStored s i x m → m.cost + g.bound x < n → IsExpanded g s x m.cost)
-      → IsClosedInside g n (rows s)
+module _ {K : Type 0} (task : Task K) where
+  -- where each key below n is covered, the stored keys leave no answer below n
+  pub closed_inside : (s : Store K) (n : ℕ) → IsSound task s
+      → ((i : ℕ) (x : K) (m : Mark) → IsStored s i x m → m.cost + task.graph.bound x < n → IsCoveredBelow task.graph s x m.cost n)
+      → IsClosedInside task.graph n (rows s)
   closed_inside s n sound done = record {
     reached = λ x d listed. let r = rows_stand s.stored x d listed in
-        subst (Reached g x) r.3 (sound.reached r.0 x r.1 r.2);
+        subst (Reached task.graph x) r.3 (sound.reached r.0 x r.1 r.2);
     not_won = λ x d listed lt. let r = rows_stand s.stored x d listed in
-        (done r.0 x r.1 r.2 (subst (λ c. c + g.bound x < n) (sym r.3) lt)).0;
+        (done r.0 x r.1 r.2 (subst (λ c. c + task.graph.bound x < n) (sym r.3) lt)).0;
     starts = λ x d start. inr (has_lists s x d (sound.starts x d start));
-    edges = λ x d c y listed lt edge. let r = rows_stand s.stored x d listed in
-        inr (has_lists s y (d + c) (subst (λ k. HasAt s y (k + c)) r.3
-        ((done r.0 x r.1 r.2 (subst (λ k. k + g.bound x < n) (sym r.3) lt)).1 c y edge)));
+    edges = λ x d c y listed lt edge.
+        let r = rows_stand s.stored x d listed in
+        ⊎_elim
+        (λ has. inr (has_lists s y (d + c) (subst (λ k. HasAt s y (k + c)) r.3 has)))
+        (λ far. inl (subst (λ k. n ≤ k + c + task.graph.bound y) r.3 far))
+        ((done r.0 x r.1 r.2 (subst (λ k. k + task.graph.bound x < n) (sym r.3) lt)).1 c y edge);
   }
 
-  module _ (lawful : IsLawful g) (heavy : 1 ≤ weight) where
-    -- where each key whose cost plus weighed bound is below f is expanded, no answer, times the weight, is below f: else
-    -- the stored keys leave none below the next number
-    pub none_below : (s : Store K) (f : ℕ) → IsSound g weight budget s
-        → ((i : ℕ) (x : K) (m : Mark) → IsStored s i x m → m.cost + weight * g.bound x < f → IsExpanded g s x m.cost)
-        → IsFloor g weight f
+  -- what is done with below f is covered below the next number of one that, times the weight, is below f
+  done_covered : (expansion : Expansion) (s : Store K) (x : K) (d n f : ℕ) → 1 ≤ task.strategy.weight → task.strategy.weight * n < f
+      → IsDone expansion task s x d f → IsCoveredBelow task.graph s x d (suc n)
+  done_covered Full s x d n f heavy over done = expanded_covered task.graph s x d (suc n) done
+  done_covered Partial s x d n f heavy over done = (
+    done.0,
+    λ c y edge. ⊎_elim (λ has. inl has)
+        (λ far. inr (weighed_past task.strategy.weight (d + c) (task.graph.bound y) n f heavy over far)) (done.1 c y edge),
+  )
+
+  module _ (lawful : IsLawful task.graph) (heavy : 1 ≤ task.strategy.weight) where
+    -- where each key whose cost plus weighed bound is below f is done with below f, no answer, times the weight, is below f:
+    -- else the stored keys leave none below the next number
+    pub none_below : (s : Store K) (f : ℕ) → IsSound task s
+        → ((i : ℕ) (x : K) (m : Mark) → IsStored s i x m → f_of task x m < f
+        → IsDone task.strategy.expansion task s x m.cost f)
+        → IsFloor task.graph task.strategy.weight f
     none_below s f sound done n wins = ⊎_elim
         (λ over.
         let closed = closed_inside s (suc n) sound
-        (λ i x m at lt. done i x m at (weighed_below weight m.cost (g.bound x) n f heavy lt over)) in
+        (λ i x m at lt. done_covered task.strategy.expansion s x m.cost n f heavy over
+        (done i x m at (weighed_below task.strategy.weight m.cost (task.graph.bound x) n f heavy lt over))) in
         absurd (let le = lawful.closed (suc n) (rows s) closed n wins in omega (arith, le)))
         (λ within. within)
-        (cases_lt (weight * n) f)
+        (cases_lt (task.strategy.weight * n) f)
 
     -- no answer, times the weight, is below the least f
-    pub least_floor : (s : Store K) (f i : ℕ) → IsKept g weight budget s → IsLeast (f, i) s.waiting → IsFloor g weight f
-    least_floor s f i kept least = none_below s f kept.sound (below_least s f i kept least)
+    pub least_floor : (s : Store K) (f i : ℕ) → IsKept task s → IsLeast (f, i) s.waiting → IsFloor task.graph task.strategy.weight f
+    least_floor s f i kept least = none_below s f kept.sound (below_least task s f i kept least)
 
     -- a floor that a turn leaves is one
-    pub takes_floor : (s : Store K) (old new : ℕ) → IsKept g weight budget s → IsFloor g weight old
-        → TakesFloor s.waiting old new → IsFloor g weight new
-    takes_floor s old new kept floor (inl none) = subst (IsFloor g weight) (sym none.1) floor
+    pub takes_floor : (s : Store K) (old new : ℕ) → IsKept task s → IsFloor task.graph task.strategy.weight old
+        → TakesFloor s.waiting old new → IsFloor task.graph task.strategy.weight new
+    takes_floor s old new kept floor (inl none) = subst (IsFloor task.graph task.strategy.weight) (sym none.1) floor
     takes_floor s old new kept floor (inr (f, i, there, least, greatest)) = λ n wins.
-        let before : old ≤ weight * n = floor n wins in
-        let taken : f ≤ weight * n = least_floor s f i kept least n wins in
+        let before : old ≤ task.strategy.weight * n = floor n wins in
+        let taken : f ≤ task.strategy.weight * n = least_floor s f i kept least n wins in
         omega (arith, before, taken, greatest)

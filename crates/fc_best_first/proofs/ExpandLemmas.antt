@@ -1,165 +1,231 @@
 -- Lemmas on offering the children of a key that is taken: what is kept while they find their places.
-use Rattle.std.proofs.Common.{◌≡◌, ℕ, ◌+◌, ◌*◌, ◌<◌, ◌≤◌, ◌⊎◌, suc, Some, None, Option, List, [], ◌∷◌, length, refl, sym, ap, subst, inl, inr, ⊎_elim, arith}
+use Rattle.std.proofs.Common.{◌≡◌, ℕ, ◌+◌, ◌*◌, ◌<◌, ◌≤◌, ◌⊎◌, suc, List, [], ◌∷◌, length, refl, sym, ◌∙◌, ap, subst, inl, inr, ⊎_elim, arith}
 use Rattle.std.specs.Prelude.{Contains}
 use Rattle.std.proofs.lemmas.List.Elements.{Contains-append_right}
 use Rattle.fc_best_first.specs.declared.books.Mark.{Mark}
+use Rattle.fc_best_first.specs.declared.books.Opening.{Opening}
 use Rattle.fc_best_first.specs.declared.books.Offered.TheVariants.{Known, Lowered, Added}
 use Rattle.fc_best_first.specs.declared.spaces.Child.{Child}
-use Rattle.fc_best_first.specs.Graph.{Graph, Reached, IsLawful}
-use Rattle.fc_best_first.specs.Store.{Store, IsStored, Offers}
-use Rattle.fc_best_first.specs.Turn.{Expands, work_left}
-use Rattle.fc_best_first.specs.Kept.{HasAt, IsOpenOrExpanded, IsNeeded, Comes, IsSound}
-use Rattle.fc_best_first.specs.Shown.{IsGivenUp}
-use Rattle.fc_best_first.proofs.KeptLemmas.{front_there, front_cases, stands_within, Puts, puts_lowered, puts_added, still_has, other_number, still_sound, still_settled}
-use Rattle.fc_best_first.proofs.TurnLemmas.{offers_room}
+use Rattle.fc_best_first.specs.declared.strategies.Expansion.{Expansion}
+use Rattle.fc_best_first.specs.declared.strategies.Expansion.TheVariants.{Full, Partial}
+use Rattle.fc_best_first.specs.declared.turns.Placing.{Placing}
+use Rattle.fc_best_first.specs.declared.turns.Placing.TheVariants.{Whole, Later, NoRoom}
+use Rattle.fc_best_first.specs.Graph.{Reached, IsLawful, Task}
+use Rattle.fc_best_first.specs.Store.{Store, Candidate, IsStored, Admits, Offers}
+use Rattle.fc_best_first.specs.Turn.{Expands, IsPresent, candidate_of, opening_of, put_off, work_left}
+use Rattle.fc_best_first.specs.Kept.{AreNoted, HasAt, IsOpenOrExpanded, IsNeeded, Comes, IsSound, f_of}
+use Rattle.fc_best_first.specs.Shown.{IsFloor, IsGivenUp}
+use Rattle.fc_best_first.proofs.KeptLemmas.{front_there, front_cases, stands_within, Notes, Puts, puts_lowered, puts_added, still_has, other_number, still_sound, still_settled}
+use Rattle.fc_best_first.proofs.TurnLemmas.{off_past, offers_room}
 use Rattle.fc_best_first.proofs.WorkLemmas.{lowered_work, added_work}
-use Rattle.fc_best_first.specs.Graph.{Task}
-use Rattle.fc_best_first.specs.Store.{Candidate}
-use Rattle.fc_best_first.specs.Turn.{candidate_of}
 
-module _ {K : Type 0} (g : Graph K) (weight budget : ℕ) where
-  module _ (busy : ℕ) (xb : K) (mb : Mark) (least : (n : ℕ) → g.wins n → mb.cost + weight * g.bound xb ≤ weight * n) where
-    -- what is asked, and the mark of a child that would cost nothing
-    abbrev asked : Task K
-    asked = record { graph = g; weight = weight; budget = budget }
+-- what children are put off until is no greater than this f
+abbrev pub PutOffTo : {K : Type 0} → Placing K → ℕ → Type 0
+PutOffTo (Later later) f = later ≤ f
+PutOffTo other f = ⊥
 
+-- all children found their places, or some were put off past what was taken
+abbrev pub IsPast : {K : Type 0} → ℕ → Placing K → Type 0
+IsPast taken Whole = Unit {0}
+IsPast taken (Later later) = taken < later
+IsPast taken (NoRoom y) = ⊥
+
+off_here : {K : Type 0} (taken later f : ℕ) (others : Placing K) → IsPast taken others → later ≤ f → PutOffTo (put_off later others) f
+off_here taken later f Whole past le = le
+off_here taken later f (Later g) past le = omega (arith, le)
+off_here taken later f (NoRoom y) past le = absurd past
+
+off_there : {K : Type 0} (later f : ℕ) (others : Placing K) → PutOffTo others f → PutOffTo (put_off later others) f
+off_there later f Whole le = absurd le
+off_there later f (Later g) le = omega (arith, le)
+off_there later f (NoRoom y) le = absurd le
+
+off_on : {K : Type 0} (taken later : ℕ) (others : Placing K) → taken < later → IsPast taken others → IsPast taken (put_off later others)
+off_on taken later Whole lt past = lt
+off_on taken later (Later g) lt past = omega (arith, lt, past)
+off_on taken later (NoRoom y) lt past = absurd past
+
+-- a pair that is present stays so while other keys are put in
+still_present : {K : Type 0} (expansion : Expansion) (task : Task K) (old new : Store K) (opening : Opening) (i busy : ℕ) (x : K) (m : Mark)
+    (f : ℕ) → Notes expansion old new i opening → AreNoted expansion task.graph old → (busy ≡ i → ⊥)
+    → IsPresent expansion old busy m (f_of task x m) f → IsPresent expansion new busy m (f_of task x m) f
+still_present Full task old new opening i busy x m f notes noted ne present = present
+still_present Partial task old new opening i busy x m f notes noted ne (last, there, at) = (last, notes.2 noted.0 busy ne ∙ there, at)
+
+module _ {K : Type 0} (task : Task K) where
+  module _ (busy : ℕ) (xb : K) (mb : Mark) (taken : ℕ) (high : f_of task xb mb ≤ taken)
+      (floor : IsFloor task.graph task.strategy.weight taken) where
+    -- the mark of a child that would cost nothing
     abbrev origin : Mark
     origin = record { cost = mb.cost; parent = busy }
 
     -- what holds while the key with the number busy is expanded
     pub record Doing (s : Store K) : Type 0 where
-      pub sound : IsSound g weight budget s
-      pub settled : (j : ℕ) (y : K) (l : Mark) → (j ≡ busy → ⊥) → IsStored s j y l → IsOpenOrExpanded g weight s j y l
+      pub sound : IsSound task s
+      pub settled : (j : ℕ) (y : K) (l : Mark) → (j ≡ busy → ⊥) → IsStored s j y l → IsOpenOrExpanded task s j y l
       pub stands : IsStored s busy xb mb
+      pub present : IsPresent task.strategy.expansion s busy mb (f_of task xb mb) taken
 
     -- the child as it is offered
     abbrev child_offer : Child K → Candidate K
-    child_offer child = candidate_of asked origin child
+    child_offer child = candidate_of task origin child
 
     abbrev IsChild : Child K → Type 0
-    IsChild child = g.edge xb child.cost child.key
+    IsChild child = task.graph.edge xb child.cost child.key
 
-    child_needed : (s : Store K) (child : Child K) → IsChild child → Doing s → IsNeeded g weight child.key
-    child_needed s child edge d =
-        inr (xb, mb.cost, child.cost, d.sound.reached busy xb mb d.stands, edge, least)
-
-    puts_doing : (old new : Store K) (child : Child K) (i : ℕ) → IsChild child → Doing old → length new.stored ≤ budget
-        → Puts old new child.key (child_offer child).mark (child_offer child).f i
-        → mb.cost + child.cost ≤ 53 * i + 53 → Doing new
-    puts_doing old new child i edge d room puts low =
-        let e : Mark = (child_offer child).mark in
-        let f : ℕ = mb.cost + child.cost + weight * g.bound child.key in
+    child_reached : (s : Store K) (child : Child K) → IsChild child → Doing s → Reached task.graph child.key (mb.cost + child.cost)
+    child_reached s child edge d =
         let before = d.sound.reached busy xb mb d.stands in
-        let reached : Reached g child.key (mb.cost + child.cost) = (suc before.0, (xb, mb.cost, child.cost, before.1, edge, refl)) in
+        (suc before.0, (xb, mb.cost, child.cost, before.1, edge, refl))
+
+    child_needed : (expansion : Expansion) (s : Store K) (child : Child K) → IsChild child → Doing s
+        → Admits expansion taken (mb.cost + child.cost + task.strategy.weight * task.graph.bound child.key)
+        → IsNeeded expansion task.graph task.strategy.weight child.key
+    child_needed Full s child edge d admits =
+        inr (xb, mb.cost, child.cost, d.sound.reached busy xb mb d.stands, edge, λ n wins. let le = floor n wins in omega (arith, le, high))
+    child_needed Partial s child edge d admits =
+        (mb.cost + child.cost, child_reached s child edge d, λ n wins. let le = floor n wins in omega (arith, le, admits))
+
+    puts_doing : (old new : Store K) (child : Child K) (i : ℕ) → IsChild child → Doing old → length new.stored ≤ task.strategy.budget
+        → Puts task.strategy.expansion old new child.key (child_offer child).mark (opening_of task child.key) i
+        → mb.cost + child.cost ≤ 53 * i + 53 → IsNeeded task.strategy.expansion task.graph task.strategy.weight child.key → Doing new
+    puts_doing old new child i edge d room puts low needed =
+        let e : Mark = (child_offer child).mark in
+        let reached = child_reached old child edge d in
         let self : mb.cost + child.cost ≤ mb.cost + child.cost = omega arith in
-        let comes : Comes g old i child.key e = inr (xb, mb, child.cost, d.stands, edge, self) in
-        let needed = child_needed old child edge d in
-        let high : f ≤ f = omega arith in
+        let comes : Comes task.graph old i child.key e = inr (xb, mb, child.cost, d.stands, edge, self) in
         let more : mb.cost ≤ e.cost = omega arith in
+        let other = other_number task.strategy.expansion old new child.key e (opening_of task child.key) i puts busy xb mb d.stands more in
         record {
-          sound = still_sound old new child.key e f i puts g weight budget d.sound room reached low comes needed high;
-          settled = still_settled old new child.key e f i puts g weight budget d.sound room reached low comes needed high refl busy d.settled;
-          stands = puts.on busy xb mb (other_number old new child.key e f i puts busy xb mb d.stands more) d.stands;
+          sound = still_sound task old new child.key e i puts d.sound room reached low comes needed;
+          settled = still_settled task old new child.key e i puts d.sound room reached low comes needed busy d.settled;
+          stands = puts.on busy xb mb other d.stands;
+          present = still_present task.strategy.expansion task old new (opening_of task child.key) i busy xb mb taken puts.notes
+              d.sound.noted other d.present;
         }
 
     -- a child that found its place
     abbrev Placed : Store K → Store K → Child K → Type 0
     Placed old new child = Doing new × ((x : K) (d : ℕ) → HasAt old x d → HasAt new x d)
-        × HasAt new child.key (mb.cost + child.cost) × (work_left budget new ≤ work_left budget old)
+        × HasAt new child.key (mb.cost + child.cost) × (work_left task.strategy.budget new ≤ work_left task.strategy.budget old)
 
     placed_known : (old new : Store K) (child : Child K) → Doing old
-        → Offers budget old new (child_offer child) Known
+        → Offers task.strategy taken old new (child_offer child) Known
         → Placed old new child
-    placed_known old new child d (i, was, at, (le, same)) =
-        let still_left : work_left budget old ≤ work_left budget old = omega arith in
+    placed_known old new child d (i, was, at, le, same) =
+        let still_left : work_left task.strategy.budget old ≤ work_left task.strategy.budget old = omega arith in
         subst (λ s. Placed old s child) (sym same) (d, λ x c h. h, (i, was, at, le), still_left)
 
     placed_lowered : (old new : Store K) (child : Child K) → IsChild child → Doing old
-        → Offers budget old new (child_offer child) Lowered
+        → Offers task.strategy taken old new (child_offer child) Lowered
         → Placed old new child
-    placed_lowered old new child edge d h =
+    placed_lowered old new child edge d (i, was, at, lt, lowers) =
         let e : Mark = (child_offer child).mark in
-        let f : ℕ = mb.cost + child.cost + weight * g.bound child.key in
-        let p = puts_lowered budget old new (child_offer child) h in
-        let was = d.sound.low h.0 child.key h.1 h.2 in
-        let less : mb.cost + child.cost < h.1.cost = h.3.0 in
-        let low : mb.cost + child.cost ≤ 53 * h.0 + 53 = omega (arith, was, less) in
-        let room = offers_room budget old new (child_offer child) Lowered d.sound.room h in
+        let p = puts_lowered task.strategy old new child.key e was (opening_of task child.key) i at lt lowers in
+        let before = d.sound.low i child.key was at in
+        let low : mb.cost + child.cost ≤ 53 * i + 53 = omega (arith, before, lt) in
+        let room = offers_room task.strategy taken old new (child_offer child) Lowered d.sound.room (i, was, at, lt, lowers) in
         let self : mb.cost + child.cost ≤ mb.cost + child.cost = omega arith in (
-          puts_doing old new child h.0 edge d room p low,
-          still_has old new child.key e f h.0 p,
-          (h.0, e, p.here, self),
-          lowered_work budget old new (child_offer child) h,
+          puts_doing old new child i edge d room p low (d.sound.needed i child.key was at),
+          still_has task.strategy.expansion old new child.key e (opening_of task child.key) i p,
+          (i, e, p.here, self),
+          lowered_work task.strategy old new i child.key was e (opening_of task child.key) at lt lowers,
         )
 
-    placed_added : IsLawful g → (old new : Store K) (child : Child K) → IsChild child → Doing old
-        → Offers budget old new (child_offer child) Added
+    placed_added : IsLawful task.graph → (old new : Store K) (child : Child K) → IsChild child → Doing old
+        → Offers task.strategy taken old new (child_offer child) Added
         → Placed old new child
-    placed_added lawful old new child edge d h =
+    placed_added lawful old new child edge d (fresh, admits, stores) =
         let e : Mark = (child_offer child).mark in
-        let f : ℕ = mb.cost + child.cost + weight * g.bound child.key in
-        let p = puts_added budget old new (child_offer child) h in
+        let p = puts_added task.strategy old new (child_offer child) fresh stores in
         let was = d.sound.low busy xb mb d.stands in
         let step = (lawful.edges xb child.cost child.key edge).1 in
         let lt = stands_within old busy xb mb d.stands in
         let low : mb.cost + child.cost ≤ 53 * length old.stored + 53 = omega (arith, was, step, lt) in
-        let room = offers_room budget old new (child_offer child) Added d.sound.room h in
+        let room = offers_room task.strategy taken old new (child_offer child) Added d.sound.room (fresh, admits, stores) in
         let self : mb.cost + child.cost ≤ mb.cost + child.cost = omega arith in (
-          puts_doing old new child (length old.stored) edge d room p low,
-          still_has old new child.key e f (length old.stored) p,
+          puts_doing old new child (length old.stored) edge d room p low (child_needed task.strategy.expansion old child edge d admits),
+          still_has task.strategy.expansion old new child.key e (opening_of task child.key) (length old.stored) p,
           (length old.stored, e, p.here, self),
-          added_work budget old new (child_offer child) h low,
+          added_work task.strategy old new (child_offer child) stores low,
         )
 
-    -- after all children: each is stored, or one found no place
-    abbrev pub Done : List (Child K) → Store K → Store K → Option K → Type 0
-    Done children old new left_out =
-        ((left_out ≡ None) × Doing new × ((x : K) (d : ℕ) → HasAt old x d → HasAt new x d)
-        × ((child : Child K) → Contains children child → HasAt new child.key (mb.cost + child.cost))
-        × (work_left budget new ≤ work_left budget old))
-        ⊎ ((y : K) × (left_out ≡ Some y) × IsGivenUp g weight budget new y busy)
+    -- a child is stored, or put off
+    abbrev pub IsPlaced : Store K → Placing K → Child K → Type 0
+    IsPlaced s placing child = HasAt s child.key (mb.cost + child.cost)
+        ⊎ PutOffTo placing (mb.cost + child.cost + task.strategy.weight * task.graph.bound child.key)
 
-    done_on : (child : Child K) (children : List (Child K)) (old mid new : Store K) (left_out : Option K)
-        → Placed old mid child → Done children mid new left_out → Done (child ∷ children) old new left_out
-    done_on child children old mid new left_out placed (inr gave_up) = inr gave_up
-    done_on child children old mid new left_out placed (inl (none, doing, stays, all, less)) =
+    -- after all children: each is stored or put off past what was taken, or one found no place
+    abbrev pub Done : List (Child K) → Store K → Store K → Placing K → Type 0
+    Done children old new placing =
+        (IsPast taken placing × Doing new × ((x : K) (d : ℕ) → HasAt old x d → HasAt new x d)
+        × ((child : Child K) → Contains children child → IsPlaced new placing child)
+        × (work_left task.strategy.budget new ≤ work_left task.strategy.budget old))
+        ⊎ ((y : K) × (placing ≡ NoRoom y) × IsGivenUp task new y busy)
+
+    done_on : (child : Child K) (children : List (Child K)) (old mid new : Store K) (placing : Placing K)
+        → Placed old mid child → Done children mid new placing → Done (child ∷ children) old new placing
+    done_on child children old mid new placing placed (inr gave_up) = inr gave_up
+    done_on child children old mid new placing placed (inl (past, doing, stays, all, less)) =
         inl (
-          none,
+          past,
           doing,
           λ x d h. stays x d (placed.1 x d h),
           λ c there. ⊎_elim
-              (λ same. subst (λ v. HasAt new v.key (mb.cost + v.cost)) same (stays child.key (mb.cost + child.cost) placed.2))
+              (λ same. subst (IsPlaced new placing) same (inl (stays child.key (mb.cost + child.cost) placed.2)))
               (λ later. all c later)
               (front_cases child c children there),
           let before = placed.3 in omega (arith, less, before),
         )
 
-    pub expands_done : IsLawful g → (children : List (Child K)) (old new : Store K) (left_out : Option K)
-        → ((child : Child K) → Contains children child → IsChild child) → Doing old
-        → Expands asked origin children old new left_out → Done children old new left_out
-    expands_done lawful [] old new left_out edges d (same, none) =
-        let left : work_left budget new ≡ work_left budget old = ap (work_left budget) same in
+    done_off : (child : Child K) (children : List (Child K)) (old new : Store K) (others : Placing K) (later : ℕ) → taken < later
+        → later ≤ mb.cost + child.cost + task.strategy.weight * task.graph.bound child.key
+        → Done children old new others → Done (child ∷ children) old new (put_off later others)
+    done_off child children old new others later lt le (inr (y, out, gave_up)) = inr (y, ap (put_off later) out, gave_up)
+    done_off child children old new others later lt le (inl (past, doing, stays, all, less)) =
         inl (
-          none,
+          off_on taken later others lt past,
+          doing,
+          stays,
+          λ c there. ⊎_elim
+              (λ same. subst (IsPlaced new (put_off later others)) same (inr (off_here taken later _ others past le)))
+              (λ behind. ⊎_elim (λ has. inl has) (λ off. inr (off_there later _ others off)) (all c behind))
+              (front_cases child c children there),
+          less,
+        )
+
+    pub expands_done : IsLawful task.graph → (children : List (Child K)) (old new : Store K) (placing : Placing K)
+        → ((child : Child K) → Contains children child → IsChild child) → Doing old
+        → Expands task taken origin children old new placing → Done children old new placing
+    expands_done lawful [] old new placing edges d (same, whole) =
+        let left : work_left task.strategy.budget new ≡ work_left task.strategy.budget old = ap (work_left task.strategy.budget) same in
+        inl (
+          subst (IsPast taken) (sym whole) tt,
           subst Doing (sym same) d,
           λ x c h. subst (λ s. HasAt s x c) (sym same) h,
           λ child there. absurd (omega (arith, there.1)),
           omega (arith, left),
         )
-    expands_done lawful (child ∷ children) old new left_out edges d (inl (full, out)) =
+    expands_done lawful (child ∷ children) old new placing edges d (inl ((fresh, admits, (is, no_room, same)), out)) =
         let edge = edges child (front_there child children) in
         inr (
           child.key,
           out,
-          subst (λ s. IsGivenUp g weight budget s child.key busy) (sym full.3)
-              (d.sound, full.2, full.1, child_needed old child edge d, (xb, mb, child.cost, d.stands, edge)),
+          subst (λ s. IsGivenUp task s child.key busy) (sym same)
+              (d.sound, no_room, fresh, child_needed task.strategy.expansion old child edge d admits, (xb, mb, child.cost, d.stands, edge)),
         )
-    expands_done lawful (child ∷ children) old new left_out edges d (inr (mid, how, rest)) =
+    expands_done lawful (child ∷ children) old new placing edges d (inr (inl (mid, how, rest))) =
         let edge = edges child (front_there child children) in
         let placed : Placed old mid child = ⊎_elim
         (λ known. placed_known old mid child d known)
         (λ other. ⊎_elim (λ lowered. placed_lowered old mid child edge d lowered) (λ added. placed_added lawful old mid child edge d added) other)
         how in
-        done_on child children old mid new left_out placed
-        (expands_done lawful children mid new left_out
+        done_on child children old mid new placing placed
+        (expands_done lawful children mid new placing
         (λ c there. edges c (Contains-append_right (child ∷ []) children c there)) placed.0 rest)
+    expands_done lawful (child ∷ children) old new placing edges d (inr (inr (later, (fresh, off, same), (others, rest, is)))) =
+        subst (Done (child ∷ children) old new) (sym is)
+        (done_off child children old new others later (off_past task.strategy.expansion taken _ later off).0
+        (off_past task.strategy.expansion taken _ later off).1
+        (expands_done lawful children old new others
+        (λ c there. edges c (Contains-append_right (child ∷ []) children c there)) d rest))

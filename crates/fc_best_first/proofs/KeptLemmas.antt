@@ -3,16 +3,22 @@ use Rattle.std.proofs.Common.{◌≡◌, ℕ, ◌+◌, ◌*◌, ◌<◌, ◌≤�
 use Rattle.std.specs.Prelude.{slice_get, Contains}
 use Rattle.std.proofs.lemmas.Bool.{cases_eq}
 use Rattle.std.proofs.lemmas.Option.{slice_get_within, some_pair_parts}
+use Rattle.std.proofs.lemmas.List.{length_push}
 use Rattle.std.proofs.lemmas.List.Elements.{Contains-append_cases, Contains-append_right}
 use Rattle.std.proofs.lemmas.List.Sorted.{Contains-permutation, IsPermutation-sym}
+use Rattle.indexmap.specs.Layout.{length-set_value_at}
 use Rattle.fc_frontier.specs.Queue.{Adds, IsLeast}
 use Rattle.fc_best_first.specs.declared.books.Mark.{Mark}
-use Rattle.fc_best_first.specs.declared.books.Offered.TheVariants.{Lowered, Added}
-use Rattle.fc_best_first.specs.Graph.{Graph, Reached}
-use Rattle.fc_best_first.specs.Store.{Store, Candidate, IsStored, IsNew, Offers}
-use Rattle.fc_best_first.specs.Turn.{TakesFloor}
-use Rattle.fc_best_first.specs.Kept.{HasAt, IsExpanded, IsOpenOrExpanded, IsNeeded, Comes, IsSound}
-use Rattle.fc_best_first.proofs.StoreLemmas.{set_here, set_elsewhere, push_here, push_elsewhere}
+use Rattle.fc_best_first.specs.declared.books.Opening.{Opening}
+use Rattle.fc_best_first.specs.declared.books.Offered.TheVariants.{Added}
+use Rattle.fc_best_first.specs.declared.strategies.Expansion.{Expansion}
+use Rattle.fc_best_first.specs.declared.strategies.Expansion.TheVariants.{Full, Partial}
+use Rattle.fc_best_first.specs.declared.strategies.Strategy.{Strategy}
+use Rattle.fc_best_first.specs.Graph.{Graph, Task, Reached}
+use Rattle.fc_best_first.specs.Store.{Store, Candidate, IsStored, IsNew, Lowers, NotesAnew, NotesLast, Stores, opens_at}
+use Rattle.fc_best_first.specs.Turn.{TakesFloor, opening_of}
+use Rattle.fc_best_first.specs.Kept.{AreNoted, HasAt, IsExpanded, IsExpandedBelow, IsOpenAt, IsOpenLater, IsOpenOrExpanded, IsNeeded, Comes, IsSound, f_of}
+use Rattle.fc_best_first.proofs.StoreLemmas.{set_here, set_elsewhere, push_here, push_elsewhere, slot_here, slot_elsewhere, length-slot}
 
 -- pairs that are put in and taken out
 pub front_there : {X : Type 0} (p : X) (ps : List X) → Contains (p ∷ ps) p
@@ -49,13 +55,16 @@ module _ {K : Type 0} where
   pub stands_within : (s : Store K) (i : ℕ) (x : K) (m : Mark) → IsStored s i x m → i < length s.stored
   stands_within s i x m at = slice_get_within s.stored i (x, m) at
 
-module _ {K : Type 0} (g : Graph K) (weight budget : ℕ) where
+  stands_back : (old new : Store K) (i : ℕ) (x : K) (m : Mark) → new.stored ≡ old.stored → IsStored new i x m → IsStored old i x m
+  stands_back old new i x m kept at = subst (λ es. slice_get es i ≡ Some (x, m)) kept at
+
+module _ {K : Type 0} (task : Task K) where
   -- a pair that is taken is of a stored key
-  pub taken_stands : (old : Store K) (f i : ℕ) (rest : List (ℕ × ℕ)) → IsSound g weight budget old → Adds rest old.waiting (f, i)
-      → (x : K) × (m : Mark) × IsStored old i x m × (m.cost + weight * g.bound x ≤ f)
+  pub taken_stands : (old : Store K) (f i : ℕ) (rest : List (ℕ × ℕ)) → IsSound task old → Adds rest old.waiting (f, i)
+      → (x : K) × (m : Mark) × IsStored old i x m × (f_of task x m ≤ f)
   taken_stands old f i rest sound taken = sound.pairs f i (added_there rest old.waiting (f, i) taken)
 
-  pub taken_within : (old new : Store K) (f i : ℕ) → IsSound g weight budget old → Adds new.waiting old.waiting (f, i)
+  pub taken_within : (old new : Store K) (f i : ℕ) → IsSound task old → Adds new.waiting old.waiting (f, i)
       → new.stored ≡ old.stored → i < length new.stored
   taken_within old new f i sound taken kept =
       let there = taken_stands old f i new.waiting sound taken in
@@ -63,14 +72,19 @@ module _ {K : Type 0} (g : Graph K) (weight budget : ℕ) where
       let size = ap length kept in
       omega (arith, lt, size)
 
-  stands_back : (old new : Store K) (i : ℕ) (x : K) (m : Mark) → new.stored ≡ old.stored → IsStored new i x m → IsStored old i x m
-  stands_back old new i x m kept at = subst (λ es. slice_get es i ≡ Some (x, m)) kept at
+  -- its f is no less than the cost plus weighed bound of its key
+  pub pair_high : (old : Store K) (f i : ℕ) (rest : List (ℕ × ℕ)) (x : K) (m : Mark) → IsSound task old
+      → Adds rest old.waiting (f, i) → IsStored old i x m → f_of task x m ≤ f
+  pair_high old f i rest x m sound taken at =
+      let there = taken_stands old f i rest sound taken in
+      let both = same_entry old i there.0 x there.1 m there.2 at in
+      subst (λ v. f_of task v m ≤ f) both.0 (subst (λ n. f_of task there.0 n ≤ f) both.1 there.3)
 
-  pub entry_reached : (old new : Store K) (i : ℕ) (x : K) (m : Mark) → IsSound g weight budget old → new.stored ≡ old.stored
-      → IsStored new i x m → (d : ℕ) × Reached g x d
+  pub entry_reached : (old new : Store K) (i : ℕ) (x : K) (m : Mark) → IsSound task old → new.stored ≡ old.stored
+      → IsStored new i x m → (d : ℕ) × Reached task.graph x d
   entry_reached old new i x m sound kept at = (m.cost, sound.reached i x m (stands_back old new i x m kept at))
 
-  pub entry_low : (old new : Store K) (i : ℕ) (x : K) (m : Mark) → IsSound g weight budget old → budget ≤ 4000000
+  pub entry_low : (old new : Store K) (i : ℕ) (x : K) (m : Mark) → IsSound task old → task.strategy.budget ≤ 4000000
       → new.stored ≡ old.stored → IsStored new i x m → m.cost ≤ 212000000
   entry_low old new i x m sound most kept at =
       let there = stands_back old new i x m kept at in
@@ -79,36 +93,72 @@ module _ {K : Type 0} (g : Graph K) (weight budget : ℕ) where
       let room = sound.room in
       omega arith
 
+-- what an opening that is noted leaves: by full expansion none is; by partial expansion each stored key has one, this key
+-- that one, and all others theirs
+abbrev pub Notes : {K : Type 0} → Expansion → Store K → Store K → ℕ → Opening → Type 0
+Notes Full old new i opening = new.openings ≡ old.openings
+Notes Partial old new i opening = (length old.openings ≡ length old.stored → length new.openings ≡ length new.stored)
+    × (length old.openings ≡ length old.stored → slice_get new.openings i ≡ Some opening)
+    × (length old.openings ≡ length old.stored → (j : ℕ) → (j ≡ i → ⊥) → slice_get new.openings j ≡ slice_get old.openings j)
+
 module _ {K : Type 0} where
-  -- a key is stored under the number with this mark and open at f, as it was not or at more before; all others stay
-  pub record Puts (old new : Store K) (y : K) (e : Mark) (f i : ℕ) : Type 0 where
+  -- a key is stored under the number with this mark and open there, as it was not or at more before; all others stay
+  pub record Puts (expansion : Expansion) (old new : Store K) (y : K) (e : Mark) (opening : Opening) (i : ℕ) : Type 0 where
     pub here : IsStored new i y e
     pub back : (j : ℕ) (x : K) (m : Mark) → (j ≡ i → ⊥) → IsStored new j x m → IsStored old j x m
     pub on : (j : ℕ) (x : K) (m : Mark) → (j ≡ i → ⊥) → IsStored old j x m → IsStored new j x m
-    pub opened : Adds old.waiting new.waiting (f, i)
+    pub opened : Adds old.waiting new.waiting (opens_at e opening, i)
     pub was : (IsNew old y × (i ≡ length old.stored)) ⊎ ((m : Mark) × IsStored old i y m × (e.cost < m.cost))
+    pub notes : Notes expansion old new i opening
 
-  pub puts_lowered : (budget : ℕ) (old new : Store K) (offer : Candidate K)
-      → (h : Offers budget old new offer Lowered) → Puts old new offer.key offer.mark offer.f h.0
-  puts_lowered budget old new offer (i, m, at, (lt, stored, opened)) = record {
-    here = subst (λ es. slice_get es i ≡ Some (offer.key, offer.mark)) (sym stored) (set_here old.stored i offer.key m offer.mark at);
-    back = λ j x n ne there. sym (set_elsewhere old.stored i j offer.mark ne) ∙ ap (λ es. slice_get es j) (sym stored) ∙ there;
-    on = λ j x n ne there. ap (λ es. slice_get es j) stored ∙ set_elsewhere old.stored i j offer.mark ne ∙ there;
+  pub anew_notes : (expansion : Expansion) (old new : Store K) (i : ℕ) (opening : Opening) → i < length old.stored
+      → length new.stored ≡ length old.stored → NotesAnew expansion old.openings new.openings i opening
+      → Notes expansion old new i opening
+  anew_notes Full old new i opening lt size same = same
+  anew_notes Partial old new i opening lt size is = (
+    λ long. ap length is ∙ length-slot old.openings i opening ∙ long ∙ sym size,
+    λ long. ap (λ os. slice_get os i) is ∙ slot_here old.openings i opening (omega (arith, lt, long)),
+    λ long j ne. ap (λ os. slice_get os j) is ∙ slot_elsewhere old.openings i j opening ne,
+  )
+
+  last_notes : (expansion : Expansion) (old new : Store K) (opening : Opening) → length new.stored ≡ suc (length old.stored)
+      → NotesLast expansion old.openings new.openings opening → Notes expansion old new (length old.stored) opening
+  last_notes Full old new opening size same = same
+  last_notes Partial old new opening size is = (
+    λ long. let more = ap length is ∙ length_push old.openings opening in omega (arith, more, long, size),
+    λ long. subst (λ n. slice_get new.openings n ≡ Some opening) long
+        (ap (λ os. slice_get os (length old.openings)) is ∙ push_here old.openings opening),
+    λ long j ne. ap (λ os. slice_get os j) is ∙ push_elsewhere old.openings opening j (λ e. ne (e ∙ long)),
+  )
+
+  pub puts_lowered : (strategy : Strategy) (old new : Store K) (y : K) (e was : Mark) (opening : Opening) (i : ℕ)
+      → IsStored old i y was → e.cost < was.cost → Lowers strategy old new i e opening
+      → Puts strategy.expansion old new y e opening i
+  puts_lowered strategy old new y e was opening i at lt (stored, opened, noted) = record {
+    here = subst (λ es. slice_get es i ≡ Some (y, e)) (sym stored) (set_here old.stored i y was e at);
+    back = λ j x n ne there. sym (set_elsewhere old.stored i j e ne) ∙ ap (λ es. slice_get es j) (sym stored) ∙ there;
+    on = λ j x n ne there. ap (λ es. slice_get es j) stored ∙ set_elsewhere old.stored i j e ne ∙ there;
     opened = opened;
-    was = inr (m, at, lt);
+    was = inr (was, at, lt);
+    notes = anew_notes strategy.expansion old new i opening (stands_within old i y was at)
+        (ap length stored ∙ length-set_value_at old.stored i e) noted;
   }
 
-  pub puts_added : (budget : ℕ) (old new : Store K) (offer : Candidate K) → Offers budget old new offer Added
-      → Puts old new offer.key offer.mark offer.f (length old.stored)
-  puts_added budget old new offer (fresh, lt, stored, opened) = record {
+  pub puts_added : (strategy : Strategy) (old new : Store K) (offer : Candidate K) → IsNew old offer.key
+      → Stores strategy old new offer Added
+      → Puts strategy.expansion old new offer.key offer.mark offer.opening (length old.stored)
+  puts_added strategy old new offer fresh (lt, stored, opened, noted) = record {
     here = ap (λ es. slice_get es (length old.stored)) stored ∙ push_here old.stored (offer.key, offer.mark);
     back = λ j x n ne there. sym (push_elsewhere old.stored (offer.key, offer.mark) j ne) ∙ ap (λ es. slice_get es j) (sym stored) ∙ there;
     on = λ j x n ne there. ap (λ es. slice_get es j) stored ∙ push_elsewhere old.stored (offer.key, offer.mark) j ne ∙ there;
     opened = opened;
     was = inl (fresh, refl);
+    notes = last_notes strategy.expansion old new offer.opening
+        (let more = ap length stored ∙ length_push old.stored (offer.key, offer.mark) in omega (arith, more)) noted;
   }
 
-  module _ (old new : Store K) (y : K) (e : Mark) (f i : ℕ) (puts : Puts old new y e f i) where
+  module _ (expansion : Expansion) (old new : Store K) (y : K) (e : Mark) (opening : Opening) (i : ℕ)
+      (puts : Puts expansion old new y e opening i) where
     -- a stored key still stands under its number, at no more
     pub still : (j : ℕ) (x : K) (m : Mark) → IsStored old j x m → (n : Mark) × IsStored new j x n × (n.cost ≤ m.cost)
     still j x m at =
@@ -133,6 +183,9 @@ module _ {K : Type 0} where
 
     still_expanded : (g : Graph K) (x : K) (d : ℕ) → IsExpanded g old x d → IsExpanded g new x d
     still_expanded g x d h = (h.0, λ c z edge. still_has z (d + c) (h.1 c z edge))
+
+    still_below : (g : Graph K) (weight : ℕ) (x : K) (d n : ℕ) → IsExpandedBelow g weight old x d n → IsExpandedBelow g weight new x d n
+    still_below g weight x d n h = (h.0, λ c z edge. ⊎_elim (λ has. inl (still_has z (d + c) has)) (λ far. inr far) (h.1 c z edge))
 
     -- the key that is put in stood nowhere else
     pub own_number : (j : ℕ) (m : Mark) → IsStored old j y m
@@ -163,68 +216,130 @@ module _ {K : Type 0} where
           inr (w, there.0, c, there.1, edge, low)
     ]
 
-    module _ (g : Graph K) (weight budget : ℕ) (sound : IsSound g weight budget old) (room : length new.stored ≤ budget)
-        (reached : Reached g y e.cost) (low : e.cost ≤ 53 * i + 53) (comes : Comes g old i y e) (needed : IsNeeded g weight y)
-        (high : e.cost + weight * g.bound y ≤ f) where
-      once : (j k : ℕ) (x : K) (m n : Mark) → IsStored new j x m → IsStored new k x n → j ≡ k
-      once j k x m n a b =
-          ⊎_elim
-          (λ here. let q = (at_here j x m here a).0 in
-          ⊎_elim (λ there. here ∙ sym there)
-          (λ ne. here ∙ sym (own_number k n (subst (λ v. IsStored old k v n) q (puts.back k x n ne b)) sound.once))
-          (cases_eq k i))
-          (λ ne.
-          ⊎_elim
-          (λ there. let q = (at_here k x n there b).0 in
-          own_number j m (subst (λ v. IsStored old j v m) q (puts.back j x m ne a)) sound.once ∙ sym there)
-          (λ other. sound.once j k x m n (puts.back j x m ne a) (puts.back k x n other b))
-          (cases_eq k i))
-          (cases_eq j i)
+  -- what is open stays so, and so does what is noted
+  pub still_open : (expansion : Expansion) (g : Graph K) (old new : Store K) (opening : Opening) (i j : ℕ) (m : Mark) (p : ℕ × ℕ) (f : ℕ)
+      → Adds old.waiting new.waiting p → Notes expansion old new i opening → AreNoted expansion g old → (j ≡ i → ⊥)
+      → IsOpenAt expansion old j m f → IsOpenAt expansion new j m f
+  still_open Full g old new opening i j m p f opened notes noted ne waits = added_stays old.waiting new.waiting p (f, j) opened waits
+  still_open Partial g old new opening i j m p f opened notes noted ne (waits, (last, there, at)) = (
+    added_stays old.waiting new.waiting p (f, j) opened waits,
+    (last, notes.2 noted.0 j ne ∙ there, at),
+  )
 
-      -- what holds of the key that is put in and of each other holds of each
-      each : (P : ℕ → K → Mark → Type 0) → P i y e → ((j : ℕ) (x : K) (m : Mark) → IsStored old j x m → P j x m)
-          → (j : ℕ) (x : K) (m : Mark) → IsStored new j x m → P j x m
-      each P here rest j x m at =
-          ⊎_elim
-          (λ same. let both = at_here j x m same at in
-          subst (λ k. P k x m) (sym same) (subst (λ v. P i v m) (sym both.0) (subst (λ n. P i y n) (sym both.1) here)))
-          (λ ne. rest j x m (puts.back j x m ne at))
-          (cases_eq j i)
+  opened_here : (expansion : Expansion) (g : Graph K) (old new : Store K) (opening : Opening) (i : ℕ) (m : Mark)
+      → Adds old.waiting new.waiting (opens_at m opening, i) → Notes expansion old new i opening → AreNoted expansion g old
+      → IsOpenAt expansion new i m (opens_at m opening)
+  opened_here Full g old new opening i m opened notes noted = added_there old.waiting new.waiting (opens_at m opening, i) opened
+  opened_here Partial g old new opening i m opened notes noted =
+      (added_there old.waiting new.waiting (opens_at m opening, i) opened, (opening, notes.1 noted.0, refl))
 
-      pub still_sound : IsSound g weight budget new
-      still_sound = record {
-        room = room;
-        once = once;
-        reached = each (λ j x m. Reached g x m.cost) reached sound.reached;
-        low = each (λ j x m. m.cost ≤ 53 * j + 53) low sound.low;
-        comes = each (Comes g new) (still_comes g i y e comes) (λ j x m at. still_comes g j x m (sound.comes j x m at));
-        needed = each (λ j x m. IsNeeded g weight x) needed sound.needed;
-        starts = λ x d start. still_has x d (sound.starts x d start);
-        pairs = λ h j there. ⊎_elim
-            (λ same.
-            let here : IsStored new j y e = subst (λ k. IsStored new k y e) (ap (λ p. p.1) same) puts.here in
-            let le : e.cost + weight * g.bound y ≤ h = subst (λ k. e.cost + weight * g.bound y ≤ k) (ap (λ p. p.0) same) high in
-            (y, e, here, le))
-            (λ before.
-            let was = sound.pairs h j before in
-            let now = still j was.0 was.1 was.2 in
-            let le : now.0.cost + weight * g.bound was.0 ≤ h = (let a = was.3 in omega (arith, now.2, a)) in
-            (was.0, now.0, now.1, le))
-            (added_cases old.waiting new.waiting (f, i) (h, j) puts.opened there);
-      }
+  pub still_noted : (expansion : Expansion) (g : Graph K) (old new : Store K) (y : K) (e : Mark) (opening : Opening) (i : ℕ)
+      → Puts expansion old new y e opening i → opening.bound ≡ g.bound y → AreNoted expansion g old → AreNoted expansion g new
+  still_noted Full g old new y e opening i puts told noted = puts.notes ∙ noted
+  still_noted Partial g old new y e opening i puts told noted = (
+    puts.notes.0 noted.0,
+    λ j x m at. ⊎_elim
+        (λ same.
+        let both = at_here Partial old new y e opening i puts j x m same at in (
+          opening,
+          subst (λ k. slice_get new.openings k ≡ Some opening) (sym same) (puts.notes.1 noted.0),
+          told ∙ ap (λ v. g.bound v) (sym both.0),
+        ))
+        (λ ne.
+        let was = noted.1 j x m (puts.back j x m ne at) in
+        (was.0, puts.notes.2 noted.0 j ne ∙ was.1, was.2))
+        (cases_eq j i),
+  )
 
-      pub still_settled : (exact : f ≡ e.cost + weight * g.bound y) (busy : ℕ)
-          → ((j : ℕ) (x : K) (m : Mark) → (j ≡ busy → ⊥) → IsStored old j x m → IsOpenOrExpanded g weight old j x m)
-          → (j : ℕ) (x : K) (m : Mark) → (j ≡ busy → ⊥) → IsStored new j x m → IsOpenOrExpanded g weight new j x m
-      still_settled exact busy settled j x m ne at =
-          ⊎_elim
-          (λ same. let both = at_here j x m same at in
-          inl (subst (λ k. Contains new.waiting (m.cost + weight * g.bound x, k)) (sym same)
-          (subst (λ v. Contains new.waiting (m.cost + weight * g.bound v, i)) (sym both.0)
-          (subst (λ n. Contains new.waiting (n.cost + weight * g.bound y, i)) (sym both.1)
-          (subst (λ h. Contains new.waiting (h, i)) exact (added_there old.waiting new.waiting (f, i) puts.opened))))))
-          (λ other. ⊎_elim
-          (λ waits. inl (added_stays old.waiting new.waiting (f, i) (m.cost + weight * g.bound x, j) puts.opened waits))
-          (λ done. inr (still_expanded g x m.cost done))
-          (settled j x m ne (puts.back j x m other at)))
-          (cases_eq j i)
+  still_later : (expansion : Expansion) (task : Task K) (old new : Store K) (y : K) (e : Mark) (opening : Opening) (i : ℕ)
+      → Puts expansion old new y e opening i → AreNoted expansion task.graph old → (j : ℕ) (x : K) (m : Mark) → (j ≡ i → ⊥)
+      → IsOpenLater expansion task old j x m → IsOpenLater expansion task new j x m
+  still_later Full task old new y e opening i puts noted j x m ne later = later
+  still_later Partial task old new y e opening i puts noted j x m ne (f, is_open, below) = (
+    f,
+    still_open Partial task.graph old new opening i j m (opens_at e opening, i) f puts.opened puts.notes noted ne is_open,
+    still_below Partial old new y e opening i puts task.graph task.strategy.weight x m.cost f below,
+  )
+
+  module _ (task : Task K) (old new : Store K) (y : K) (e : Mark) (i : ℕ)
+      (puts : Puts task.strategy.expansion old new y e (opening_of task y) i) (sound : IsSound task old)
+      (room : length new.stored ≤ task.strategy.budget) (reached : Reached task.graph y e.cost) (low : e.cost ≤ 53 * i + 53)
+      (comes : Comes task.graph old i y e) (needed : IsNeeded task.strategy.expansion task.graph task.strategy.weight y) where
+    again : (j : ℕ) (x : K) (m : Mark) → IsStored old j x m → (n : Mark) × IsStored new j x n × (n.cost ≤ m.cost)
+    again = still task.strategy.expansion old new y e (opening_of task y) i puts
+
+    here_again : (j : ℕ) (x : K) (m : Mark) → j ≡ i → IsStored new j x m → (x ≡ y) × (m ≡ e)
+    here_again = at_here task.strategy.expansion old new y e (opening_of task y) i puts
+
+    own_again : (j : ℕ) (m : Mark) → IsStored old j y m → j ≡ i
+    own_again j m at = own_number task.strategy.expansion old new y e (opening_of task y) i puts j m at sound.once
+
+    once : (j k : ℕ) (x : K) (m n : Mark) → IsStored new j x m → IsStored new k x n → j ≡ k
+    once j k x m n a b =
+        ⊎_elim
+        (λ here. let q = (here_again j x m here a).0 in
+        ⊎_elim (λ there. here ∙ sym there)
+        (λ ne. here ∙ sym (own_again k n (subst (λ v. IsStored old k v n) q (puts.back k x n ne b))))
+        (cases_eq k i))
+        (λ ne.
+        ⊎_elim
+        (λ there. let q = (here_again k x n there b).0 in
+        own_again j m (subst (λ v. IsStored old j v m) q (puts.back j x m ne a)) ∙ sym there)
+        (λ other. sound.once j k x m n (puts.back j x m ne a) (puts.back k x n other b))
+        (cases_eq k i))
+        (cases_eq j i)
+
+    -- what holds of the key that is put in and of each other holds of each
+    each : (P : ℕ → K → Mark → Type 0) → P i y e → ((j : ℕ) (x : K) (m : Mark) → IsStored old j x m → P j x m)
+        → (j : ℕ) (x : K) (m : Mark) → IsStored new j x m → P j x m
+    each P here rest j x m at =
+        ⊎_elim
+        (λ same. let both = here_again j x m same at in
+        subst (λ k. P k x m) (sym same) (subst (λ v. P i v m) (sym both.0) (subst (λ n. P i y n) (sym both.1) here)))
+        (λ ne. rest j x m (puts.back j x m ne at))
+        (cases_eq j i)
+
+    pub still_sound : IsSound task new
+    still_sound = record {
+      room = room;
+      once = once;
+      reached = each (λ j x m. Reached task.graph x m.cost) reached sound.reached;
+      low = each (λ j x m. m.cost ≤ 53 * j + 53) low sound.low;
+      comes = each (Comes task.graph new)
+          (still_comes task.strategy.expansion old new y e (opening_of task y) i puts task.graph i y e comes)
+          (λ j x m at. still_comes task.strategy.expansion old new y e (opening_of task y) i puts task.graph j x m (sound.comes j x m at));
+      needed = each (λ j x m. IsNeeded task.strategy.expansion task.graph task.strategy.weight x) needed sound.needed;
+      starts = λ x d start. still_has task.strategy.expansion old new y e (opening_of task y) i puts x d (sound.starts x d start);
+      pairs = λ h j there. ⊎_elim
+          (λ same.
+          let here : IsStored new j y e = subst (λ k. IsStored new k y e) (ap (λ p. p.1) same) puts.here in
+          let own : f_of task y e ≤ f_of task y e = omega arith in
+          let le : f_of task y e ≤ h = subst (λ k. f_of task y e ≤ k) (ap (λ p. p.0) same) own in
+          (y, e, here, le))
+          (λ before.
+          let was = sound.pairs h j before in
+          let now = again j was.0 was.1 was.2 in
+          let le : f_of task was.0 now.0 ≤ h = (let a = was.3 in omega (arith, now.2, a)) in
+          (was.0, now.0, now.1, le))
+          (added_cases old.waiting new.waiting (f_of task y e, i) (h, j) puts.opened there);
+      noted = still_noted task.strategy.expansion task.graph old new y e (opening_of task y) i puts refl sound.noted;
+    }
+
+    pub still_settled : (busy : ℕ)
+        → ((j : ℕ) (x : K) (m : Mark) → (j ≡ busy → ⊥) → IsStored old j x m → IsOpenOrExpanded task old j x m)
+        → (j : ℕ) (x : K) (m : Mark) → (j ≡ busy → ⊥) → IsStored new j x m → IsOpenOrExpanded task new j x m
+    still_settled busy settled j x m ne at =
+        ⊎_elim
+        (λ same. let both = here_again j x m same at in
+        inl (subst (λ k. IsOpenAt task.strategy.expansion new k m (f_of task x m)) (sym same)
+        (subst (λ v. IsOpenAt task.strategy.expansion new i m (f_of task v m)) (sym both.0)
+        (subst (λ n. IsOpenAt task.strategy.expansion new i n (f_of task y n)) (sym both.1)
+        (opened_here task.strategy.expansion task.graph old new (opening_of task y) i e puts.opened puts.notes sound.noted)))))
+        (λ other. elim (settled j x m ne (puts.back j x m other at)) [
+          | inl is_open ↦ inl (still_open task.strategy.expansion task.graph old new (opening_of task y) i j m (f_of task y e, i) (f_of task x m)
+              puts.opened puts.notes sound.noted other is_open)
+          | inr (inl done) ↦ inr (inl (still_expanded task.strategy.expansion old new y e (opening_of task y) i puts task.graph x m.cost done))
+          | inr (inr later) ↦ inr (inr (still_later task.strategy.expansion task old new y e (opening_of task y) i
+              puts sound.noted j x m other later))
+        ])
+        (cases_eq j i)

@@ -3,6 +3,7 @@ pub mod ClosedLemmas
 pub mod ExpandLemmas
 pub mod FloorLemmas
 pub mod KeptLemmas
+pub mod OfferLemmas
 pub mod RunLemmas
 pub mod SearchLemmas
 pub mod StoreLemmas

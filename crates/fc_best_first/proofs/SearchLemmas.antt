@@ -6,18 +6,24 @@ use Rattle.std.proofs.lemmas.Option.{none-some}
 use Rattle.std.specs.Map.{keys_of}
 use Rattle.std.proofs.lemmas.Map.Entries.{length-keys_of}
 use Rattle.std.proofs.lemmas.List.{length_push}
+use Rattle.fc_best_first.specs.declared.books.Mark.{Mark}
+use Rattle.fc_best_first.specs.declared.books.Opening.{Opening}
+use Rattle.fc_best_first.specs.declared.spaces.Child.{Child}
+use Rattle.fc_best_first.specs.declared.strategies.Expansion.{Expansion}
+use Rattle.fc_best_first.specs.declared.strategies.Expansion.TheVariants as expansion
+use Rattle.fc_best_first.specs.declared.turns.Placing.{Placing}
+use Rattle.fc_best_first.specs.declared.turns.Placing.TheVariants.{Whole, Later, NoRoom}
 use Rattle.fc_best_first.specs.declared.turns.Status.{Status}
 use Rattle.fc_best_first.specs.declared.turns.Status.TheVariants.{Running, Won, CannotWin, GaveUp, Stopped}
-use Rattle.fc_best_first.specs.Graph.{Graph, IsLawful}
-use Rattle.fc_best_first.specs.Store.{Store, IsStored}
-use Rattle.fc_best_first.specs.Turn.{ExpandsTaken, DropsTaken, Advances, work_left}
-use Rattle.fc_best_first.specs.Kept.{IsExpanded, IsNeeded, IsKept}
-use Rattle.fc_best_first.specs.Shown.{IsFound, IsExhausted, IsGivenUp, Holds, Shows}
-use Rattle.fc_best_first.proofs.KeptLemmas.{same_entry}
-use Rattle.fc_best_first.proofs.WorkLemmas.{taken_work}
-use Rattle.fc_best_first.specs.Graph.{Task}
-use Rattle.fc_best_first.proofs.ClosedLemmas.{taken_sound, kept_back, kept_expanded, taken_high, below_least, others_settled, rows, closed_inside, none_below, least_floor}
-use Rattle.fc_best_first.proofs.ExpandLemmas.{Done, expands_done}
+use Rattle.fc_best_first.specs.Graph.{Task, IsLawful}
+use Rattle.fc_best_first.specs.Store.{Store, IsStored, IsTaken, opens_at}
+use Rattle.fc_best_first.specs.Turn.{Advances, AreChildren, Closes, DropsTaken, ExpandsTaken, Expands, IsPresent, Reopens, work_left}
+use Rattle.fc_best_first.specs.Kept.{AreNoted, Comes, HasAt, IsExpanded, IsExpandedBelow, IsOpenLater, IsOpenOrExpanded, IsNeeded, IsSound, IsKept, f_of}
+use Rattle.fc_best_first.specs.Shown.{IsFloor, IsFound, IsExhausted, IsGivenUp, Holds, Shows}
+use Rattle.fc_best_first.proofs.KeptLemmas.{Notes, added_cases, added_there, anew_notes, same_entry, stands_within, still_open}
+use Rattle.fc_best_first.proofs.WorkLemmas.{reopened_work, taken_work}
+use Rattle.fc_best_first.proofs.ClosedLemmas.{IsAt, closed_inside, below_least, expanded_covered, kept_back, kept_below, kept_done, kept_expanded, kept_has, least_floor, less_done, none_below, open_waits, others_settled, rows, stale_elsewhere, taken_high, taken_sound}
+use Rattle.fc_best_first.proofs.ExpandLemmas.{Done, IsPlaced, PutOffTo, expands_done}
 
 -- a key of a list of keys is a stored one, or the one at the end
 key_cases : {K X : Type 0} (es : List (K × X)) (y : K) (i : ℕ) (x : K) → slice_get (keys_of es ++ y ∷ []) i ≡ Some x
@@ -30,118 +36,301 @@ key_cases (e ∷ es) y (suc i) x at = elim (key_cases es y i x at) [
   | inr last ↦ inr (ap suc last.0, last.1)
 ]
 
-module _ {K : Type 0} (g : Graph K) (weight budget : ℕ) where
-  module _ (lawful : IsLawful g) (heavy : 1 ≤ weight) (old new : Store K) (kept : IsKept g weight budget old) where
-    -- what is asked
-    abbrev asked : Task K
-    asked = record { graph = g; weight = weight; budget = budget }
+-- a key of which children were put off is open again
+module _ {K : Type 0} (task : Task K) (after new : Store K) (number : ℕ) (x : K) (mark : Mark) (later : ℕ)
+    (reopens : Reopens after new number mark later) where
+  abbrev next : Opening
+  next = reopens.1
 
-    abbrev Work : ℕ → Option K → Type 0
-    Work number left_out = ExpandsTaken asked old new number left_out
+  -- no opening is noted by full expansion
+  none_noted : after.openings ≡ [] → ⊥
+  none_noted none = none-some reopens.0 (ap (λ os. slice_get os number) (sym none) ∙ reopens.2)
 
-    work_least : (number : ℕ) (left_out : Option K) (t : Work number left_out) (n : ℕ) → g.wins n
-        → t.2.cost + weight * g.bound t.1 ≤ weight * n
-    work_least number left_out (f, x, mark, mid, taken, not_won, le, work) n wins =
-        let below = least_floor g weight budget lawful heavy old f number kept taken.least n wins in
-        let high = taken_high g weight budget old mid f number x mark kept.sound taken in
-        omega (arith, below, high)
+  reopened_notes : (expansion : Expansion) → AreNoted expansion task.graph after → IsStored after number x mark
+      → Notes expansion after new number next
+  reopened_notes expansion.Full noted at = absurd (none_noted noted)
+  reopened_notes expansion.Partial noted at =
+      anew_notes expansion.Partial after new number next (stands_within after number x mark at) (ap length reopens.6) reopens.8
 
-    work_done : (number : ℕ) (left_out : Option K) (t : Work number left_out)
-        → Done g weight budget number t.1 t.2 (work_least number left_out t) t.7.0 t.3 new left_out
-    work_done number left_out (f, x, mark, mid, taken, not_won, le, (children, are, expands)) =
-        let t : Work number left_out = (f, x, mark, mid, taken, not_won, le, (children, are, expands)) in
-        expands_done g weight budget number x mark (work_least number left_out t) lawful children mid new left_out (λ child there. (are.edges child there).0)
-        (record {
-          sound = taken_sound g weight budget old mid f number kept.sound taken.kept taken.taken;
-          settled = λ j y l ne at. others_settled g weight budget old mid f number x mark kept taken j y l (λ _ e. ne e) at;
-          stands = subst (λ es. slice_get es number ≡ Some (x, mark)) (sym taken.kept) taken.stands;
-        })
-        expands
+  reopened_later : (expansion : Expansion) → AreNoted expansion task.graph after → IsStored after number x mark
+      → IsExpandedBelow task.graph task.strategy.weight new x mark.cost later
+      → IsOpenLater expansion task new number x mark
+  reopened_later expansion.Full noted at below = absurd (none_noted noted)
+  reopened_later expansion.Partial noted at below = (
+    later,
+    (added_there after.waiting new.waiting (later, number) reopens.7, (next, (reopened_notes expansion.Partial noted at).1 noted.0, reopens.5)),
+    below,
+  )
 
-    work_kept : (number : ℕ) → Work number None → IsKept g weight budget new
-    work_kept number t = elim (work_done number None t) [
-      | inr (y, out, gave_up) ↦ absurd (none-some y out)
-      | inl (none, doing, stays, all, less) ↦ record {
+  reopened_noted : (expansion : Expansion) → AreNoted expansion task.graph after → IsStored after number x mark
+      → AreNoted expansion task.graph new
+  reopened_noted expansion.Full noted at = absurd (none_noted noted)
+  reopened_noted expansion.Partial noted at =
+      let notes = reopened_notes expansion.Partial noted at in (
+        notes.0 noted.0,
+        λ j z l there.
+            let before = kept_back after new j z l reopens.6 there in
+            let was = noted.1 j z l before in
+            ⊎_elim
+            (λ same.
+            let one : was.0 ≡ reopens.0 = (let both = sym was.1 ∙ ap (λ k. slice_get after.openings k) same ∙ reopens.2 in cc) in (
+              next,
+              ap (λ k. slice_get new.openings k) same ∙ notes.1 noted.0,
+              reopens.3 ∙ ap (λ o. o.bound) (sym one) ∙ was.2,
+            ))
+            (λ ne. (was.0, notes.2 noted.0 j ne ∙ was.1, was.2))
+            (cases_eq j number),
+      )
+
+  -- it was open at what was taken, which is less
+  reopened_rises : (expansion : Expansion) (f : ℕ) → AreNoted expansion task.graph after → IsPresent expansion after number mark (f_of task x mark) f
+      → f < later → opens_at mark reopens.0 < later
+  reopened_rises expansion.Full f noted present lt = absurd (none_noted noted)
+  reopened_rises expansion.Partial f noted (last, there, at) lt =
+      let one : last ≡ reopens.0 = (let both = sym there ∙ reopens.2 in cc) in
+      let level = ap (λ o. o.over) one in
+      omega (arith, lt, at, level)
+
+  reopened_sound : IsSound task after → IsStored after number x mark → f_of task x mark ≤ later → IsSound task new
+  reopened_sound sound at high = record {
+    room = (let size = ap length reopens.6 in let room = sound.room in omega (arith, size, room));
+    once = λ i j y m n a b. sound.once i j y m n (kept_back after new i y m reopens.6 a) (kept_back after new j y n reopens.6 b);
+    reached = λ i y m a. sound.reached i y m (kept_back after new i y m reopens.6 a);
+    low = λ i y m a. sound.low i y m (kept_back after new i y m reopens.6 a);
+    comes = λ i y m a. subst (λ es. Comes task.graph (record { stored = es; waiting = new.waiting; openings = new.openings }) i y m)
+        (sym reopens.6) (sound.comes i y m (kept_back after new i y m reopens.6 a));
+    needed = λ i y m a. sound.needed i y m (kept_back after new i y m reopens.6 a);
+    starts = λ y d start. kept_has after new y d reopens.6 (sound.starts y d start);
+    pairs = λ h i there. ⊎_elim
+        (λ same. (
+          x,
+          mark,
+          subst (λ es. slice_get es i ≡ Some (x, mark)) (sym reopens.6) (subst (λ k. IsStored after k x mark) (ap (λ p. p.1) same) at),
+          subst (λ k. f_of task x mark ≤ k) (ap (λ p. p.0) same) high,
+        ))
+        (λ before.
+        let was = sound.pairs h i before in
+        (was.0, was.1, subst (λ es. slice_get es i ≡ Some (was.0, was.1)) (sym reopens.6) was.2, was.3))
+        (added_cases after.waiting new.waiting (later, number) (h, i) reopens.7 there);
+    noted = reopened_noted task.strategy.expansion sound.noted at;
+  }
+
+  reopened_others : IsSound task after → IsStored after number x mark → (j : ℕ) (y : K) (l : Mark) → (j ≡ number → ⊥)
+      → IsOpenOrExpanded task after j y l → IsOpenOrExpanded task new j y l
+  reopened_others sound at j y l ne h = elim h [
+    | inl is_open ↦ inl (still_open task.strategy.expansion task.graph after new next number j l (later, number) (f_of task y l) reopens.7
+        (reopened_notes task.strategy.expansion sound.noted at) sound.noted ne is_open)
+    | inr (inl done) ↦ inr (inl (kept_expanded task.graph after new y l.cost reopens.6 done))
+    | inr (inr is_open) ↦ inr (inr (by task.strategy.expansion sound.noted (reopened_notes task.strategy.expansion sound.noted at) is_open))
+  ]
+    where
+      by : (expansion : Expansion) → AreNoted expansion task.graph after → Notes expansion after new number next
+          → IsOpenLater expansion task after j y l
+          → IsOpenLater expansion task new j y l
+      by expansion.Full noted notes is_open = absurd is_open
+      by expansion.Partial noted notes (f, is_open, below) = (
+        f,
+        still_open expansion.Partial task.graph after new next number j l (later, number) f reopens.7 notes noted ne is_open,
+        kept_below task.graph task.strategy.weight after new y l.cost f reopens.6 below,
+      )
+
+module _ {K : Type 0} (task : Task K) where
+  module _ (lawful : IsLawful task.graph) (heavy : 1 ≤ task.strategy.weight) (old new : Store K) (kept : IsKept task old) where
+    module _ (number : ℕ) (f : ℕ) (x : K) (mark : Mark) (mid : Store K) (taken : IsTaken old mid f number x mark)
+        (present : IsPresent task.strategy.expansion old number mark (f_of task x mark) f) (not_won : task.graph.won x → ⊥)
+        (children : List (Child K)) (are : AreChildren task.graph x children) (after : Store K) where
+      high : f_of task x mark ≤ f
+      high = taken_high task old mid f number x mark kept.sound taken
+
+      floor : IsFloor task.graph task.strategy.weight f
+      floor = least_floor task lawful heavy old f number kept taken.least
+
+      -- what is done once the children were offered
+      abbrev Offered : Placing K → Type 0
+      Offered placing = Done task number x mark f high floor children mid after placing
+
+      offered : (placing : Placing K) → Expands task f (record { cost = mark.cost; parent = number }) children mid after placing
+          → Offered placing
+      offered placing expands =
+          expands_done task number x mark f high floor lawful children mid after placing (λ child there. (are.edges child there).0)
+          (record {
+            sound = taken_sound task old mid f number kept.sound taken.kept taken.noted taken.taken;
+            settled = λ j y l ne at. others_settled task old mid f number x mark kept taken j y l (λ h is same e. ne e) at;
+            stands = subst (λ es. slice_get es number ≡ Some (x, mark)) (sym taken.kept) taken.stands;
+            present = kept_present task.strategy.expansion present;
+          })
+          expands
+        where
+          kept_present : (expansion : Expansion) → IsPresent expansion old number mark (f_of task x mark) f → IsPresent expansion mid number mark (f_of task x mark) f
+          kept_present expansion.Full is = is
+          kept_present expansion.Partial (last, there, at) = (last, ap (λ os. slice_get os number) taken.noted ∙ there, at)
+
+      -- each edge's end is stored, or can wait until what the children were put off to
+      ends : (placing : Placing K) → ((child : Child K) → Contains children child → IsPlaced task number x mark f high floor after placing child)
+          → (c : ℕ) (y : K) → task.graph.edge x c y
+          → HasAt after y (mark.cost + c) ⊎ ((h : ℕ) → placing ≡ Later h → h ≤ mark.cost + c + task.strategy.weight * task.graph.bound y)
+      ends placing all c y edge =
+          let child = are.whole c y edge in
+          ⊎_elim
+          (λ has. inl (
+          let low : has.1.cost ≤ mark.cost + c = (let a = has.3 in let b = child.3 in omega (arith, a, b)) in
+          (has.0, has.1, subst (λ v. IsStored after has.0 v has.1) child.2 has.2, low)))
+          (λ off. inr (λ h is. subst (λ v. h ≤ mark.cost + c + task.strategy.weight * task.graph.bound v) child.2
+          (let near : h ≤ mark.cost + child.0.cost + task.strategy.weight * task.graph.bound child.0.key =
+          subst (λ p. PutOffTo p (mark.cost + child.0.cost + task.strategy.weight * task.graph.bound child.0.key)) is off in
+          let le = child.3 in omega (arith, near, le))))
+          (all child.0 child.1)
+
+      closed_kept : (placing : Placing K) → Offered placing → Closes after new number mark placing None → IsKept task new
+      closed_kept Whole (inl (past, doing, stays, all, less)) (same, none) = subst (IsKept task) (sym same) (record {
         sound = doing.sound;
         settled = λ j y l at. ⊎_elim
-            (λ same.
-            let both = same_entry new number y t.1 l t.2 (subst (λ k. IsStored new k y l) same at) doing.stands in
-            inr (subst (λ v. IsExpanded g new v l.cost) (sym both.0) (subst (λ m. IsExpanded g new t.1 m.cost) (sym both.1) (
-              t.5,
-              λ c z edge.
-                  let child = t.7.1.whole c z edge in
-                  let there = all child.0 child.1 in
-                  let low : there.1.cost ≤ t.2.cost + c = (let a = there.3 in let b = child.3 in omega (arith, a, b)) in
-                  (there.0, there.1, subst (λ v. IsStored new there.0 v there.1) child.2 there.2, low),
-            ))))
+            (λ e.
+            let both = same_entry after number y x l mark (subst (λ k. IsStored after k y l) e at) doing.stands in
+            inr (inl (subst (λ v. IsExpanded task.graph after v l.cost) (sym both.0)
+            (subst (λ m. IsExpanded task.graph after x m.cost) (sym both.1) (
+              not_won,
+              λ c z edge. ⊎_elim (λ has. has) (λ off. stored c z edge) (ends Whole all c z edge),
+            )))))
             (λ ne. doing.settled j y l ne at)
             (cases_eq j number);
-      }
-    ]
+      })
+        where
+          stored : (c : ℕ) (z : K) → task.graph.edge x c z → HasAt after z (mark.cost + c)
+          stored c z edge =
+              let child = are.whole c z edge in
+              ⊎_elim
+              (λ has.
+              let low : has.1.cost ≤ mark.cost + c = (let a = has.3 in let b = child.3 in omega (arith, a, b)) in
+              (has.0, has.1, subst (λ v. IsStored after has.0 v has.1) child.2 has.2, low))
+              (λ off. absurd off)
+              (all child.0 child.1)
+      closed_kept Whole (inr (y, out, gave_up)) closes = absurd (cc)
+      closed_kept (Later later) (inl (past, doing, stays, all, less)) (reopens, none) =
+          let up : f_of task x mark ≤ later = omega (arith, past, high) in record {
+            sound = reopened_sound task after new number x mark later reopens doing.sound doing.stands up;
+            settled = λ j y l at.
+                let before = kept_back after new j y l reopens.6 at in
+                ⊎_elim
+                (λ e.
+                let both = same_entry after number y x l mark (subst (λ k. IsStored after k y l) e before) doing.stands in
+                inr (inr (subst (λ k. IsOpenLater task.strategy.expansion task new k y l) (sym e)
+                (subst (λ v. IsOpenLater task.strategy.expansion task new number v l) (sym both.0)
+                (subst (λ m. IsOpenLater task.strategy.expansion task new number x m) (sym both.1)
+                (reopened_later task after new number x mark later reopens task.strategy.expansion doing.sound.noted doing.stands (
+                  not_won,
+                  λ c z edge. ⊎_elim
+                      (λ has. inl (kept_has after new z (mark.cost + c) reopens.6 has))
+                      (λ off. inr (off later refl))
+                      (ends (Later later) all c z edge),
+                )))))))
+                (λ ne. reopened_others task after new number x mark later reopens doing.sound doing.stands j y l ne (doing.settled j y l ne before))
+                (cases_eq j number);
+          }
+      closed_kept (Later later) (inr (y, out, gave_up)) closes = absurd (cc)
+      closed_kept (NoRoom y) done (same, out) = absurd (none-some y out)
 
-    work_given_up : (number : ℕ) (y : K) → Work number (Some y) → IsGivenUp g weight budget new y number
-    work_given_up number y t = elim (work_done number (Some y) t) [
-      | inl (none, doing, stays, all, less) ↦ absurd (none-some y (sym none))
-      | inr (z, same, gave_up) ↦ subst (λ v. IsGivenUp g weight budget new v number) (let e : z ≡ y = cc in e) gave_up
-    ]
+      closed_given_up : (placing : Placing K) (y : K) → Offered placing → Closes after new number mark placing (Some y)
+          → IsGivenUp task new y number
+      closed_given_up Whole y done (same, out) = absurd (none-some y (sym out))
+      closed_given_up (Later later) y done (reopens, out) = absurd (none-some y (sym out))
+      closed_given_up (NoRoom z) y (inl (past, doing, stays, all, less)) closes = absurd past
+      closed_given_up (NoRoom z) y (inr (u, is, gave_up)) (same, out) =
+          let one : u ≡ y = cc in
+          subst (λ s. IsGivenUp task s y number) (sym same) (subst (λ v. IsGivenUp task after v number) one gave_up)
+
+      closed_less : (placing : Placing K) → Offered placing → Closes after new number mark placing None
+          → work_left task.strategy.budget new < work_left task.strategy.budget old
+      closed_less placing done closes =
+          let first = taken_work task.strategy.budget old mid (f, number) taken.kept taken.noted taken.taken in
+          let rest = by placing done closes in
+          omega (arith, first, rest)
+        where
+          by : (placing : Placing K) → Offered placing → Closes after new number mark placing None
+              → work_left task.strategy.budget new ≤ work_left task.strategy.budget mid
+          by Whole (inl (past, doing, stays, all, less)) (same, none) =
+              subst (λ s. work_left task.strategy.budget s ≤ work_left task.strategy.budget mid) (sym same) less
+          by Whole (inr (y, out, gave_up)) closes = absurd (cc)
+          by (Later later) (inl (past, doing, stays, all, less)) (reopens, none) =
+              let again = reopened_work task.strategy.budget after new number mark reopens.0 later reopens.2
+              (reopened_rises task after new number x mark later reopens task.strategy.expansion f doing.sound.noted doing.present past) reopens in
+              omega (arith, again, less)
+          by (Later later) (inr (y, out, gave_up)) closes = absurd (cc)
+          by (NoRoom y) done (same, out) = absurd (none-some y out)
+
+    abbrev Work : ℕ → Option K → Type 0
+    Work number left_out = ExpandsTaken task old new number left_out
+
+    work_kept : (number : ℕ) → Work number None → IsKept task new
+    work_kept number (f, x, mark, mid, taken, not_won, present, (children, are, (after, placing, expands, closes))) =
+        closed_kept number f x mark mid taken present not_won children are after placing
+        (offered number f x mark mid taken present not_won children are after placing expands) closes
+
+    work_given_up : (number : ℕ) (y : K) → Work number (Some y) → IsGivenUp task new y number
+    work_given_up number y (f, x, mark, mid, taken, not_won, present, (children, are, (after, placing, expands, closes))) =
+        closed_given_up number f x mark mid taken present not_won children are after placing y
+        (offered number f x mark mid taken present not_won children are after placing expands) closes
+
+    work_less : (number : ℕ) → Work number None → work_left task.strategy.budget new < work_left task.strategy.budget old
+    work_less number (f, x, mark, mid, taken, not_won, present, (children, are, (after, placing, expands, closes))) =
+        closed_less number f x mark mid taken present not_won children are after placing
+        (offered number f x mark mid taken present not_won children are after placing expands) closes
 
     -- a turn that leaves the search running leaves less to do
-    pub takes_less : Advances asked old new Running → work_left budget new < work_left budget old
+    pub takes_less : Advances task old new Running → work_left task.strategy.budget new < work_left task.strategy.budget old
     takes_less t = ⊎_elim
-        (λ dropped. taken_work budget old new (dropped.0, dropped.1) dropped.4.kept dropped.4.taken)
+        (λ dropped. taken_work task.strategy.budget old new (dropped.0, dropped.1) dropped.4.kept dropped.4.noted dropped.4.taken)
         (λ work. work_less work.0 work.1)
         t
-      where
-        after : (number : ℕ) (t : Work number None) → (y : K) → None ≡ Some y → work_left budget new ≤ work_left budget t.3
-        after number t y out = absurd (none-some y out)
 
-        work_less : (number : ℕ) → Work number None → work_left budget new < work_left budget old
-        work_less number t =
-            let le : work_left budget new ≤ work_left budget t.3 = elim (work_done number None t) [
-              | inr (y, out, gave_up) ↦ after number t y out
-              | inl (none, doing, stays, all, less) ↦ less
-            ] in
-            let taken = taken_work budget old t.3 (t.0, number) t.4.kept t.4.taken in
-            omega (arith, le, taken)
-
-    drop_kept : DropsTaken asked old new → IsKept g weight budget new
-    drop_kept (f, number, x, mark, taken, not_won, lt) = record {
-      sound = taken_sound g weight budget old new f number kept.sound taken.kept taken.taken;
-      settled = λ j y l at. others_settled g weight budget old new f number x mark kept taken j y l
-          (λ e same.
-          let there = kept_back g weight budget old new j y l taken.kept at in
-          let both = same_entry old number y x l mark (subst (λ k. IsStored old k y l) same there) taken.stands in
-          let at_least : mark.cost + weight * g.bound x ≡ f = subst (λ v. mark.cost + weight * g.bound v ≡ f) both.0
-          (subst (λ m. m.cost + weight * g.bound y ≡ f) both.1 e) in
-          omega (arith, at_least, lt)) at;
+    drop_kept : DropsTaken task old new → IsKept task new
+    drop_kept (f, number, x, mark, taken, not_won, stale) = record {
+      sound = taken_sound task old new f number kept.sound taken.kept taken.noted taken.taken;
+      settled = λ j y l at. others_settled task old new f number x mark kept taken j y l
+          (λ h is same e.
+          let there = kept_back old new j y l taken.kept at in
+          let both = same_entry old number y x l mark (subst (λ k. IsStored old k y l) e there) taken.stands in
+          stale_elsewhere task.strategy.expansion task old number x mark f h stale
+          (subst (λ v. IsAt task.strategy.expansion task old number v mark h) both.0
+          (subst (λ m. IsAt task.strategy.expansion task old number y m h) both.1
+          (subst (λ k. IsAt task.strategy.expansion task old k y l h) e is))) same) at;
     }
 
-    won_found : (number : ℕ) → Advances asked old new (Won number) → IsFound g weight budget new number
+    won_found : (number : ℕ) → Advances task old new (Won number) → IsFound task new number
     won_found number (f, x, mark, taken, won) =
-        let high = taken_high g weight budget old new f number x mark kept.sound taken in (
-          taken_sound g weight budget old new f number kept.sound taken.kept taken.taken,
+        let high = taken_high task old new f number x mark kept.sound taken in (
+          taken_sound task old new f number kept.sound taken.kept taken.noted taken.taken,
           (
             x,
             mark,
             subst (λ es. slice_get es number ≡ Some (x, mark)) (sym taken.kept) taken.stands,
             won,
-            λ i y m at lt. kept_expanded g weight budget old new y m.cost taken.kept
-                (below_least g weight budget old f number kept taken.least i y m (kept_back g weight budget old new i y m taken.kept at) (omega (arith, lt, high))),
-            λ i y m ne at. others_settled g weight budget old new f number x mark kept taken i y m (λ _ e. ne e) at,
+            λ i y m at lt. kept_done task.strategy.expansion task old new y m.cost mark.cost taken.kept
+                (less_done task.strategy.expansion task old y m.cost mark.cost f (omega (arith, high))
+                (below_least task old f number kept taken.least i y m (kept_back old new i y m taken.kept at) (omega (arith, lt, high)))),
+            λ i y m ne at. others_settled task old new f number x mark kept taken i y m (λ h is same e. ne e) at,
           ),
         )
 
-    none_exhausted : Advances asked old new CannotWin → IsExhausted g weight budget new
-    none_exhausted (empty, same) = subst (IsExhausted g weight budget) (sym same) (
+    none_exhausted : Advances task old new CannotWin → IsExhausted task new
+    none_exhausted (empty, same) = subst (IsExhausted task) (sym same) (
       kept.sound,
-      λ i y m at. ⊎_elim
-          (λ waits. absurd (let p = subst (λ ps. Contains ps (m.cost + weight * g.bound y, i)) empty waits in omega (arith, p.1)))
-          (λ done. done)
-          (kept.settled i y m at),
+      λ i y m at. elim (kept.settled i y m at) [
+        | inl is_open ↦ absurd (none_waits (f_of task y m) i (open_waits task.strategy.expansion old i m (f_of task y m) is_open))
+        | inr (inl done) ↦ done
+        | inr (inr later) ↦ absurd (by task.strategy.expansion i y m later)
+      ],
     )
+      where
+        none_waits : (f i : ℕ) → Contains old.waiting (f, i) → ⊥
+        none_waits f i waits = let p = subst (λ ps. Contains ps (f, i)) empty waits in omega (arith, p.1)
+
+        by : (expansion : Expansion) (i : ℕ) (y : K) (m : Mark) → IsOpenLater expansion task old i y m → ⊥
+        by expansion.Full i y m later = later
+        by expansion.Partial i y m (f, is_open, below) = none_waits f i is_open.0
 
     -- what a search holds after a turn
-    pub takes_holds : (status : Status K) → Advances asked old new status → Holds g weight budget new status
+    pub takes_holds : (status : Status K) → Advances task old new status → Holds task new status
     takes_holds Running t = ⊎_elim (λ dropped. drop_kept dropped) (λ work. work_kept work.0 work.1) t
     takes_holds (Won number) t = won_found number t
     takes_holds CannotWin t = none_exhausted t
@@ -149,7 +338,7 @@ module _ {K : Type 0} (g : Graph K) (weight budget : ℕ) where
     takes_holds Stopped t = absurd t
 
   -- what a search that is done shows
-  pub holds_shows : IsLawful g → 1 ≤ weight → (s : Store K) (status : Status K) → Holds g weight budget s status → Shows g weight budget s status
+  pub holds_shows : IsLawful task.graph → 1 ≤ task.strategy.weight → (s : Store K) (status : Status K) → Holds task s status → Shows task s status
   holds_shows lawful heavy s Running h = tt
   holds_shows lawful heavy s (Won number) (sound, (x, mark, at, won, done, settled)) =
       let reached = sound.reached number x mark at in (
@@ -159,14 +348,14 @@ module _ {K : Type 0} (g : Graph K) (weight budget : ℕ) where
         won,
         reached,
         lawful.answers x mark.cost reached won,
-        none_below g weight budget lawful heavy s mark.cost sound done,
+        none_below task lawful heavy s mark.cost sound done,
       )
   holds_shows lawful heavy s CannotWin (sound, done) = λ n wins.
-      let over = lawful.closed (suc n) (rows g weight budget s) (closed_inside g weight budget s (suc n) sound (λ i x m at lt. done i x m at)) n wins in
+      let over = lawful.closed (suc n) (rows s) (closed_inside task s (suc n) sound (λ i x m at lt. expanded_covered task.graph s x m.cost (suc n) (done i x m at))) n wins in
       omega (arith, over)
   holds_shows lawful heavy s (GaveUp y number) (sound, full, fresh, needed, rest) =
       let keys : List K = keys_of s.stored ++ y ∷ [] in
-      let many : length keys ≡ budget + 1 = (let room = sound.room in let l = length-keys_of s.stored in omega (arith, length_push (keys_of s.stored) y, room, l, full)) in (
+      let many : length keys ≡ task.strategy.budget + 1 = (let room = sound.room in let l = length-keys_of s.stored in omega (arith, length_push (keys_of s.stored) y, room, l, full)) in (
         keys,
         record {
           many = many;
@@ -182,7 +371,7 @@ module _ {K : Type 0} (g : Graph K) (weight budget : ℕ) where
               (key_cases s.stored y i x a);
           needed = λ i x a. ⊎_elim
               (λ one. sound.needed i x one.0 one.1)
-              (λ last. subst (IsNeeded g weight) (sym last.1) needed)
+              (λ last. subst (IsNeeded task.strategy.expansion task.graph task.strategy.weight) (sym last.1) needed)
               (key_cases s.stored y i x a);
         },
       )

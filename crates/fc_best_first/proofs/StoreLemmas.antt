@@ -1,6 +1,6 @@
 -- Lemmas on stored keys: which is found, which is new, and what stands after one is put in.
 use Rattle.std.proofs.Common.{◌≡◌, ℕ, ◌+◌, ◌<◌, Bool, true, false, not, suc, zero, Some, None, List, [], ◌∷◌, ◌++◌, length, cond, refl, sym, ◌∙◌, ap, subst, arith, nat_lt}
-use Rattle.std.specs.Prelude.{slice_get, position}
+use Rattle.std.specs.Prelude.{slice_get, slice_set, position}
 use Rattle.std.specs.List.{position_or_len}
 use Rattle.std.specs.Map.{keys_of, lookup}
 use Rattle.std.proofs.lemmas.Option.{none-some, cond_some, slice_get_within, some_pair_parts}
@@ -84,17 +84,35 @@ module _ {K X : Type 0} where
   set_elsewhere (e ∷ es) (suc i) zero w ne = refl
   set_elsewhere (e ∷ es) (suc i) (suc j) w ne = set_elsewhere es i j w (λ q. ne (ap suc q))
 
+module _ {E : Type 0} where
   -- after one was added
-  pub push_here : (es : List (K × X)) (e : K × X) → slice_get (es ++ e ∷ []) (length es) ≡ Some e
+  pub push_here : (es : List E) (e : E) → slice_get (es ++ e ∷ []) (length es) ≡ Some e
   push_here [] e = refl
   push_here (d ∷ es) e = push_here es e
 
-  pub push_elsewhere : (es : List (K × X)) (e : K × X) (j : ℕ) → (j ≡ length es → ⊥)
-      → slice_get (es ++ e ∷ []) j ≡ slice_get es j
+  pub push_elsewhere : (es : List E) (e : E) (j : ℕ) → (j ≡ length es → ⊥) → slice_get (es ++ e ∷ []) j ≡ slice_get es j
   push_elsewhere [] e zero ne = absurd (ne refl)
   push_elsewhere [] e (suc j) ne = refl
   push_elsewhere (d ∷ es) e zero ne = refl
   push_elsewhere (d ∷ es) e (suc j) ne = push_elsewhere es e j (λ q. ne (ap suc q))
+
+  -- after one took the place of another
+  pub slot_here : (es : List E) (i : ℕ) (e : E) → i < length es → slice_get (slice_set es i e) i ≡ Some e
+  slot_here [] i e lt = absurd (omega (arith, lt))
+  slot_here (d ∷ es) zero e lt = refl
+  slot_here (d ∷ es) (suc i) e lt = slot_here es i e (omega (arith, lt))
+
+  pub slot_elsewhere : (es : List E) (i j : ℕ) (e : E) → (j ≡ i → ⊥) → slice_get (slice_set es i e) j ≡ slice_get es j
+  slot_elsewhere [] i j e ne = refl
+  slot_elsewhere (d ∷ es) zero zero e ne = absurd (ne refl)
+  slot_elsewhere (d ∷ es) zero (suc j) e ne = refl
+  slot_elsewhere (d ∷ es) (suc i) zero e ne = refl
+  slot_elsewhere (d ∷ es) (suc i) (suc j) e ne = slot_elsewhere es i j e (λ q. ne (ap suc q))
+
+  pub length-slot : (es : List E) (i : ℕ) (e : E) → length (slice_set es i e) ≡ length es
+  length-slot [] i e = refl
+  length-slot (d ∷ es) zero e = refl
+  length-slot (d ∷ es) (suc i) e = ap suc (length-slot es i e)
 
 module _ {K : Type 0} where
   -- the entry that a look-up finds is of the key that was sought

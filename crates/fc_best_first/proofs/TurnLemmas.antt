@@ -1,72 +1,231 @@
 -- Lemmas on offering the children of a key one after the other.
-use Rattle.std.proofs.Common.{◌≡◌, ℕ, ◌+◌, ◌*◌, ◌≤◌, ◌⊎◌, suc, Option, Some, List, ◌∷◌, length, refl, sym, ◌∙◌, ap, subst, inl, inr, arith}
+use Rattle.std.proofs.Common.{◌≡◌, ℕ, ◌+◌, ◌*◌, ◌<◌, ◌≤◌, ◌⊎◌, suc, Option, Some, None, List, [], ◌∷◌, length, refl, sym, ◌∙◌, ap, subst, inl, inr, ⊎_elim, arith}
+use Rattle.std.specs.Prelude.{◌↔◌, IsTrue, MatchOption, Bool, min, slice_get}
+use Rattle.std.proofs.lemmas.Bool.{cases_lt}
+use Rattle.std.proofs.lemmas.Option.{none-some}
 use Rattle.std.proofs.lemmas.List.{length_push}
 use Rattle.indexmap.specs.Layout.{length-set_value_at}
 use Rattle.fc_best_first.specs.declared.books.Mark.{Mark}
 use Rattle.fc_best_first.specs.declared.books.Offered.{Offered}
-use Rattle.fc_best_first.specs.declared.books.Offered.TheVariants.{Known, Lowered, Added, Full}
+use Rattle.fc_best_first.specs.declared.books.Offered.TheVariants.{Known, Lowered, Added, Full, PutOff}
 use Rattle.fc_best_first.specs.declared.spaces.Child.{Child}
+use Rattle.fc_best_first.specs.declared.books.Opening.{Opening}
+use Rattle.fc_best_first.specs.declared.strategies.Expansion.{Expansion}
+use Rattle.fc_best_first.specs.declared.strategies.Expansion.TheVariants as expansion
+use Rattle.fc_best_first.specs.declared.strategies.Expansion.TheVariants.{Partial}
+use Rattle.fc_best_first.specs.declared.strategies.Strategy.{Strategy}
+use Rattle.fc_best_first.specs.declared.turns.Status.{Status}
+use Rattle.fc_best_first.specs.declared.turns.Status.TheVariants.{Running, Won, CannotWin, GaveUp, Stopped}
+use Rattle.fc_best_first.specs.declared.turns.Placing.{Placing}
+use Rattle.fc_best_first.specs.declared.turns.Placing.TheVariants.{Whole, Later, NoRoom}
 use Rattle.fc_best_first.specs.Graph.{Graph, Task, Reached}
-use Rattle.fc_best_first.specs.Store.{Store, Candidate, Offers}
-use Rattle.fc_best_first.specs.Turn.{AreChildren, Expands, candidate_of}
-use Rattle.fc_best_first.specs.inner.Turn.{AreReached}
+use Rattle.fc_best_first.specs.Store.{Store, Candidate, IsStored, Offers, PutsOff}
+use Rattle.fc_best_first.specs.Turn.{Advances, AreChildren, Closes, Expands, ExpandsTaken, IsPresent, IsStale, candidate_of, opening_of, put_off}
+use Rattle.fc_best_first.specs.Kept.{AreNoted, f_of}
+use Rattle.fc_best_first.specs.inner.Turn.{AreReached, Becomes, IsLaterNear, IsReady}
+use Rattle.fc_best_first.proofs.KeptLemmas.{puts_added, puts_lowered, stands_within, still_noted}
+
+-- so many children were put off before the others
+abbrev pub put_off_first : {K : Type 0} → Option ℕ → Placing K → Placing K
+put_off_first None others = others
+put_off_first (Some f) others = put_off f others
+
+-- a child that found no place is told, whatever was put off before
+pub put_off_room : {K : Type 0} (first : Option ℕ) (y : K) → put_off_first first (NoRoom y) ≡ NoRoom y
+put_off_room None y = refl
+put_off_room (Some f) y = refl
+
+-- one more is put off before the others, and then the first
+put_off_next : {K : Type 0} (f g : ℕ) (others : Placing K) → put_off (min f g) others ≡ put_off f (put_off g others)
+put_off_next f g Whole = ap Later (omega arith)
+put_off_next f g (Later h) = ap Later (omega arith)
+put_off_next f g (NoRoom y) = refl
+
+-- where one more was put off, the least counts
+pub put_off_least : {K : Type 0} (first : Option ℕ) (f least : ℕ) (others : Placing K)
+    → MatchOption first (least ≡ f) (λ before. least ≡ min before f)
+    → put_off_first first (put_off f others) ≡ put_off_first (Some least) others
+put_off_least None f least others is = ap (λ h. put_off h others) (sym is)
+put_off_least (Some before) f least others is = sym (put_off_next before f others) ∙ ap (λ h. put_off h others) (sym is)
+
+pub near_least : (K : Type 0) (expansion : Expansion) (taken cost : ℕ) (first : Option ℕ) (f least : ℕ)
+    → IsLaterNear {K = K} expansion taken cost (put_off_first first Whole) → expansion ≡ Partial → taken < f → f ≤ cost + 2805
+    → MatchOption first (least ≡ f) (λ before. least ≡ min before f)
+    → IsLaterNear {K = K} expansion taken cost (put_off_first (Some least) Whole)
+near_least K expansion taken cost None f least near partial lt le is = (partial, omega (arith, lt, is), omega (arith, le, is))
+near_least K expansion taken cost (Some before) f least near partial lt le is =
+    (partial, omega (arith, lt, is, near.1), omega (arith, le, is, near.2))
+
+-- what is put off is put off past what was taken, no further than its own f, and by partial expansion alone
+pub off_past : (expansion : Expansion) (taken f later : ℕ) → PutsOff expansion taken f later
+    → (taken < later) × (later ≤ f) × (expansion ≡ Partial)
+off_past expansion.Full taken f later off = absurd off
+off_past expansion.Partial taken f later off = (off.0, off.1, refl)
 
 module _ {K : Type 0} where
   -- no offer goes past the budget
-  pub offers_room : (budget : ℕ) (old new : Store K) (offer : Candidate K) (o : Offered K)
-      → length old.stored ≤ budget → Offers budget old new offer o → length new.stored ≤ budget
-  offers_room budget old new offer Known room h = subst (λ s. length s.stored ≤ budget) (sym h.3.1) room
-  offers_room budget old new offer Lowered room h =
-      let same : length new.stored ≡ length old.stored = ap length h.3.1 ∙ length-set_value_at old.stored h.0 offer.mark in
-      omega arith
-  offers_room budget old new offer Added room h =
-      let more = ap length h.2 ∙ length_push old.stored (offer.key, offer.mark) in
-      omega (arith, more, h.1)
-  offers_room budget old new offer (Full y) room h = subst (λ s. length s.stored ≤ budget) (sym h.3) room
+  pub offers_room : (strategy : Strategy) (taken : ℕ) (old new : Store K) (offer : Candidate K) (o : Offered K)
+      → length old.stored ≤ strategy.budget → Offers strategy taken old new offer o → length new.stored ≤ strategy.budget
+  offers_room strategy taken old new offer Known room (i, was, at, le, same) =
+      subst (λ s. length s.stored ≤ strategy.budget) (sym same) room
+  offers_room strategy taken old new offer Lowered room (i, was, at, lt, (stored, opened, noted)) =
+      let same : length new.stored ≡ length old.stored = ap length stored ∙ length-set_value_at old.stored i offer.mark in
+      omega (arith, same, room)
+  offers_room strategy taken old new offer Added room (fresh, admits, (lt, stored, opened, noted)) =
+      let more = ap length stored ∙ length_push old.stored (offer.key, offer.mark) in
+      omega (arith, more, lt)
+  offers_room strategy taken old new offer (Full y) room (fresh, admits, (is, full, same)) =
+      subst (λ s. length s.stored ≤ strategy.budget) (sym same) room
+  offers_room strategy taken old new offer (PutOff later) room (fresh, off, same) =
+      subst (λ s. length s.stored ≤ strategy.budget) (sym same) room
+
+  -- and each keeps what is noted
+  pub offers_noted : (strategy : Strategy) (g : Graph K) (taken : ℕ) (old new : Store K) (offer : Candidate K) (o : Offered K)
+      → offer.opening.bound ≡ g.bound offer.key → AreNoted strategy.expansion g old → Offers strategy taken old new offer o
+      → AreNoted strategy.expansion g new
+  offers_noted strategy g taken old new offer Known told noted (i, was, at, le, same) =
+      subst (AreNoted strategy.expansion g) (sym same) noted
+  offers_noted strategy g taken old new offer Lowered told noted (i, was, at, lt, lowers) =
+      still_noted strategy.expansion g old new offer.key offer.mark offer.opening i
+      (puts_lowered strategy old new offer.key offer.mark was offer.opening i at lt lowers) told noted
+  offers_noted strategy g taken old new offer Added told noted (fresh, admits, stores) =
+      still_noted strategy.expansion g old new offer.key offer.mark offer.opening (length old.stored)
+      (puts_added strategy old new offer fresh stores) told noted
+  offers_noted strategy g taken old new offer (Full y) told noted (fresh, admits, (is, full, same)) =
+      subst (AreNoted strategy.expansion g) (sym same) noted
+  offers_noted strategy g taken old new offer (PutOff later) told noted (fresh, off, same) =
+      subst (AreNoted strategy.expansion g) (sym same) noted
+
+  -- a child as it is offered with a mark, and the mark that it has
+  abbrev offered_with : Task K → Child K → Mark → Candidate K
+  offered_with task child mark = record { key = child.key; mark = mark; opening = opening_of task child.key }
+
+  abbrev mark_of : Mark → Child K → Mark
+  mark_of origin child = record { cost = origin.cost + child.cost; parent = origin.parent }
 
   -- a child that found its place, and the others after it
-  pub expands_on : (task : Task K) (origin : Mark) (child : Child K) (children : List (Child K)) (old mid new : Store K)
-      (left_out : Option K) (r : ℕ) (o : Offered K) → r ≡ child.cost → ((y : K) → o ≡ Full y → ⊥)
-      → Offers task.budget old mid (record {
-        key = child.key;
-        mark = record { cost = origin.cost + r; parent = origin.parent };
-        f = origin.cost + r + task.weight * task.graph.bound child.key;
-      }) o
-      → Expands task origin children mid new left_out
-      → Expands task origin (child ∷ children) old new left_out
-  expands_on task origin child children old mid new left_out r o e placed offers rest =
-      inr (mid, by o placed at_child, rest)
+  pub expands_on : (task : Task K) (taken : ℕ) (origin : Mark) (child : Child K) (children : List (Child K)) (old mid new : Store K)
+      (placing : Placing K) (mark : Mark) (o : Offered K) → mark ≡ mark_of origin child → ((y : K) → o ≡ Full y → ⊥) → ((f : ℕ) → o ≡ PutOff f → ⊥)
+      → Offers task.strategy taken old mid (offered_with task child mark) o
+      → Expands task taken origin children mid new placing
+      → Expands task taken origin (child ∷ children) old new placing
+  expands_on task taken origin child children old mid new placing mark o e placed stays offers rest =
+      inr (inl (mid, by o placed stays at_child, rest))
     where
-      at_child : Offers task.budget old mid (candidate_of task origin child) o
-      at_child =
-          subst (λ v. Offers task.budget old mid (record {
-            key = child.key;
-            mark = record { cost = origin.cost + v; parent = origin.parent };
-            f = origin.cost + v + task.weight * task.graph.bound child.key;
-          }) o) e offers
+      at_child : Offers task.strategy taken old mid (candidate_of task origin child) o
+      at_child = subst (λ v. Offers task.strategy taken old mid (offered_with task child v) o) e offers
 
-      by : (p : Offered K) → ((y : K) → p ≡ Full y → ⊥)
-          → Offers task.budget old mid (candidate_of task origin child) p
-          → Offers task.budget old mid (candidate_of task origin child) Known
-          ⊎ (Offers task.budget old mid (candidate_of task origin child) Lowered
-          ⊎ Offers task.budget old mid (candidate_of task origin child) Added)
-      by Known q h = inl h
-      by Lowered q h = inr (inl h)
-      by Added q h = inr (inr h)
-      by (Full y) q h = absurd (q y refl)
+      by : (p : Offered K) → ((y : K) → p ≡ Full y → ⊥) → ((f : ℕ) → p ≡ PutOff f → ⊥)
+          → Offers task.strategy taken old mid (candidate_of task origin child) p
+          → Offers task.strategy taken old mid (candidate_of task origin child) Known
+          ⊎ (Offers task.strategy taken old mid (candidate_of task origin child) Lowered
+          ⊎ Offers task.strategy taken old mid (candidate_of task origin child) Added)
+      by Known q s h = inl h
+      by Lowered q s h = inr (inl h)
+      by Added q s h = inr (inr h)
+      by (Full y) q s h = absurd (q y refl)
+      by (PutOff f) q s h = absurd (s f refl)
+
+  -- a child that was put off, and the others after it
+  pub expands_off : (task : Task K) (taken : ℕ) (origin : Mark) (child : Child K) (children : List (Child K)) (old mid new : Store K)
+      (placing : Placing K) (mark : Mark) (f : ℕ) (o : Offered K) → mark ≡ mark_of origin child → o ≡ PutOff f
+      → Offers task.strategy taken old mid (offered_with task child mark) o
+      → Expands task taken origin children mid new placing
+      → Expands task taken origin (child ∷ children) old new (put_off f placing)
+  expands_off task taken origin child children old mid new placing mark f o e is offers rest =
+      let here : Offers task.strategy taken old mid (candidate_of task origin child) (PutOff f) =
+      subst (λ v. Offers task.strategy taken old mid (offered_with task child v) (PutOff f)) e
+      (subst (Offers task.strategy taken old mid (offered_with task child mark)) is offers) in
+      inr (inr (
+        f,
+        (here.0, here.1, refl),
+        (placing, subst (λ s. Expands task taken origin children s new placing) here.2 rest, refl),
+      ))
 
   -- a child that found no place, whatever others are after it
-  pub expands_full : (task : Task K) (origin : Mark) (child : Child K) (children : List (Child K)) (old new : Store K)
-      (key : K) (r f : ℕ) (o : Offered K) → r ≡ child.cost → o ≡ Full key
-      → Offers task.budget old new (record { key = child.key; mark = record { cost = origin.cost + r; parent = origin.parent }; f = f }) o
-      → Expands task origin (child ∷ children) old new (Some key)
-  expands_full task origin child children old new key r f o e is offers =
-      let full = subst (Offers task.budget old new (record {
-        key = child.key;
-        mark = record { cost = origin.cost + r; parent = origin.parent };
-        f = f;
-      })) is offers in
-      inl ((refl, full.1, full.2, full.3), ap Some full.0)
+  pub expands_full : (task : Task K) (taken : ℕ) (origin : Mark) (child : Child K) (children : List (Child K)) (old new : Store K)
+      (key : K) (mark : Mark) (o : Offered K) → mark ≡ mark_of origin child → o ≡ Full key
+      → Offers task.strategy taken old new (offered_with task child mark) o
+      → Expands task taken origin (child ∷ children) old new (NoRoom key)
+  expands_full task taken origin child children old new key mark o e is offers =
+      let full : Offers task.strategy taken old new (candidate_of task origin child) (Full key) =
+      subst (λ v. Offers task.strategy taken old new (offered_with task child v) (Full key)) e
+      (subst (Offers task.strategy taken old new (offered_with task child mark)) is offers) in
+      inl ((full.0, full.1, (refl, full.2.1, full.2.2)), ap NoRoom full.2.0)
+
+  -- none that is stored is lost
+  offers_grow : (strategy : Strategy) (taken : ℕ) (old new : Store K) (offer : Candidate K) (o : Offered K)
+      → Offers strategy taken old new offer o → length old.stored ≤ length new.stored
+  offers_grow strategy taken old new offer Known (i, was, at, le, same) =
+      let size = ap (λ (s : Store K). length s.stored) same in omega (arith, size)
+  offers_grow strategy taken old new offer Lowered (i, was, at, lt, (stored, opened, noted)) =
+      let size = ap length stored ∙ length-set_value_at old.stored i offer.mark in omega (arith, size)
+  offers_grow strategy taken old new offer Added (fresh, admits, (lt, stored, opened, noted)) =
+      let more = ap length stored ∙ length_push old.stored (offer.key, offer.mark) in omega (arith, more)
+  offers_grow strategy taken old new offer (Full y) (fresh, admits, (is, full, same)) =
+      let size = ap (λ (s : Store K). length s.stored) same in omega (arith, size)
+  offers_grow strategy taken old new offer (PutOff later) (fresh, off, same) =
+      let size = ap (λ (s : Store K). length s.stored) same in omega (arith, size)
+
+  pub expands_grow : (task : Task K) (taken : ℕ) (origin : Mark) (children : List (Child K)) (old new : Store K) (placing : Placing K)
+      → Expands task taken origin children old new placing → length old.stored ≤ length new.stored
+  expands_grow task taken origin [] old new placing (same, whole) =
+      let size = ap (λ (s : Store K). length s.stored) same in omega (arith, size)
+  expands_grow task taken origin (child ∷ children) old new placing (inl (full, out)) =
+      offers_grow task.strategy taken old new (candidate_of task origin child) (Full child.key) full
+  expands_grow task taken origin (child ∷ children) old new placing (inr (inl (mid, how, rest))) =
+      let first : length old.stored ≤ length mid.stored = ⊎_elim
+      (λ known. offers_grow task.strategy taken old mid (candidate_of task origin child) Known known)
+      (λ other. ⊎_elim
+      (λ lowered. offers_grow task.strategy taken old mid (candidate_of task origin child) Lowered lowered)
+      (λ added. offers_grow task.strategy taken old mid (candidate_of task origin child) Added added)
+      other)
+      how in
+      let then = expands_grow task taken origin children mid new placing rest in
+      omega (arith, first, then)
+  expands_grow task taken origin (child ∷ children) old new placing (inr (inr (later, off, (others, rest, is)))) =
+      expands_grow task taken origin children old new others rest
+
+  -- a key of which children were put off can be opened again
+  pub placing_ready : (expansion : Expansion) (g : Graph K) (s : Store K) (number taken : ℕ) (mark : Mark) (placing : Placing K)
+      → AreNoted expansion g s → number < length s.stored → mark.cost ≤ taken → IsLaterNear expansion taken mark.cost placing
+      → IsReady s number mark placing
+  placing_ready expansion g s number taken mark Whole noted lt le near = tt
+  placing_ready expansion.Full g s number taken mark (Later f) noted lt le near = absurd (let e = near.0 in cc)
+  placing_ready expansion.Partial g s number taken mark (Later f) noted lt le near =
+      let long = noted.0 in
+      (omega (arith, long, lt), (let past = near.1 in omega (arith, past, le)), near.2)
+  placing_ready expansion g s number taken mark (NoRoom y) noted lt le near = tt
+
+  -- whether the pair that was taken is the present one of its key, by what is noted of the key
+  pub taken_present : (expansion : Expansion) (task : Task K) (s : Store K) (i : ℕ) (x : K) (m : Mark) (f over : ℕ)
+      (noted : Option Opening) (told : Bool) → AreNoted expansion task.graph s → IsStored s i x m → m.cost ≤ f → m.cost + over ≡ f
+      → MatchOption noted (length s.openings ≤ i) (λ o. slice_get s.openings i ≡ Some o)
+      → MatchOption noted (IsTrue told ↔ (over ≤ task.strategy.weight * task.graph.bound x)) (λ o. IsTrue told ↔ (over ≡ o.over))
+      → (IsTrue told → IsPresent expansion s i m (f_of task x m) f) × ((IsTrue told → ⊥) → IsStale expansion s i m (f_of task x m) f)
+  taken_present expansion.Full task s i x m f over (Some o) told are at high above is tells =
+      absurd (none-some o (ap (λ os. slice_get os i) (sym are) ∙ is))
+  taken_present expansion.Full task s i x m f over None told are at high above is tells = (
+    λ yes. let le = tells.0 yes in omega (arith, above, le),
+    λ no. ⊎_elim (λ lt. omega (arith, above, lt)) (λ le. absurd (no (tells.1 le))) (cases_lt (task.strategy.weight * task.graph.bound x) over),
+  )
+  taken_present expansion.Partial task s i x m f over None told are at high above is tells =
+      absurd (let lt = stands_within s i x m at in let long = are.0 in omega (arith, lt, long, is))
+  taken_present expansion.Partial task s i x m f over (Some o) told are at high above is tells = (
+    λ yes. (o, is, let same = tells.0 yes in omega (arith, above, same)),
+    λ no. (o, is, λ same. no (tells.1 (omega (arith, above, same)))),
+  )
+
+  -- a turn that expands a key, by what becomes of it
+  pub becomes_advances : (task : Task K) (old after new : Store K) (number : ℕ) (mark : Mark) (placing : Placing K)
+      → ((left_out : Option K) → Closes after new number mark placing left_out → ExpandsTaken task old new number left_out)
+      → (status : Status K) → Becomes after new number mark placing status → Advances task old new status
+  becomes_advances task old after new number mark placing works Running closes = inr (number, works None closes)
+  becomes_advances task old after new number mark placing works (GaveUp y from) (closes, same) =
+      subst (λ n. ExpandsTaken task old new n (Some y)) (sym same) (works (Some y) closes)
+  becomes_advances task old after new number mark placing works (Won n) h = absurd h
+  becomes_advances task old after new number mark placing works CannotWin h = absurd h
+  becomes_advances task old after new number mark placing works Stopped h = absurd h
 
   -- the children of a key that was reached can be reached
   pub children_reached : (g : Graph K) (x : K) (children : List (Child K)) → ((d : ℕ) × Reached g x d) → AreChildren g x children

@@ -1,6 +1,6 @@
 -- Lemmas on how much a search may still do.
 use Rattle.std.proofs.Common.{◌≡◌, ℕ, ◌+◌, ◌-◌, ◌*◌, ◌<◌, ◌≤◌, suc, zero, Some, List, [], ◌∷◌, length, sym, ◌∙◌, ap, subst, arith}
-use Rattle.std.specs.Prelude.{slice_get, sum_by}
+use Rattle.std.specs.Prelude.{slice_get, slice_set, sum_by}
 use Rattle.std.proofs.lemmas.Option.{none-some}
 use Rattle.std.proofs.lemmas.List.{length_push}
 use Rattle.std.proofs.lemmas.List.Sums.{sum_by-cons, sum_by_push}
@@ -8,25 +8,72 @@ use Rattle.std.proofs.lemmas.List.Sorted.{length_permutation}
 use Rattle.indexmap.specs.Layout.{set_value_at, length-set_value_at}
 use Rattle.fc_frontier.specs.Queue.{Adds}
 use Rattle.fc_best_first.specs.declared.books.Mark.{Mark}
-use Rattle.fc_best_first.specs.declared.books.Offered.TheVariants.{Lowered, Added}
-use Rattle.fc_best_first.specs.Store.{Store, Candidate, Offers}
-use Rattle.fc_best_first.specs.Turn.{work_left}
+use Rattle.fc_best_first.specs.declared.books.Opening.{Opening}
+use Rattle.fc_best_first.specs.declared.books.Offered.TheVariants.{Added}
+use Rattle.fc_best_first.specs.declared.strategies.Expansion.{Expansion}
+use Rattle.fc_best_first.specs.declared.strategies.Expansion.TheVariants.{Full, Partial}
+use Rattle.fc_best_first.specs.declared.strategies.Strategy.{Strategy}
+use Rattle.fc_best_first.specs.Store.{Store, Candidate, Lowers, NotesAnew, NotesLast, Stores, opens_at}
+use Rattle.fc_best_first.specs.Turn.{Reopens, work_left}
 
 added_one : (old new : List (ℕ × ℕ)) (p : ℕ × ℕ) → Adds old new p → length new ≡ suc (length old)
 added_one old new p h = length_permutation (p ∷ old) new h
 
--- a cost that fell counts more than the pair that it opened
-lowered_falls : (old new less more w v room : ℕ) → new + more ≡ old + less → less < more → v ≡ suc w
-    → 2 * (new + room) + v ≤ 2 * (old + room) + w
-lowered_falls old new less more w v room e lt p = omega (arith, e, lt, p)
+-- how much further above their costs keys may be opened
+abbrev rises : List Opening → ℕ
+rises os = sum_by (λ o. 2805 - o.over) os
+
+-- an opening in the place of another
+rises_set : (os : List Opening) (i : ℕ) (was next : Opening) → slice_get os i ≡ Some was
+    → rises (slice_set os i next) + (2805 - was.over) ≡ rises os + (2805 - next.over)
+rises_set [] i was next at = absurd (none-some was at)
+rises_set (o ∷ os) zero was next at =
+    let same : o ≡ was = cc in
+    let over = ap (λ q. 2805 - q.over) same in
+    omega (arith, sum_by-cons (λ (q : Opening). 2805 - q.over) o os, sum_by-cons (λ (q : Opening). 2805 - q.over) next os, over)
+rises_set (o ∷ os) (suc i) was next at = omega (
+  arith,
+  sum_by-cons (λ (q : Opening). 2805 - q.over) o os,
+  sum_by-cons (λ (q : Opening). 2805 - q.over) o (slice_set os i next),
+  rises_set os i was next at,
+)
+
+rises_most : (os : List Opening) (i : ℕ) (next : Opening) → rises (slice_set os i next) ≤ rises os + 2805
+rises_most [] i next = omega arith
+rises_most (o ∷ os) zero next = omega (arith, sum_by-cons (λ (q : Opening). 2805 - q.over) o os, sum_by-cons (λ (q : Opening). 2805 - q.over) next os)
+rises_most (o ∷ os) (suc i) next = omega (
+  arith,
+  sum_by-cons (λ (q : Opening). 2805 - q.over) o os,
+  sum_by-cons (λ (q : Opening). 2805 - q.over) o (slice_set os i next),
+  rises_most os i next,
+)
+
+-- what is noted anew or last adds so much at most
+anew_most : (expansion : Expansion) (old new : List Opening) (i : ℕ) (opening : Opening) → NotesAnew expansion old new i opening
+    → rises new ≤ rises old + 2805
+anew_most Full old new i opening same = let e = ap (λ os. rises os) same in omega (arith, e)
+anew_most Partial old new i opening is = let e = ap (λ os. rises os) is in omega (arith, e, rises_most old i opening)
+
+last_most : (expansion : Expansion) (old new : List Opening) (opening : Opening) → NotesLast expansion old new opening
+    → rises new ≤ rises old + 2805
+last_most Full old new opening same = let e = ap (λ os. rises os) same in omega (arith, e)
+last_most Partial old new opening is =
+    let e : rises new ≡ rises old + (2805 - opening.over) = ap (λ os. rises os) is ∙ sum_by_push (λ (q : Opening). 2805 - q.over) old opening in
+    omega (arith, e)
+
+-- a cost that fell counts more than the pair that it opened, and where
+lowered_falls : (old new less more w v before after room : ℕ) → new + more ≡ old + less → less < more → v ≡ suc w
+    → after ≤ before + 2805 → 2806 * (new + room) + after + v ≤ 2806 * (old + room) + before + w
+lowered_falls old new less more w v before after room e lt p most = omega (arith, e, lt, p, most)
 
 -- and so does a place that was taken, by far
-added_falls : (sum cost n left b w v : ℕ) → left + suc n ≡ b → cost ≤ 53 * n + 53 → v ≡ suc w
-    → 2 * (sum + cost + left * (53 * b + 54)) + v ≤ 2 * (sum + suc left * (53 * b + 54)) + w
-added_falls sum cost n left b w v e low p =
+added_falls : (sum cost n left b w v before after : ℕ) → left + suc n ≡ b → cost ≤ 53 * n + 53 → v ≡ suc w
+    → after ≤ before + 2805
+    → 2806 * (sum + cost + left * (53 * b + 54)) + after + v ≤ 2806 * (sum + suc left * (53 * b + 54)) + before + w
+added_falls sum cost n left b w v before after e low p more =
     let next : suc left * (53 * b + 54) ≡ left * (53 * b + 54) + (53 * b + 54) = omega arith in
     let most : cost ≤ 53 * b = omega (arith, e, low) in
-    omega (arith, next, most, p)
+    omega (arith, next, most, p, more)
 
 module _ {K : Type 0} where
   sum_set : (es : List (K × Mark)) (i : ℕ) (x : K) (m w : Mark) → slice_get es i ≡ Some (x, m)
@@ -44,21 +91,26 @@ module _ {K : Type 0} where
         sum_set es i x m w at,
       )
 
-  pub lowered_work : (budget : ℕ) (old new : Store K) (offer : Candidate K) → Offers budget old new offer Lowered
-      → work_left budget new ≤ work_left budget old
-  lowered_work budget old new offer (i, was, at, (lt, stored, opened)) =
-      let size : length new.stored ≡ length old.stored = ap length stored ∙ length-set_value_at old.stored i offer.mark in
-      let sum : sum_by (λ e. e.1.cost) new.stored + was.cost ≡ sum_by (λ e. e.1.cost) old.stored + offer.mark.cost =
-      ap (λ es. sum_by (λ (e : K × Mark). e.1.cost) es + was.cost) stored ∙ sum_set old.stored i offer.key was offer.mark at in
-      subst (λ n. 2 * (sum_by (λ e. e.1.cost) new.stored + (budget - n) * (53 * budget + 54)) + length new.waiting ≤ work_left budget old)
+  pub lowered_work : (strategy : Strategy) (old new : Store K) (i : ℕ) (x : K) (was mark : Mark) (opening : Opening)
+      → slice_get old.stored i ≡ Some (x, was) → mark.cost < was.cost → Lowers strategy old new i mark opening
+      → work_left strategy.budget new ≤ work_left strategy.budget old
+  lowered_work strategy old new i x was mark opening at lt (stored, opened, noted) =
+      let budget = strategy.budget in
+      let size : length new.stored ≡ length old.stored = ap length stored ∙ length-set_value_at old.stored i mark in
+      let sum : sum_by (λ e. e.1.cost) new.stored + was.cost ≡ sum_by (λ e. e.1.cost) old.stored + mark.cost =
+      ap (λ es. sum_by (λ (e : K × Mark). e.1.cost) es + was.cost) stored ∙ sum_set old.stored i x was mark at in
+      subst (λ n. 2806 * (sum_by (λ e. e.1.cost) new.stored + (budget - n) * (53 * budget + 54)) + rises new.openings + length new.waiting
+      ≤ work_left budget old)
       (sym size)
-      (lowered_falls (sum_by (λ e. e.1.cost) old.stored) (sum_by (λ e. e.1.cost) new.stored) offer.mark.cost was.cost
-      (length old.waiting) (length new.waiting) ((budget - length old.stored) * (53 * budget + 54)) sum lt
-      (added_one old.waiting new.waiting (offer.f, i) opened))
+      (lowered_falls (sum_by (λ e. e.1.cost) old.stored) (sum_by (λ e. e.1.cost) new.stored) mark.cost was.cost
+      (length old.waiting) (length new.waiting) (rises old.openings) (rises new.openings) ((budget - length old.stored) * (53 * budget + 54)) sum lt
+      (added_one old.waiting new.waiting (opens_at mark opening, i) opened)
+      (anew_most strategy.expansion old.openings new.openings i opening noted))
 
-  pub added_work : (budget : ℕ) (old new : Store K) (offer : Candidate K) → Offers budget old new offer Added
-      → offer.mark.cost ≤ 53 * length old.stored + 53 → work_left budget new ≤ work_left budget old
-  added_work budget old new offer (fresh, lt, stored, opened) low =
+  pub added_work : (strategy : Strategy) (old new : Store K) (offer : Candidate K) → Stores strategy old new offer Added
+      → offer.mark.cost ≤ 53 * length old.stored + 53 → work_left strategy.budget new ≤ work_left strategy.budget old
+  added_work strategy old new offer (lt, stored, opened, noted) low =
+      let budget = strategy.budget in
       let n = length old.stored in
       let left : ℕ = budget - suc n in
       let now : budget - length new.stored ≡ left =
@@ -68,17 +120,31 @@ module _ {K : Type 0} where
       let sum : sum_by (λ e. e.1.cost) new.stored ≡ sum_by (λ e. e.1.cost) old.stored + offer.mark.cost =
       ap (sum_by (λ (e : K × Mark). e.1.cost)) stored ∙ sum_by_push (λ (e : K × Mark). e.1.cost) old.stored (offer.key, offer.mark) in
       subst (λ k. k ≤ work_left budget old)
-      (ap (λ k. 2 * (k + left * (53 * budget + 54)) + length new.waiting) (sym sum)
-      ∙ ap (λ k. 2 * (sum_by (λ (e : K × Mark). e.1.cost) new.stored + k * (53 * budget + 54)) + length new.waiting) (sym now))
-      (subst (λ k. 2 * (sum_by (λ e. e.1.cost) old.stored + offer.mark.cost + left * (53 * budget + 54)) + length new.waiting
-      ≤ 2 * (sum_by (λ e. e.1.cost) old.stored + k * (53 * budget + 54)) + length old.waiting) (sym before)
-      (added_falls (sum_by (λ e. e.1.cost) old.stored) offer.mark.cost n left budget (length old.waiting) (length new.waiting) all low
-      (added_one old.waiting new.waiting (offer.f, n) opened)))
+      (ap (λ k. 2806 * (k + left * (53 * budget + 54)) + rises new.openings + length new.waiting) (sym sum)
+      ∙ ap (λ k. 2806 * (sum_by (λ (e : K × Mark). e.1.cost) new.stored + k * (53 * budget + 54)) + rises new.openings + length new.waiting) (sym now))
+      (subst (λ k. 2806 * (sum_by (λ e. e.1.cost) old.stored + offer.mark.cost + left * (53 * budget + 54)) + rises new.openings + length new.waiting
+      ≤ 2806 * (sum_by (λ e. e.1.cost) old.stored + k * (53 * budget + 54)) + rises old.openings + length old.waiting) (sym before)
+      (added_falls (sum_by (λ e. e.1.cost) old.stored) offer.mark.cost n left budget (length old.waiting) (length new.waiting)
+      (rises old.openings) (rises new.openings) all low
+      (added_one old.waiting new.waiting (opens_at offer.mark offer.opening, n) opened)
+      (last_most strategy.expansion old.openings new.openings offer.opening noted)))
 
   -- a pair that is taken leaves less
-  pub taken_work : (budget : ℕ) (old new : Store K) (p : ℕ × ℕ) → new.stored ≡ old.stored → Adds new.waiting old.waiting p
-      → work_left budget new < work_left budget old
-  taken_work budget old new p kept taken =
+  pub taken_work : (budget : ℕ) (old new : Store K) (p : ℕ × ℕ) → new.stored ≡ old.stored → new.openings ≡ old.openings
+      → Adds new.waiting old.waiting p → work_left budget new < work_left budget old
+  taken_work budget old new p kept noted taken =
       let one = added_one new.waiting old.waiting p taken in
-      let same = ap (λ es. 2 * (sum_by (λ (e : K × Mark). e.1.cost) es + (budget - length es) * (53 * budget + 54))) kept in
-      omega (arith, one, same)
+      let same = ap (λ es. 2806 * (sum_by (λ (e : K × Mark). e.1.cost) es + (budget - length es) * (53 * budget + 54))) kept in
+      let still = ap (λ os. rises os) noted in
+      omega (arith, one, same, still)
+
+  -- and so does one at which a key is opened further above its cost
+  pub reopened_work : (budget : ℕ) (old new : Store K) (number : ℕ) (mark : Mark) (was : Opening) (later : ℕ)
+      → slice_get old.openings number ≡ Some was → opens_at mark was < later → Reopens old new number mark later
+      → work_left budget new ≤ work_left budget old
+  reopened_work budget old new number mark was later at rises_to (before, next, there, bound, most, opens, kept, opened, noted) =
+      let one = added_one old.waiting new.waiting (later, number) opened in
+      let same = ap (λ es. 2806 * (sum_by (λ (e : K × Mark). e.1.cost) es + (budget - length es) * (53 * budget + 54))) kept in
+      let sum = ap (λ os. rises os) noted in
+      let set = rises_set old.openings number was next at in
+      omega (arith, one, same, sum, set, rises_to, most, opens)

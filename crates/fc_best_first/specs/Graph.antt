@@ -1,5 +1,6 @@
 -- Questions that a search answers, each seen as a graph whose edges have costs.
 use Rattle.std.specs.Prelude.{◌≡◌, ℕ, ◌+◌, ◌<◌, ◌≤◌, ◌⊎◌, suc, zero, List, Contains}
+use Rattle.fc_best_first.specs.declared.strategies.Strategy.{Strategy}
 use Rattle.fc_best_first.specs.declared.turns.TheConstants.{MOST_COST}
 
 -- a question over keys: where it starts and at which cost, which edges lead on and what each costs, a lower bound of
@@ -11,11 +12,10 @@ pub record Graph (K : Type 0) : Type 1 where
   pub won : K → Type 0
   pub wins : ℕ → Type 0
 
--- what a search is asked: a question, how often its bounds count, and how many keys may be stored
+-- what a search is asked: a question, and how it is to be searched
 pub record Task (K : Type 0) : Type 1 where
   pub graph : Graph K
-  pub weight : ℕ
-  pub budget : ℕ
+  pub strategy : Strategy
 
 module _ {K : Type 0} where
   -- so many edges lead to the key from a start, at this cost in all

@@ -1,9 +1,12 @@
 -- What a search keeps from turn to turn.
-use Rattle.std.specs.Prelude.{◌≡◌, ℕ, ◌+◌, ◌*◌, ◌≤◌, ◌⊎◌, length, Contains}
+use Rattle.std.specs.Prelude.{◌≡◌, ℕ, ◌+◌, ◌*◌, ◌≤◌, ◌⊎◌, [], length, slice_get, Some, Contains}
 use Rattle.fc_best_first.specs.declared.books.Mark.{Mark}
+use Rattle.fc_best_first.specs.declared.books.Opening.{Opening}
+use Rattle.fc_best_first.specs.declared.strategies.Expansion.{Expansion}
+use Rattle.fc_best_first.specs.declared.strategies.Expansion.TheVariants.{Full, Partial}
 use Rattle.fc_best_first.specs.declared.turns.TheConstants.{MOST_COST}
-use Rattle.fc_best_first.specs.Graph.{Graph, Reached}
-use Rattle.fc_best_first.specs.Store.{Store, IsStored}
+use Rattle.fc_best_first.specs.Graph.{Graph, Task, Reached}
+use Rattle.fc_best_first.specs.Store.{Store, IsStored, opens_at}
 
 module _ {K : Type 0} where
   -- the key is stored at no more than this cost
@@ -14,36 +17,78 @@ module _ {K : Type 0} where
   abbrev pub IsExpanded : Graph K → Store K → K → ℕ → Type 0
   IsExpanded g s x cost = (g.won x → ⊥) × ((c : ℕ) (y : K) → g.edge x c y → HasAt s y (cost + c))
 
-  -- the key is open at its cost plus its weighed bound, or expanded
-  abbrev pub IsOpenOrExpanded : Graph K → ℕ → Store K → ℕ → K → Mark → Type 0
-  IsOpenOrExpanded g weight s number x mark =
-      Contains s.waiting (mark.cost + weight * g.bound x, number) ⊎ IsExpanded g s x mark.cost
+  -- the key isn't won, and the end of each of its edges is stored so, or its cost plus weighed bound is at least n
+  abbrev pub IsExpandedBelow : Graph K → ℕ → Store K → K → ℕ → ℕ → Type 0
+  IsExpandedBelow g weight s x cost n = (g.won x → ⊥)
+      × ((c : ℕ) (y : K) → g.edge x c y → HasAt s y (cost + c) ⊎ (n ≤ cost + c + weight * g.bound y))
 
-  -- the key came by needed work: it starts, or an edge leads to it from a key whose cost plus weighed bound no answer,
-  -- times the weight, is below
-  abbrev pub IsNeeded : Graph K → ℕ → K → Type 0
-  IsNeeded g weight y = ((d : ℕ) × g.starts y d)
-      ⊎ ((x : K) × (d : ℕ) × (c : ℕ) × Reached g x d × g.edge x c y
-      × ((n : ℕ) → g.wins n → d + weight * g.bound x ≤ weight * n))
+  -- what a search does with the keys below n: by full expansion they are expanded, by partial expansion they are expanded
+  -- below n
+  abbrev pub IsDone : Expansion → Task K → Store K → K → ℕ → ℕ → Type 0
+  IsDone Full task s x cost n = IsExpanded task.graph s x cost
+  IsDone Partial task s x cost n = IsExpandedBelow task.graph task.strategy.weight s x cost n
+
+  -- the cost plus weighed bound of a key with this mark
+  abbrev pub f_of : Task K → K → Mark → ℕ
+  f_of task x mark = mark.cost + task.strategy.weight * task.graph.bound x
+
+  -- the key with this number and mark is open at this f: such a pair of it waits, and by partial expansion it was opened
+  -- there last
+  abbrev pub IsOpenAt : Expansion → Store K → ℕ → Mark → ℕ → Type 0
+  IsOpenAt Full s number mark f = Contains s.waiting (f, number)
+  IsOpenAt Partial s number mark f = Contains s.waiting (f, number)
+      × ((opening : Opening) × (slice_get s.openings number ≡ Some opening) × (f ≡ opens_at mark opening))
+
+  -- the key is open at some greater f, and expanded below it: never by full expansion
+  abbrev pub IsOpenLater : Expansion → Task K → Store K → ℕ → K → Mark → Type 0
+  IsOpenLater Full task s number x mark = ⊥
+  IsOpenLater Partial task s number x mark =
+      (f : ℕ) × IsOpenAt Partial s number mark f × IsExpandedBelow task.graph task.strategy.weight s x mark.cost f
+
+  -- the key is open at its cost plus its weighed bound, or expanded, or open later
+  abbrev pub IsOpenOrExpanded : Task K → Store K → ℕ → K → Mark → Type 0
+  IsOpenOrExpanded task s number x mark = IsOpenAt task.strategy.expansion s number mark (f_of task x mark)
+      ⊎ (IsExpanded task.graph s x mark.cost
+      ⊎ IsOpenLater task.strategy.expansion task s number x mark)
+
+  -- no answer, times the weight, is below this cost plus the weighed bound of the key
+  abbrev pub IsWithin : Graph K → ℕ → K → ℕ → Type 0
+  IsWithin g weight x cost = (n : ℕ) → g.wins n → cost + weight * g.bound x ≤ weight * n
+
+  -- the key came by needed work. By full expansion it starts, or an edge leads to it from a key whose cost plus weighed bound
+  -- no answer, times the weight, is below; by partial expansion it was itself reached at such a cost
+  abbrev pub IsNeeded : Expansion → Graph K → ℕ → K → Type 0
+  IsNeeded Full g weight y = ((d : ℕ) × g.starts y d)
+      ⊎ ((x : K) × (d : ℕ) × (c : ℕ) × Reached g x d × g.edge x c y × IsWithin g weight x d)
+  IsNeeded Partial g weight y = (d : ℕ) × Reached g y d × IsWithin g weight y d
 
   -- the key starts under this number, its own parent, or an edge leads to it from its parent, at no more than its cost
   abbrev pub Comes : Graph K → Store K → ℕ → K → Mark → Type 0
   Comes g s number x mark = ((mark.parent ≡ number) × g.starts x mark.cost)
       ⊎ ((w : K) × (was : Mark) × (c : ℕ) × IsStored s mark.parent w was × g.edge w c x × (was.cost + c ≤ mark.cost))
 
+  -- the openings that are noted: none by full expansion, one for each stored key by partial expansion, which tells its bound
+  abbrev pub AreNoted : Expansion → Graph K → Store K → Type 0
+  AreNoted Full g s = s.openings ≡ []
+  AreNoted Partial g s = (length s.openings ≡ length s.stored)
+      × ((i : ℕ) (x : K) (m : Mark) → IsStored s i x m
+      → (opening : Opening) × (slice_get s.openings i ≡ Some opening) × (opening.bound ≡ g.bound x))
+
   -- what holds of the stored keys and the open pairs, whichever keys are expanded
-  pub record IsSound (g : Graph K) (weight : ℕ) (budget : ℕ) (s : Store K) : Type 0 where
-    pub room : length s.stored ≤ budget
+  pub record IsSound (task : Task K) (s : Store K) : Type 0 where
+    pub room : length s.stored ≤ task.strategy.budget
     pub once : (i j : ℕ) (x : K) (m n : Mark) → IsStored s i x m → IsStored s j x n → i ≡ j
-    pub reached : (i : ℕ) (x : K) (m : Mark) → IsStored s i x m → Reached g x m.cost
+    pub reached : (i : ℕ) (x : K) (m : Mark) → IsStored s i x m → Reached task.graph x m.cost
     pub low : (i : ℕ) (x : K) (m : Mark) → IsStored s i x m → m.cost ≤ MOST_COST * i + MOST_COST
-    pub comes : (i : ℕ) (x : K) (m : Mark) → IsStored s i x m → Comes g s i x m
-    pub needed : (i : ℕ) (x : K) (m : Mark) → IsStored s i x m → IsNeeded g weight x
-    pub starts : (x : K) (d : ℕ) → g.starts x d → HasAt s x d
+    pub comes : (i : ℕ) (x : K) (m : Mark) → IsStored s i x m → Comes task.graph s i x m
+    pub needed : (i : ℕ) (x : K) (m : Mark) → IsStored s i x m
+        → IsNeeded task.strategy.expansion task.graph task.strategy.weight x
+    pub starts : (x : K) (d : ℕ) → task.graph.starts x d → HasAt s x d
     pub pairs : (f i : ℕ) → Contains s.waiting (f, i)
-        → (x : K) × (m : Mark) × IsStored s i x m × (m.cost + weight * g.bound x ≤ f)
+        → (x : K) × (m : Mark) × IsStored s i x m × (f_of task x m ≤ f)
+    pub noted : AreNoted task.strategy.expansion task.graph s
 
   -- what holds between the turns of a running search
-  pub record IsKept (g : Graph K) (weight : ℕ) (budget : ℕ) (s : Store K) : Type 0 where
-    pub sound : IsSound g weight budget s
-    pub settled : (i : ℕ) (x : K) (m : Mark) → IsStored s i x m → IsOpenOrExpanded g weight s i x m
+  pub record IsKept (task : Task K) (s : Store K) : Type 0 where
+    pub sound : IsSound task s
+    pub settled : (i : ℕ) (x : K) (m : Mark) → IsStored s i x m → IsOpenOrExpanded task s i x m

@@ -1,5 +1,5 @@
 -- A search as a whole: what it is of, where it stands, and what a turn does to it.
-use Rattle.std.specs.Prelude.{◌≡◌, ℕ, ◌+◌, ◌*◌, ◌⊎◌, List, suc, zero, [], ◌∷◌, Result, Ok, Err}
+use Rattle.std.specs.Prelude.{◌≡◌, ℕ, ◌⊎◌, List, suc, zero, [], ◌∷◌, Result, Ok, Err}
 use Rattle.fc_frontier.specs.Queue.{Adds}
 use Rattle.fc_best_first.specs.declared.turns.Status.{Status}
 use Rattle.fc_best_first.specs.declared.turns.Status.TheVariants.{Running, Stopped}
@@ -7,16 +7,17 @@ use Rattle.fc_best_first.specs.declared.searches.Step.{Step}
 use Rattle.fc_best_first.specs.declared.searches.Step.TheVariants.{Running as running, Done}
 use Rattle.fc_best_first.specs.declared.searches.SearchFault.{SearchFault}
 use Rattle.fc_best_first.specs.declared.searches.SearchFault.TheVariants as fault
+use Rattle.fc_best_first.specs.declared.strategies.Strategy.{Strategy}
 use Rattle.fc_best_first.specs.Graph.{Graph, Task}
-use Rattle.fc_best_first.specs.Store.{Store}
-use Rattle.fc_best_first.specs.Turn.{Advances, TakesFloor}
+use Rattle.fc_best_first.specs.Kept.{f_of}
+use Rattle.fc_best_first.specs.Store.{NotesLast, Store}
+use Rattle.fc_best_first.specs.Turn.{Advances, TakesFloor, opening_of}
 
--- a search: the space that it is of, its weight and budget, what it stores and has open, where it stands, and the greatest f
--- that was taken
+-- a search: the space that it is of, its strategy, what it stores and has open, where it stands, and the greatest f that was
+-- taken
 pub record Progress (S : Type 0) (K : Type 0) : Type 0 where
   pub space : S
-  pub weight : ℕ
-  pub budget : ℕ
+  pub strategy : Strategy
   pub store : Store K
   pub status : Status K
   pub floor : ℕ
@@ -24,13 +25,14 @@ pub record Progress (S : Type 0) (K : Type 0) : Type 0 where
 module _ {S K : Type 0} where
   -- what a search is asked, its question by its space
   abbrev pub task_of : (S → Graph K) → Progress S K → Task K
-  task_of graph s = record { graph = graph s.space; weight = s.weight; budget = s.budget }
+  task_of graph s = record { graph = graph s.space; strategy = s.strategy }
 
 module _ {K : Type 0} where
   -- the key that starts is stored under 0, as its own parent, and open at its cost plus weighed bound
-  abbrev pub Begins : Graph K → ℕ → Store K → Type 0
-  Begins g weight s = (x : K) × (cost : ℕ) × g.starts x cost × (s.stored ≡ (x, record { cost = cost; parent = 0 }) ∷ [])
-      × Adds [] s.waiting (cost + weight * g.bound x, 0)
+  abbrev pub Begins : Task K → Store K → Type 0
+  Begins task s = (x : K) × (cost : ℕ) × task.graph.starts x cost × (s.stored ≡ (x, record { cost = cost; parent = 0 }) ∷ [])
+      × Adds [] s.waiting (f_of task x (record { cost = cost; parent = 0 }), 0)
+      × NotesLast task.strategy.expansion [] s.openings (opening_of task x)
 
   -- what a turn answers, by the status that it leaves
   abbrev pub reply_of : Status K → Result Step SearchFault

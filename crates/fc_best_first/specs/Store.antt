@@ -1,21 +1,53 @@
 -- The state of a search: the keys that it stores, and the pairs that it has still to look at.
-use Rattle.std.specs.Prelude.{◌≡◌, ℕ, ◌<◌, ◌≤◌, List, [], ◌∷◌, ◌++◌, length, slice_get, Some}
+use Rattle.std.specs.Prelude.{◌≡◌, ℕ, ◌+◌, ◌<◌, ◌≤◌, List, [], ◌∷◌, ◌++◌, length, slice_get, slice_set, Some}
 use Rattle.indexmap.specs.IndexMap.{set_value_at}
 use Rattle.fc_frontier.specs.Queue.{Adds, IsLeast}
 use Rattle.fc_best_first.specs.declared.books.Mark.{Mark}
+use Rattle.fc_best_first.specs.declared.books.Opening.{Opening}
 use Rattle.fc_best_first.specs.declared.books.Offered.{Offered}
-use Rattle.fc_best_first.specs.declared.books.Offered.TheVariants.{Known, Lowered, Added, Full}
+use Rattle.fc_best_first.specs.declared.books.Offered.TheVariants.{Known, Lowered, Added, Full, PutOff}
+use Rattle.fc_best_first.specs.declared.strategies.Expansion.{Expansion}
+use Rattle.fc_best_first.specs.declared.strategies.Expansion.TheVariants as expansion
+use Rattle.fc_best_first.specs.declared.strategies.Strategy.{Strategy}
 
--- stored keys in the order of their numbers, each with its mark, and open pairs (f, number)
+-- stored keys in the order of their numbers, each with its mark, open pairs (f, number), and by partial expansion where
+-- each key was opened last
 pub record Store (K : Type 0) : Type 0 where
   pub stored : List (K × Mark)
   pub waiting : List (ℕ × ℕ)
+  pub openings : List Opening
 
--- a key that is offered: the mark that it would be stored with, and the f that it would be open at
+-- a key that is offered: the mark that it would be stored with, and where it would be open
 pub record Candidate (K : Type 0) : Type 0 where
   pub key : K
   pub mark : Mark
-  pub f : ℕ
+  pub opening : Opening
+
+-- what is open at an opening of a key with this mark is open at this f
+abbrev pub opens_at : Mark → Opening → ℕ
+opens_at mark opening = mark.cost + opening.over
+
+-- a new opening is noted last by partial expansion; full expansion notes none
+abbrev pub NotesLast : Expansion → List Opening → List Opening → Opening → Type 0
+NotesLast expansion.Full old new opening = new ≡ old
+NotesLast expansion.Partial old new opening = new ≡ old ++ opening ∷ []
+
+-- the opening under this number is noted anew by partial expansion; full expansion notes none
+abbrev pub NotesAnew : Expansion → List Opening → List Opening → ℕ → Opening → Type 0
+NotesAnew expansion.Full old new number opening = new ≡ old
+NotesAnew expansion.Partial old new number opening = new ≡ slice_set old number opening
+
+-- a new key that would be open at this f is stored when a pair of the f that was taken is expanded: by full expansion
+-- always, by partial expansion where it is no greater
+abbrev pub Admits : Expansion → ℕ → ℕ → Type 0
+Admits expansion.Full taken f = Unit {0}
+Admits expansion.Partial taken f = f ≤ taken
+
+-- a new key that would be open at this f is put off until the later one, which is greater than what was taken and no greater
+-- than its own: never by full expansion
+abbrev pub PutsOff : Expansion → ℕ → ℕ → ℕ → Type 0
+PutsOff expansion.Full taken f later = ⊥
+PutsOff expansion.Partial taken f later = (taken < later) × (later ≤ f)
 
 module _ {K : Type 0} where
   -- the key is stored under this number with this mark
@@ -26,29 +58,40 @@ module _ {K : Type 0} where
   abbrev pub IsNew : Store K → K → Type 0
   IsNew s x = (number : ℕ) (mark : Mark) → IsStored s number x mark → ⊥
 
-  -- what offering a key that is stored under this number with this mark does: at no less it is left, else it takes the new
-  -- mark and is open at the new f
-  abbrev pub Meets : Store K → Store K → ℕ → Mark → Candidate K → Offered K → Type 0
-  Meets old new number was offer Known = (was.cost ≤ offer.mark.cost) × (new ≡ old)
-  Meets old new number was offer Lowered = (offer.mark.cost < was.cost)
-      × (new.stored ≡ set_value_at old.stored number offer.mark) × Adds old.waiting new.waiting (offer.f, number)
-  Meets old new number was offer _ = ⊥
+  -- what storing a new key does: it goes last and is open, where fewer than the budget are stored
+  abbrev pub Stores : Strategy → Store K → Store K → Candidate K → Offered K → Type 0
+  Stores strategy old new offer Added =
+      (length old.stored < strategy.budget) × (new.stored ≡ old.stored ++ (offer.key, offer.mark) ∷ [])
+      × Adds old.waiting new.waiting (opens_at offer.mark offer.opening, length old.stored)
+      × NotesLast strategy.expansion old.openings new.openings offer.opening
+  Stores strategy old new offer (Full y) = (y ≡ offer.key) × (strategy.budget ≤ length old.stored) × (new ≡ old)
+  Stores strategy old new offer _ = ⊥
 
-  -- what offering a key does: one that is stored is met; a new one goes last and is open, where fewer than the budget are
-  -- stored
-  abbrev pub Offers : ℕ → Store K → Store K → Candidate K → Offered K → Type 0
-  Offers budget old new offer Known =
-      (number : ℕ) × (was : Mark) × IsStored old number offer.key was × Meets old new number was offer Known
-  Offers budget old new offer Lowered =
-      (number : ℕ) × (was : Mark) × IsStored old number offer.key was × Meets old new number was offer Lowered
-  Offers budget old new offer Added =
-      IsNew old offer.key × (length old.stored < budget) × (new.stored ≡ old.stored ++ (offer.key, offer.mark) ∷ [])
-      × Adds old.waiting new.waiting (offer.f, length old.stored)
-  Offers budget old new offer (Full y) = (y ≡ offer.key) × IsNew old offer.key × (budget ≤ length old.stored) × (new ≡ old)
+  -- a stored key takes the new mark and is open at its new f
+  abbrev pub Lowers : Strategy → Store K → Store K → ℕ → Mark → Opening → Type 0
+  Lowers strategy old new number mark opening = (new.stored ≡ set_value_at old.stored number mark)
+      × Adds old.waiting new.waiting (opens_at mark opening, number)
+      × NotesAnew strategy.expansion old.openings new.openings number opening
+
+  -- what offering a key does, when a pair of this f was taken: one that is stored is left where it is stored at no more, and
+  -- else takes the new mark; a new one is stored, or put off
+  abbrev pub Offers : Strategy → ℕ → Store K → Store K → Candidate K → Offered K → Type 0
+  Offers strategy taken old new offer Known =
+      (number : ℕ) × (was : Mark) × IsStored old number offer.key was × (was.cost ≤ offer.mark.cost) × (new ≡ old)
+  Offers strategy taken old new offer Lowered =
+      (number : ℕ) × (was : Mark) × IsStored old number offer.key was × (offer.mark.cost < was.cost)
+      × Lowers strategy old new number offer.mark offer.opening
+  Offers strategy taken old new offer Added = IsNew old offer.key
+      × Admits strategy.expansion taken (opens_at offer.mark offer.opening) × Stores strategy old new offer Added
+  Offers strategy taken old new offer (Full y) = IsNew old offer.key
+      × Admits strategy.expansion taken (opens_at offer.mark offer.opening) × Stores strategy old new offer (Full y)
+  Offers strategy taken old new offer (PutOff later) = IsNew old offer.key
+      × PutsOff strategy.expansion taken (opens_at offer.mark offer.opening) later × (new ≡ old)
 
   -- an open pair of least f is taken, whose key is stored with this mark
   pub record IsTaken (old : Store K) (new : Store K) (f : ℕ) (number : ℕ) (x : K) (mark : Mark) : Type 0 where
     pub taken : Adds new.waiting old.waiting (f, number)
     pub least : IsLeast (f, number) old.waiting
     pub kept : new.stored ≡ old.stored
+    pub noted : new.openings ≡ old.openings
     pub stands : IsStored old number x mark

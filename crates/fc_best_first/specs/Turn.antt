@@ -1,14 +1,20 @@
 -- One turn of a search.
-use Rattle.std.specs.Prelude.{◌≡◌, ℕ, ◌+◌, ◌-◌, ◌*◌, ◌<◌, ◌≤◌, ◌⊎◌, max, List, [], ◌∷◌, length, sum_by, IfSome, Contains, Option, Some, None}
-use Rattle.fc_frontier.specs.Queue.{IsLeast}
+use Rattle.std.specs.Prelude.{◌≡◌, ◌≢◌, ℕ, ◌+◌, ◌-◌, ◌*◌, ◌<◌, ◌≤◌, ◌⊎◌, max, min, List, [], ◌∷◌, length, slice_get, sum_by, IfSome, Contains, Option, Some, None}
+use Rattle.fc_frontier.specs.Queue.{Adds, IsLeast}
 use Rattle.fc_best_first.specs.declared.books.Mark.{Mark}
-use Rattle.fc_best_first.specs.declared.books.Offered.TheVariants.{Known, Lowered, Added, Full}
+use Rattle.fc_best_first.specs.declared.books.Opening.{Opening}
+use Rattle.fc_best_first.specs.declared.books.Offered.TheVariants.{Known, Lowered, Added, Full, PutOff}
 use Rattle.fc_best_first.specs.declared.spaces.Child.{Child}
+use Rattle.fc_best_first.specs.declared.strategies.Expansion.{Expansion}
+use Rattle.fc_best_first.specs.declared.strategies.Expansion.TheVariants as expansion
+use Rattle.fc_best_first.specs.declared.turns.Placing.{Placing}
+use Rattle.fc_best_first.specs.declared.turns.Placing.TheVariants.{Whole, Later, NoRoom}
 use Rattle.fc_best_first.specs.declared.turns.Status.{Status}
 use Rattle.fc_best_first.specs.declared.turns.Status.TheVariants.{Running, Won, CannotWin, GaveUp, Stopped}
-use Rattle.fc_best_first.specs.declared.turns.TheConstants.{MOST_COST}
+use Rattle.fc_best_first.specs.declared.turns.TheConstants.{MOST_COST, MOST_OVER}
 use Rattle.fc_best_first.specs.Graph.{Graph, Task}
-use Rattle.fc_best_first.specs.Store.{Store, Candidate, Offers, IsTaken}
+use Rattle.fc_best_first.specs.Store.{Store, Candidate, NotesAnew, Offers, IsTaken, opens_at}
+use Rattle.fc_best_first.specs.Kept.{f_of}
 
 -- the floor that a turn of a running search leaves, the greatest f that was taken: the same where no pair is open, else the
 -- greater of it and the least f of the open pairs
@@ -27,39 +33,83 @@ module _ {K : Type 0} where
     pub whole : (c : ℕ) (y : K) → g.edge x c y
         → (child : Child K) × Contains children child × (child.key ≡ y) × (child.cost ≤ c)
 
-  -- a child as it is offered: its mark, by the mark of a child that would cost nothing, and its cost plus its weighed bound
+  -- where a key is open at its cost plus its weighed bound
+  abbrev pub opening_of : Task K → K → Opening
+  opening_of task x = record { over = task.strategy.weight * task.graph.bound x; bound = task.graph.bound x }
+
+  -- a child as it is offered: its mark, by the mark of a child that would cost nothing, and where it is open
   abbrev pub candidate_of : Task K → Mark → Child K → Candidate K
   candidate_of task origin child = record {
     key = child.key;
     mark = record { cost = origin.cost + child.cost; parent = origin.parent };
-    f = origin.cost + child.cost + task.weight * task.graph.bound child.key;
+    opening = opening_of task child.key;
   }
 
-  -- the children are offered one after the other, by the mark of a child that would cost nothing; the first that finds no
-  -- place ends it
-  abbrev pub Expands : Task K → Mark → List (Child K) → Store K → Store K → Option K → Type 0
-  Expands task origin [] old new left_out = (new ≡ old) × (left_out ≡ None)
-  Expands task origin (child ∷ children) old new left_out =
-      (Offers task.budget old new (candidate_of task origin child) (Full child.key) × (left_out ≡ Some child.key))
-      ⊎ ((mid : Store K)
-      × (Offers task.budget old mid (candidate_of task origin child) Known
-      ⊎ (Offers task.budget old mid (candidate_of task origin child) Lowered
-      ⊎ Offers task.budget old mid (candidate_of task origin child) Added))
-      × Expands task origin children mid new left_out)
+  -- one child more was put off, until this f: the least of them counts
+  abbrev pub put_off : ℕ → Placing K → Placing K
+  put_off f Whole = Later f
+  put_off f (Later others) = Later (min f others)
+  put_off f (NoRoom y) = NoRoom y
 
-  -- a key that isn't won, taken at its cost plus weighed bound, is expanded
+-- in a search, when a pair of this f was taken
+module _ {K : Type 0} (task : Task K) (taken : ℕ) where
+  -- the children are offered one after the other, by the mark of a child that would cost nothing; the first that finds no place
+  -- ends it
+  abbrev pub Expands : Mark → List (Child K) → Store K → Store K → Placing K → Type 0
+  Expands origin [] old new placing = (new ≡ old) × (placing ≡ Whole)
+  Expands origin (child ∷ children) old new placing =
+      (Offers task.strategy taken old new (candidate_of task origin child) (Full child.key) × (placing ≡ NoRoom child.key))
+      ⊎ (((mid : Store K)
+      × (Offers task.strategy taken old mid (candidate_of task origin child) Known
+      ⊎ (Offers task.strategy taken old mid (candidate_of task origin child) Lowered
+      ⊎ Offers task.strategy taken old mid (candidate_of task origin child) Added))
+      × Expands origin children mid new placing)
+      ⊎ ((later : ℕ) × Offers task.strategy taken old old (candidate_of task origin child) (PutOff later)
+      × ((others : Placing K) × Expands origin children old new others × (placing ≡ put_off later others))))
+
+module _ {K : Type 0} where
+  -- a key with this number and mark is open again at a later f, by the bound that is noted of it
+  abbrev pub Reopens : Store K → Store K → ℕ → Mark → ℕ → Type 0
+  Reopens old new number mark later = (was : Opening) × (next : Opening) × (slice_get old.openings number ≡ Some was)
+      × (next.bound ≡ was.bound) × (next.over ≤ MOST_OVER) × (later ≡ opens_at mark next) × (new.stored ≡ old.stored)
+      × Adds old.waiting new.waiting (later, number) × NotesAnew expansion.Partial old.openings new.openings number next
+
+  -- what becomes of an expanded key, by how its children were placed: where some were put off it is open again at the least
+  -- f of those
+  abbrev pub Closes : Store K → Store K → ℕ → Mark → Placing K → Option K → Type 0
+  Closes old new number mark Whole left_out = (new ≡ old) × (left_out ≡ None)
+  Closes old new number mark (Later f) left_out = Reopens old new number mark f × (left_out ≡ None)
+  Closes old new number mark (NoRoom y) left_out = (new ≡ old) × (left_out ≡ Some y)
+
+  -- a pair of this f is the present one of the key with this number and mark: by full expansion it is no greater than the
+  -- key's own, its cost plus weighed bound, by partial expansion it is where the key was opened last
+  abbrev pub IsPresent : Expansion → Store K → ℕ → Mark → ℕ → ℕ → Type 0
+  IsPresent expansion.Full s number mark own f = f ≤ own
+  IsPresent expansion.Partial s number mark own f =
+      (opening : Opening) × (slice_get s.openings number ≡ Some opening) × (f ≡ opens_at mark opening)
+
+  -- a pair of this f is an older one: by full expansion it is greater than the key's own, by partial expansion its key was
+  -- opened elsewhere since
+  abbrev pub IsStale : Expansion → Store K → ℕ → Mark → ℕ → ℕ → Type 0
+  IsStale expansion.Full s number mark own f = own < f
+  IsStale expansion.Partial s number mark own f =
+      (opening : Opening) × (slice_get s.openings number ≡ Some opening) × (f ≢ opens_at mark opening)
+
+  -- a key that isn't won, taken by its present pair, is expanded
   abbrev pub ExpandsTaken : Task K → Store K → Store K → ℕ → Option K → Type 0
   ExpandsTaken task old new number left_out =
       (f : ℕ) × (x : K) × (mark : Mark) × (mid : Store K) × IsTaken old mid f number x mark
-      × (task.graph.won x → ⊥) × (f ≤ mark.cost + task.weight * task.graph.bound x)
+      × (task.graph.won x → ⊥) × IsPresent task.strategy.expansion old number mark (f_of task x mark) f
       × ((children : List (Child K)) × AreChildren task.graph x children
-      × Expands task (record { cost = mark.cost; parent = number }) children mid new left_out)
+      × ((after : Store K) × (placing : Placing K)
+      × Expands task f (record { cost = mark.cost; parent = number }) children mid after placing
+      × Closes after new number mark placing left_out))
 
-  -- a key that isn't won was met at a smaller cost since the pair was opened: the pair is dropped
+  -- a key that isn't won was opened anew since the pair was put in: the pair is dropped
   abbrev pub DropsTaken : Task K → Store K → Store K → Type 0
   DropsTaken task old new =
       (f : ℕ) × (number : ℕ) × (x : K) × (mark : Mark) × IsTaken old new f number x mark
-      × (task.graph.won x → ⊥) × (mark.cost + task.weight * task.graph.bound x < f)
+      × (task.graph.won x → ⊥) × IsStale task.strategy.expansion old number mark (f_of task x mark) f
 
   -- one turn of a running search, and the status that it leaves
   abbrev pub Advances : Task K → Store K → Store K → Status K → Type 0
@@ -73,4 +123,5 @@ module _ {K : Type 0} where
   -- how much a search may still do: it falls with each turn that leaves the search running
   abbrev pub work_left : ℕ → Store K → ℕ
   work_left budget s =
-      2 * (sum_by (λ e. e.1.cost) s.stored + (budget - length s.stored) * (MOST_COST * budget + (MOST_COST + 1))) + length s.waiting
+      (MOST_OVER + 1) * (sum_by (λ e. e.1.cost) s.stored + (budget - length s.stored) * (MOST_COST * budget + (MOST_COST + 1)))
+      + sum_by (λ o. MOST_OVER - o.over) s.openings + length s.waiting

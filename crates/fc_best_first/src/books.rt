@@ -1,11 +1,13 @@
-ghost use Rattle.std.specs.Prelude.{◌≡◌, ◌^◌, ◌<◌, ◌≤◌, ℕ, [], length, slice_get, IfOk, IfSome, IfNone, OnOk, MatchOption};
+ghost use Rattle.std.specs.Prelude.{◌≡◌, ◌+◌, ◌*◌, ◌^◌, ◌<◌, ◌≤◌, ℕ, [], length, slice_get, Some, IfOk, IfSome, IfNone, OnOk, MatchOption};
 ghost use Rattle.std.specs.List.Sorted.{IsPermutation};
-ghost use Rattle.indexmap.specs.IndexMap.{set_value_at};
 ghost use Rattle.fc_frontier.specs.Queue.{Adds, IsLeast};
-ghost use Rattle.fc_best_first.specs.Store.{Store, IsStored, IsNew, Offers};
+ghost use Rattle.fc_best_first.specs.Store.{Store, IsStored, IsNew, Lowers, NotesLast, Stores, opens_at};
+ghost use Rattle.fc_best_first.specs.Turn.{Reopens};
 
 use crate::keys::ExactKey;
-use crate::limits::Budget;
+use crate::limits::MOST_BUDGET;
+use crate::strategies::{Expansion, Strategy};
+use crate::turns::{MOST_COST, MOST_OVER};
 use fc_frontier::{Frontier, Full, Pairs};
 use indexmap::IndexMap;
 use std::alloc::Global;
@@ -18,21 +20,53 @@ pub struct Mark {
     pub parent: u32,
 }
 
+impl Mark {
+    // The mark of a child at the end of an edge of this cost, by that of one that would cost nothing.
+    pub(crate) fn onward(self, cost: u8) -> Mark
+        requires low { self.cost ≤ MOST_COST * MOST_BUDGET }
+        ensures value { result ≡ record { cost = self.cost + cost; parent = self.parent } }
+        ensures near { result.cost ≤ self.cost + 255 }
+    {
+        Mark {
+            cost: self.cost + u32::from(cost),
+            ..self
+        }
+    }
+
+    // The f of what is open at this opening.
+    pub(crate) fn opens_at(self, opening: Opening) -> u32
+        requires low { self.cost ≤ MOST_COST * MOST_BUDGET + 255 }
+        ensures value { result ≡ opens_at self opening }
+    {
+        self.cost + u32::from(opening.over)
+    }
+}
+
+/// Where a key is open: how far above its cost, at most 2,805, and its bound.
+#[derive(Clone, Copy, Debug, PartialEq, Eq)]
+pub struct Opening {
+    pub over: u16,
+    pub bound: u8,
+}
+
 /// What became of a key that was offered: it was stored at no more, it was stored at more and its cost fell, it was
-/// added, or there was no place for it.
+/// added, there was no place for it, or it was put off until this f.
 #[derive(Drop)]
 pub enum Offered<K> {
     Known,
     Lowered,
     Added,
     Full(K),
+    PutOff(u32),
 }
 
-/// The keys that are stored, each with its mark, in the order of their numbers, and the pairs that are open.
+/// The keys that are stored, each with its mark, in the order of their numbers, the pairs that are open, and, by partial
+/// expansion, where each key was opened last.
 #[derive(Drop)]
 pub struct Book<K: ExactKey, F: Frontier + Drop> {
     table: IndexMap<K, Mark>,
     queue: F,
+    openings: Vec<Opening>,
 }
 
 impl<K: ExactKey, F: Frontier + Drop> Model for Book<K, F> {
@@ -40,18 +74,24 @@ impl<K: ExactKey, F: Frontier + Drop> Model for Book<K, F> {
 
     ghost Value = { Store K };
 
-    ghost view = { λ s. record { stored = s.table.entries; waiting = F.pairs s.queue } };
+    ghost view = { λ s. record { stored = s.table.entries; waiting = F.pairs s.queue; openings = s.openings.items } };
 }
 
 impl<K: ExactKey, F: Frontier + Drop> Book<K, F> {
-    /// Nothing stored and nothing open. Takes no memory yet.
-    pub fn new(alloc: Global) -> Self
+    /// Nothing stored and nothing open, for a search by this expansion: by the partial one, of equal f the least bound is to be
+    /// taken first, where the queue tells ties. Takes no memory yet.
+    pub fn new(alloc: Global, expansion: Expansion) -> Self
         ensures stored { result.stored ≡ [] }
         ensures waiting { result.waiting ≡ [] }
+        ensures openings { result.openings ≡ [] }
     {
         Book {
             table: IndexMap::new(alloc),
-            queue: F::new(alloc),
+            queue: match expansion {
+                Expansion::Full => F::new(alloc),
+                Expansion::Partial => F::with_ties(alloc),
+            },
+            openings: Vec::new(alloc),
         }
     }
 
@@ -60,6 +100,7 @@ impl<K: ExactKey, F: Frontier + Drop> Book<K, F> {
         ensures taken { IfSome result (λ p. Adds self.new.waiting self.old.waiting p) }
         ensures least { IfSome result (λ p. IsLeast p self.old.waiting) }
         ensures kept { self.new.stored ≡ self.old.stored }
+        ensures noted { self.new.openings ≡ self.old.openings }
         ensures none { IfNone result ((self.old.waiting ≡ []) × (self.new ≡ self.old)) }
     {
         self.queue.pop_least()
@@ -111,33 +152,89 @@ impl<K: ExactKey, F: Frontier + Drop> Book<K, F> {
         Some((number as u32, *mark))
     }
 
-    /// Gives the key that is stored under a number another mark, and opens it at `f`. At `Err` a growth was refused, and
-    /// nothing is known of the book.
-    pub fn lower(&mut self, number: u32, mark: Mark, f: u32) -> Result<(), Full>
+    /// Where the key with a number was opened last; `None` where that isn't noted, as by full expansion.
+    pub fn noted(&self, number: u32) -> Option<Opening>
+        ensures value { MatchOption result (length self.now.openings ≤ number) (λ opening. slice_get self.now.openings number ≡ Some opening) }
+    {
+        self.openings.get(number as usize).copied()
+    }
+
+    /// Gives the key that is stored under a number another mark, and opens it. At `Err` a growth was refused, and nothing is
+    /// known of the book.
+    pub fn lower(
+        &mut self,
+        strategy: &Strategy,
+        number: u32,
+        mark: Mark,
+        opening: Opening,
+    ) -> Result<(), Full>
         requires within { number < length self.old.stored }
-        ensures stored { OnOk result (self.new.stored ≡ set_value_at self.old.stored number mark) }
-        ensures waiting { OnOk result (Adds self.old.waiting self.new.waiting (f, number)) }
+        requires noted { strategy.now.expansion ≡ Expansion.Partial → number < length self.old.openings }
+        requires low { mark.cost ≤ MOST_COST * MOST_BUDGET + 255 }
+        ensures lowers { OnOk result (Lowers strategy.now self.old self.new number mark opening) }
     {
         self.table[number as usize] = mark;
-        self.queue.push(f, number)?;
+        self.queue
+            .push_tied(mark.opens_at(opening), opening.bound, number)?;
+        if let Expansion::Partial = strategy.expansion {
+            self.openings[number as usize] = opening;
+        }
         Ok(())
     }
 
-    /// Offers a key that isn't stored with a mark, to be open at `f`. At `Err` a growth was refused, and nothing is known of
-    /// the book.
-    pub fn add(&mut self, budget: Budget, key: K, mark: Mark, f: u32) -> Result<Offered<K>, Full>
+    /// Opens the key with a number and this mark again, at a later f, where its opening is noted. At `Err` a growth was
+    /// refused, and nothing is known of the book.
+    pub fn reopen(&mut self, number: u32, mark: Mark, later: u32) -> Result<(), Full>
+        requires noted { number < length self.old.openings }
+        requires above { mark.cost ≤ later }
+        requires near { later ≤ mark.cost + MOST_OVER }
+        ensures reopens { OnOk result (Reopens self.old self.new number mark later) }
+    {
+        let opening = Opening {
+            over: (later - mark.cost) as u16,
+            ..self.openings[number as usize]
+        };
+        self.queue.push_tied(later, opening.bound, number)?;
+        self.openings[number as usize] = opening;
+        Ok(())
+    }
+
+    /// Stores a key that isn't stored with a mark, and opens it, where fewer than the budget are stored. At `Err` a growth was
+    /// refused, and nothing is known of the book.
+    pub fn add(
+        &mut self,
+        strategy: &Strategy,
+        key: K,
+        mark: Mark,
+        opening: Opening,
+    ) -> Result<Offered<K>, Full>
         requires new { IsNew self.old key }
-        ensures offers { IfOk result (λ offered. Offers budget self.old self.new (record { key = key; mark = mark; f = f }) offered) }
+        requires low { mark.cost ≤ MOST_COST * MOST_BUDGET + 255 }
+        ensures stores { IfOk result (Stores strategy.now self.old self.new (record { key = key; mark = mark; opening = opening })) }
     {
         let number = self.table.len();
-        let most = budget.get() as usize;
+        let most = strategy.budget.get() as usize;
         if number >= most {
             return Ok(Offered::Full(key));
         }
         self.make_room(most - number);
         self.table.insert(key, mark)?;
-        self.queue.push(f, number as u32)?;
+        self.queue
+            .push_tied(mark.opens_at(opening), opening.bound, number as u32)?;
+        self.note_last(strategy.expansion, opening)?;
         Ok(Offered::Added)
+    }
+
+    // Notes the opening of a key that was stored last, by partial expansion.
+    fn note_last(&mut self, expansion: Expansion, opening: Opening) -> Result<(), Full>
+        ensures stored { self.new.stored ≡ self.old.stored }
+        ensures waiting { self.new.waiting ≡ self.old.waiting }
+        ensures noted { OnOk result (NotesLast expansion self.old.openings self.new.openings opening) }
+    {
+        if let Expansion::Partial = expansion {
+            self.openings.push(opening)?;
+        }
+        Ok(())
     }
 
     // Where the table is full, asks for three times the room that it has, up to so many keys more: each growth makes its

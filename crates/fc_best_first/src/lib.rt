@@ -2,18 +2,21 @@
 //! within a budget of stored keys.
 #![tactic(auto)]
 
-pub use books::{Book, Mark, Offered};
+pub use books::{Book, Mark, Offered, Opening};
 pub use keys::ExactKey;
 pub use limits::{Budget, MOST_BUDGET, MOST_WEIGHT, Weight};
 pub use searches::{Search, SearchFault, Step};
 pub use spaces::{Child, Space};
-pub use turns::{MOST_COST, Status};
+pub use strategies::{Expansion, Strategy};
+pub use turns::{MOST_COST, MOST_OVER, Placing, Status};
 
 mod books;
 mod floors;
 mod keys;
 pub mod laws;
 mod limits;
+mod offers;
 mod searches;
 mod spaces;
+mod strategies;
 mod turns;

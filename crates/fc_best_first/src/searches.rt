@@ -7,12 +7,14 @@ ghost use Rattle.fc_best_first.specs.Shown.{Holds, IsFloor, IsLeastOpen, Shows};
 ghost use Rattle.fc_best_first.specs.Store.{IsStored};
 ghost use Rattle.fc_best_first.specs.Turn.{work_left};
 
-use crate::books::{Book, Mark};
+use crate::books::{Book, Mark, Opening};
 use crate::floors::least_open;
 use crate::keys::ExactKey;
-use crate::limits::{Budget, Weight};
-use crate::spaces::Space;
-use crate::turns::{Status, advance, f_of};
+use crate::limits::Budget;
+use crate::offers::bound_of;
+use crate::spaces::{Child, Space};
+use crate::strategies::Strategy;
+use crate::turns::{Status, advance};
 use fc_frontier::{Frontier, Full};
 use std::alloc::Global;
 use std::marker::Model;
@@ -45,12 +47,11 @@ pub enum SearchFault {
     NoSuch,
 }
 
-/// A search of a space, with a weight of its bounds and a budget of stored keys.
+/// A search of a space by a strategy.
 #[derive(Drop)]
 pub struct Search<K: ExactKey, F: Frontier + Drop, S: Space<K> + Drop> {
     space: S,
-    weight: Weight,
-    budget: Budget,
+    strategy: Strategy,
     book: Book<K, F>,
     walk: S::Walk,
     status: Status<K>,
@@ -64,10 +65,11 @@ impl<K: ExactKey, F: Frontier + Drop, S: Space<K> + Drop> Model for Search<K, F,
 
     ghost Value = { Progress S K };
 
-    ghost view = { λ s. record { space = s.space; weight = s.weight; budget = s.budget; store = s.book; status = s.status; floor = s.floor } };
+    ghost view = { λ s. record { space = s.space; strategy = s.strategy; store = s.book; status = s.status; floor = s.floor } };
 
-    ghost invariant = { λ s. IsWeight s.weight × IsBudget s.budget
-        × Holds (S.graph s.space) s.weight s.budget s.book s.status × IsFloor (S.graph s.space) s.weight s.floor };
+    ghost invariant = { λ s. IsWeight s.strategy.weight × IsBudget s.strategy.budget
+        × Holds (record { graph = S.graph s.space; strategy = s.strategy }) s.book s.status
+        × IsFloor (S.graph s.space) s.strategy.weight s.floor };
 }
 
 impl<K: ExactKey, F: Frontier + Drop, S: Space<K> + Drop> Search<K, F, S> {
@@ -76,30 +78,36 @@ impl<K: ExactKey, F: Frontier + Drop, S: Space<K> + Drop> Search<K, F, S> {
     ///
     /// # Errors
     /// A growth was refused.
-    pub fn new(alloc: Global, space: S, weight: Weight, budget: Budget) -> Result<Self, Full>
+    pub fn new(alloc: Global, space: S, strategy: Strategy) -> Result<Self, Full>
         ensures space { IfOk result (λ search. search.space ≡ space) }
-        ensures weight { IfOk result (λ search. search.weight ≡ weight) }
-        ensures budget { IfOk result (λ search. search.budget ≡ budget) }
+        ensures strategy { IfOk result (λ search. search.strategy ≡ strategy) }
         ensures status { IfOk result (λ search. search.status ≡ Status.Running) }
-        ensures begins { IfOk result (λ search. Begins (S.graph space) weight search.store) }
+        ensures begins { IfOk result (λ search. Begins (task_of S.graph search) search.store) }
         ensures floor { IfOk result (λ search. Adds [] search.store.waiting (search.floor, 0)) }
     {
+        let Strategy {
+            weight,
+            expansion,
+            budget,
+        } = strategy;
         // Their ranges, which the search keeps.
         let (_, _) = (weight.get(), budget.get());
         let (start, walk) = space.start();
-        let cost = u32::from(start.cost);
-        let f = f_of(&space, weight, &start.key, cost, start.bound);
-        let mut book = Book::new(alloc);
-        let mark = Mark { cost, parent: 0 };
-        let _offered = book.add(budget, start.key, mark, f)?;
+        let Child { key, cost, bound } = start;
+        let opening = Opening::new(weight, bound_of(&space, &key, bound));
+        let mark = Mark {
+            cost: u32::from(cost),
+            parent: 0,
+        };
+        let mut book = Book::new(alloc, expansion);
+        let _stored = book.add(&strategy, key, mark, opening)?;
         Ok(Search {
             space,
-            weight,
-            budget,
+            strategy,
             book,
             walk,
             status: Status::Running,
-            floor: f,
+            floor: mark.opens_at(opening),
         })
     }
 
@@ -110,28 +118,21 @@ impl<K: ExactKey, F: Frontier + Drop, S: Space<K> + Drop> Search<K, F, S> {
         &self.space
     }
 
-    /// How many times a bound counts, 1 to 10.
-    pub fn weight(&self) -> Weight
-        ensures value { result ≡ self.now.weight }
-        ensures range { IsWeight self.now.weight }
+    /// How the space is searched.
+    pub fn strategy(&self) -> Strategy
+        ensures value { result ≡ self.now.strategy }
+        ensures weight { IsWeight self.now.strategy.weight }
+        ensures budget { IsBudget self.now.strategy.budget }
     {
-        self.weight
-    }
-
-    /// How many keys may be stored, 1 to 4,000,000.
-    pub fn budget(&self) -> Budget
-        ensures value { result ≡ self.now.budget }
-        ensures range { IsBudget self.now.budget }
-    {
-        self.budget
+        self.strategy
     }
 
     /// Where the search stands. What it holds by that is kept from turn to turn; what it shows follows from it.
     pub fn status(&self) -> &Status<K>
         ensures value { result.now ≡ self.now.status }
-        ensures holds { Holds (S.graph self.now.space) self.now.weight self.now.budget self.now.store self.now.status }
-        ensures shows { Shows (S.graph self.now.space) self.now.weight self.now.budget self.now.store self.now.status }
-        ensures range { IsBudget self.now.budget }
+        ensures holds { Holds (task_of S.graph self.now) self.now.store self.now.status }
+        ensures shows { Shows (task_of S.graph self.now) self.now.store self.now.status }
+        ensures range { IsBudget self.now.strategy.budget }
     {
         &self.status
     }
@@ -140,17 +141,17 @@ impl<K: ExactKey, F: Frontier + Drop, S: Space<K> + Drop> Search<K, F, S> {
     /// the key that starts. It never falls, and is true of a search that is done or was stopped, too.
     pub fn floor(&self) -> u32
         ensures value { result ≡ self.now.floor }
-        ensures floor { IsFloor (S.graph self.now.space) self.now.weight self.now.floor }
+        ensures floor { IsFloor (S.graph self.now.space) self.now.strategy.weight self.now.floor }
     {
         self.floor
     }
 
     /// The least cost plus bound, the bound counted once, of the keys that are still open, and at most a number.
     pub fn least_open(&self, most: u32) -> u32
-        requires sound { IsSound (S.graph self.now.space) self.now.weight self.now.budget self.now.store }
-        ensures value { IsLeastOpen (S.graph self.now.space) self.now.weight self.now.store most result }
+        requires sound { IsSound (task_of S.graph self.now) self.now.store }
+        ensures value { IsLeastOpen (task_of S.graph self.now) self.now.store most result }
     {
-        least_open(&self.space, &self.book, self.weight, most)
+        least_open(&self.space, &self.book, &self.strategy, most)
     }
 
     /// How many pairs are open. It is counted anew.
@@ -179,25 +180,22 @@ impl<K: ExactKey, F: Frontier + Drop, S: Space<K> + Drop> Search<K, F, S> {
     /// `Stopped` from then on.
     pub fn turn(&mut self) -> Result<Step, SearchFault>
         ensures space { self.new.space ≡ self.old.space }
-        ensures weight { self.new.weight ≡ self.old.weight }
-        ensures budget { self.new.budget ≡ self.old.budget }
+        ensures strategy { self.new.strategy ≡ self.old.strategy }
         ensures turns { Turns (task_of S.graph self.old) self.old.status self.old.store self.new.store self.new.status result }
         ensures floor { FloorAfter self.old.status self.old.store.waiting self.old.floor self.new.floor }
         ensures rises { self.old.floor ≤ self.new.floor }
-        ensures falls { result ≡ Ok Step.Running → work_left self.old.budget self.new.store < work_left self.old.budget self.old.store }
+        ensures falls { result ≡ Ok Step.Running → work_left self.old.strategy.budget self.new.store < work_left self.old.strategy.budget self.old.store }
     {
         match self.status {
             Status::Running => {}
             Status::Stopped => return Err(SearchFault::Stopped),
             _ => return Ok(Step::Done),
         }
-        let (weight, budget) = (self.weight, self.budget);
         match advance(
             &self.space,
             &mut self.book,
             &mut self.walk,
-            weight,
-            budget,
+            &self.strategy,
             &mut self.floor,
         ) {
             Ok(status) => {
@@ -221,8 +219,7 @@ impl<K: ExactKey, F: Frontier + Drop, S: Space<K> + Drop> Search<K, F, S> {
     /// `Memory` where a growth was refused, and the search is stopped; `Stopped` where it was before.
     pub fn run(&mut self) -> Result<(), SearchFault>
         ensures space { self.new.space ≡ self.old.space }
-        ensures weight { self.new.weight ≡ self.old.weight }
-        ensures budget { self.new.budget ≡ self.old.budget }
+        ensures strategy { self.new.strategy ≡ self.old.strategy }
         ensures runs { Runs (task_of S.graph self.old) self.old.status self.old.store self.new.store self.new.status }
         ensures done { OnOk result (reply_of self.new.status ≡ Ok Step.Done) }
         ensures stopped { OnErr result (self.new.status ≡ Status.Stopped) }

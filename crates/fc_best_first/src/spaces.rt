@@ -43,11 +43,24 @@ pub trait Space<K> {
         requires reached { (d : ℕ) × Reached (graph self.now) key.now d }
         ensures value { result ≡ (graph self.now).bound key.now };
 
+    /// The lower bound of a key that was reached, counted no further than is asked: where it is greater than `most`, any number
+    /// above that and no greater than the bound.
+    fn bound_within(&self, key: &K, most: u8) -> u8
+        requires reached { (d : ℕ) × Reached (graph self.now) key.now d }
+        ensures under { result ≤ (graph self.now).bound key.now }
+        ensures exact { result ≤ most → result ≡ (graph self.now).bound key.now };
+
     /// The lower bound of a key that was reached, by which a pair that was opened at more is known. Its children take the place
     /// of those that were left.
     fn visit(&self, key: &K, walk: &mut Self::Walk) -> u8
         requires reached { (d : ℕ) × Reached (graph self.now) key.now d }
         ensures bound { result ≡ (graph self.now).bound key.now }
+        ensures children { (children : List (Child K)) → rest walk.new children → AreChildren (graph self.now) key.now children };
+
+    /// Visits a key that was reached and whose bound is known.
+    fn revisit(&self, key: &K, bound: u8, walk: &mut Self::Walk)
+        requires reached { (d : ℕ) × Reached (graph self.now) key.now d }
+        requires bound { bound ≡ (graph self.now).bound key.now }
         ensures children { (children : List (Child K)) → rest walk.new children → AreChildren (graph self.now) key.now children };
 
     /// The next of the children that are left; whichever may follow it could follow it before.

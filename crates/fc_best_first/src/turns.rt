@@ -1,18 +1,23 @@
-ghost use Rattle.std.specs.Prelude.{◌≡◌, ◌+◌, ◌*◌, ◌<◌, ◌≤◌, ℕ, List, length, Option, IfOk, IfSome, MatchOption};
-ghost use Rattle.fc_best_first.specs.Graph.{IsLawful, Reached};
+ghost use Rattle.std.specs.Prelude.{◌≡◌, ◌+◌, ◌*◌, ◌<◌, ◌≤◌, ◌↔◌, ℕ, List, length, min, slice_get, Some, IsTrue, IfOk, IfSome, MatchOption};
+ghost use Rattle.fc_best_first.specs.Graph.{Graph, Reached, Task};
+ghost use Rattle.fc_best_first.specs.Kept.{AreNoted, IsKept};
 ghost use Rattle.fc_best_first.specs.Store.{Offers};
-ghost use Rattle.fc_best_first.specs.Turn.{Advances, Expands, TakesFloor, TellsBound};
-ghost use Rattle.fc_best_first.specs.inner.Turn.{AreReached};
-ghost use Rattle.fc_best_first.specs.Kept.{IsKept};
+ghost use Rattle.fc_best_first.specs.Turn.{Advances, AreChildren, Closes, Expands, TakesFloor};
+ghost use Rattle.fc_best_first.specs.inner.Turn.{AreReached, Becomes, IsLaterNear, IsReady};
 
-use crate::books::{Book, Mark, Offered};
+use crate::books::{Book, Mark, Offered, Opening};
 use crate::keys::ExactKey;
-use crate::limits::{Budget, MOST_BUDGET, Weight};
+use crate::limits::{MOST_BUDGET, Weight};
+use crate::offers::offer;
 use crate::spaces::{Child, Space};
+use crate::strategies::Strategy;
 use fc_frontier::{Frontier, Full};
 
 /// The most that a start or an edge may cost.
 pub const MOST_COST: u8 = 53;
+
+/// The most that a key may be open above its cost: the cost of an edge, and ten times a bound, each a byte.
+pub const MOST_OVER: u16 = 2805;
 
 /// Where a search stands: it is running; the key with this number is won, and its cost is at most the weight times every
 /// answer; there is no answer; it gave up, having found no place for this key, which came from the key with this number;
@@ -26,89 +31,107 @@ pub enum Status<K> {
     Stopped,
 }
 
-// The f of a key that is reached at this cost: the cost plus the weighed bound.
-pub(crate) fn weighed(weight: Weight, cost: u32, bound: u8) -> u32
-    requires low { cost ≤ MOST_COST * MOST_BUDGET + 255 }
-    ensures value { result ≡ cost + weight * bound }
-{
-    cost + u32::from(weight.get()) * u32::from(bound)
+/// How the children of a key were placed: all found their places; some were put off, the least f of which is this; or this
+/// one found none.
+#[derive(Drop)]
+pub enum Placing<K> {
+    Whole,
+    Later(u32),
+    NoRoom(K),
 }
 
-// The f of a key that was reached, at this cost, by its bound, which its space is asked for where it isn't told.
-pub(crate) fn f_of<K, S: Space<K>>(
-    space: &S,
-    weight: Weight,
-    key: &K,
-    cost: u32,
-    bound: Option<u8>,
-) -> u32
-    requires reached { (d : ℕ) × Reached (S.graph space.now) key.now d }
-    requires bound { IfSome bound (λ b. b ≡ (S.graph space.now).bound key.now) }
-    requires low { cost ≤ MOST_COST * MOST_BUDGET + 255 }
-    ensures value { result ≡ cost + weight * (S.graph space.now).bound key.now }
+// The least of a number and perhaps another one.
+fn least_of(other: Option<u32>, f: u32) -> u32
+    ensures value { MatchOption other (result ≡ f) (λ least. result ≡ min least f) }
 {
-    let bound = match bound {
-        Some(bound) => bound,
-        None => space.bound(key),
-    };
-    weighed(weight, cost, bound)
-}
-
-// Offers a key that was reached with a mark. Where its bound isn't told, it is asked for only where the key is new, or
-// stored at more: of most keys that are offered it isn't wanted, and a bound may take longer than all else. At `Err` a
-// growth was refused, and nothing is known of the book.
-fn offer<K: ExactKey, F: Frontier + Drop, S: Space<K>>(
-    space: &S,
-    book: &mut Book<K, F>,
-    weight: Weight,
-    budget: Budget,
-    child: Child<K>,
-    mark: Mark,
-) -> Result<Offered<K>, Full>
-    requires reached { (d : ℕ) × Reached (S.graph space.now) child.key d }
-    requires bound { TellsBound (S.graph space.now) child }
-    requires room { length book.old.stored ≤ budget }
-    requires low { mark.cost ≤ MOST_COST * MOST_BUDGET + 255 }
-    ensures offers { IfOk result (λ offered. Offers budget book.old book.new (record { key = child.key; mark = mark; f = mark.cost + weight * (S.graph space.now).bound child.key }) offered) }
-{
-    let Child { key, bound, .. } = child;
-    let Some((number, was)) = book.find(&key) else {
-        let f = f_of(space, weight, &key, mark.cost, bound);
-        return book.add(budget, key, mark, f);
-    };
-    if was.cost <= mark.cost {
-        return Ok(Offered::Known);
+    match other {
+        Some(least) => least.min(f),
+        None => f,
     }
-    let f = f_of(space, weight, &key, mark.cost, bound);
-    book.lower(number, mark, f)?;
-    Ok(Offered::Lowered)
 }
 
-// Offers the children of a key, by the mark of one that would cost nothing: the cost of the key and its number. The key that
-// found no place, if there is one. At `Err` a growth was refused, and nothing is known of the book.
+// Offers the children of a key, when a pair of this f was taken, by the mark of one that would cost nothing: the cost of the
+// key and its number. At `Err` a growth was refused, and nothing is known of the book.
 fn expand<K: ExactKey, F: Frontier + Drop, S: Space<K>>(
     space: &S,
     book: &mut Book<K, F>,
-    weight: Weight,
-    budget: Budget,
+    strategy: &Strategy,
+    taken: u32,
     origin: Mark,
     walk: &mut S::Walk,
-) -> Result<Option<K>, Full>
-    requires room { length book.old.stored ≤ budget }
+) -> Result<Placing<K>, Full>
+    requires room { length book.old.stored ≤ strategy.now.budget }
+    requires noted { AreNoted strategy.now.expansion (S.graph space.now) book.old }
     requires low { origin.cost ≤ MOST_COST * MOST_BUDGET }
     requires reached { (children : List (Child K)) → S.rest walk.old children → AreReached (S.graph space.now) children }
-    ensures expands { IfOk result (λ left_out. (children : List (Child K)) × S.rest walk.old children × Expands (record { graph = S.graph space.now; weight = weight; budget = budget }) origin children book.old book.new left_out) }
+    ensures expands { IfOk result (λ placing. (children : List (Child K)) × S.rest walk.old children × Expands (record { graph = S.graph space.now; strategy = strategy.now }) taken origin children book.old book.new placing) }
+    ensures near { IfOk result (IsLaterNear strategy.now.expansion taken origin.cost) }
+    ensures noted { IfOk result (λ placing. AreNoted strategy.now.expansion (S.graph space.now) book.new) }
 {
+    let mut later: Option<u32> = None;
     while let Some(child) = space.next(walk) {
-        let mark = Mark {
-            cost: origin.cost + u32::from(child.cost),
-            ..origin
-        };
-        if let Offered::Full(key) = offer(space, book, weight, budget, child, mark)? {
-            return Ok(Some(key));
+        let mark = origin.onward(child.cost);
+        match offer(space, book, strategy, taken, child, mark)? {
+            Offered::Full(key) => return Ok(Placing::NoRoom(key)),
+            Offered::PutOff(f) => later = Some(least_of(later, f)),
+            _ => {}
         }
     }
-    Ok(None)
+    match later {
+        Some(f) => Ok(Placing::Later(f)),
+        None => Ok(Placing::Whole),
+    }
+}
+
+// Visits a key of which a pair was taken that is so far above its cost, where that is its present one, and says whether it
+// is: where its opening is noted, the one that is, else one that is no greater than its weighed bound.
+fn visit_present<K, S: Space<K>>(
+    space: &S,
+    walk: &mut S::Walk,
+    weight: Weight,
+    key: &K,
+    over: u32,
+    noted: Option<Opening>,
+) -> bool
+    requires reached { (d : ℕ) × Reached (S.graph space.now) key.now d }
+    requires noted { IfSome noted (λ opening. opening.bound ≡ (S.graph space.now).bound key.now) }
+    ensures children { IsTrue result → (children : List (Child K)) → S.rest walk.new children → AreChildren (S.graph space.now) key.now children }
+    ensures present { MatchOption noted (IsTrue result ↔ (over ≤ weight * (S.graph space.now).bound key.now)) (λ opening. IsTrue result ↔ (over ≡ opening.over)) }
+{
+    match noted {
+        Some(opening) => {
+            if over != u32::from(opening.over) {
+                return false;
+            }
+            space.revisit(key, opening.bound, walk);
+            true
+        }
+        None => {
+            let bound = space.visit(key, walk);
+            over <= u32::from(weight.get()) * u32::from(bound)
+        }
+    }
+}
+
+// What becomes of an expanded key by how its children were placed, and the status that it leaves. At `Err` a growth was
+// refused, and nothing is known of the book.
+fn close<K: ExactKey, F: Frontier + Drop>(
+    book: &mut Book<K, F>,
+    number: u32,
+    mark: Mark,
+    placing: Placing<K>,
+) -> Result<Status<K>, Full>
+    requires later { IsReady book.old number mark placing }
+    ensures closes { IfOk result (Becomes book.old book.new number mark placing) }
+{
+    match placing {
+        Placing::Whole => Ok(Status::Running),
+        Placing::Later(f) => {
+            book.reopen(number, mark, f)?;
+            Ok(Status::Running)
+        }
+        Placing::NoRoom(key) => Ok(Status::GaveUp(key, number)),
+    }
 }
 
 // One turn of a running search, and the status that it leaves; the walk is its room to work in, and the floor is the
@@ -117,16 +140,15 @@ pub(crate) fn advance<K: ExactKey, F: Frontier + Drop, S: Space<K>>(
     space: &S,
     book: &mut Book<K, F>,
     walk: &mut S::Walk,
-    weight: Weight,
-    budget: Budget,
+    strategy: &Strategy,
     floor: &mut u32,
 ) -> Result<Status<K>, Full>
-    requires kept { IsKept (S.graph space.now) weight budget book.old }
-    ensures takes { IfOk result (λ status. Advances (record { graph = S.graph space.now; weight = weight; budget = budget }) book.old book.new status) }
+    requires kept { IsKept (record { graph = S.graph space.now; strategy = strategy.now }) book.old }
+    ensures takes { IfOk result (Advances (record { graph = S.graph space.now; strategy = strategy.now }) book.old book.new) }
     ensures floor { TakesFloor book.old.waiting floor.old floor.new }
 {
     // Its range, by which no cost of a stored key is past a number's room.
-    let _ = budget.get();
+    let _ = strategy.budget.get();
     let Some((f, number)) = book.take() else {
         return Ok(Status::CannotWin);
     };
@@ -135,16 +157,14 @@ pub(crate) fn advance<K: ExactKey, F: Frontier + Drop, S: Space<K>>(
     if space.is_won(key) {
         return Ok(Status::Won(number));
     }
-    let bound = space.visit(key, walk);
-    if weighed(weight, mark.cost, bound) < f {
+    let over = f - mark.cost;
+    if !visit_present(space, walk, strategy.weight, key, over, book.noted(number)) {
         return Ok(Status::Running);
     }
     let origin = Mark {
         cost: mark.cost,
         parent: number,
     };
-    match expand(space, book, weight, budget, origin, walk)? {
-        Some(key) => Ok(Status::GaveUp(key, number)),
-        None => Ok(Status::Running),
-    }
+    let placing = expand(space, book, strategy, f, origin, walk)?;
+    close(book, number, mark, placing)
 }

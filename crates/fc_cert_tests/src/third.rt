@@ -8,7 +8,7 @@ use fc_cert::{CertFault, Claim, write_answer};
 use fc_checker::{CheckFault, check};
 use fc_io::{FromSlice, Sink, ToArray};
 use fc_runs::run_check;
-use fc_search::{BoundKind, Budget, HomeRule, Method, Question, Unheard, Weight, solve_by};
+use fc_search::{BoundKind, Budget, HomeRule, Method, Question, Strategy, Unheard, Weight, solve_by};
 use fc_tests::boards::{FREE_KING, LOCKED, ONE_KING, THREE_SPADES, TWO_KINGS};
 use std::alloc::Global;
 use std::process::Abort;
@@ -257,9 +257,11 @@ fn claim_of(verdict: &Verdict) -> Option<Claim> {
 fn method(rt: &impl Abort, weight: u8, bound: BoundKind) -> Method {
     Method {
         rule: HomeRule::FREE,
-        weight: Weight::new(weight).expect(rt, "a weight is 1 to 10"),
         bound,
-        budget: Budget::new(1000).expect(rt, "a budget is 1 to 4,000,000"),
+        strategy: Strategy::full(
+            Weight::new(weight).expect(rt, "a weight is 1 to 10"),
+            Budget::new(1000).expect(rt, "a budget is 1 to 4,000,000"),
+        ),
     }
 }
 

@@ -1,3 +1,4 @@
+pub mod Either
 pub mod Laws
 pub mod Queue
 pub mod Stack

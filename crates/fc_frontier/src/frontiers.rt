@@ -25,13 +25,21 @@ impl<T: Drop> From<AllocFailed<T>> for Full {
 
 /// A queue of pairs of a number `f` and a node, of which a pair of least `f` is taken next. A pair may stand in it more
 /// than once. Which of several pairs of least `f` comes first is left open.
-pub trait Frontier {
+pub trait Frontier: Sized {
     // The pairs, in some order: only how often each stands there tells.
     ghost pairs: { Self → List (ℕ × ℕ) };
 
     /// An empty queue. Takes no memory yet.
     fn new(alloc: Global) -> Self
         ensures empty { pairs result ≡ [] };
+
+    /// An empty queue for pairs that are pushed with their ties, which a queue of more than one kind may choose by. Takes no
+    /// memory yet.
+    fn with_ties(alloc: Global) -> Self
+        ensures empty { pairs result ≡ [] }
+    {
+        Self::new(alloc)
+    }
 
     /// Puts in one pair. At `Full` a growth was refused, and the pairs are as they were.
     fn push(&mut self, f: u32, node: u32) -> Result<(), Full>

@@ -38,7 +38,8 @@ impl Frontier for TieFrontier {
 
     fn new(alloc: Global) -> Self
         ensures empty { pairs_of result.entries ≡ [] }
-        ensures pushes { result.pushes ≡ 0 }
+
+        ensures value { result ≡ record { entries = []; pushes = 0 } }
     {
         TieFrontier {
             heap: BinaryHeap::new(alloc),

@@ -2,11 +2,12 @@
 use Rattle.std.specs.Prelude.{ℕ}
 use Rattle.fc_moves.specs.GameRules.{GameRules}
 use Rattle.fc_bound.specs.declared.kinds.BoundKind.TheVariants.{Plain}
+use Rattle.fc_best_first.specs.declared.strategies.Expansion.TheVariants.{Full}
 use Rattle.fc_methods.specs.declared.methods.Method.{Method}
 
--- a search for a shortest list by the plain bound
+-- a search for a shortest list by the plain bound and full expansion
 abbrev pub as_written : ℕ → ℕ → Method
-as_written rule budget = record { rule = rule; weight = 1; bound = Plain; budget = budget }
+as_written rule budget = record { rule = rule; bound = Plain; strategy = record { weight = 1; expansion = Full; budget = budget } }
 
 -- a question: by how few moves of the game a list wins, searched by the method
 pub record Asked : Type 0 where

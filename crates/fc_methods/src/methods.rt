@@ -1,7 +1,7 @@
 ghost use Rattle.std.specs.Prelude.{◌≡◌};
 ghost use Rattle.fc_methods.specs.Method.{as_written, shortest_asked};
 
-use fc_best_first::{Budget, Weight};
+use fc_best_first::{Budget, Strategy, Weight};
 use fc_bound::BoundKind;
 use fc_home::HomeRule;
 use fc_moves::Game;
@@ -12,24 +12,22 @@ use std::marker::Model;
 pub struct Method {
     /// Which cards are sent home at once.
     pub rule: HomeRule,
-    /// How many times a bound counts: what is won has at most so many times the fewest moves, by one a shortest list.
-    pub weight: Weight,
     /// The kind of bound that the search goes by.
     pub bound: BoundKind,
-    /// How many classes of positions may be stored.
-    pub budget: Budget,
+    /// How many times a bound counts: what is won has at most so many times the fewest moves, by one a shortest list. Which
+    /// children of a class are stored with it. How many classes may be stored.
+    pub strategy: Strategy,
 }
 
 impl Method {
-    /// A search for a shortest list by the plain bound, under a home rule and within a budget.
+    /// A search for a shortest list by the plain bound and full expansion, under a home rule and within a budget.
     pub fn shortest(rule: HomeRule, budget: Budget) -> Method
         ensures value { result ≡ as_written rule budget }
     {
         Method {
             rule,
-            weight: Weight::ONE,
             bound: BoundKind::Plain,
-            budget,
+            strategy: Strategy::full(Weight::ONE, budget),
         }
     }
 }

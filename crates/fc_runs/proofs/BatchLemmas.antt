@@ -18,7 +18,7 @@ use Rattle.fc_best_first.specs.Graph.{Task}
 use Rattle.fc_best_first.specs.Search.{Begins, Turns, TurnsOn}
 use Rattle.fc_best_first.specs.Store.{Store}
 use Rattle.fc_methods.specs.Method.{Asked}
-use Rattle.fc_search.specs.Problem.{Problem, classes_of, problem_of, task_of_problem}
+use Rattle.fc_search.specs.Problem.{Problem, problem_of, task_of_problem}
 use Rattle.fc_search.specs.Search.{State}
 use Rattle.fc_batch.specs.Batch.{Batch, HasTurn, HasTurns, OthersStay, TurnFor, TurnsFor, running, search_at, times}
 use Rattle.fc_batch.proofs.BatchLemmas.{stays_self}
@@ -45,12 +45,12 @@ module _ {K : Type 0} (task : Task K) where
 
 -- a search that began for a deal, and had no turn
 pub search_begun : (q : Asked) (deal : ℕ) (s : State) → s.problem ≡ problem_of q (dealt_board deal) → s.status ≡ Running
-    → Begins (classes_of s.problem) s.problem.method.weight s.store → IsSearchOf q deal s
+    → Begins (task_of_problem s.problem) s.store → IsSearchOf q deal s
 search_begun q deal s asked begun begins = record {
   problem = asked;
   ran = record {
     first = s.store;
-    begins = subst (λ (p : Problem). Begins (classes_of p) p.method.weight s.store) asked begins;
+    begins = subst (λ (p : Problem). Begins (task_of_problem p) s.store) asked begins;
     runs = (zero, (refl, begun));
   };
 }

@@ -121,7 +121,7 @@ row_floor q deal (Some (outcome.GaveUp told)) far right floor = floor
 row_floor q deal (Some outcome.CannotWin) far right floor = tt
 row_floor q deal (Some (outcome.Shortest count)) far right floor =
     subst (λ o. IfSome (answered_floor o) (IsDealFloor q.game deal)) (sym right.answer)
-    (answer_floor q.game q.method.weight q.method.budget deal right.verdict right.decided.right.right)
+    (answer_floor q.game q.method.strategy.weight q.method.strategy.budget deal right.verdict right.decided.right.right)
 row_floor q deal (Some (outcome.Won count least)) far right floor =
     subst (λ o. IfSome (answered_floor o) (IsDealFloor q.game deal)) (sym right.answer)
-    (answer_floor q.game q.method.weight q.method.budget deal right.verdict right.decided.right.right)
+    (answer_floor q.game q.method.strategy.weight q.method.strategy.budget deal right.verdict right.decided.right.right)

@@ -77,7 +77,7 @@ pub record IsAsked (from to count : ℕ) : Type 0 where
 pub record IsBatched (q : Asked) (from to : ℕ) (sink : Device) (status : ℕ) : Type 0 where
   pub count : ℕ
   pub asked : IsAsked from to count
-  pub budgeted : IsBudget q.method.budget
+  pub budgeted : IsBudget q.method.strategy.budget
   pub told : AreTold q from count sink status
 
 -- the sink failed while it was given the lines of at most so many deals
@@ -99,8 +99,8 @@ IsUnasked from to other = ⊥
 -- why no batch was told, or not all of it: the deals can't be asked for, or they can and the budget is none, or it is one and
 -- a growth was refused before the first turn, and nothing is written; or the sink failed
 abbrev pub IsBatchFault : Asked → ℕ → ℕ → Device → ProgramFault → Type 0
-IsBatchFault q from to sink Budget = AreDeals from to × (IsBudget q.method.budget → ⊥) × IsUntouched sink
-IsBatchFault q from to sink Memory = AreDeals from to × IsBudget q.method.budget × IsUntouched sink
+IsBatchFault q from to sink Budget = AreDeals from to × (IsBudget q.method.strategy.budget → ⊥) × IsUntouched sink
+IsBatchFault q from to sink Memory = AreDeals from to × IsBudget q.method.strategy.budget × IsUntouched sink
 IsBatchFault q from to sink (Write of_answer) =
-    IsBudget q.method.budget × ((count : ℕ) × IsAsked from to count × AreCutShort q from count sink)
+    IsBudget q.method.strategy.budget × ((count : ℕ) × IsAsked from to count × AreCutShort q from count sink)
 IsBatchFault q from to sink fault = IsUnasked from to fault × IsUntouched sink

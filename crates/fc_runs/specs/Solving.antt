@@ -103,23 +103,23 @@ IsHeardAnswered p sink heard = (verdict : Verdict) × IsHeardToEnd p heard verdi
 -- solving was answered: the budget is one, and the source gave the text of a position, which was answered, by one of three
 -- verdicts
 pub record IsSolved (q : Asked) (source : Device) (cert : Option Device) (sink : Device) (status : ℕ) : Type 0 where
-  pub budgeted : IsBudget q.method.budget
+  pub budgeted : IsBudget q.method.strategy.budget
   pub start : Board
   pub given : GivesBoard q.game.cells source start
   pub answered : IsAnswered (problem_of q start) cert sink status
-  pub three : IsOneOfThree q.game start q.method.budget answered.verdict
+  pub three : IsOneOfThree q.game start q.method.strategy.budget answered.verdict
 
 -- why no position was given to be solved, each fault only where those before it have no cause: the budget is none, and nothing
 -- is read; or the source has failed, or its text has a fault
 abbrev pub IsStartFault : Asked → Device → ProgramFault → Type 0
-IsStartFault q source Budget = (IsBudget q.method.budget → ⊥) × Stays source.old source.new
-IsStartFault q source (Read of_board) = IsBudget q.method.budget × IsTrue source.failed
-IsStartFault q source (bad_board fault) = IsBudget q.method.budget × GivesFault q.game.cells source fault
+IsStartFault q source Budget = (IsBudget q.method.strategy.budget → ⊥) × Stays source.old source.new
+IsStartFault q source (Read of_board) = IsBudget q.method.strategy.budget × IsTrue source.failed
+IsStartFault q source (bad_board fault) = IsBudget q.method.strategy.budget × GivesFault q.game.cells source fault
 IsStartFault q source other = ⊥
 
 -- a position was given, and wasn't answered
 abbrev pub IsGivenUnanswered : Asked → Device → Option Device → Device → ProgramFault → Type 0
-IsGivenUnanswered q source cert sink fault = IsBudget q.method.budget
+IsGivenUnanswered q source cert sink fault = IsBudget q.method.strategy.budget
     × ((start : Board) × GivesBoard q.game.cells source start × IsUnanswered (problem_of q start) cert sink fault)
 
 -- why solving was not answered: no position was given, and nothing was written; or one was, and wasn't answered

@@ -16,7 +16,7 @@ use fc_batch::Batch;
 use fc_best_first::{Status, Step};
 use fc_board_runs::{Output, ProgramFault};
 use fc_deal::deal;
-use fc_frontier::BucketFrontier;
+use fc_frontier::EitherFrontier;
 use fc_home::GREATEST_RULE;
 use fc_io::{Failed, Sink, write_all};
 use fc_methods::{HomeRule, Question};
@@ -69,7 +69,7 @@ pub fn run_batch_by<G: Game + Drop, K: Sink>(
     ensures batched { IfOk result (IsBatched question.now from to (change K.held K.has_failed out.old out.new)) }
     ensures fault { IfErr result (IsBatchFault question.now from to (change K.held K.has_failed out.old out.new)) }
 {
-    let _ = question.method().budget.get();
+    let _ = question.method().strategy.budget.get();
     let count = deals_of(from, to)?;
     let mut batch = begin(alloc, question, from, count)?;
     run_to_end(&mut batch, count as usize);
@@ -109,7 +109,7 @@ fn begin<G: Game + Drop>(
     question: &Question<G>,
     from: u32,
     count: u32,
-) -> Result<Batch<BucketFrontier, G>, ProgramFault>
+) -> Result<Batch<EitherFrontier, G>, ProgramFault>
     requires first { 1 ≤ from }
     requires last { from + count ≤ 1000001 }
     ensures holds { IfOk result (HoldsDeals question.now from count) }
@@ -130,7 +130,7 @@ fn search_of<G: Game + Drop>(
     alloc: Global,
     question: &Question<G>,
     number: u32,
-) -> Result<Search<BucketFrontier, G>, ProgramFault>
+) -> Result<Search<EitherFrontier, G>, ProgramFault>
     requires deal { IsDealNumber number }
     ensures search { IfOk result (IsSearchOf question.now number) }
     ensures fault { IfErr result (λ fault. fault ≡ ProgramFault.Memory) }
@@ -143,7 +143,7 @@ fn search_of<G: Game + Drop>(
 }
 
 // Turns of the searches with the first numbers, in rising order again and again, until none of them runs.
-fn run_to_end<G: Game + Drop>(batch: &mut Batch<BucketFrontier, G>, count: usize)
+fn run_to_end<G: Game + Drop>(batch: &mut Batch<EitherFrontier, G>, count: usize)
     ensures held { (q : Asked) (from : ℕ) → HoldsDeals q from count batch.old
         → HoldsDeals q from count batch.new }
     ensures ended { HaveEnded count batch.new }
@@ -152,7 +152,7 @@ fn run_to_end<G: Game + Drop>(batch: &mut Batch<BucketFrontier, G>, count: usize
 }
 
 // One turn of each of them; whether one may still run.
-fn run_each<G: Game + Drop>(batch: &mut Batch<BucketFrontier, G>, count: usize) -> bool
+fn run_each<G: Game + Drop>(batch: &mut Batch<EitherFrontier, G>, count: usize) -> bool
     ensures held { (q : Asked) (from : ℕ) → HoldsDeals q from count batch.old
         → HoldsDeals q from count batch.new }
     ensures ended { result ≡ false → HaveEnded count batch.new }
@@ -169,7 +169,7 @@ fn run_each<G: Game + Drop>(batch: &mut Batch<BucketFrontier, G>, count: usize) 
 }
 
 // One turn of one search; whether it may still run.
-fn take_turn<G: Game + Drop>(batch: &mut Batch<BucketFrontier, G>, number: usize) -> bool
+fn take_turn<G: Game + Drop>(batch: &mut Batch<EitherFrontier, G>, number: usize) -> bool
     ensures held { (q : Asked) (from count : ℕ) → HoldsDeals q from count batch.old
         → HoldsDeals q from count batch.new }
     ensures others { OthersStay number batch.old batch.new }
@@ -185,7 +185,7 @@ fn take_turn<G: Game + Drop>(batch: &mut Batch<BucketFrontier, G>, number: usize
 
 // Writes a line for each of the deals, whose searches have ended; the greatest status of the lines.
 fn write_lines<G: Game + Drop, K: Sink>(
-    batch: &Batch<BucketFrontier, G>,
+    batch: &Batch<EitherFrontier, G>,
     from: u32,
     count: u32,
     out: &mut K,
@@ -211,7 +211,7 @@ fn write_lines<G: Game + Drop, K: Sink>(
 }
 
 // What is told of the search with this number, which has ended.
-fn told_of<G: Game + Drop>(batch: &Batch<BucketFrontier, G>, number: usize) -> Option<Outcome>
+fn told_of<G: Game + Drop>(batch: &Batch<EitherFrontier, G>, number: usize) -> Option<Outcome>
     ensures told { (q : Asked) (deal : ℕ) (search : State) → search_at batch.now number ≡ Some search
         → IsSearchOf q deal search → (search.status ≡ Status.Running → ⊥) → IsRightOf q deal result }
 {

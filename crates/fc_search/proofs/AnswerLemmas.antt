@@ -17,19 +17,19 @@ use Rattle.fc_tables.specs.Table as boards
 use Rattle.fc_tables.proofs.RowLemmas.{rows_inside, inside_all, costs_free}
 use Rattle.fc_best_first.specs.declared.books.Mark.{Mark}
 use Rattle.fc_best_first.specs.declared.turns.Status.TheVariants as status
-use Rattle.fc_best_first.specs.Kept.{IsSound, IsExpanded}
+use Rattle.fc_best_first.specs.Kept.{IsSound}
 use Rattle.fc_best_first.specs.Shown.{IsFound, IsExhausted, IsLeastOpen, Shows}
 use Rattle.fc_best_first.specs.Store.{Store, IsStored}
 use Rattle.fc_best_first.proofs.KeptLemmas.{same_entry, stands_within}
 use Rattle.fc_best_first.proofs.FloorLemmas.{open_floors}
-use Rattle.fc_best_first.proofs.ClosedLemmas.{closed_inside}
+use Rattle.fc_best_first.proofs.ClosedLemmas.{IsCoveredBelow, closed_inside, expanded_covered, light_covered}
 use Rattle.fc_tables.specs.Table.{as_boards}
 use Rattle.fc_canonical.specs.Spelled.{spelled}
 use Rattle.fc_classes.proofs.PathLemmas.{reached_of_positions}
 use Rattle.fc_classes.proofs.TableLemmas.{board_listed, key_listed, closed_board, lawful}
 use Rattle.fc_answers.specs.declared.answers.Verdict.TheVariants.{Shortest, Won, CannotWin, GaveUp}
 use Rattle.fc_methods.specs.Method.{Asked, shortest_asked}
-use Rattle.fc_search.specs.Problem.{Problem, classes_of, problem_of, shortest_from}
+use Rattle.fc_search.specs.Problem.{Problem, classes_of, problem_of, shortest_from, task_of_problem}
 use Rattle.fc_answers.specs.declared.answers.Verdict.{Verdict}
 use Rattle.fc_answers.specs.Verdict.{IsRight}
 use Rattle.fc_search.specs.Search.{IsOneOfThree, IsVerdict}
@@ -60,11 +60,11 @@ one_times weight n one =
 
 module _ (pr : Problem) (s : Store (List ℕ)) (pp : IsPositionOf pr.game pr.start) where
   -- the table of a search that found no way to win shows that there is none
-  pub backed_whole : (table : Listing) → IsExhausted (classes_of pr) pr.method.weight pr.method.budget s → table.rule ≡ pr.method.rule → table.rule ≤ 2
+  pub backed_whole : (table : Listing) → IsExhausted (task_of_problem pr) s → table.rule ≡ pr.method.rule → table.rule ≤ 2
       → length table.rows ≤ 4000000 → IsRising table.rows → IsPermutation (at_no_cost (costs_of s)) table.rows
       → IsBackedWhole pr.game pr.start table
   backed_whole table (sound, done) ruled known few rising moved =
-      let closed = λ (n : ℕ). closed_inside (classes_of pr) pr.method.weight pr.method.budget s n sound (λ i x m at lt. done i x m at) in
+      let closed = λ (n : ℕ). closed_inside (task_of_problem pr) s n sound (λ i x m at lt. expanded_covered (classes_of pr) s x m.cost n (done i x m at)) in
       let back = IsPermutation-sym (at_no_cost (costs_of s)) table.rows moved in
       let all = inside_all (guide_of pr.method.bound) pr.game pr.method.rule pr.start (as_boards (costs_of s)) (λ n. closed_board (guide_of pr.method.bound) pr.game pr.method.rule pr.start n (costs_of s) (bounds_lower pr.method.bound).0 pp (closed n)) in
       let free = λ (e : List ℕ × ℕ) (there : Contains table.rows e).
@@ -96,10 +96,10 @@ module _ (pr : Problem) (s : Store (List ℕ)) (pp : IsPositionOf pr.game pr.sta
       }
 
   -- a list to the won class wins, has no more moves than it costs, and is within the weight
-  pub won_within : (number : ℕ) (ms : List Move) (b : Board) → Shows (classes_of pr) pr.method.weight pr.method.budget s (status.Won number)
+  pub won_within : (number : ℕ) (ms : List Move) (b : Board) → Shows (task_of_problem pr) s (status.Won number)
       → IsAtClass pr.game s pr.start number ms b
       → (x : List ℕ) × (mark : Mark) × IsStored s number x mark × (length ms ≤ mark.cost) × Wins pr.game pr.start ms
-      × ((others : List Move) → Wins pr.game pr.start others → mark.cost ≤ pr.method.weight * length others)
+      × ((others : List Move) → Wins pr.game pr.start others → mark.cost ≤ pr.method.strategy.weight * length others)
   won_within number ms b (x, mark, at, won, reached, answer, least) (y, mine, there, run, same, le) =
       let one = same_entry s number x y mark mine at there in
       let won_there : IsWon b = same.homes ∙ ap (λ k. (spelled k).homes) (sym one.0) ∙ won in
@@ -113,34 +113,34 @@ module _ (pr : Problem) (s : Store (List ℕ)) (pp : IsPositionOf pr.game pr.sta
       )
 
   -- by weight 1 it has as many moves as the class costs, and is a shortest one
-  pub won_length : pr.method.weight ≡ 1 → (number : ℕ) (ms : List Move) (b : Board)
-      → Shows (classes_of pr) pr.method.weight pr.method.budget s (status.Won number) → IsAtClass pr.game s pr.start number ms b
+  pub won_length : pr.method.strategy.weight ≡ 1 → (number : ℕ) (ms : List Move) (b : Board)
+      → Shows (task_of_problem pr) s (status.Won number) → IsAtClass pr.game s pr.start number ms b
       → (x : List ℕ) × (mark : Mark) × IsStored s number x mark × (length ms ≡ mark.cost) × Wins pr.game pr.start ms
       × ((others : List Move) → Wins pr.game pr.start others → length ms ≤ length others)
   won_length light number ms b shows walked =
       let won = won_within number ms b shows walked in
       let le = won.3 in
       let most = won.5 ms won.4 in
-      let long : length ms ≡ won.1.cost = omega (arith, le, most, one_times pr.method.weight (length ms) light) in (
+      let long : length ms ≡ won.1.cost = omega (arith, le, most, one_times pr.method.strategy.weight (length ms) light) in (
         won.0,
         won.1,
         won.2,
         long,
         won.4,
-        λ others w. let far = won.5 others w in omega (arith, far, long, one_times pr.method.weight (length others) light),
+        λ others w. let far = won.5 others w in omega (arith, far, long, one_times pr.method.strategy.weight (length others) light),
       )
 
-  -- the table of a search whose stored classes below n are expanded shows that no list of fewer moves wins
-  pub backed_below : (n : ℕ) (table : Listing) → IsSound (classes_of pr) pr.method.weight pr.method.budget s
+  -- the table of a search whose stored classes below n are covered shows that no list of fewer moves wins
+  pub backed_below : (n : ℕ) (table : Listing) → IsSound (task_of_problem pr) s
       → ((i : ℕ) (y : List ℕ) (m : Mark) → IsStored s i y m → m.cost + guide_of pr.method.bound (spelled y) < n
-      → IsExpanded (classes_of pr) s y m.cost)
+      → IsCoveredBelow (classes_of pr) s y m.cost n)
       → table.rule ≡ pr.method.rule → table.bound ≡ pr.method.bound → table.rule ≤ 2
       → length table.rows ≤ 4000000 → IsRising table.rows → IsPermutation (inside (guide_of pr.method.bound) n (costs_of s)) table.rows
       → IsBackedBelow pr.game pr.start n table
   backed_below n table sound done ruled bounded known few rising moved =
       let low = guide_of pr.method.bound in
       let lower = (bounds_lower pr.method.bound).0 in
-      let closed = closed_inside (classes_of pr) pr.method.weight pr.method.budget s n sound done in
+      let closed = closed_inside (task_of_problem pr) s n sound done in
       let back = IsPermutation-sym (inside low n (costs_of s)) table.rows moved in
       let within = λ (e : List ℕ × ℕ) (there : Contains table.rows e).
       inside_listed low n (costs_of s) e (Contains-permutation table.rows (inside low n (costs_of s)) e back there) in
@@ -172,8 +172,8 @@ module _ (pr : Problem) (s : Store (List ℕ)) (pp : IsPositionOf pr.game pr.sta
       }
 
   -- the table of a search that found a shortest list shows that none is shorter
-  pub backed_shortest : pr.method.weight ≡ 1 → (number : ℕ) (ms : List Move) (table : Listing)
-      → IsFound (classes_of pr) pr.method.weight pr.method.budget s number
+  pub backed_shortest : pr.method.strategy.weight ≡ 1 → (number : ℕ) (ms : List Move) (table : Listing)
+      → IsFound (task_of_problem pr) s number
       → (x : List ℕ) (mark : Mark) → IsStored s number x mark → length ms ≡ mark.cost → table.rule ≡ pr.method.rule → table.bound ≡ pr.method.bound → table.rule ≤ 2
       → length table.rows ≤ 4000000 → IsRising table.rows → IsPermutation (inside (guide_of pr.method.bound) (length ms) (costs_of s)) table.rows
       → IsBackedBelow pr.game pr.start (length ms) table
@@ -184,23 +184,29 @@ module _ (pr : Problem) (s : Store (List ℕ)) (pp : IsPositionOf pr.game pr.sta
       let one = same_entry s number x w mark wmark at found.1.2 in
       let cost : n ≡ wmark.cost = long ∙ ap (λ m. m.cost) one.1 in
       backed_below n table found.0
-      (λ i y m there lt. found_done i y m there (omega (arith, lt, cost, one_times pr.method.weight (guide_of pr.method.bound (spelled y)) light)))
+      (λ i y m there lt. found_covered i y m there (omega (arith, lt, cost, one_times pr.method.strategy.weight (guide_of pr.method.bound (spelled y)) light)))
       ruled bounded known few rising moved
     where
-      found_done : (i : ℕ) (y : List ℕ) (m : Mark) → IsStored s i y m → m.cost + pr.method.weight * guide_of pr.method.bound (spelled y) < found.1.1.cost
-          → IsExpanded (classes_of pr) s y m.cost
-      found_done i y m there lt = found.1.4 i y m there lt
+      found_covered : (i : ℕ) (y : List ℕ) (m : Mark) → IsStored s i y m → m.cost + pr.method.strategy.weight * guide_of pr.method.bound (spelled y) < found.1.1.cost
+          → IsCoveredBelow (classes_of pr) s y m.cost (length ms)
+      found_covered i y m there lt =
+          let one = same_entry s number x found.1.0 mark found.1.1 at found.1.2 in
+          let cost : length ms ≡ found.1.1.cost = long ∙ ap (λ k. k.cost) one.1 in
+          subst (IsCoveredBelow (classes_of pr) s y m.cost) (sym cost)
+          (light_covered pr.method.strategy.expansion (task_of_problem pr) s y m.cost found.1.1.cost light (found.1.4 i y m there lt))
 
-  -- what a number is that is told as a floor: no list has fewer moves, and the stored classes below it are expanded
-  pub floor_holds : (number : ℕ) (x : List ℕ) (mark : Mark) (floor : ℕ) → IsFound (classes_of pr) pr.method.weight pr.method.budget s number
-      → IsStored s number x mark → IsLeastOpen (classes_of pr) pr.method.weight s mark.cost floor
+  -- what a number is that is told as a floor: no list has fewer moves, and the stored classes below it are covered
+  pub floor_holds : (number : ℕ) (x : List ℕ) (mark : Mark) (floor : ℕ) → IsFound (task_of_problem pr) s number
+      → IsStored s number x mark → IsLeastOpen (task_of_problem pr) s mark.cost floor
       → ((i : ℕ) (y : List ℕ) (m : Mark) → IsStored s i y m → m.cost + guide_of pr.method.bound (spelled y) < floor
-      → IsExpanded (classes_of pr) s y m.cost)
+      → IsCoveredBelow (classes_of pr) s y m.cost floor)
       × ((others : List Move) → Wins pr.game pr.start others → floor ≤ length others)
   floor_holds number x mark floor found at least =
-      let both = open_floors (classes_of pr) (lawful (guide_of pr.method.bound) pr.game pr.method.rule pr.start (bounds_lower pr.method.bound).0 pp) pr.method.weight pr.method.budget s number x
-      mark floor found at least in
-      (both.0, λ others wins. both.1 (length others) (others, refl, wins))
+      let both = open_floors (classes_of pr) (lawful (guide_of pr.method.bound) pr.game pr.method.rule pr.start (bounds_lower pr.method.bound).0 pp) pr.method.strategy s number x
+      mark floor found at least in (
+        λ i y m there lt. expanded_covered (classes_of pr) s y m.cost floor (both.0 i y m there lt),
+        λ others wins. both.1 (length others) (others, refl, wins),
+      )
 
   -- rows of which no two have one key, as a table of the search's rule and bound
   as_table : (rows : List (List ℕ × ℕ)) → HaveKeysOnce rows → length rows ≤ 4000000
@@ -211,20 +217,20 @@ module _ (pr : Problem) (s : Store (List ℕ)) (pp : IsPositionOf pr.game pr.sta
       (record { rule = pr.method.rule; bound = pr.method.bound; rows = all.0 }, refl, refl, omega (arith, few, long), all.2, all.1)
 
   -- the rows of the stored classes below n as such a table
-  inside_table : (n : ℕ) → pr.method.budget ≤ 4000000 → IsSound (classes_of pr) pr.method.weight pr.method.budget s
+  inside_table : (n : ℕ) → pr.method.strategy.budget ≤ 4000000 → IsSound (task_of_problem pr) s
       → (table : Listing) × (table.rule ≡ pr.method.rule) × (table.bound ≡ pr.method.bound) × (length table.rows ≤ 4000000) × IsRising table.rows
       × IsPermutation (inside (guide_of pr.method.bound) n (costs_of s)) table.rows
   inside_table n few sound =
       let room = sound.room in
       let test : (List ℕ × ℕ) → Bool = λ e. nat_lt (e.1 + guide_of pr.method.bound (spelled e.0)) n in
       as_table (inside (guide_of pr.method.bound) n (costs_of s))
-      (inside_once (guide_of pr.method.bound) n (costs_of s) (stored_once (classes_of pr) pr.method.weight pr.method.budget s sound))
+      (inside_once (guide_of pr.method.bound) n (costs_of s) (stored_once (task_of_problem pr) s sound))
       (omega (arith, length-filter test (costs_of s), count_by-le-length test (costs_of s), stored_long s, room, few))
 
   -- the verdict of a search that found a shortest list
-  pub shortest_verdict : pr.method.weight ≡ 1 → (number : ℕ) (ms : List Move) (b : Board) → pr.method.rule ≤ 2 → pr.method.budget ≤ 4000000
-      → IsFound (classes_of pr) pr.method.weight pr.method.budget s number
-      → Shows (classes_of pr) pr.method.weight pr.method.budget s (status.Won number)
+  pub shortest_verdict : pr.method.strategy.weight ≡ 1 → (number : ℕ) (ms : List Move) (b : Board) → pr.method.rule ≤ 2 → pr.method.strategy.budget ≤ 4000000
+      → IsFound (task_of_problem pr) s number
+      → Shows (task_of_problem pr) s (status.Won number)
       → IsAtClass pr.game s pr.start number ms b → IsVerdict pr (Shortest ms)
   shortest_verdict light number ms b known few (sound, found) shows walked =
       let won = won_length light number ms b shows walked in
@@ -245,10 +251,10 @@ module _ (pr : Problem) (s : Store (List ℕ)) (pp : IsPositionOf pr.game pr.sta
       }
 
   -- the verdict of a search by a greater weight that found a list, no longer than the won class costs
-  pub won_verdict : 2 ≤ pr.method.weight → (number : ℕ) (ms : List Move) (x : List ℕ) (mark : Mark) (floor : ℕ) → pr.method.rule ≤ 2 → pr.method.budget ≤ 4000000
-      → IsFound (classes_of pr) pr.method.weight pr.method.budget s number → IsStored s number x mark
-      → IsLeastOpen (classes_of pr) pr.method.weight s mark.cost floor → length ms ≤ mark.cost → Wins pr.game pr.start ms
-      → ((others : List Move) → Wins pr.game pr.start others → mark.cost ≤ pr.method.weight * length others)
+  pub won_verdict : 2 ≤ pr.method.strategy.weight → (number : ℕ) (ms : List Move) (x : List ℕ) (mark : Mark) (floor : ℕ) → pr.method.rule ≤ 2 → pr.method.strategy.budget ≤ 4000000
+      → IsFound (task_of_problem pr) s number → IsStored s number x mark
+      → IsLeastOpen (task_of_problem pr) s mark.cost floor → length ms ≤ mark.cost → Wins pr.game pr.start ms
+      → ((others : List Move) → Wins pr.game pr.start others → mark.cost ≤ pr.method.strategy.weight * length others)
       → IsVerdict pr (Won ms floor)
   won_verdict heavy number ms x mark floor known few found at opened le wins least =
       let low = found.0.low number x mark at in
@@ -272,12 +278,12 @@ module _ (pr : Problem) (s : Store (List ℕ)) (pp : IsPositionOf pr.game pr.sta
       }
 
   -- the verdict of a search that found no way to win
-  pub cannot_win_verdict : pr.method.rule ≤ 2 → pr.method.budget ≤ 4000000 → IsExhausted (classes_of pr) pr.method.weight pr.method.budget s
-      → Shows (classes_of pr) pr.method.weight pr.method.budget s status.CannotWin → IsVerdict pr CannotWin
+  pub cannot_win_verdict : pr.method.rule ≤ 2 → pr.method.strategy.budget ≤ 4000000 → IsExhausted (task_of_problem pr) s
+      → Shows (task_of_problem pr) s status.CannotWin → IsVerdict pr CannotWin
   cannot_win_verdict known few (sound, done) none =
       let free : (List ℕ × ℕ) → List ℕ × ℕ = λ e. (e.0, 0) in
       let room = sound.room in
-      let listed = as_table (at_no_cost (costs_of s)) (no_cost_once (costs_of s) (stored_once (classes_of pr) pr.method.weight pr.method.budget s sound))
+      let listed = as_table (at_no_cost (costs_of s)) (no_cost_once (costs_of s) (stored_once (task_of_problem pr) s sound))
       (omega (arith, length-map (costs_of s) free, stored_long s, room, few)) in
       let table = listed.0 in
       let backed = backed_whole table (sound, done) listed.1 (subst (λ r. r ≤ 2) (sym listed.1) known) listed.3 listed.4 listed.5 in
@@ -290,8 +296,8 @@ module _ (pr : Problem) (s : Store (List ℕ)) (pp : IsPositionOf pr.game pr.sta
       }
 
   -- the verdict of a search that gave up
-  pub gave_up_verdict : (y : List ℕ) (number told : ℕ) → Shows (classes_of pr) pr.method.weight pr.method.budget s (status.GaveUp y number)
-      → told ≡ pr.method.budget → IsVerdict pr (GaveUp told)
+  pub gave_up_verdict : (y : List ℕ) (number told : ℕ) → Shows (task_of_problem pr) s (status.GaveUp y number)
+      → told ≡ pr.method.strategy.budget → IsVerdict pr (GaveUp told)
   gave_up_verdict y number told (keys, are) same =
       let more = needs_more pr keys pp are in record {
         right = (same, needs_reach pr more);

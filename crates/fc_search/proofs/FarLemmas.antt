@@ -6,7 +6,7 @@ use Rattle.fc_moves.specs.declared.steps.Move.{Move}
 use Rattle.fc_moves.specs.Run.{Wins}
 use Rattle.fc_best_first.specs.declared.turns.Status.TheVariants.{Running, Stopped}
 use Rattle.fc_best_first.specs.Search.{Begins}
-use Rattle.fc_search.specs.Problem.{Problem, classes_of}
+use Rattle.fc_search.specs.Problem.{Problem, task_of_problem}
 use Rattle.fc_search.specs.Search.{State}
 use Rattle.fc_search.specs.declared.listeners.Progress.{Progress}
 use Rattle.fc_search.specs.Watch.{IsFirst, IsHeard, IsHeardInPart, TellsFloor, TurnsMany}
@@ -14,10 +14,10 @@ use Rattle.fc_search.specs.inner.Watch.{IsHeardOn, stage_of}
 use Rattle.fc_search.proofs.HearLemmas.{heard_on, most_of, some_heard}
 
 -- a search that has had no turn
-pub is_first : (q : Problem) (s : State) → s.problem ≡ q → s.status ≡ Running → Begins (classes_of s.problem) s.problem.method.weight s.store
+pub is_first : (q : Problem) (s : State) → s.problem ≡ q → s.status ≡ Running → Begins (task_of_problem s.problem) s.store
     → Adds [] s.store.waiting (s.floor, 0) → IsFirst q (stage_of s 0)
 is_first q s asked running begins floor = record {
-  begins = subst (λ p. Begins (classes_of p) p.method.weight s.store) asked begins;
+  begins = subst (λ p. Begins (task_of_problem p) s.store) asked begins;
   running = running;
   floor = floor;
   none = refl;
@@ -32,14 +32,14 @@ module _ (q : Problem) where
       subst (λ p. TurnsMany made p (stage_of now turns) (stage_of next (turns + made))) asked turned
 
   -- the floor that such a search tells
-  pub tells_floor : (next : State) (turns : ℕ) (far : Progress) → next.problem ≡ q → far.budget ≡ q.method.budget → far.turns ≡ turns
-      → (next.floor ≤ next.problem.method.weight * far.at_least) × (next.problem.method.weight * far.at_least < next.floor + next.problem.method.weight)
+  pub tells_floor : (next : State) (turns : ℕ) (far : Progress) → next.problem ≡ q → far.budget ≡ q.method.strategy.budget → far.turns ≡ turns
+      → (next.floor ≤ next.problem.method.strategy.weight * far.at_least) × (next.problem.method.strategy.weight * far.at_least < next.floor + next.problem.method.strategy.weight)
       → ((moves : List Move) → Wins next.problem.game next.problem.start moves → far.at_least ≤ length moves)
       → TellsFloor q (stage_of next turns) far
   tells_floor next turns far asked budgeted counted near least = record {
     budgeted = budgeted;
     counted = counted;
-    near = subst (λ p. (next.floor ≤ p.method.weight * far.at_least) × (p.method.weight * far.at_least < next.floor + p.method.weight)) asked near;
+    near = subst (λ p. (next.floor ≤ p.method.strategy.weight * far.at_least) × (p.method.strategy.weight * far.at_least < next.floor + p.method.strategy.weight)) asked near;
     least = λ moves wins. least moves (subst (λ p. Wins p.game p.start moves) (sym asked) wins);
   }
 

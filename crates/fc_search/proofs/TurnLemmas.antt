@@ -1,9 +1,12 @@
 -- Turns that are made one after the other, and how many there may be.
-use Rattle.std.proofs.Common.{◌≡◌, ℕ, ◌+◌, ◌-◌, ◌*◌, ◌^◌, ◌≤◌, suc, zero, Result, Ok, Err, length, refl, sym, ◌∙◌, ap, subst, inl, inr, zero-add, arith}
+use Rattle.std.proofs.Common.{◌≡◌, ℕ, ◌+◌, ◌-◌, ◌*◌, ◌^◌, ◌≤◌, suc, zero, Result, Ok, Err, List, [], length, refl, sym, ◌∙◌, ap, subst, inl, inr, zero-add, arith}
 use Rattle.std.specs.Prelude.{MatchResult, sum_by}
 use Rattle.std.proofs.Math.Nat.{mul-le-mul}
 use Rattle.std.proofs.lemmas.List.Sorted.{length_permutation}
 use Rattle.fc_best_first.specs.declared.books.Mark.{Mark}
+use Rattle.fc_best_first.specs.declared.books.Opening.{Opening}
+use Rattle.fc_best_first.specs.declared.strategies.Expansion.{Expansion}
+use Rattle.fc_best_first.specs.declared.strategies.Expansion.TheVariants.{Full, Partial}
 use Rattle.fc_best_first.specs.declared.turns.Status.{Status}
 use Rattle.fc_best_first.specs.declared.turns.Status.TheVariants.{Running, Won, CannotWin, GaveUp, Stopped}
 use Rattle.fc_best_first.specs.declared.limits.TheConstants.{MOST_BUDGET}
@@ -11,8 +14,8 @@ use Rattle.fc_best_first.specs.declared.searches.Step.{Step}
 use Rattle.fc_best_first.specs.declared.searches.Step.TheVariants.{Running as running}
 use Rattle.fc_best_first.specs.declared.searches.SearchFault.{SearchFault}
 use Rattle.fc_best_first.specs.declared.searches.SearchFault.TheVariants.{Memory}
-use Rattle.fc_best_first.specs.Graph.{Graph, Task, IsLawful}
-use Rattle.fc_best_first.specs.Store.{Store}
+use Rattle.fc_best_first.specs.Graph.{Task, IsLawful}
+use Rattle.fc_best_first.specs.Store.{NotesLast, Store}
 use Rattle.fc_best_first.specs.Search.{Begins, FloorAfter, Turns, TurnsOn, reply_of}
 use Rattle.fc_best_first.specs.Turn.{work_left}
 use Rattle.fc_search.specs.Problem.{Problem, task_of_problem}
@@ -94,12 +97,23 @@ ended_stopped (Ok step) status other replied = absurd (other step refl)
 ended_stopped (Err f) status other replied = replied.1
 
 -- how much a search may do that has had no turn
-module _ {K : Type 0} (g : Graph K) (weight : ℕ) where
-  pub begun_work : (budget : ℕ) (s : Store K) → IsLawful g → Begins g weight s → budget ≤ MOST_BUDGET → work_left budget s ≤ 2 ^ 60
-  begun_work budget s lawful (x, cost, starts, stored, waiting) few =
+first_rises : (expansion : Expansion) (new : List Opening) (opening : Opening) → NotesLast expansion [] new opening
+    → sum_by (λ o. 2805 - o.over) new ≤ 2805
+first_rises Full new opening none = let e = ap (sum_by (λ (o : Opening). 2805 - o.over)) none in omega (arith, e)
+first_rises Partial new opening one =
+    let e : sum_by (λ o. 2805 - o.over) new ≡ 2805 - opening.over =
+    ap (sum_by (λ (o : Opening). 2805 - o.over)) one ∙ zero-add (2805 - opening.over) in
+    omega (arith, e)
+
+module _ {K : Type 0} (task : Task K) where
+  pub begun_work : (s : Store K) → IsLawful task.graph → Begins task s → task.strategy.budget ≤ MOST_BUDGET
+      → work_left task.strategy.budget s ≤ 2 ^ 62
+  begun_work s lawful (x, cost, starts, stored, waiting, noted) few =
+      let budget = task.strategy.budget in
       let low : cost ≤ 53 = lawful.starts x cost starts in
       let one : length s.waiting ≡ 1 = length_permutation _ s.waiting waiting in
       let sum : sum_by (λ e. e.1.cost) s.stored ≡ cost = ap (sum_by (λ (e : K × Mark). e.1.cost)) stored ∙ zero-add cost in
+      let rise = first_rises task.strategy.expansion s.openings _ noted in
       let each : (budget - length s.stored) * (53 * budget + 54) ≤ 4000000 * (53 * 4000000 + 54) =
       mul-le-mul {n₂ = 4000000} {m₂ = 53 * 4000000 + 54} (omega (arith, few)) (omega (arith, few)) in
-      omega (arith, low, one, sum, each)
+      omega (arith, low, one, sum, each, rise)

@@ -18,15 +18,12 @@ use Rattle.fc_best_first.specs.declared.books.Mark.{Mark}
 use Rattle.fc_best_first.specs.Kept.{IsSound}
 use Rattle.fc_best_first.specs.Store.{Store, IsStored}
 use Rattle.fc_best_first.proofs.KeptLemmas.{same_entry}
-use Rattle.fc_classes.specs.Classes.{classes}
 use Rattle.fc_canonical.specs.Spelled.{spelled}
 use Rattle.fc_canonical.proofs.SpelledLemmas.{key_spells}
 use Rattle.fc_classes.proofs.PathLemmas.{run_on}
-use Rattle.fc_search.specs.Problem.{Problem, classes_of}
+use Rattle.fc_search.specs.Problem.{Problem, task_of_problem}
 use Rattle.fc_search.specs.inner.Walk.{IsStart, IsWay, IsAtClass}
 use Rattle.fc_space.specs.Ways.{LeadsWithin}
-use Rattle.fc_bound.specs.declared.kinds.BoundKind.{BoundKind}
-use Rattle.fc_bound.specs.Kinds.{guide_of}
 
 -- a key of a board is one of its class-mates too
 pub key_of_mate : (b c : Board) (k : List ℕ) → SameClass b c → IsKeyOf c k → IsKeyOf b k
@@ -39,7 +36,7 @@ key_of_mate b c k same key = record {
 
 -- from the board that a walk came to, a step leads on to the next class within what is left of its cost
 pub leads_on : (pr : Problem) (s : Store (List ℕ)) → IsPositionOf pr.game pr.start
-    → IsSound (classes_of pr) pr.method.weight pr.method.budget s → (number next : ℕ) (made : List Move) (b : Board) (x : List ℕ) (mark : Mark)
+    → IsSound (task_of_problem pr) s → (number next : ℕ) (made : List Move) (b : Board) (x : List ℕ) (mark : Mark)
     → IsAtClass pr.game s pr.start number made b → IsStored s next x mark → mark.parent ≡ number → (number ≡ next → ⊥)
     → (length made ≤ mark.cost) × ((m : Move) × LeadsWithin pr.game pr.method.rule b x (mark.cost - length made) m)
 leads_on pr s pp sound number next made b x mark (y, mine, there, run, same, le) at parent other =
@@ -76,7 +73,7 @@ walked_on g rule p budget s pp number next made more b c x mark (y, mine, there,
 
 -- a walk begins at a class that starts, where the start settles
 pub walk_begins : (pr : Problem) (s : Store (List ℕ)) → IsPositionOf pr.game pr.start
-    → IsSound (classes_of pr) pr.method.weight pr.method.budget s → (number : ℕ) (settling : List Move) (q : Board) → IsStart s number
+    → IsSound (task_of_problem pr) s → (number : ℕ) (settling : List Move) (q : Board) → IsStart s number
     → SettlesBy pr.game pr.method.rule pr.start settling q → IsPosition q → IsAtClass pr.game s pr.start number settling q
 walk_begins pr s pp sound number settling q (x, mark, at, own) by pq =
     ⊎_elim
@@ -94,10 +91,10 @@ walk_begins pr s pp sound number settling q (x, mark, at, own) by pq =
     (sound.comes number x mark at)
 
 -- a class's parent costs less than it does
-pub parent_less : (g : GameRules) (rule weight : ℕ) (kind : BoundKind) (p : Board) (budget : ℕ) (s : Store (List ℕ)) → IsSound (classes (guide_of kind) g rule p) weight budget s
+pub parent_less : (pr : Problem) (s : Store (List ℕ)) → IsSound (task_of_problem pr) s
     → (number parent : ℕ) (x : List ℕ) (mark : Mark) → IsStored s number x mark → mark.parent ≡ parent → (parent ≡ number → ⊥)
     → (w : List ℕ) × (was : Mark) × IsStored s parent w was × (was.cost < mark.cost)
-parent_less g rule weight kind p budget s sound number parent x mark at by other =
+parent_less pr s sound number parent x mark at by other =
     ⊎_elim
     (λ (own, start). absurd (other (sym by ∙ own)))
     (λ (w, was, c, stands, (kw, (m, z, count, step, to, paid)), less).

@@ -7,6 +7,8 @@ use Rattle.fc_moves.specs.Step.{Step}
 use Rattle.fc_moves.specs.Class.{SameClass}
 use Rattle.fc_home.specs.Settles.{Settles}
 use Rattle.fc_bound.specs.Kinds.{guide_of}
+use Rattle.fc_best_first.specs.declared.strategies.Expansion.{Expansion}
+use Rattle.fc_best_first.specs.declared.strategies.Expansion.TheVariants.{Full, Partial}
 use Rattle.fc_search.specs.Problem.{Problem}
 use Rattle.fc_answers.specs.declared.answers.Verdict.{Verdict}
 use Rattle.fc_answers.specs.declared.answers.Verdict.TheVariants.{Shortest, Won, CannotWin as cannot_win, GaveUp}
@@ -30,16 +32,31 @@ pub record IsNextChild (p : Problem) (z : Board) : Type 0 where
   pub count : ℕ
   pub settles : Settles p.game p.method.rule child count z
   pub least : (wins : List Move) → Wins p.game p.start wins
-      → length moves + p.method.weight * guide_of p.method.bound parent ≤ p.method.weight * length wins
+      → length moves + p.method.strategy.weight * guide_of p.method.bound parent ≤ p.method.strategy.weight * length wins
 
--- the board is needed: it is what the start settles to, or such a child
+-- the moves lead from the start to the settled board, and no list that wins, times the weight, is shorter than those moves
+-- and its weighed bound
+pub record IsMetWithin (p : Problem) (z : Board) : Type 0 where
+  pub moves : List Move
+  pub led : Run p.game p.start moves z
+  pub settled : Settles p.game p.method.rule z 0 z
+  pub least : (wins : List Move) → Wins p.game p.start wins
+      → length moves + p.method.strategy.weight * guide_of p.method.bound z ≤ p.method.strategy.weight * length wins
+
+-- the board is needed. By full expansion it is what the start settles to, or such a child; by partial expansion it is met
+-- within each list that wins
+abbrev pub IsNeededBy : Expansion → Problem → Board → Type 0
+IsNeededBy Full p z = IsSettledStart p z ⊎ IsNextChild p z
+IsNeededBy Partial p z = IsMetWithin p z
+
+-- the board is needed by the expansion of the problem
 abbrev pub IsNeeded : Problem → Board → Type 0
-IsNeeded p z = IsSettledStart p z ⊎ IsNextChild p z
+IsNeeded p z = IsNeededBy p.method.strategy.expansion p z
 
 -- more classes than the budget had to be stored, no two of them the same
 pub record NeedsMore (p : Problem) : Type 0 where
   pub boards : List Board
-  pub count : length boards ≡ p.method.budget + 1
+  pub count : length boards ≡ p.method.strategy.budget + 1
   pub different : AllPairs (λ x y. SameClass x y → ⊥) boards
   pub needed : All (IsNeeded p) boards
 

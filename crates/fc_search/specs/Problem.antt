@@ -22,10 +22,10 @@ problem_of q b = record { game = q.game; method = q.method; start = b }
 abbrev pub shortest_from : GameRules → ℕ → Board → ℕ → Problem
 shortest_from g rule b budget = record { game = g; method = as_written rule budget; start = b }
 
--- the graph of classes in which it is searched, whatever the weight and the budget
+-- the graph of classes in which it is searched, whatever the strategy
 abbrev pub classes_of : Problem → Graph (List ℕ)
 classes_of p = classes (guide_of p.method.bound) p.game p.method.rule p.start
 
 -- what a search of it is asked
 abbrev pub task_of_problem : Problem → Task (List ℕ)
-task_of_problem p = record { graph = classes_of p; weight = p.method.weight; budget = p.method.budget }
+task_of_problem p = record { graph = classes_of p; strategy = p.method.strategy }

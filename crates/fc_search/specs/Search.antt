@@ -16,7 +16,7 @@ use Rattle.fc_answers.specs.declared.answers.Verdict.TheVariants as verdict
 use Rattle.fc_answers.specs.Answer.{IsBacked, IsSearchedBy, CanBeBacked}
 use Rattle.fc_answers.specs.Verdict.{IsRight, CanBeWritten, HasFewMoves}
 use Rattle.fc_search.specs.Need.{IsEarned}
-use Rattle.fc_search.specs.Problem.{Problem, classes_of, task_of_problem}
+use Rattle.fc_search.specs.Problem.{Problem, task_of_problem}
 use Rattle.fc_best_first.specs.Limits.{IsBudget}
 use Rattle.fc_moves.specs.Run.{IsShortest, ReachesMore, CannotWin as NoneWins}
 
@@ -33,18 +33,18 @@ pub record State : Type 0 where
 -- of what is open; that no list wins; or the budget
 abbrev pub IsOfStatus : Problem → Store (List ℕ) → Status (List ℕ) → Verdict → Type 0
 IsOfStatus p s (Won number) (verdict.Shortest moves) =
-    (x : List ℕ) × (mark : Mark) × IsStored s number x mark × (length moves ≡ mark.cost) × (p.method.weight ≡ 1)
+    (x : List ℕ) × (mark : Mark) × IsStored s number x mark × (length moves ≡ mark.cost) × (p.method.strategy.weight ≡ 1)
 IsOfStatus p s (Won number) (verdict.Won moves floor) =
-    (x : List ℕ) × (mark : Mark) × IsStored s number x mark × (length moves ≤ mark.cost) × (2 ≤ p.method.weight)
-    × IsLeastOpen (classes_of p) p.method.weight s mark.cost floor
+    (x : List ℕ) × (mark : Mark) × IsStored s number x mark × (length moves ≤ mark.cost) × (2 ≤ p.method.strategy.weight)
+    × IsLeastOpen (task_of_problem p) s mark.cost floor
 IsOfStatus p s CannotWin verdict.CannotWin = Unit {0}
-IsOfStatus p s (GaveUp y number) (verdict.GaveUp told) = told ≡ p.method.budget
+IsOfStatus p s (GaveUp y number) (verdict.GaveUp told) = told ≡ p.method.strategy.budget
 IsOfStatus p s status verdict = ⊥
 
 -- all that a verdict of a problem is: right, earned, such as can be written, of few moves, and that of an answer that a table
 -- of the problem's rule and bound backs, whether or not it was made
 pub record IsVerdict (p : Problem) (verdict : Verdict) : Type 0 where
-  pub right : IsRight p.game p.method.weight p.start p.method.budget verdict
+  pub right : IsRight p.game p.method.strategy.weight p.start p.method.strategy.budget verdict
   pub earned : IsEarned p verdict
   pub written : CanBeWritten verdict
   pub few : HasFewMoves verdict
@@ -80,7 +80,7 @@ IsUnanswered done told = told ≡ fault.Memory
 -- a search of the problem that began ran on to this store and this status
 pub record HasRun (p : Problem) (last : Store (List ℕ)) (status : Status (List ℕ)) : Type 0 where
   pub first : Store (List ℕ)
-  pub begins : Begins (classes_of p) p.method.weight first
+  pub begins : Begins (task_of_problem p) first
   pub runs : Runs (task_of_problem p) Running first last status
 
 -- the verdict is that of a search of the problem that began, and ran to its end

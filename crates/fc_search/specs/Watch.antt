@@ -10,7 +10,7 @@ use Rattle.fc_best_first.specs.declared.searches.Step.{Step}
 use Rattle.fc_best_first.specs.declared.turns.Status.{Status}
 use Rattle.fc_best_first.specs.declared.turns.Status.TheVariants.{Running, Stopped}
 use Rattle.fc_answers.specs.declared.answers.Verdict.{Verdict}
-use Rattle.fc_search.specs.Problem.{Problem, classes_of, task_of_problem}
+use Rattle.fc_search.specs.Problem.{Problem, task_of_problem}
 use Rattle.fc_search.specs.Search.{IsOfStatus}
 use Rattle.fc_search.specs.declared.listeners.Progress.{Progress}
 
@@ -29,7 +29,7 @@ pub record Stage : Type 0 where
 
 -- a search of the problem that has had no turn stands there
 pub record IsFirst (p : Problem) (stage : Stage) : Type 0 where
-  pub begins : Begins (classes_of p) p.method.weight stage.store
+  pub begins : Begins (task_of_problem p) stage.store
   pub running : stage.status ≡ Running
   pub floor : Adds [] stage.store.waiting (stage.floor, 0)
   pub none : stage.turns ≡ 0
@@ -49,9 +49,9 @@ TurnsMany (suc made) p old new = (mid : Stage) × TurnsOnce p old mid × TurnsMa
 -- of a search of the problem at this stage its budget and its turns are told, and its floor as a number of moves, rounded up:
 -- no list of fewer moves wins
 pub record TellsFloor (p : Problem) (stage : Stage) (far : Progress) : Type 0 where
-  pub budgeted : far.budget ≡ p.method.budget
+  pub budgeted : far.budget ≡ p.method.strategy.budget
   pub counted : far.turns ≡ stage.turns
-  pub near : (stage.floor ≤ p.method.weight * far.at_least) × (p.method.weight * far.at_least < stage.floor + p.method.weight)
+  pub near : (stage.floor ≤ p.method.strategy.weight * far.at_least) × (p.method.strategy.weight * far.at_least < stage.floor + p.method.strategy.weight)
   pub least : (moves : List Move) → Wins p.game p.start moves → far.at_least ≤ length moves
 
 -- so far a search of the problem is at this stage, where no turn was refused: how many classes it stores, and how many

@@ -13,17 +13,17 @@ impl<F: Frontier + Drop, G: Game + Drop> Search<F, G> {
     /// state.
     pub fn at_least(&self) -> u32
         ensures floor { (moves : List Move) → Wins self.now.problem.game self.now.problem.start moves → result ≤ length moves }
-        ensures value { (self.now.floor ≤ self.now.problem.method.weight * result) × (self.now.problem.method.weight * result < self.now.floor + self.now.problem.method.weight) }
+        ensures value { (self.now.floor ≤ self.now.problem.method.strategy.weight * result) × (self.now.problem.method.strategy.weight * result < self.now.floor + self.now.problem.method.strategy.weight) }
     {
-        let weight = u32::from(self.search.weight().get());
+        let weight = u32::from(self.search.strategy().weight.get());
         self.search.floor().div_ceil(weight)
     }
 
     /// How many classes may be stored, 1 to 4,000,000.
     pub(crate) fn budget(&self) -> u32
-        ensures value { result ≡ self.now.problem.method.budget }
+        ensures value { result ≡ self.now.problem.method.strategy.budget }
     {
-        self.search.budget().get()
+        self.search.strategy().budget.get()
     }
 
     /// How many classes are stored.

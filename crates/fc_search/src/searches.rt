@@ -9,7 +9,7 @@ ghost use Rattle.fc_best_first.specs.Shown.{Holds, Shows};
 ghost use Rattle.fc_best_first.specs.Store.{IsStored};
 ghost use Rattle.fc_best_first.specs.Turn.{work_left};
 ghost use Rattle.fc_methods.specs.Method.{shortest_asked};
-ghost use Rattle.fc_search.specs.Problem.{classes_of, problem_of, shortest_from, task_of_problem};
+ghost use Rattle.fc_search.specs.Problem.{problem_of, shortest_from, task_of_problem};
 ghost use Rattle.fc_search.specs.Search.{Answers, IsVerdict, IsOfStatus, IsRefused, IsUnanswered};
 ghost use Rattle.fc_search.specs.inner.Search.{IsFloorOf};
 
@@ -42,7 +42,7 @@ impl<F: Frontier + Drop, G: Game + Drop> Model for Search<F, G> {
     ghost view = { λ s. record {
       problem = record {
         game = G.game s.search.space.rules.game;
-        method = record { rule = s.search.space.rules.rule; weight = s.search.weight; bound = s.search.space.rules.kind; budget = s.search.budget };
+        method = record { rule = s.search.space.rules.rule; bound = s.search.space.rules.kind; strategy = s.search.strategy };
         start = s.search.space.start;
       };
       store = s.search.store;
@@ -68,7 +68,7 @@ impl<F: Frontier + Drop, G: Game + Drop> Search<F, G> {
         requires fits { Fits (G.game game.now).cells position.now }
         ensures problem { IfOk result (λ search. search.problem ≡ shortest_from (G.game game.now) rule position.now budget) }
         ensures status { IfOk result (λ search. search.status ≡ Status.Running) }
-        ensures begins { IfOk result (λ search. Begins (classes_of search.problem) 1 search.store) }
+        ensures begins { IfOk result (λ search. Begins (task_of_problem search.problem) search.store) }
         ensures floor { IfOk result (λ search. Adds [] search.store.waiting (search.floor, 0)) }
         ensures range { OnOk result (IsBudget budget) }
         ensures fault { IfErr result (IsRefused budget) }
@@ -92,12 +92,12 @@ impl<F: Frontier + Drop, G: Game + Drop> Search<F, G> {
         requires fits { Fits question.now.game.cells position.now }
         ensures problem { IfOk result (λ search. search.problem ≡ problem_of question.now position.now) }
         ensures status { IfOk result (λ search. search.status ≡ Status.Running) }
-        ensures begins { IfOk result (λ search. Begins (classes_of search.problem) search.problem.method.weight search.store) }
+        ensures begins { IfOk result (λ search. Begins (task_of_problem search.problem) search.store) }
         ensures floor { IfOk result (λ search. Adds [] search.store.waiting (search.floor, 0)) }
     {
-        let Method { weight, budget, .. } = question.method();
+        let Method { strategy, .. } = question.method();
         let space = Positions::new(question.game().copy(), question.method(), position.copy());
-        match best_first::Search::new(alloc, space, weight, budget) {
+        match best_first::Search::new(alloc, space, strategy) {
             Ok(search) => Ok(Search { alloc, search }),
             Err(_) => Err(AllocError),
         }
@@ -113,7 +113,7 @@ impl<F: Frontier + Drop, G: Game + Drop> Search<F, G> {
         ensures turns { Turns (task_of_problem self.old.problem) self.old.status self.old.store self.new.store self.new.status result }
         ensures floor { FloorAfter self.old.status self.old.store.waiting self.old.floor self.new.floor }
         ensures rises { self.old.floor ≤ self.new.floor }
-        ensures falls { result ≡ Ok Step.Running → work_left self.old.problem.method.budget self.new.store < work_left self.old.problem.method.budget self.old.store }
+        ensures falls { result ≡ Ok Step.Running → work_left self.old.problem.method.strategy.budget self.new.store < work_left self.old.problem.method.strategy.budget self.old.store }
     {
         self.search.turn()
     }
@@ -148,7 +148,7 @@ impl<F: Frontier + Drop, G: Game + Drop> Search<F, G> {
             Status::Won(number) => self.won(*number),
             Status::CannotWin => self.cannot_win(),
             Status::GaveUp(_, _) => Ok(Answer {
-                verdict: Verdict::GaveUp(self.search.budget().get()),
+                verdict: Verdict::GaveUp(self.search.strategy().budget.get()),
                 table: None,
             }),
         };
@@ -176,7 +176,7 @@ impl<F: Frontier + Drop, G: Game + Drop> Search<F, G> {
                 Err(_) => Err(SearchFault::Memory),
             },
             Status::CannotWin => Ok(Verdict::CannotWin),
-            Status::GaveUp(_, _) => Ok(Verdict::GaveUp(self.search.budget().get())),
+            Status::GaveUp(_, _) => Ok(Verdict::GaveUp(self.search.strategy().budget.get())),
         }
     }
 
@@ -191,21 +191,21 @@ impl<F: Frontier + Drop, G: Game + Drop> Search<F, G> {
     // What is known of each search: its limits are in range, and its start fits the game.
     pub(crate) fn known(&self)
         ensures rule { self.now.problem.method.rule ≤ GREATEST_RULE }
-        ensures budget { IsBudget self.now.problem.method.budget }
+        ensures budget { IsBudget self.now.problem.method.strategy.budget }
         ensures fits { IsPositionOf self.now.problem.game self.now.problem.start }
     {
-        let _ = (self.search.space().rules.rule.get(), self.search.budget());
+        let _ = (self.search.space().rules.rule.get(), self.search.strategy());
     }
 
     // A list that wins, where the class with this number is won: by weight 1 a shortest one, else one within the weight.
     fn won_list(&self, number: u32) -> Result<MoveList, AllocError>
-        requires held { Holds (classes_of self.now.problem) self.now.problem.method.weight self.now.problem.method.budget self.now.store self.now.status }
-        requires shown { Shows (classes_of self.now.problem) self.now.problem.method.weight self.now.problem.method.budget self.now.store self.now.status }
+        requires held { Holds (task_of_problem self.now.problem) self.now.store self.now.status }
+        requires shown { Shows (task_of_problem self.now.problem) self.now.store self.now.status }
         requires done { self.now.status ≡ Status.Won number }
-        ensures shortest { IfOk result (λ moves. self.now.problem.method.weight ≡ 1
+        ensures shortest { IfOk result (λ moves. self.now.problem.method.strategy.weight ≡ 1
             → IsVerdict self.now.problem (Verdict.Shortest moves)
             × IsOfStatus self.now.problem self.now.store self.now.status (Verdict.Shortest moves)) }
-        ensures within { IfOk result (λ moves. 2 ≤ self.now.problem.method.weight → (floor : ℕ) → IsFloorOf self.now number floor
+        ensures within { IfOk result (λ moves. 2 ≤ self.now.problem.method.strategy.weight → (floor : ℕ) → IsFloorOf self.now number floor
             → IsVerdict self.now.problem (Verdict.Won moves floor)
             × IsOfStatus self.now.problem self.now.store self.now.status (Verdict.Won moves floor)) }
     {
@@ -216,7 +216,7 @@ impl<F: Frontier + Drop, G: Game + Drop> Search<F, G> {
 
     // The least cost and bound of what is open, and no more than the class with this number costs.
     pub(crate) fn floor_of(&self, number: u32) -> u32
-        requires sound { IsSound (classes_of self.now.problem) self.now.problem.method.weight self.now.problem.method.budget self.now.store }
+        requires sound { IsSound (task_of_problem self.now.problem) self.now.store }
         requires within { number < length self.now.store.stored }
         ensures value { IsFloorOf self.now number result }
     {
@@ -226,14 +226,14 @@ impl<F: Frontier + Drop, G: Game + Drop> Search<F, G> {
 
     // The verdict where the class with this number is won: only by weight 1 the list is known to be a shortest one.
     fn won_verdict(&self, number: u32) -> Result<Verdict, AllocError>
-        requires held { Holds (classes_of self.now.problem) self.now.problem.method.weight self.now.problem.method.budget self.now.store self.now.status }
-        requires shown { Shows (classes_of self.now.problem) self.now.problem.method.weight self.now.problem.method.budget self.now.store self.now.status }
+        requires held { Holds (task_of_problem self.now.problem) self.now.store self.now.status }
+        requires shown { Shows (task_of_problem self.now.problem) self.now.store self.now.status }
         requires done { self.now.status ≡ Status.Won number }
         ensures told { IfOk result (IsVerdict self.now.problem) }
         ensures kind { IfOk result (IsOfStatus self.now.problem self.now.store self.now.status) }
     {
         let moves = self.won_list(number)?;
-        if self.search.weight().get() > 1 {
+        if self.search.strategy().weight.get() > 1 {
             let floor = self.floor_of(number);
             return Ok(Verdict::Won { moves, floor });
         }
@@ -242,15 +242,15 @@ impl<F: Frontier + Drop, G: Game + Drop> Search<F, G> {
 
     // The answer where the class with this number is won, with the table of its length by weight 1, else of its floor.
     fn won(&self, number: u32) -> Result<Answer, AllocError>
-        requires held { Holds (classes_of self.now.problem) self.now.problem.method.weight self.now.problem.method.budget self.now.store self.now.status }
-        requires shown { Shows (classes_of self.now.problem) self.now.problem.method.weight self.now.problem.method.budget self.now.store self.now.status }
+        requires held { Holds (task_of_problem self.now.problem) self.now.store self.now.status }
+        requires shown { Shows (task_of_problem self.now.problem) self.now.store self.now.status }
         requires done { self.now.status ≡ Status.Won number }
         ensures answers { IfOk result (Answers self.now.problem) }
         ensures kind { IfOk result (λ answer. IsOfStatus self.now.problem self.now.store self.now.status answer.verdict) }
     {
         self.known();
         let moves = self.won_list(number)?;
-        if self.search.weight().get() > 1 {
+        if self.search.strategy().weight.get() > 1 {
             let floor = self.floor_of(number);
             let table = self.table_below(floor as usize)?;
             return Ok(Answer {
@@ -267,8 +267,8 @@ impl<F: Frontier + Drop, G: Game + Drop> Search<F, G> {
 
     // The answer where no list wins.
     fn cannot_win(&self) -> Result<Answer, AllocError>
-        requires held { Holds (classes_of self.now.problem) self.now.problem.method.weight self.now.problem.method.budget self.now.store self.now.status }
-        requires shown { Shows (classes_of self.now.problem) self.now.problem.method.weight self.now.problem.method.budget self.now.store self.now.status }
+        requires held { Holds (task_of_problem self.now.problem) self.now.store self.now.status }
+        requires shown { Shows (task_of_problem self.now.problem) self.now.store self.now.status }
         requires done { self.now.status ≡ Status.CannotWin }
         ensures answers { IfOk result (Answers self.now.problem) }
         ensures kind { IfOk result (λ answer. IsOfStatus self.now.problem self.now.store self.now.status answer.verdict) }

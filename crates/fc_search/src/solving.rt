@@ -15,7 +15,7 @@ use crate::searches::{Search, shortest};
 use crate::watches::watch;
 use fc_answers::{Answer, Verdict};
 use fc_best_first::{SearchFault, Step};
-use fc_frontier::BucketFrontier;
+use fc_frontier::EitherFrontier;
 use fc_home::GREATEST_RULE;
 use fc_methods::{HomeRule, Question};
 use fc_moves::Game;
@@ -103,7 +103,7 @@ fn at_end<G: Game + Drop, L: Listener>(
     question: &Question<G>,
     position: &Position,
     listener: &mut L,
-) -> Result<Search<BucketFrontier, G>, AllocError>
+) -> Result<Search<EitherFrontier, G>, AllocError>
     requires fits { Fits question.now.game.cells position.now }
     ensures problem { IfOk result (λ search. search.problem ≡ problem_of question.now position.now) }
     ensures ran { IfOk result (λ search. HasRun (problem_of question.now position.now) search.store search.status) }
@@ -112,7 +112,7 @@ fn at_end<G: Game + Drop, L: Listener>(
         × MatchResult result (IsHeardOn (problem_of question.now position.now) heard)
         (λ refused. IsHeardAtMost (problem_of question.now position.now) heard) }
 {
-    let mut search: Search<BucketFrontier, G> = Search::new_by(alloc, question, position)?;
+    let mut search: Search<EitherFrontier, G> = Search::new_by(alloc, question, position)?;
     watch(&mut search, listener)?;
     Ok(search)
 }

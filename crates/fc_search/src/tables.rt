@@ -6,7 +6,7 @@ ghost use Rattle.fc_best_first.specs.Kept.{IsSound};
 ghost use Rattle.fc_bound.specs.Kinds.{guide_of};
 ghost use Rattle.fc_answers.specs.Table.{IsRising};
 ghost use Rattle.fc_answers.specs.inner.Table.{at_no_cost, inside};
-ghost use Rattle.fc_search.specs.Problem.{classes_of};
+ghost use Rattle.fc_search.specs.Problem.{task_of_problem};
 ghost use Rattle.fc_search.specs.inner.Stored.{costs_of};
 
 use crate::searches::Search;
@@ -20,7 +20,7 @@ use std::alloc::AllocError;
 impl<F: Frontier + Drop, G: Game + Drop> Search<F, G> {
     // The stored classes whose cost and bound are below n.
     pub(crate) fn table_below(&self, n: usize) -> Result<Table, AllocError>
-        requires sound { IsSound (classes_of self.now.problem) self.now.problem.method.weight self.now.problem.method.budget self.now.store }
+        requires sound { IsSound (task_of_problem self.now.problem) self.now.store }
         ensures rule { IfOk result (λ table. table.rule ≡ self.now.problem.method.rule) }
         ensures bound { IfOk result (λ table. table.bound ≡ self.now.problem.method.bound) }
         ensures known { IfOk result (λ table. table.rule ≤ GREATEST_RULE) }
@@ -47,7 +47,7 @@ impl<F: Frontier + Drop, G: Game + Drop> Search<F, G> {
 
     // The stored classes, each at no cost.
     pub(crate) fn table_of_all(&self) -> Result<Table, AllocError>
-        requires sound { IsSound (classes_of self.now.problem) self.now.problem.method.weight self.now.problem.method.budget self.now.store }
+        requires sound { IsSound (task_of_problem self.now.problem) self.now.store }
         ensures rule { IfOk result (λ table. table.rule ≡ self.now.problem.method.rule) }
         ensures bound { IfOk result (λ table. table.bound ≡ self.now.problem.method.bound) }
         ensures known { IfOk result (λ table. table.rule ≤ GREATEST_RULE) }

@@ -5,7 +5,7 @@ ghost use Rattle.fc_position.specs.Board.{Board};
 ghost use Rattle.fc_best_first.specs.declared.books.Mark.{Mark};
 ghost use Rattle.fc_best_first.specs.Kept.{IsSound};
 ghost use Rattle.fc_best_first.specs.Store.{IsStored};
-ghost use Rattle.fc_search.specs.Problem.{classes_of};
+ghost use Rattle.fc_search.specs.Problem.{task_of_problem};
 ghost use Rattle.fc_search.specs.inner.Walk.{IsStart, IsWay, IsAtClass};
 
 use crate::searches::Search;
@@ -19,7 +19,7 @@ use std::alloc::AllocError;
 impl<F: Frontier + Drop, G: Game + Drop> Search<F, G> {
     // Moves that lead to the class with this number, no more than it costs.
     pub(crate) fn moves_to(&self, number: u32) -> Result<MoveList, AllocError>
-        requires sound { IsSound (classes_of self.now.problem) self.now.problem.method.weight self.now.problem.method.budget self.now.store }
+        requires sound { IsSound (task_of_problem self.now.problem) self.now.store }
         requires within { number < length self.now.store.stored }
         ensures there { IfOk result (λ made. (b : Board) × IsAtClass self.now.problem.game self.now.store self.now.problem.start number made b) }
     {
@@ -38,7 +38,7 @@ impl<F: Frontier + Drop, G: Game + Drop> Search<F, G> {
 
     // The number of a class that starts, and of those on the way from there to the class with this number, which is first.
     fn way_to(&self, number: u32) -> Result<(u32, Vec<u32>), AllocError>
-        requires sound { IsSound (classes_of self.now.problem) self.now.problem.method.weight self.now.problem.method.budget self.now.store }
+        requires sound { IsSound (task_of_problem self.now.problem) self.now.store }
         requires within { number < length self.now.store.stored }
         ensures way { IfOk result (λ r. IsStart self.now.store r.0 × IsWay self.now.store r.0 (reverse r.1.items) number) }
     {

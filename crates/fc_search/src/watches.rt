@@ -6,7 +6,7 @@ ghost use Rattle.fc_position.specs.Position.{Fits};
 ghost use Rattle.fc_moves.specs.GameRules.{IsPositionOf};
 ghost use Rattle.fc_best_first.specs.Search.{Begins, Runs, reply_of};
 ghost use Rattle.fc_best_first.specs.Turn.{work_left};
-ghost use Rattle.fc_search.specs.Problem.{classes_of, task_of_problem};
+ghost use Rattle.fc_search.specs.Problem.{task_of_problem};
 ghost use Rattle.fc_search.specs.declared.listeners.Progress.{Progress};
 ghost use Rattle.fc_search.specs.Watch.{HearsAll, IsHeardInPart, TurnsMany};
 ghost use Rattle.fc_search.specs.inner.Watch.{IsHeardOn, stage_of};
@@ -27,7 +27,7 @@ pub(crate) fn watch<F: Frontier + Drop, G: Game + Drop, L: Listener>(
     listener: &mut L,
 ) -> Result<(), AllocError>
     requires running { search.old.status ≡ Status.Running }
-    requires begins { Begins (classes_of search.old.problem) search.old.problem.method.weight search.old.store }
+    requires begins { Begins (task_of_problem search.old.problem) search.old.store }
     requires floor { Adds [] search.old.store.waiting (search.old.floor, 0) }
     ensures problem { search.new.problem ≡ search.old.problem }
     ensures runs { Runs (task_of_problem search.old.problem) Status.Running search.old.store search.new.store search.new.status }
@@ -72,7 +72,7 @@ fn run_on<F: Frontier + Drop, G: Game + Drop>(
     ensures turned { (before : ℕ) → TurnsMany result.0 search.old.problem (stage_of search.old before) (stage_of search.new (before + result.0)) }
     ensures some { 1 ≤ result.0 }
     ensures reply { MatchResult result.1 (λ step. reply_of search.new.status ≡ Ok step) (λ f. (f ≡ SearchFault.Memory) × (search.new.status ≡ Status.Stopped)) }
-    ensures falls { result.1 ≡ Ok Step.Running → result.0 + work_left search.old.problem.method.budget search.new.store ≤ work_left search.old.problem.method.budget search.old.store }
+    ensures falls { result.1 ≡ Ok Step.Running → result.0 + work_left search.old.problem.method.strategy.budget search.new.store ≤ work_left search.old.problem.method.strategy.budget search.old.store }
     ensures few { result.0 ≤ most }
 {
     for made in 0..most {

@@ -1,7 +1,12 @@
 //! What is asked by a home rule and a budget is answered as the question of a shortest list by the plain bound is.
 
+ghost use Rattle.fc_methods.specs.Method.{Asked};
+ghost use Rattle.fc_position.specs.Position.{Fits};
+
 use crate::given::{board, budget, free_cell, home_rule, method, sure};
 use fc_io::{FromSlice, ToArray};
+use fc_moves::FreeCell;
+use fc_position::Position;
 use fc_runs::{ProgramFault, run_solve, run_solve_by};
 use fc_search::{
     Answer, BoundKind, MoveList, Question, Table, Unheard, Verdict, decide_by, solve, solve_by,
@@ -59,6 +64,22 @@ fn same_answer(one: &Answer, other: &Answer) -> bool {
     same_table && same_verdict(&one.verdict, &other.verdict)
 }
 
+// The searches of a question for a board give this answer.
+fn asked_alike(
+    rt: &impl Abort,
+    alloc: Global,
+    question: &Question<FreeCell>,
+    start: &Position,
+    answer: &Answer,
+)
+    requires fits { Fits question.now.game.cells start.now }
+{
+    let asked = sure(rt, solve_by(alloc, question, start, &mut Unheard));
+    assert!(rt; same_answer(answer, &asked), "another answer");
+    let told = sure(rt, decide_by(alloc, question, start, &mut Unheard));
+    assert!(rt; same_verdict(&answer.verdict, &told), "another verdict");
+}
+
 // Searches of a board of FreeCell with four cells are answered alike.
 fn answered_alike(rt: &impl Abort, alloc: Global, rule: u8, text: &str, classes: u32) {
     assert!(rt; rule <= 2, "a rule");
@@ -67,13 +88,9 @@ fn answered_alike(rt: &impl Abort, alloc: Global, rule: u8, text: &str, classes:
     let answer = sure(rt, solve(alloc, &game, rule, &start, classes));
     let method = method(rt, rule, 1, BoundKind::Plain, classes);
     let shortest = Question::shortest(&game, home_rule(rt, rule), budget(rt, classes));
-    for question in [shortest, Question::new(&game, method)] {
-        assert!(rt; question.method() == method, "another method");
-        let asked = sure(rt, solve_by(alloc, &question, &start, &mut Unheard));
-        assert!(rt; same_answer(&answer, &asked), "another answer");
-        let told = sure(rt, decide_by(alloc, &question, &start, &mut Unheard));
-        assert!(rt; same_verdict(&answer.verdict, &told), "another verdict");
-    }
+    assert!(rt; shortest.method() == method, "another method");
+    asked_alike(rt, alloc, &shortest, &start, &answer);
+    asked_alike(rt, alloc, &Question::new(&game, method), &start, &answer);
 }
 
 #[test]

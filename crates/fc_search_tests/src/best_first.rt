@@ -1,15 +1,16 @@
 //! The search over a question of the tests' own: to reach a sum by adding 2, 4 and 6.
 
 ghost use Rattle.std.specs.Prelude.{◌≡◌, ℕ, [], length, ◌+◌, ◌-◌, ◌≤◌, ◌++◌, option_to_list};
-ghost use Rattle.fc_best_first.specs.Store.{Offers};
+ghost use Rattle.fc_best_first.specs.Store.{Stores};
 ghost use Rattle.fc_best_first.specs.Turn.{AreChildren};
 ghost use Rattle.fc_search_tests.specs.Sums.{IsChildOf, number_exact, sums, sums_lawful};
 
 use crate::given::{budget, sure};
 use fc_best_first::{
-    Book, Budget, Child, ExactKey, Mark, Offered, Search, Space, Status, Step, Weight,
+    Book, Budget, Child, ExactKey, Expansion, Mark, Offered, Opening, Search, Space, Status, Step,
+    Strategy, Weight,
 };
-use fc_frontier::{BucketFrontier, Frontier, ListFrontier};
+use fc_frontier::{BucketFrontier, EitherFrontier, Frontier, ListFrontier};
 use std::alloc::Global;
 use std::marker::Model;
 use std::process::Abort;
@@ -104,9 +105,17 @@ impl Space<Sum> for Sums {
         u32::from(self.goal).saturating_sub(key.value) as u8
     }
 
+    fn bound_within(&self, key: &Sum, _most: u8) -> u8 {
+        self.bound(key)
+    }
+
     fn visit(&self, key: &Sum, walk: &mut Addends) -> u8 {
         *walk = self.addends(*key);
         self.bound(key)
+    }
+
+    fn revisit(&self, key: &Sum, _bound: u8, walk: &mut Addends) {
+        *walk = self.addends(*key);
     }
 
     fn next(&self, walk: &mut Addends) -> Option<Child<Sum>> {
@@ -154,11 +163,20 @@ fn end_of<F: Frontier + Drop>(search: &Search<Sum, F, Sums>) -> End {
     }
 }
 
-// A search for the goal that has begun.
-fn begun<F: Frontier + Drop>(rt: &impl Abort, alloc: Global, row: &Row) -> Search<Sum, F, Sums> {
+// A search for the goal that has begun, by this expansion.
+fn begun<F: Frontier + Drop>(
+    rt: &impl Abort,
+    alloc: Global,
+    expansion: Expansion,
+    row: &Row,
+) -> Search<Sum, F, Sums> {
     let goal = row.goal;
-    let most = budget(rt, row.budget);
-    sure(rt, Search::new(alloc, Sums { goal }, Weight::ONE, most))
+    let strategy = Strategy {
+        weight: Weight::ONE,
+        expansion,
+        budget: budget(rt, row.budget),
+    };
+    sure(rt, Search::new(alloc, Sums { goal }, strategy))
 }
 
 // Takes all turns of a search; how many of them answered `Running`.
@@ -182,13 +200,18 @@ fn stores<F: Frontier + Drop>(rt: &impl Abort, search: &Search<Sum, F, Sums>, ro
         first.value == 0 && mark.cost == 0 && mark.parent == 0,
         "the sum 0"
     );
-    assert!(rt; search.budget().get() == row.budget, "the budget");
+    assert!(rt; search.strategy().budget.get() == row.budget, "the budget");
     assert!(rt; search.space().goal == row.goal, "the goal");
 }
 
 // Searches with this queue by turns, and once more, which changes nothing.
-fn ends_by_turns<F: Frontier + Drop>(rt: &impl Abort, alloc: Global, row: &Row) {
-    let mut search: Search<Sum, F, Sums> = begun(rt, alloc, row);
+fn ends_by_turns<F: Frontier + Drop>(
+    rt: &impl Abort,
+    alloc: Global,
+    expansion: Expansion,
+    row: &Row,
+) {
+    let mut search: Search<Sum, F, Sums> = begun(rt, alloc, expansion, row);
     let turns = take_turns(rt, &mut search);
     let (least, most) = row.turns;
     assert!(rt;
@@ -201,8 +224,13 @@ fn ends_by_turns<F: Frontier + Drop>(rt: &impl Abort, alloc: Global, row: &Row) 
 }
 
 // Searches with this queue in one run, and once more, which changes nothing.
-fn ends_in_a_run<F: Frontier + Drop>(rt: &impl Abort, alloc: Global, row: &Row) {
-    let mut whole: Search<Sum, F, Sums> = begun(rt, alloc, row);
+fn ends_in_a_run<F: Frontier + Drop>(
+    rt: &impl Abort,
+    alloc: Global,
+    expansion: Expansion,
+    row: &Row,
+) {
+    let mut whole: Search<Sum, F, Sums> = begun(rt, alloc, expansion, row);
     for _ in 0..2 {
         assert!(rt; whole.run() == Ok(()), "a run");
         assert!(rt; end_of(&whole) == row.end, "a run");
@@ -210,16 +238,16 @@ fn ends_in_a_run<F: Frontier + Drop>(rt: &impl Abort, alloc: Global, row: &Row) 
 }
 
 // Searches with this queue end as the row tells.
-fn ends<F: Frontier + Drop>(rt: &impl Abort, alloc: Global, row: &Row) {
-    ends_by_turns::<F>(rt, alloc, row);
-    ends_in_a_run::<F>(rt, alloc, row);
+fn ends<F: Frontier + Drop>(rt: &impl Abort, alloc: Global, expansion: Expansion, row: &Row) {
+    ends_by_turns::<F>(rt, alloc, expansion, row);
+    ends_in_a_run::<F>(rt, alloc, expansion, row);
 }
 
 // Searches end as the rows tell, with either queue.
 fn all_end(rt: &impl Abort, alloc: Global, rows: &[Row]) {
     for row in rows {
-        ends::<ListFrontier>(rt, alloc, row);
-        ends::<BucketFrontier>(rt, alloc, row);
+        ends::<ListFrontier>(rt, alloc, Expansion::Full, row);
+        ends::<BucketFrontier>(rt, alloc, Expansion::Full, row);
     }
 }
 
@@ -318,13 +346,58 @@ fn a_search_runs_to_its_end(rt: HostRuntime) {
     all_end(&rt, rt.alloc(), TWELVE.as_slice());
 }
 
+// By partial expansion a sum is stored once its f is taken. Of 6, 0 stores 4, and puts off 2 and 6; at an f of 7 the sum 4, which is
+// nearer than 0, stores 6. Of 8, 4 is followed by 8 at the same f. No odd sum can be reached, so all are stored in the end.
+// With room for two sums, 6 finds no place, where it comes from 4.
+static PUT_OFF: [Row; 4] = [
+    Row {
+        goal: 6,
+        budget: 3,
+        end: End::Cost(7),
+        stored: Some(3),
+        turns: (3, 3),
+    },
+    Row {
+        goal: 8,
+        budget: 3,
+        end: End::Cost(8),
+        stored: Some(3),
+        turns: (2, 2),
+    },
+    Row {
+        goal: 9,
+        budget: 5,
+        end: End::CannotWin,
+        stored: Some(5),
+        turns: (5, 1000),
+    },
+    Row {
+        goal: 6,
+        budget: 2,
+        end: End::GaveUp(6, 1),
+        stored: Some(2),
+        turns: (2, 2),
+    },
+];
+
+#[test]
+fn sums_of_a_greater_f_are_put_off(rt: HostRuntime) {
+    for row in &PUT_OFF {
+        ends::<ListFrontier>(&rt, rt.alloc(), Expansion::Partial, row);
+        ends::<EitherFrontier>(&rt, rt.alloc(), Expansion::Partial, row);
+    }
+    for row in &GREATER {
+        ends::<EitherFrontier>(&rt, rt.alloc(), Expansion::Partial, row);
+    }
+}
+
 // Whether a search that may store so many sums runs; `None` where that is no budget.
 fn runs(rt: &impl Abort, alloc: Global, sums: u32) -> Option<bool> {
     let most = Budget::new(sums)?;
     let space = Sums { goal: 1 };
     let search: Search<Sum, ListFrontier, Sums> = sure(
         rt,
-        Search::new(alloc, space, Weight::ONE, most),
+        Search::new(alloc, space, Strategy::full(Weight::ONE, most)),
     );
     Some(matches!(search.status(), Status::Running))
 }
@@ -340,18 +413,21 @@ fn a_budget_is_one_to_four_million(rt: HostRuntime) {
 fn added<F: Frontier + Drop>(
     rt: &impl Abort,
     book: &mut Book<Sum, F>,
-    budget: Budget,
+    strategy: &Strategy,
     value: u32,
     mark: Mark,
-    f: u32,
+    opening: Opening,
 ) -> Offered<Sum>
-    requires room { length book.old.stored ≤ budget }
-    ensures offers { Offers budget book.old book.new (record { key = value; mark = mark; f = f }) result }
+    requires low { mark.cost ≤ 1000 }
+    requires room { length book.old.stored ≤ strategy.now.budget }
+    ensures stores { Stores strategy.now book.old book.new (record { key = value; mark = mark; opening = opening }) result }
 {
+    // Its range, by which each sum has a number.
+    let _ = strategy.budget.get();
     let key = Sum { value };
     match book.find(&key) {
         Some(_) => rt.panic("a sum that is stored"),
-        None => sure(rt, book.add(budget, key, mark, f)),
+        None => sure(rt, book.add(strategy, key, mark, opening)),
     }
 }
 
@@ -359,22 +435,23 @@ fn added<F: Frontier + Drop>(
 fn offer_two<F: Frontier + Drop>(rt: &impl Abort, book: &mut Book<Sum, F>)
     requires empty { book.old.stored ≡ [] }
 {
-    let one = budget(rt, 1);
+    let one = Strategy::full(Weight::ONE, budget(rt, 1));
+    let above = Opening { over: 2, bound: 2 };
     let dear = Mark { cost: 9, parent: 3 };
     let cheap = Mark { cost: 7, parent: 5 };
-    assert!(rt; matches!(added(rt, book, one, 40, dear, 11), Offered::Added));
+    assert!(rt; matches!(added(rt, book, &one, 40, dear, above), Offered::Added));
     assert!(rt; book.len() == 1);
     assert!(rt; book.find(&Sum { value: 40 }) == Some((0, dear)));
-    sure(rt, book.lower(0, cheap, 9));
+    sure(rt, book.lower(&one, 0, cheap, above));
     assert!(rt; book.len() == 1);
     assert!(rt; book.find(&Sum { value: 40 }) == Some((0, cheap)));
-    let last = added(rt, book, one, 41, cheap, 9);
+    let last = added(rt, book, &one, 41, cheap, above);
     assert!(rt; matches!(last, Offered::Full(Sum { value: 41 })));
 }
 
 // The first key alone is stored, at less; the two pairs are open, the lesser first.
 fn one_place<F: Frontier + Drop>(rt: &impl Abort, alloc: Global) {
-    let mut book: Book<Sum, F> = Book::new(alloc);
+    let mut book: Book<Sum, F> = Book::new(alloc, Expansion::Full);
     offer_two(rt, &mut book);
     let (key, mark) = book.entry(0).expect(rt, "the key 40");
     assert!(rt; key.value == 40 && mark.cost == 7 && mark.parent == 5);

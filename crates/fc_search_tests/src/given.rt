@@ -6,7 +6,7 @@ ghost use Rattle.fc_position.specs.Position.{Fits};
 
 use fc_moves::{BakersGame, FreeCell, Game, Move, allows, apply};
 use fc_position::Position;
-use fc_search::{BoundKind, Budget, HomeRule, Method, Weight};
+use fc_search::{BoundKind, Budget, Expansion, HomeRule, Method, Strategy, Weight};
 use fc_text::read_board;
 use std::process::Abort;
 
@@ -55,9 +55,22 @@ pub fn budget(rt: &impl Abort, classes: u32) -> Budget
 pub fn method(rt: &impl Abort, rule: u8, weight: u8, bound: BoundKind, classes: u32) -> Method {
     Method {
         rule: home_rule(rt, rule),
-        weight: Weight::new(weight).expect(rt, "a weight is 1 to 10"),
         bound,
-        budget: budget(rt, classes),
+        strategy: Strategy::full(
+            Weight::new(weight).expect(rt, "a weight is 1 to 10"),
+            budget(rt, classes),
+        ),
+    }
+}
+
+/// The same by this expansion.
+pub fn expanded(method: Method, expansion: Expansion) -> Method {
+    Method {
+        strategy: Strategy {
+            expansion,
+            ..method.strategy
+        },
+        ..method
     }
 }
 

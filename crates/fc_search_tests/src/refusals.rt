@@ -1,27 +1,34 @@
-//! A batch in which a growth may be refused: the search that it stops stops alone. A case of the gate runs this once for
-//! each growth, that one refused; here none is.
+//! A batch of searches of different kinds, in which a growth may be refused: the search that it stops stops alone. A case of
+//! the gate runs this once for each growth, that one refused; here none is.
 
 use crate::batches::{BOARDS, OUTCOMES, tells};
-use crate::given::{board, free_cell, sure};
+use crate::given::{board, expanded, free_cell, method, sure};
 use fc_batch::Batch;
-use fc_frontier::BucketFrontier;
+use fc_bound::BoundKind;
+use fc_frontier::EitherFrontier;
 use fc_moves::FreeCell;
-use fc_search::{Answer, Search, SearchFault, Step};
+use fc_search::{Answer, Expansion, Question, Search, SearchFault, Step};
 use std::alloc::Global;
 use std::process::Abort;
 
-type Searches = Batch<BucketFrontier, FreeCell>;
+type Searches = Batch<EitherFrontier, FreeCell>;
+
+// By which bound and expansion the searches go, by their numbers.
+const KINDS: [(BoundKind, Expansion); 3] = [
+    (BoundKind::Plain, Expansion::Full),
+    (BoundKind::Clearing, Expansion::Partial),
+    (BoundKind::Plain, Expansion::Partial),
+];
 
 // Adds the search of a board under this number, if need be at the second try.
 fn add(rt: &impl Abort, alloc: Global, batch: &mut Searches, text: &str, wanted: usize) {
     let game = free_cell(rt, 4);
     let start = board(rt, &game, text);
-    let search = match Search::new(alloc, &game, 1, &start, 100) {
+    let (bound, expansion) = KINDS[wanted % KINDS.len()];
+    let question = Question::new(&game, expanded(method(rt, 1, 1, bound, 100), expansion));
+    let search = match Search::new_by(alloc, &question, &start) {
         Ok(search) => search,
-        Err(fault) => {
-            assert!(rt; fault == SearchFault::Memory, "another fault");
-            sure(rt, Search::new(alloc, &game, 1, &start, 100))
-        }
+        Err(_refused) => sure(rt, Search::new_by(alloc, &question, &start)),
     };
     let number = match batch.add(search) {
         Ok(number) => number,

@@ -1,7 +1,7 @@
 //! Searches of a game's positions by the core of the search, with either queue.
 
 use crate::given::{bakers_game, board, budget, free_cell, home_rule, sure};
-use fc_best_first::{Search, Status};
+use fc_best_first::{Search, Status, Strategy};
 use fc_classes::ClassKey;
 use fc_frontier::{BucketFrontier, Frontier, ListFrontier};
 use fc_moves::{FreeCell, Game, Kings};
@@ -44,7 +44,10 @@ fn begun<F: Frontier + Drop, G: Game + Drop>(
     let start = board(rt, &game, text);
     let most = budget(rt, classes);
     let space = Positions::new(game, Method::shortest(home_rule(rt, rule), most), start);
-    sure(rt, Search::new(alloc, space, Weight::ONE, most))
+    sure(
+        rt,
+        Search::new(alloc, space, Strategy::full(Weight::ONE, most)),
+    )
 }
 
 // How a search ended.

@@ -3,16 +3,16 @@
 ghost use Rattle.fc_methods.specs.Method.{Asked};
 ghost use Rattle.fc_position.specs.Position.{Fits};
 
-use crate::given::{bakers_game, free_cell, method, sure};
+use crate::given::{bakers_game, expanded, free_cell, method, sure};
 use crate::plain::{self, Found};
 use crate::random::{Numbers, random_board};
 use crate::shown::check_wins;
 use fc_bound::BoundKind::{Clearing, Plain};
-use fc_frontier::{BucketFrontier, Frontier, ListFrontier};
+use fc_frontier::{EitherFrontier, Frontier, ListFrontier};
 use fc_home::settle;
 use fc_moves::{Game, Kings};
 use fc_position::Position;
-use fc_search::{Method, Question, Search, Step, Unheard, Verdict, decide_by};
+use fc_search::{Expansion, Method, Question, Search, Step, Unheard, Verdict, decide_by};
 use std::alloc::Global;
 use std::process::Abort;
 
@@ -54,7 +54,7 @@ fn check_list<G: Game>(rt: &impl Abort, game: &G, board: &Position, weight: u8, 
 fn least_at_first<G: Game>(game: &G, method: Method, board: &Position) -> u32 {
     let mut position = board.copy();
     let settling = settle(game, &mut position, method.rule.get());
-    let moves = (settling.len() as u32).div_ceil(u32::from(method.weight.get()));
+    let moves = (settling.len() as u32).div_ceil(u32::from(method.strategy.weight.get()));
     moves.saturating_add(u32::from(method.bound.guide(&position)))
 }
 
@@ -104,7 +104,7 @@ fn compare_turns<F: Frontier + Drop, G: Game + Drop>(
     requires fits { Fits question.now.game.cells board.now }
 {
     let game = question.game();
-    let weight = question.method().weight.get();
+    let weight = question.method().strategy.weight.get();
     let mut search: Search<F, G> = sure(rt, Search::new_by(alloc, question, board));
     let least = least_at_first(game, question.method(), board);
     assert!(rt; search.at_least() == least, "another least at first");
@@ -119,7 +119,24 @@ fn compare_turns<F: Frontier + Drop, G: Game + Drop>(
     }
 }
 
-// Compares the searches of a board by a home rule, each weight and either bound with the plain one.
+// Compares a search of a board with what was found.
+fn compare_search<F: Frontier + Drop, G: Game + Drop>(
+    rt: &impl Abort,
+    alloc: Global,
+    game: &G,
+    method: Method,
+    board: &Position,
+    found: Found,
+) {
+    assert!(rt; board.fits(game.cells()));
+    let question = Question::new(game, method);
+    let weight = question.method().strategy.weight.get();
+    compare_turns::<F, G>(rt, alloc, &question, board, found);
+    let verdict = sure(rt, decide_by(alloc, &question, board, &mut Unheard));
+    check_verdict(rt, game, board, weight, &verdict, found);
+}
+
+// Compares the searches of a board by a home rule, each weight, either expansion and either bound with the plain one.
 fn compare_board<G: Game + Drop>(
     rt: &impl Abort,
     alloc: Global,
@@ -127,16 +144,13 @@ fn compare_board<G: Game + Drop>(
     rule: u8,
     board: &Position,
 ) {
-    assert!(rt; board.fits(game.cells()));
     let found = plain::search(rt, alloc, game, board, 300);
     for weight in WEIGHTS {
-        let plainly = Question::new(game, method(rt, rule, weight, Plain, 4000));
-        let clearing = Question::new(game, method(rt, rule, weight, Clearing, 4000));
-        compare_turns::<ListFrontier, G>(rt, alloc, &plainly, board, found);
-        compare_turns::<BucketFrontier, G>(rt, alloc, &clearing, board, found);
-        for question in [&plainly, &clearing] {
-            let verdict = sure(rt, decide_by(alloc, question, board, &mut Unheard));
-            check_verdict(rt, game, board, weight, &verdict, found);
+        for expansion in [Expansion::Full, Expansion::Partial] {
+            let plainly = expanded(method(rt, rule, weight, Plain, 4000), expansion);
+            let clearing = expanded(method(rt, rule, weight, Clearing, 4000), expansion);
+            compare_search::<ListFrontier, G>(rt, alloc, game, plainly, board, found);
+            compare_search::<EitherFrontier, G>(rt, alloc, game, clearing, board, found);
         }
     }
 }

@@ -86,7 +86,7 @@ fn advise(rt: &HostRuntime, method: Method, deal: Option<u32>) {
 fn advice_for(method: Method) -> Option<&'static str> {
     match method.bound {
         BoundKind::Plain => Some("--bound clearing, --within 2, or a greater --budget"),
-        BoundKind::Clearing if method.weight == Weight::ONE => {
+        BoundKind::Clearing if method.strategy.weight == Weight::ONE => {
             Some("--within 2, or a greater --budget")
         }
         BoundKind::Clearing => None,

@@ -1,4 +1,4 @@
-ghost use Rattle.std.specs.Prelude.{◌≡◌, ◌≢◌, ◌≤◌, ℕ, IfSome, Some, length, reverse};
+ghost use Rattle.std.specs.Prelude.{◌≡◌, ◌≢◌, ◌≤◌, ℕ, IfSome, List, Some, length, reverse};
 ghost use Rattle.fc_position.specs.Board.{playable, lifted, placed};
 ghost use Rattle.fc_position.specs.Position.{Fits, IsPosition};
 ghost use Rattle.fc_moves.specs.GameRules.{IsPositionOf};
@@ -9,6 +9,8 @@ ghost use Rattle.fc_canonical.specs.Moved.{MayMove};
 ghost use Rattle.fc_home.specs.Settles.{NoneGoesHome};
 ghost use Rattle.fc_bound.specs.Kinds.{guide_of};
 ghost use Rattle.fc_best_first.specs.Graph.{Reached};
+ghost use Rattle.fc_best_first.specs.Turn.{AreChildren};
+ghost use Rattle.fc_best_first.specs.declared.spaces.Child.{Child};
 ghost use Rattle.fc_classes.specs.Classes.{classes};
 ghost use Rattle.fc_canonical.specs.Spelled.{IsKeyIn, spelled};
 ghost use Rattle.fc_classes.proofs.TableLemmas.{lawful};
@@ -117,6 +119,23 @@ impl<G: Game + Drop> Positions<G> {
             bound,
             left: ArrayVec::new(),
         }
+    }
+
+    // Begins a walk anew at a class that was reached, whose position and bound are these.
+    fn set_out(&self, key: &ClassKey, position: Position, bound: u8, walk: &mut Children<G>)
+        requires reached { (d : ℕ) × Reached (classes (guide_of self.now.rules.kind) (G.game self.now.rules.game) self.now.rules.rule self.now.start) key.now d }
+        requires position { position ≡ spelled key.now }
+        requires bound { bound ≡ guide_of self.now.rules.kind position }
+        ensures children { (children : List (Child (List ℕ))) → AreChildrenBy (G.game walk.new.game) walk.new.rule walk.new.kind walk.new.position (reverse walk.new.moves) children
+            → AreChildren (classes (guide_of self.now.rules.kind) (G.game self.now.rules.game) self.now.rules.rule self.now.start) key.now children }
+    {
+        walk.rules.game = self.rules.game.copy();
+        walk.rules.rule = self.rules.rule;
+        walk.rules.kind = self.rules.kind;
+        walk.position = position;
+        walk.key = key.copy();
+        walk.bound = bound;
+        walk.left = distinct_moves(&self.rules.game, &walk.position);
     }
 }
 
@@ -298,15 +317,19 @@ impl<G: Game + Drop> Space<ClassKey> for Positions<G> {
         self.rules.kind.guide(&self.position(key))
     }
 
+    fn bound_within(&self, key: &ClassKey, most: u8) -> u8 {
+        self.rules.kind.guide_within(&self.position(key), most)
+    }
+
     fn visit(&self, key: &ClassKey, walk: &mut Children<G>) -> u8 {
-        walk.rules.game = self.rules.game.copy();
-        walk.rules.rule = self.rules.rule;
-        walk.rules.kind = self.rules.kind;
-        walk.position = self.position(key);
-        walk.key = key.copy();
-        walk.bound = self.rules.kind.guide(&walk.position);
-        walk.left = distinct_moves(&self.rules.game, &walk.position);
-        walk.bound
+        let position = self.position(key);
+        let bound = self.rules.kind.guide(&position);
+        self.set_out(key, position, bound, walk);
+        bound
+    }
+
+    fn revisit(&self, key: &ClassKey, bound: u8, walk: &mut Children<G>) {
+        self.set_out(key, self.position(key), bound, walk);
     }
 
     fn next(&self, walk: &mut Children<G>) -> Option<Child<ClassKey>> {

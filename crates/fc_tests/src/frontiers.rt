@@ -2,7 +2,7 @@
 
 use crate::given::sure;
 use crate::queues::OldestFirst;
-use fc_frontier::{BucketFrontier, Frontier, ListFrontier, TieFrontier};
+use fc_frontier::{BucketFrontier, EitherFrontier, Frontier, ListFrontier, TieFrontier};
 use std::alloc::Global;
 use std::process::Abort;
 
@@ -51,6 +51,7 @@ fn a_pair_of_least_f_comes_first(rt: HostRuntime) {
     least_comes_first::<BucketFrontier>(&rt, rt.alloc());
     least_comes_first::<OldestFirst>(&rt, rt.alloc());
     least_comes_first::<TieFrontier>(&rt, rt.alloc());
+    least_comes_first::<EitherFrontier>(&rt, rt.alloc());
 }
 
 // The pairs come in this order, and then nothing, twice.
@@ -78,6 +79,7 @@ fn stacks_end_at_1023(rt: HostRuntime) {
     ends_of_the_stacks::<BucketFrontier>(&rt, rt.alloc());
     ends_of_the_stacks::<ListFrontier>(&rt, rt.alloc());
     ends_of_the_stacks::<TieFrontier>(&rt, rt.alloc());
+    ends_of_the_stacks::<EitherFrontier>(&rt, rt.alloc());
 }
 
 // Of equal f the pair that was pushed last comes first, in the stacks and behind them; a pair stands there as often as
@@ -119,6 +121,7 @@ fn of_equal_f_the_newest_comes_first(rt: HostRuntime) {
     newest_comes_first::<BucketFrontier>(&rt, rt.alloc());
     newest_comes_first::<ListFrontier>(&rt, rt.alloc());
     newest_comes_first::<TieFrontier>(&rt, rt.alloc());
+    newest_comes_first::<EitherFrontier>(&rt, rt.alloc());
 }
 
 #[test]
@@ -132,6 +135,9 @@ fn a_new_queue_is_empty(rt: HostRuntime) {
     let mut ties = TieFrontier::new(rt.alloc());
     assert!(rt; ties.len() == 0);
     assert!(rt; ties.pop_least() == None);
+    let mut either = EitherFrontier::with_ties(rt.alloc());
+    assert!(rt; either.len() == 0);
+    assert!(rt; either.pop_least() == None);
 }
 
 // Pairs with ties: the greatest f and the greatest tie among them, one pair twice, and f of 1,024 and more.
@@ -147,25 +153,25 @@ const TIED: [(u32, u8, u32); 9] = [
     (69, 255, 8),
 ];
 
-fn filled_with_ties<F: Frontier + Drop>(rt: &impl Abort, alloc: Global) -> F {
-    let mut queue = F::new(alloc);
+// Fills an empty queue with them.
+fn fill_with_ties<F: Frontier + Drop>(rt: &impl Abort, mut queue: F) -> F {
     for (f, tie, node) in &TIED {
         put_tied(rt, &mut queue, *f, *tie, *node);
     }
     queue
 }
 
-#[test]
-fn of_equal_f_the_least_tie_comes_first(rt: HostRuntime) {
-    let mut queue: TieFrontier = filled_with_ties(&rt, rt.alloc());
+// Of equal f the pair of least tie comes first, and of equal ties the one that was pushed last.
+fn least_tie_comes_first<F: Frontier + Drop>(rt: &impl Abort, alloc: Global) {
+    let mut queue = fill_with_ties(rt, F::with_ties(alloc));
     assert!(rt; queue.pop_least() == Some((69, 8)));
     assert!(rt; queue.pop_least() == Some((70, 6)));
     // A push is one with the tie 0.
-    put_tied(&rt, &mut queue, 70, 1, 9);
-    put(&rt, &mut queue, 70, 10);
-    put_tied(&rt, &mut queue, 70, 0, 11);
+    put_tied(rt, &mut queue, 70, 1, 9);
+    put(rt, &mut queue, 70, 10);
+    put_tied(rt, &mut queue, 70, 0, 11);
     comes_in_order(
-        &rt,
+        rt,
         &mut queue,
         &[
             (70, 11),
@@ -182,9 +188,15 @@ fn of_equal_f_the_least_tie_comes_first(rt: HostRuntime) {
     );
 }
 
+#[test]
+fn of_equal_f_the_least_tie_comes_first(rt: HostRuntime) {
+    least_tie_comes_first::<TieFrontier>(&rt, rt.alloc());
+    least_tie_comes_first::<EitherFrontier>(&rt, rt.alloc());
+}
+
 // A queue that has no use for ties gives of equal f the newest, whatever its tie is.
 fn newest_whatever_the_tie<F: Frontier + Drop>(rt: &impl Abort, alloc: Global) {
-    let mut queue: F = filled_with_ties(rt, alloc);
+    let mut queue = fill_with_ties(rt, F::new(alloc));
     comes_in_order(
         rt,
         &mut queue,
@@ -206,11 +218,12 @@ fn newest_whatever_the_tie<F: Frontier + Drop>(rt: &impl Abort, alloc: Global) {
 fn ties_of_other_queues_are_of_no_use(rt: HostRuntime) {
     newest_whatever_the_tie::<BucketFrontier>(&rt, rt.alloc());
     newest_whatever_the_tie::<ListFrontier>(&rt, rt.alloc());
+    newest_whatever_the_tie::<EitherFrontier>(&rt, rt.alloc());
 }
 
 // Each pair is walked over, as often as it stands there: by their number and the sums of both parts.
-fn walks_over_all<F: Frontier + Drop>(rt: &impl Abort, alloc: Global) {
-    let queue: F = filled_with_ties(rt, alloc);
+fn walks_over_all<F: Frontier + Drop>(rt: &impl Abort, queue: F) {
+    let queue = fill_with_ties(rt, queue);
     let (mut count, mut sum_of_f, mut sum_of_nodes) = (0u32, 0u64, 0u64);
     for (f, node) in queue.iter() {
         count = count.saturating_add(1);
@@ -222,7 +235,9 @@ fn walks_over_all<F: Frontier + Drop>(rt: &impl Abort, alloc: Global) {
 
 #[test]
 fn each_pair_is_walked_over(rt: HostRuntime) {
-    walks_over_all::<BucketFrontier>(&rt, rt.alloc());
-    walks_over_all::<ListFrontier>(&rt, rt.alloc());
-    walks_over_all::<TieFrontier>(&rt, rt.alloc());
+    walks_over_all(&rt, BucketFrontier::new(rt.alloc()));
+    walks_over_all(&rt, ListFrontier::new(rt.alloc()));
+    walks_over_all(&rt, TieFrontier::new(rt.alloc()));
+    walks_over_all(&rt, EitherFrontier::new(rt.alloc()));
+    walks_over_all(&rt, EitherFrontier::with_ties(rt.alloc()));
 }

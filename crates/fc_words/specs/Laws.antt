@@ -1,7 +1,8 @@
 -- What the laws of this crate state.
 use Rattle.std.specs.Prelude.{◌≡◌}
 use Rattle.fc_bound.specs.declared.kinds.BoundKind.{BoundKind}
-use Rattle.fc_words.specs.Names.{bound_name, game_name, task_name}
+use Rattle.fc_best_first.specs.declared.strategies.Expansion.{Expansion}
+use Rattle.fc_words.specs.Names.{bound_name, expansion_name, game_name, task_name}
 use Rattle.fc_words.specs.declared.games.GameName.{GameName}
 use Rattle.fc_words.specs.declared.tasks.Task.{Task}
 
@@ -12,6 +13,10 @@ GamesHaveTheirOwnNames = (a b : GameName) → game_name a ≡ game_name b → a 
 -- no two bounds have one name
 abbrev pub BoundsHaveTheirOwnNames : Type 0
 BoundsHaveTheirOwnNames = (a b : BoundKind) → bound_name a ≡ bound_name b → a ≡ b
+
+-- no two expansions have one name
+abbrev pub ExpansionsHaveTheirOwnNames : Type 0
+ExpansionsHaveTheirOwnNames = (a b : Expansion) → expansion_name a ≡ expansion_name b → a ≡ b
 
 -- no two subcommands have one name
 abbrev pub TasksHaveTheirOwnNames : Type 0

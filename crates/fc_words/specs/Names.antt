@@ -2,6 +2,8 @@
 use Rattle.std.specs.Prelude.{ℕ, List, codes}
 use Rattle.fc_bound.specs.declared.kinds.BoundKind.{BoundKind}
 use Rattle.fc_bound.specs.declared.kinds.BoundKind.TheVariants.{Plain, Clearing}
+use Rattle.fc_best_first.specs.declared.strategies.Expansion.{Expansion}
+use Rattle.fc_best_first.specs.declared.strategies.Expansion.TheVariants.{Full, Partial}
 use Rattle.fc_words.specs.declared.games.GameName.{GameName}
 use Rattle.fc_words.specs.declared.games.GameName.TheVariants.{FreeCell, Bakers}
 use Rattle.fc_words.specs.declared.tasks.Task.{Task}
@@ -16,6 +18,16 @@ game_name Bakers = codes "bakers"
 abbrev pub bound_name : BoundKind → List ℕ
 bound_name Plain = codes "plain"
 bound_name Clearing = codes "clearing"
+
+-- the name of an expansion
+abbrev pub expansion_name : Expansion → List ℕ
+expansion_name Full = codes "full"
+expansion_name Partial = codes "partial"
+
+-- the expansion of a search by a bound that isn't told one
+abbrev pub usual_expansion : BoundKind → Expansion
+usual_expansion Plain = Full
+usual_expansion Clearing = Partial
 
 -- the name of a subcommand
 abbrev pub task_name : Task → List ℕ

@@ -3,7 +3,7 @@ ghost use Rattle.fc_methods.specs.declared.methods.Method.{Method};
 ghost use Rattle.fc_best_first.specs.Limits.{IsBudget};
 
 use crate::games::GameName;
-use fc_methods::{BoundKind, Budget, HomeRule, Method, Weight};
+use fc_methods::{BoundKind, Budget, Expansion, HomeRule, Method, Strategy, Weight};
 
 /// What a command line asks for.
 #[derive(Clone, Copy)]
@@ -62,6 +62,8 @@ pub struct SearchWords {
     pub weight: Weight,
     /// The kind of bound.
     pub bound: BoundKind,
+    /// Which children of a class are stored with it.
+    pub expansion: Expansion,
     /// How many classes of positions may be stored, as it was told: it may be none, or more than a budget can be.
     pub budget: u32,
 }
@@ -70,13 +72,16 @@ impl SearchWords {
     /// The method that is asked for; `None` where the budget is outside 1 to 4,000,000.
     pub fn method(&self) -> Option<Method>
         ensures range { IsSome result ↔ IsBudget self.now.budget }
-        ensures value { IfSome result (λ method. method ≡ record { rule = self.now.rule; weight = self.now.weight; bound = self.now.bound; budget = self.now.budget }) }
+        ensures value { IfSome result (λ method. method ≡ record { rule = self.now.rule; bound = self.now.bound; strategy = record { weight = self.now.weight; expansion = self.now.expansion; budget = self.now.budget } }) }
     {
         Some(Method {
             rule: self.rule,
-            weight: self.weight,
             bound: self.bound,
-            budget: Budget::new(self.budget)?,
+            strategy: Strategy {
+                weight: self.weight,
+                expansion: self.expansion,
+                budget: Budget::new(self.budget)?,
+            },
         })
     }
 }

@@ -1,5 +1,5 @@
 //! Laws of the names.
-ghost use Rattle.fc_words.specs.Laws.{BoundsHaveTheirOwnNames, GamesHaveTheirOwnNames, TasksHaveTheirOwnNames};
+ghost use Rattle.fc_words.specs.Laws.{BoundsHaveTheirOwnNames, ExpansionsHaveTheirOwnNames, GamesHaveTheirOwnNames, TasksHaveTheirOwnNames};
 
 /// No two games have one name.
 pub fn games_have_their_own_names()
@@ -9,6 +9,11 @@ pub fn games_have_their_own_names()
 /// No two bounds have one name.
 pub fn bounds_have_their_own_names()
     ensures { BoundsHaveTheirOwnNames }
+{}
+
+/// No two expansions have one name.
+pub fn expansions_have_their_own_names()
+    ensures { ExpansionsHaveTheirOwnNames }
 {}
 
 /// No two subcommands have one name.

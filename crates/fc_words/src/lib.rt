@@ -8,6 +8,7 @@ pub use commands::{
     BatchWords, BoardWord, CheckWords, Command, DealWords, GameWords, MovesWord, ReplayWords,
     SearchWords, ShowWords, SolveWords,
 };
+pub use expansions::{expansion_name, expansion_of_name, usual_expansion};
 pub use faults::WordsFault;
 pub use games::GameName;
 pub use reading::read;
@@ -16,6 +17,7 @@ pub use tasks::Task;
 mod alone;
 mod bounds;
 mod commands;
+mod expansions;
 mod faults;
 mod games;
 pub mod laws;

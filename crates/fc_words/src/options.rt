@@ -5,11 +5,12 @@ ghost use Rattle.std.specs.Prelude.{◌≤◌, IfSome};
 
 use crate::bounds::{BOUND_NAMES, bound_of_name};
 use crate::commands::{BoardWord, GameWords, MovesWord, SearchWords};
+use crate::expansions::{EXPANSION_NAMES, expansion_of_name, usual_expansion};
 use crate::faults::WordsFault;
 use crate::games::GameName;
 use clap::ArgMatches;
 use fc_home::GREATEST_RULE;
-use fc_methods::{BoundKind, HomeRule, MOST_BUDGET, MOST_WEIGHT, Weight};
+use fc_methods::{BoundKind, Expansion, HomeRule, MOST_BUDGET, MOST_WEIGHT, Weight};
 use fc_plain::read_count;
 
 /// What a word of a subcommand is.
@@ -23,6 +24,8 @@ pub(crate) enum Kind {
     },
     /// An option with one of these names, the first of which is the default.
     Name(&'static [&'static str]),
+    /// An option with one of these names, and the one that is meant where none is told hangs on other words.
+    NameByOthers(&'static [&'static str]),
     /// An option with a text, and the text where none is given.
     Text {
         value: &'static str,
@@ -143,25 +146,43 @@ fn weight(words: &ArgMatches<'_>) -> Option<Weight> {
 pub(crate) const BOUND: Word = Word {
     name: "bound",
     kind: Kind::Name(&BOUND_NAMES),
-    help: "How to look ahead: plain, or clearing, which answers far more",
+    help: "How to look ahead: plain, or clearing, which answers more",
 };
 
 fn bound(words: &ArgMatches<'_>) -> Option<BoundKind> {
     bound_of_name(words.get_str(BOUND.name)?)
 }
 
+pub(crate) const EXPAND: Word = Word {
+    name: "expand",
+    kind: Kind::NameByOthers(&EXPANSION_NAMES),
+    help: "What to keep: full, or partial, fewer positions in more time",
+};
+
+// The expansion that is told, else the usual one by this bound.
+fn expansion(words: &ArgMatches<'_>, bound: BoundKind) -> Option<Expansion> {
+    match words.get_str(EXPAND.name) {
+        Some(name) => expansion_of_name(name),
+        None => Some(usual_expansion(bound)),
+    }
+}
+
 /// How the words ask to search.
 pub(crate) fn search(words: &ArgMatches<'_>) -> Result<SearchWords, WordsFault> {
     let budget = budget(words)?;
-    match (rule(words), weight(words), bound(words)) {
-        (Some(rule), Some(weight), Some(bound)) => Ok(SearchWords {
-            rule,
-            weight,
-            bound,
-            budget,
-        }),
-        _ => Err(WordsFault::Missing),
-    }
+    let (Some(rule), Some(weight), Some(bound)) = (rule(words), weight(words), bound(words)) else {
+        return Err(WordsFault::Missing);
+    };
+    let Some(expansion) = expansion(words, bound) else {
+        return Err(WordsFault::Missing);
+    };
+    Ok(SearchWords {
+        rule,
+        weight,
+        bound,
+        expansion,
+        budget,
+    })
 }
 
 const BOARD: &str = "BOARD";

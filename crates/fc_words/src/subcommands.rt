@@ -9,8 +9,8 @@ use crate::commands::{
 };
 use crate::faults::WordsFault;
 use crate::options::{
-    BOUND, BUDGET, CELLS, DEAL, GAME, KINGS, Kind, MOVES, NEEDED_BOARD, OPTIONAL_BOARD, RULE,
-    WITHIN, Word, game, moves, needed_board, optional_board, search,
+    BOUND, BUDGET, CELLS, DEAL, EXPAND, GAME, KINGS, Kind, MOVES, NEEDED_BOARD, OPTIONAL_BOARD,
+    RULE, WITHIN, Word, game, moves, needed_board, optional_board, search,
 };
 use crate::tasks::Task;
 use clap::ArgMatches;
@@ -79,7 +79,7 @@ pub(crate) fn show<'a>(words: &ArgMatches<'a>) -> Option<ShowWords<'a>>
     })
 }
 
-// `solve [--budget B] [--cert FILE] [--within W] [--bound NAME] [--boards] [--stats] [--quiet] [GAME] [--rule R] [--deal N]
+// `solve [--budget B] [--cert FILE] [--within W] [--bound NAME] [--expand NAME] [--boards] [--stats] [--quiet] [GAME] [--rule R] [--deal N]
 // [BOARD]`.
 static SOLVING: Subcommand = Subcommand {
     about: "Prints a shortest solution, or that the board can't be won, or that it gave up",
@@ -98,6 +98,7 @@ Examples:
         CERT_OPTION,
         WITHIN,
         BOUND,
+        EXPAND,
         BOARDS,
         STATS,
         QUIET,
@@ -230,7 +231,7 @@ pub(crate) fn replay<'a>(words: &ArgMatches<'a>) -> Result<ReplayWords<'a>, Word
     })
 }
 
-// `batch FROM TO [--table] [--budget B] [--within W] [--bound NAME] [GAME] [--rule R]`.
+// `batch FROM TO [--table] [--budget B] [--within W] [--bound NAME] [--expand NAME] [GAME] [--rule R]`.
 static BATCHING: Subcommand = Subcommand {
     about: "Solves up to 32 numbered deals side by side, and prints a line for each, without moves",
     after_help: "Status: the greatest of the lines': 0 a solution, 1 can't be won, 2 gave up, 4 want of memory;
@@ -238,7 +239,7 @@ and 3 for what was asked and isn't right, 5 where writing failed.
 
 Example: fc_solve batch 11982 11982",
     words: &[
-        FROM, TO, TABLE, BUDGET, WITHIN, BOUND, GAME, KINGS, CELLS, RULE,
+        FROM, TO, TABLE, BUDGET, WITHIN, BOUND, EXPAND, GAME, KINGS, CELLS, RULE,
     ],
 };
 

@@ -60,6 +60,9 @@ fn arg_of<'a>(alloc: Global, word: &'static Word) -> Result<Arg<'a>, AllocError>
                 .value_parser(names)
                 .hide_possible_values(true)
         }
+        Kind::NameByOthers(names) => with_value(arg, word.name, "NAME", None)
+            .value_parser(names)
+            .hide_possible_values(true),
         Kind::Text { value, default } => with_value(arg, word.name, value, default),
         Kind::Flag => arg.long(word.name).action(ArgAction::SetTrue),
         Kind::DealInPlaceOf(board) => with_value(arg, word.name, "N", None)

@@ -1,60 +1,146 @@
-use Rattle.std.proofs.Common.{arith}
-use Rattle.fc_best_first.proofs.KeptLemmas.{taken_floor, taken_within, entry_reached, entry_low}
-use Rattle.fc_best_first.proofs.TurnLemmas.{children_reached}
+use Rattle.std.proofs.Common.{◌≡◌, ◌-◌, ◌≤◌, Option, Some, inl, length, subst, arith, refl}
+use Rattle.std.specs.Prelude.{IsTrue, MatchOption, slice_get}
+use Rattle.std.proofs.lemmas.Result.{IfOk-weaker}
+use Rattle.fc_best_first.specs.Graph.{Task}
+use Rattle.fc_best_first.specs.Store.{IsTaken}
+use Rattle.fc_best_first.specs.Turn.{Advances, Closes, ExpandsTaken, IsPresent, IsStale}
+use Rattle.fc_best_first.specs.inner.Turn.{Becomes}
+use Rattle.fc_best_first.specs.Kept.{f_of}
+use Rattle.fc_best_first.proofs.KeptLemmas.{entry_low, entry_reached, pair_high, stands_within, taken_floor, taken_within}
+use Rattle.fc_best_first.proofs.ClosedLemmas.{kept_back}
+use Rattle.fc_best_first.proofs.TurnLemmas.{becomes_advances, children_reached, expands_grow, placing_ready, taken_present}
 use Rattle.fc_best_first.proofs.turns.advance.Goals as goal
+use Rattle.fc_best_first.proofs.turns.advance.Goals.{After-visit_present}
 
 pub at-requires : goal.at-requires
-at-requires g c = record {
-  within = taken_within (g.S.Space.graph c.args.space.now) c.args.weight c.args.budget c.args.book.now c.take.new.self c.in-Some.f
-      c.in-Some.number c.requires.kept.sound c.in-Some.ensures.taken c.in-Some.ensures.kept;
-}
-
-pub is_won-requires : goal.is_won-requires
-is_won-requires g c = record {
-  reached = entry_reached (g.S.Space.graph c.args.space.now) c.args.weight c.args.budget c.args.book.now c.take.new.self c.in-Some.number _ _
-      c.requires.kept.sound c.in-Some.ensures.kept c.at.ensures.stands;
-}
-
-pub weighed-requires : goal.weighed-requires
-weighed-requires g c =
-    let low = entry_low (g.S.Space.graph c.args.space.now) c.args.weight c.args.budget c.args.book.now c.take.new.self c.in-Some.number _ _
-    c.requires.kept.sound c.get.ensures.range.greatest c.in-Some.ensures.kept c.at.ensures.stands in
-    record { low = omega (arith, low) }
-
-pub expand-requires-clause-low : goal.expand-requires-clause-low
-expand-requires-clause-low g c =
-    entry_low (g.S.Space.graph c.args.space.now) c.args.weight c.args.budget c.args.book.now c.take.new.self c.in-Some.number _ _
-    c.requires.kept.sound c.get.ensures.range.greatest c.in-Some.ensures.kept c.at.ensures.stands
-
-pub visit-bound-requires : goal.visit-bound-requires
-visit-bound-requires g c = record {
-  reached = entry_reached (g.S.Space.graph c.args.space.now) c.args.weight c.args.budget c.args.book.now c.take.new.self c.in-Some.number _ _
-      c.requires.kept.sound c.in-Some.ensures.kept c.at.ensures.stands;
-}
+at-requires g c =
+    let task : Task g.row.K.Denot = record { graph = g.S.Space.graph c.args.space.now; strategy = c.args.strategy.now } in
+    record {
+      within = taken_within task c.args.book.now c.take.new.self c.in-Some.f
+          c.in-Some.number c.requires.kept.sound c.in-Some.ensures.taken c.in-Some.ensures.kept;
+    }
 
 pub returns-then-is_won-clause-floor : goal.returns-then-is_won-clause-floor
 returns-then-is_won-clause-floor g c = taken_floor c.args.book.now.waiting c.take.new.self.waiting c.in-Some.f c.in-Some.number c.args.floor.now
     c.max.result c.in-Some.ensures.taken c.in-Some.ensures.least c.max.ensures
 
-pub returns-then-weighed-f-clause-floor : goal.returns-then-weighed-f-clause-floor
-returns-then-weighed-f-clause-floor g c = taken_floor c.args.book.now.waiting c.take.new.self.waiting c.in-Some.f c.in-Some.number c.args.floor.now
+pub overflow_sub-over : goal.overflow_sub-over
+overflow_sub-over g c =
+    let task : Task g.row.K.Denot = record { graph = g.S.Space.graph c.args.space.now; strategy = c.args.strategy.now } in
+    let stands = kept_back c.args.book.now c.take.new.self c.in-Some.number c.at.result.0.now c.at.result.1 c.in-Some.ensures.kept c.at.ensures.stands in
+    let high = pair_high task c.args.book.now c.in-Some.f c.in-Some.number c.take.new.self.waiting c.at.result.0.now c.at.result.1
+    c.requires.kept.sound c.in-Some.ensures.taken stands in
+    omega (arith, high)
+
+-- the pair that is taken
+taken : (g : _) (c : After-visit_present g) → IsTaken c.args.book.now c.take.new.self c.in-Some.f c.in-Some.number c.at.result.0.now c.at.result.1
+taken g c = record {
+  taken = c.in-Some.ensures.taken;
+  least = c.in-Some.ensures.least;
+  kept = c.in-Some.ensures.kept;
+  noted = c.in-Some.ensures.noted;
+  stands = kept_back c.args.book.now c.take.new.self c.in-Some.number c.at.result.0.now c.at.result.1 c.in-Some.ensures.kept c.at.ensures.stands;
+}
+
+-- its cost is no more than its f
+low : (g : _) (c : After-visit_present g) → c.at.result.1.cost ≤ c.in-Some.f
+low g c =
+    let task : Task g.row.K.Denot = record { graph = g.S.Space.graph c.args.space.now; strategy = c.args.strategy.now } in
+    let high = pair_high task c.args.book.now c.in-Some.f c.in-Some.number c.take.new.self.waiting c.at.result.0.now c.at.result.1
+    c.requires.kept.sound c.in-Some.ensures.taken (taken g c).stands in
+    omega (arith, high)
+
+-- whether it is the present one of its key
+present : (g : _) (c : After-visit_present g)
+    → (IsTrue c.visit_present.result → IsPresent c.args.strategy.now.expansion c.args.book.now c.in-Some.number c.at.result.1
+    (f_of (record { graph = g.S.Space.graph c.args.space.now; strategy = c.args.strategy.now }) c.at.result.0.now c.at.result.1) c.in-Some.f)
+    × ((IsTrue c.visit_present.result → ⊥) → IsStale c.args.strategy.now.expansion c.args.book.now c.in-Some.number c.at.result.1
+    (f_of (record { graph = g.S.Space.graph c.args.space.now; strategy = c.args.strategy.now }) c.at.result.0.now c.at.result.1) c.in-Some.f)
+present g c =
+    let task : Task g.row.K.Denot = record { graph = g.S.Space.graph c.args.space.now; strategy = c.args.strategy.now } in
+    let le = low g c in
+    taken_present c.args.strategy.now.expansion task c.args.book.now c.in-Some.number c.at.result.0.now c.at.result.1 c.in-Some.f
+    (c.in-Some.f - c.at.result.1.cost) c.noted.result c.visit_present.result c.requires.kept.sound.noted (taken g c).stands le (omega (arith, le))
+    (subst (λ os. MatchOption c.noted.result (length os ≤ c.in-Some.number) (λ o. slice_get os c.in-Some.number ≡ Some o)) c.in-Some.ensures.noted
+    c.noted.ensures.value)
+    c.visit_present.ensures.present
+
+not_won : (g : _) (c : After-visit_present g) → (g.S.Space.graph c.args.space.now).won c.at.result.0.now → ⊥
+not_won g c won = let yes = c.is_won.ensures.value.1 won in let no = c.if-is_won.false in cc
+
+pub returns-then-not-visit_present-clause-floor : goal.returns-then-not-visit_present-clause-floor
+returns-then-not-visit_present-clause-floor g c = taken_floor c.args.book.now.waiting c.take.new.self.waiting c.in-Some.f c.in-Some.number c.args.floor.now
     c.max.result c.in-Some.ensures.taken c.in-Some.ensures.least c.max.ensures
 
-pub returns-in_err-key-clause-floor : goal.returns-in_err-key-clause-floor
-returns-in_err-key-clause-floor g c = taken_floor c.args.book.now.waiting c.take.new.self.waiting c.in-Some.f c.in-Some.number c.args.floor.now
-    c.max.result c.in-Some.ensures.taken c.in-Some.ensures.least c.max.ensures
+pub returns-then-not-visit_present-clause-takes : goal.returns-then-not-visit_present-clause-takes
+returns-then-not-visit_present-clause-takes g c =
+    let now = goal.at.returns-then-not-visit_present-clause-takes g c in
+    inl (
+      c.in-Some.f,
+      c.in-Some.number,
+      c.at.result.0.now,
+      c.at.result.1,
+      taken g now.After-visit_present,
+      not_won g now.After-visit_present,
+      (present g now.After-visit_present).1 (λ yes. let no = c.if-not-visit_present.true in cc),
+    )
 
-pub returns-in-Some-2-clause-floor : goal.returns-in-Some-2-clause-floor
-returns-in-Some-2-clause-floor g c = taken_floor c.args.book.now.waiting c.take.new.self.waiting c.in-Some.f c.in-Some.number c.args.floor.now
-    c.max.result c.in-Some.ensures.taken c.in-Some.ensures.least c.max.ensures
-
-pub returns-in-None-clause-floor : goal.returns-in-None-clause-floor
-returns-in-None-clause-floor g c = taken_floor c.args.book.now.waiting c.take.new.self.waiting c.in-Some.f c.in-Some.number c.args.floor.now
-    c.max.result c.in-Some.ensures.taken c.in-Some.ensures.least c.max.ensures
+pub expand-requires-clause-low : goal.expand-requires-clause-low
+expand-requires-clause-low g c =
+    entry_low (record { graph = g.S.Space.graph c.args.space.now; strategy = c.args.strategy.now }) c.args.book.now c.take.new.self c.in-Some.number _ _
+    c.requires.kept.sound c.get.ensures.range.greatest c.in-Some.ensures.kept c.at.ensures.stands
 
 pub expand-requires-clause-reached : goal.expand-requires-clause-reached
 expand-requires-clause-reached g c = λ children rest.
     children_reached (g.S.Space.graph c.args.space.now) c.at.result.0.now children
-    (entry_reached (g.S.Space.graph c.args.space.now) c.args.weight c.args.budget c.args.book.now c.take.new.self c.in-Some.number _ _
-    c.requires.kept.sound c.in-Some.ensures.kept c.at.ensures.stands)
-    (c.visit-bound.ensures.children children rest)
+    (entry_reached (record { graph = g.S.Space.graph c.args.space.now; strategy = c.args.strategy.now }) c.args.book.now c.take.new.self
+    c.in-Some.number _ _ c.requires.kept.sound c.in-Some.ensures.kept c.at.ensures.stands)
+    (c.if-not-visit_present.ensures.children refl children rest)
+
+pub returns-in_err-placing-clause-floor : goal.returns-in_err-placing-clause-floor
+returns-in_err-placing-clause-floor g c = taken_floor c.args.book.now.waiting c.take.new.self.waiting c.in-Some.f c.in-Some.number c.args.floor.now
+    c.max.result c.in-Some.ensures.taken c.in-Some.ensures.least c.max.ensures
+
+pub close-requires : goal.close-requires
+close-requires g c =
+    let now = goal.at.close-requires g c in
+    let expands = c.in_ok-placing.ensures.expands in
+    let grow = expands_grow (record { graph = g.S.Space.graph c.args.space.now; strategy = c.args.strategy.now }) c.in-Some.f _ expands.0
+    c.take.new.self c.expand.new.book c.in_ok-placing.placing expands.2 in
+    let lt = stands_within c.take.new.self c.in-Some.number c.at.result.0.now c.at.result.1 c.at.ensures.stands in
+    record {
+      later = placing_ready c.args.strategy.now.expansion (g.S.Space.graph c.args.space.now) c.expand.new.book c.in-Some.number c.in-Some.f
+          c.at.result.1 c.in_ok-placing.placing c.in_ok-placing.ensures.noted (omega (arith, lt, grow)) (low g now.After-visit_present)
+          c.in_ok-placing.ensures.near;
+    }
+
+pub returns-clause-takes : goal.returns-clause-takes
+returns-clause-takes g c =
+    let now = goal.at.returns-clause-takes g c in
+    let task : Task g.row.K.Denot = record { graph = g.S.Space.graph c.args.space.now; strategy = c.args.strategy.now } in
+    let expands = c.in_ok-placing.ensures.expands in
+    let works : (left_out : Option g.row.K.Denot) → Closes c.expand.new.book c.close.new.book c.in-Some.number c.at.result.1 c.in_ok-placing.placing left_out
+    → ExpandsTaken task c.args.book.now c.close.new.book c.in-Some.number left_out = λ left_out closes. (
+      c.in-Some.f,
+      c.at.result.0.now,
+      c.at.result.1,
+      c.take.new.self,
+      taken g now.After-visit_present,
+      not_won g now.After-visit_present,
+      (present g now.After-visit_present).0 c.if-not-visit_present.false,
+      (
+        expands.0,
+        c.if-not-visit_present.ensures.children refl expands.0 expands.1,
+        (c.expand.new.book, c.in_ok-placing.placing, expands.2, closes),
+      ),
+    ) in
+    IfOk-weaker c.close.result
+    (Becomes c.expand.new.book c.close.new.book c.in-Some.number c.at.result.1 c.in_ok-placing.placing)
+    (Advances task c.args.book.now c.close.new.book)
+    (λ status becomes. becomes_advances task c.args.book.now c.expand.new.book c.close.new.book c.in-Some.number c.at.result.1
+    c.in_ok-placing.placing works status becomes)
+    c.close.ensures.closes
+
+pub returns-clause-floor : goal.returns-clause-floor
+returns-clause-floor g c = taken_floor c.args.book.now.waiting c.take.new.self.waiting c.in-Some.f c.in-Some.number c.args.floor.now
+    c.max.result c.in-Some.ensures.taken c.in-Some.ensures.least c.max.ensures

@@ -1,18 +1,26 @@
-use Rattle.std.proofs.Common.{◌≤◌, length, List, Option}
+use Rattle.std.proofs.Common.{◌≤◌, length, List}
+use Rattle.fc_best_first.specs.Kept.{AreNoted}
 use Rattle.fc_best_first.specs.Store.{Store}
 use Rattle.fc_best_first.specs.Turn.{Expands}
-use Rattle.fc_best_first.specs.inner.Turn.{AreReached}
+use Rattle.fc_best_first.specs.inner.Turn.{AreReached, IsLaterNear}
 use Rattle.fc_best_first.specs.declared.spaces.Child.{Child}
+use Rattle.fc_best_first.specs.declared.turns.Placing.{Placing}
+use Rattle.fc_best_first.specs.declared.turns.Placing.TheVariants.{Whole}
+use Rattle.fc_best_first.proofs.TurnLemmas.{put_off_first}
 use Rattle.fc_best_first.proofs.turns.expand.Given as goal
 
 abbrev pub invariant-loop-child : goal.invariant-loop-child
 invariant-loop-child g l = record {
-  room : length l.book.stored ≤ l.budget;
+  room : length l.book.stored ≤ l.strategy.budget;
+  noted : AreNoted l.strategy.expansion (g.S.Space.graph l.space) l.book;
+  near : IsLaterNear {K = g.row.K.Denot} l.strategy.expansion l.taken l.origin.cost (put_off_first l.later Whole);
   reached : (children : List (Child g.row.K.Denot)) → g.S.Space.rest l.walk children → AreReached (g.S.Space.graph l.space) children;
-  onward : (new : Store g.row.K.Denot) (left_out : Option g.row.K.Denot) (children : List (Child g.row.K.Denot))
-      → g.S.Space.rest l.walk children → Expands (record { graph = g.S.Space.graph l.space; weight = l.weight; budget = l.budget }) l.origin children l.book new left_out
+  onward : (new : Store g.row.K.Denot) (placing : Placing g.row.K.Denot) (children : List (Child g.row.K.Denot))
+      → g.S.Space.rest l.walk children
+      → Expands (record { graph = g.S.Space.graph l.space; strategy = l.strategy }) l.taken l.origin children l.book new placing
       → (all : List (Child g.row.K.Denot)) × g.S.Space.rest l.fn.walk all
-      × Expands (record { graph = g.S.Space.graph l.space; weight = l.weight; budget = l.budget }) l.origin all l.initial.book new left_out;
+      × Expands (record { graph = g.S.Space.graph l.space; strategy = l.strategy }) l.taken l.origin all l.initial.book new
+      (put_off_first l.later placing);
 }
 
 abbrev pub decreases-loop-child : goal.decreases-loop-child

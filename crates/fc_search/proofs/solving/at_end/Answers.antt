@@ -2,7 +2,7 @@ use Rattle.std.proofs.Common.{[], refl, subst, inl, inr}
 use Rattle.std.proofs.lemmas.Result.{err_from_is_err_and}
 use Rattle.fc_best_first.specs.declared.turns.Status.TheVariants.{Running}
 use Rattle.fc_best_first.specs.Search.{Begins, Runs}
-use Rattle.fc_search.specs.Problem.{classes_of, task_of_problem}
+use Rattle.fc_search.specs.Problem.{task_of_problem}
 use Rattle.fc_search.specs.Watch.{IsHeardInPart}
 use Rattle.fc_search.specs.inner.Watch.{IsHeardOn}
 use Rattle.fc_search.proofs.solving.at_end.Goals as goal
@@ -14,7 +14,7 @@ returns-clause-ran g c =
     let last = c.watch.new.search in
     record {
       first = search.store;
-      begins = subst (λ q. Begins (classes_of q) q.method.weight search.store) e.problem e.begins;
+      begins = subst (λ q. Begins (task_of_problem q) search.store) e.problem e.begins;
       runs = subst (λ q. Runs (task_of_problem q) Running search.store last.store last.status) e.problem c.watch.ensures.runs;
     }
 

@@ -50,7 +50,7 @@ loop-made-preserved g c =
     (subst (λ r. Turns (task_of_problem now.problem) Running now.store next.store next.status r) more_to_do
     (subst (λ s. Turns (task_of_problem now.problem) s now.store next.store next.status c.turn.result)
     c.loop-made.invariant.status c.turn.ensures.turns)) in
-    let falls = subst (λ (p : Problem). work_left p.method.budget next.store < work_left p.method.budget now.store) c.loop-made.invariant.problem (c.turn.ensures.falls more_to_do) in
+    let falls = subst (λ (p : Problem). work_left p.method.strategy.budget next.store < work_left p.method.strategy.budget now.store) c.loop-made.invariant.problem (c.turn.ensures.falls more_to_do) in
     record {
       problem = c.turn.ensures.problem ∙ c.loop-made.invariant.problem;
       status = replies_running (task_of_problem now.problem) next.status replied;

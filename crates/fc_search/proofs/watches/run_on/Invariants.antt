@@ -12,5 +12,5 @@ invariant-loop-made g l =
       problem : l.search.problem ≡ first.problem;
       status : l.search.status ≡ Running;
       turned : (before : ℕ) → TurnsMany l.made first.problem (stage_of first before) (stage_of l.search (before + l.made));
-      falls : l.made + work_left first.problem.method.budget l.search.store ≤ work_left first.problem.method.budget first.store;
+      falls : l.made + work_left first.problem.method.strategy.budget l.search.store ≤ work_left first.problem.method.strategy.budget first.store;
     }

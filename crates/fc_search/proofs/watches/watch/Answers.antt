@@ -8,7 +8,7 @@ use Rattle.fc_best_first.specs.declared.turns.Status.TheVariants.{Stopped}
 use Rattle.fc_best_first.specs.Search.{Runs, reply_of}
 use Rattle.fc_best_first.specs.Turn.{work_left}
 use Rattle.fc_classes.proofs.TableLemmas.{lawful}
-use Rattle.fc_search.specs.Problem.{Problem, classes_of, task_of_problem}
+use Rattle.fc_search.specs.Problem.{Problem, task_of_problem}
 use Rattle.fc_search.specs.declared.listeners.Progress.{Progress}
 use Rattle.fc_search.specs.inner.Watch.{stage_of}
 use Rattle.fc_search.proofs.FarLemmas.{heard_stopped, heard_then, heard_to, is_first, tells_floor, turned_on}
@@ -28,7 +28,7 @@ pub overflow_add-turns : goal.overflow_add-turns
 overflow_add-turns g c =
     let first = c.args.search.now in
     let q = first.problem in
-    let work = begun_work (classes_of q) q.method.weight q.method.budget first.store
+    let work = begun_work (task_of_problem q) first.store
     (lawful (guide_of q.method.bound) q.game q.method.rule q.start (bounds_lower q.method.bound).0 c.known.ensures.fits) c.requires.begins c.known.ensures.budget.greatest in
     let falls = c.loop-step.invariant.falls in
     let few = c.run_on-made.ensures.few in
@@ -65,7 +65,7 @@ returns-in_default-clause-heard g c =
     let turned = turned_on q now next c.loop-step.turns c.run_on-made.result.0 c.loop-step.invariant.problem
     (c.run_on-made.ensures.turned c.loop-step.turns) in
     let floor = tells_floor q next turns far (c.run_on-made.ensures.problem ∙ c.loop-step.invariant.problem)
-    (c.budget.ensures.value ∙ ap (λ (p : Problem). p.method.budget) (c.run_on-made.ensures.problem ∙ c.loop-step.invariant.problem)) refl
+    (c.budget.ensures.value ∙ ap (λ (p : Problem). p.method.strategy.budget) (c.run_on-made.ensures.problem ∙ c.loop-step.invariant.problem)) refl
     c.at_least.ensures.value c.at_least.ensures.floor in
     let stopped = ended_stopped c.run_on-made.result.1 next.status c.in_default.not-Ok c.run_on-made.ensures.reply in
     let begins = is_first q first refl c.requires.running c.requires.begins c.requires.floor in (
@@ -106,7 +106,7 @@ returns-in-Done-clause-heard g c =
     let turned = turned_on q now next c.loop-step.turns c.run_on-made.result.0 c.loop-step.invariant.problem
     (c.run_on-made.ensures.turned c.loop-step.turns) in
     let floor = tells_floor q next turns far (c.run_on-made.ensures.problem ∙ c.loop-step.invariant.problem)
-    (c.budget.ensures.value ∙ ap (λ (p : Problem). p.method.budget) (c.run_on-made.ensures.problem ∙ c.loop-step.invariant.problem)) refl
+    (c.budget.ensures.value ∙ ap (λ (p : Problem). p.method.strategy.budget) (c.run_on-made.ensures.problem ∙ c.loop-step.invariant.problem)) refl
     c.at_least.ensures.value c.at_least.ensures.floor in
     let done : c.run_on-made.result.1 ≡ Ok Done = c.in-Ok.is ∙ ap Ok c.in-Done.is in
     let replied = subst (λ r. MatchResult r (λ step. reply_of next.status ≡ Ok step) (λ f. (f ≡ Memory) × (next.status ≡ Stopped))) done
@@ -140,14 +140,14 @@ loop-step-preserved g c =
     let turned = turned_on q now next c.loop-step.turns c.run_on-made.result.0 c.loop-step.invariant.problem
     (c.run_on-made.ensures.turned c.loop-step.turns) in
     let floor = tells_floor q next turns far (c.run_on-made.ensures.problem ∙ c.loop-step.invariant.problem)
-    (c.budget.ensures.value ∙ ap (λ (p : Problem). p.method.budget) (c.run_on-made.ensures.problem ∙ c.loop-step.invariant.problem)) refl
+    (c.budget.ensures.value ∙ ap (λ (p : Problem). p.method.strategy.budget) (c.run_on-made.ensures.problem ∙ c.loop-step.invariant.problem)) refl
     c.at_least.ensures.value c.at_least.ensures.floor in
     let more : c.run_on-made.result.1 ≡ Ok running = c.in-Ok.is ∙ ap Ok c.in-Running.is in
     let replied = subst (λ r. MatchResult r (λ step. reply_of next.status ≡ Ok step) (λ f. (f ≡ Memory) × (next.status ≡ Stopped))) more
     c.run_on-made.ensures.reply in
     let greatest : far.most_open ≡ max c.loop-step.most_open far.open = omega (arith, c.max-most_open.ensures) in
     let going = replies_going (task_of_problem q) next.status running replied in
-    let falls = subst (λ (p : Problem). c.run_on-made.result.0 + work_left p.method.budget next.store ≤ work_left p.method.budget now.store)
+    let falls = subst (λ (p : Problem). c.run_on-made.result.0 + work_left p.method.strategy.budget next.store ≤ work_left p.method.strategy.budget now.store)
     c.loop-step.invariant.problem
     (c.run_on-made.ensures.falls more) in
     record {

@@ -13,10 +13,10 @@ invariant-loop-step g l =
     record {
       problem : l.search.problem ≡ first.problem;
       status : l.search.status ≡ Running;
-      falls : l.turns + work_left first.problem.method.budget l.search.store ≤ work_left first.problem.method.budget first.store;
+      falls : l.turns + work_left first.problem.method.strategy.budget l.search.store ≤ work_left first.problem.method.strategy.budget first.store;
       heard : (heard : List Progress) × HearsAll g.L.Listener.hears l.initial.listener heard l.listener × (l.most_open ≡ most_of 0 heard)
           × IsHeard first.problem (stage_of first 0) 0 heard (stage_of l.search l.turns);
     }
 
 abbrev pub decreases-loop-step : goal.decreases-loop-step
-decreases-loop-step g l = work_left l.search.problem.method.budget l.search.store
+decreases-loop-step g l = work_left l.search.problem.method.strategy.budget l.search.store

@@ -8,8 +8,7 @@ use Rattle.fc_best_first.proofs.searches.Search.run.Given as goal
 abbrev pub invariant-loop : goal.invariant-loop
 invariant-loop g l = record {
   space : l.self.space ≡ l.initial.self.space;
-  weight : l.self.weight ≡ l.initial.self.weight;
-  budget : l.self.budget ≡ l.initial.self.budget;
+  strategy : l.self.strategy ≡ l.initial.self.strategy;
   status : l.self.status ≡ l.initial.self.status;
   onward : (new : Store g.row.K.Denot) (after : Status g.row.K.Denot)
       → Runs (task_of g.S.Space.graph l.initial.self) l.self.status l.self.store new after
@@ -17,4 +16,4 @@ invariant-loop g l = record {
 }
 
 abbrev pub decreases-loop : goal.decreases-loop
-decreases-loop g l = work_left l.self.budget l.self.store
+decreases-loop g l = work_left l.self.strategy.budget l.self.store

@@ -11,48 +11,45 @@ use Rattle.fc_best_first.proofs.searches.Search.turn.Goals.{in-Running-status, i
 
 pub invariant_of-self : goal.invariant_of-self
 invariant_of-self g c =
-    let graph = g.S.Space.graph c.self.inside.space in (
+    let task : Task g.row.K.Denot = record { graph = g.S.Space.graph c.self.inside.space; strategy = c.self.inside.strategy } in
+    let kept = subst (Holds task c.self.inside.book) c.in-Running.is c.self.invariant.2 in (
       c.self.invariant.0,
       c.self.invariant.1,
-      takes_holds graph c.self.inside.weight c.self.inside.budget (g.met.S.Space.lawful c.self.inside.space) c.self.invariant.0.least c.self.inside.book c.advance.new.book
-          (subst (Holds graph c.self.inside.weight c.self.inside.budget c.self.inside.book) c.in-Running.is c.self.invariant.2) c.in-Ok.status
-          c.in-Ok.ensures.takes,
-      takes_floor graph c.self.inside.weight c.self.inside.budget (g.met.S.Space.lawful c.self.inside.space) c.self.invariant.0.least
-          c.self.inside.book c.self.inside.floor c.advance.new.floor
-          (subst (Holds graph c.self.inside.weight c.self.inside.budget c.self.inside.book) c.in-Running.is c.self.invariant.2)
-          c.self.invariant.3 c.in-Ok.ensures.floor,
+      takes_holds task (g.met.S.Space.lawful c.self.inside.space) c.self.invariant.0.least c.self.inside.book c.advance.new.book
+          kept c.in-Ok.status c.in-Ok.ensures.takes,
+      takes_floor task (g.met.S.Space.lawful c.self.inside.space) c.self.invariant.0.least
+          c.self.inside.book c.self.inside.floor c.advance.new.floor kept c.self.invariant.3 c.in-Ok.ensures.floor,
     )
 
 pub invariant_of-self-in-Err : goal.invariant_of-self-in-Err
 invariant_of-self-in-Err g c =
-    let graph = g.S.Space.graph c.self.inside.space in (
+    let task : Task g.row.K.Denot = record { graph = g.S.Space.graph c.self.inside.space; strategy = c.self.inside.strategy } in (
       c.self.invariant.0,
       c.self.invariant.1,
       tt,
-      takes_floor graph c.self.inside.weight c.self.inside.budget (g.met.S.Space.lawful c.self.inside.space) c.self.invariant.0.least
+      takes_floor task (g.met.S.Space.lawful c.self.inside.space) c.self.invariant.0.least
           c.self.inside.book c.self.inside.floor c.advance.new.floor
-          (subst (Holds graph c.self.inside.weight c.self.inside.budget c.self.inside.book) c.in-Running.is c.self.invariant.2)
+          (subst (Holds task c.self.inside.book) c.in-Running.is c.self.invariant.2)
           c.self.invariant.3 c.in-Err.ensures.floor,
     )
 
 pub returns-after-status-clause-falls : goal.returns-after-status-clause-falls
 returns-after-status-clause-falls g c =
-    let graph = g.S.Space.graph c.self.inside.space in
+    let task : Task g.row.K.Denot = record { graph = g.S.Space.graph c.self.inside.space; strategy = c.self.inside.strategy } in
     elim c.match-status.branch [
-      | in-Running-status w ↦ λ e. subst (λ p. work_left p.budget c.advance.new.book < work_left p.budget p.store) c.self.view_is
-          (takes_less graph c.self.inside.weight c.self.inside.budget (g.met.S.Space.lawful c.self.inside.space) c.self.invariant.0.least c.self.inside.book c.advance.new.book
-          (subst (Holds graph c.self.inside.weight c.self.inside.budget c.self.inside.book) c.in-Running.is c.self.invariant.2)
-          (subst (Advances (record { graph = graph; weight = c.self.inside.weight; budget = c.self.inside.budget }) c.self.inside.book c.advance.new.book) w.in-Running-status.is c.in-Ok.ensures.takes))
+      | in-Running-status w ↦ λ e. subst (λ p. work_left p.strategy.budget c.advance.new.book < work_left p.strategy.budget p.store) c.self.view_is
+          (takes_less task (g.met.S.Space.lawful c.self.inside.space) c.self.invariant.0.least c.self.inside.book c.advance.new.book
+          (subst (Holds task c.self.inside.book) c.in-Running.is c.self.invariant.2)
+          (subst (Advances task c.self.inside.book c.advance.new.book) w.in-Running-status.is c.in-Ok.ensures.takes))
       | in_default-status w ↦ λ e. absurd (cc)
     ]
 
 pub returns-after-status-clause-turns : goal.returns-after-status-clause-turns
 returns-after-status-clause-turns g c =
-    let graph = g.S.Space.graph c.self.inside.space in
     let old = c.self.inside.book in
     let new = c.advance.new.book in
     let after = c.in-Ok.status in
-    let task : Task g.row.K.Denot = record { graph = graph; weight = c.self.inside.weight; budget = c.self.inside.budget } in
+    let task : Task g.row.K.Denot = record { graph = g.S.Space.graph c.self.inside.space; strategy = c.self.inside.strategy } in
     let replies : Ok c.match-status.step ≡ reply_of after = elim c.match-status.branch [
       | in-Running-status w ↦ cc
       | in_default-status w ↦ ap Ok w.step-is ∙ done_replies task after old new

@@ -1,22 +1,23 @@
-use Rattle.std.proofs.Common.{◌≡◌, None, sym, ◌∙◌, subst}
+use Rattle.std.proofs.Common.{◌≡◌, None, ap, sym, ◌∙◌, subst}
 use Rattle.std.specs.Prelude.{IfOk}
 use Rattle.fc_best_first.specs.Shown.{Shows}
+use Rattle.fc_best_first.specs.declared.strategies.Strategy.{Strategy}
 use Rattle.fc_best_first.specs.declared.turns.Status.TheVariants.{GaveUp}
 use Rattle.fc_answers.specs.declared.answers.Verdict.TheVariants as verdict
 use Rattle.fc_search.specs.Search.{Answers}
 use Rattle.fc_search.proofs.AnswerLemmas.{gave_up_verdict}
-use Rattle.fc_search.specs.Problem.{Problem, classes_of}
+use Rattle.fc_search.specs.Problem.{Problem, task_of_problem}
 use Rattle.fc_search.proofs.searches.Search.answer.Goals as goal
 use Rattle.fc_search.proofs.searches.Search.answer.Goals.{in-Won, in-CannotWin, in-GaveUp}
 
 pub won-answer-requires-clause-shown : goal.won-answer-requires-clause-shown
 won-answer-requires-clause-shown g c =
-    subst (λ s. Shows (classes_of s.problem) s.problem.method.weight s.problem.method.budget s.store s.status)
+    subst (λ s. Shows (task_of_problem s.problem) s.store s.status)
     c.self.view_is c.status.ensures.shows
 
 pub cannot_win-answer-requires-clause-shown : goal.cannot_win-answer-requires-clause-shown
 cannot_win-answer-requires-clause-shown g c =
-    subst (λ s. Shows (classes_of s.problem) s.problem.method.weight s.problem.method.budget s.store s.status)
+    subst (λ s. Shows (task_of_problem s.problem) s.store s.status)
     c.self.view_is c.status.ensures.shows
 
 pub returns-in-Ok-clause-answers : goal.returns-in-Ok-clause-answers
@@ -34,13 +35,13 @@ returns-in-Ok-clause-answers g c =
           let stands : inner.status ≡ GaveUp w.in-GaveUp.field-0 w.in-GaveUp.field-1 = sym c.status.ensures.value ∙ w.in-GaveUp.is in
           let own : Problem = record {
             game = g.G.Game.game inner.space.rules.game;
-            method = record { rule = inner.space.rules.rule; weight = inner.weight; bound = inner.space.rules.kind; budget = inner.budget };
+            method = record { rule = inner.space.rules.rule; bound = inner.space.rules.kind; strategy = inner.strategy };
             start = inner.space.start;
           } in
-          let shows = subst (Shows (classes_of own) inner.weight inner.budget inner.store)
+          let shows = subst (Shows (task_of_problem own) inner.store)
           stands c.status.ensures.shows in
           let told = gave_up_verdict own inner.store
-          inner.space.fits w.in-GaveUp.field-0 w.in-GaveUp.field-1 w.get.result shows (w.get.ensures.value ∙ w.budget.ensures.value) in
+          inner.space.fits w.in-GaveUp.field-0 w.in-GaveUp.field-1 w.get.result shows (w.get.ensures.value ∙ ap (λ (v : Strategy). v.budget) w.strategy.ensures.value) in
           let answers : Answers own (record { verdict = verdict.GaveUp w.get.result; table = None }) =
           record { told = told; backed = tt; searched = tt } in
           subst (λ r. IfOk r (Answers now.problem))

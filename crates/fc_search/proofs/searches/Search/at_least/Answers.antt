@@ -1,5 +1,6 @@
-use Rattle.std.proofs.Common.{◌≡◌, ◌*◌, ◌≤◌, length, refl, sym, ◌∙◌, subst}
+use Rattle.std.proofs.Common.{◌≡◌, ◌*◌, ◌≤◌, length, ap, refl, sym, ◌∙◌, subst}
 use Rattle.fc_moves.specs.Run.{Wins}
+use Rattle.fc_best_first.specs.declared.strategies.Strategy.{Strategy}
 use Rattle.fc_search.proofs.FloorLemmas.{ceiling, floor_below}
 use Rattle.fc_search.proofs.searches.Search.at_least.Goals as goal
 
@@ -9,8 +10,8 @@ returns-clause-floor g c = λ moves wins.
     let inner = c.self.inside.search in
     let own : Wins (g.G.Game.game inner.space.rules.game) inner.space.start moves =
     subst (λ s. Wins s.problem.game s.problem.start moves) (sym c.self.view_is) wins in
-    let by : c.from-weight.result ≡ inner.weight = c.from-weight.ensures ∙ c.get.ensures.value ∙ c.weight.ensures.value in
-    let near = ceiling c.floor.result inner.weight c.from-weight.result c.div_ceil.result by c.weight.ensures.range.least c.div_ceil.ensures in
-    let under : c.floor.result ≤ inner.weight * length moves =
-    subst (λ n. n ≤ inner.weight * length moves) (sym c.floor.ensures.value) (c.floor.ensures.floor (length moves) (moves, refl, own)) in
-    floor_below inner.weight c.floor.result c.div_ceil.result (length moves) under near.1
+    let by : c.from-weight.result ≡ inner.strategy.weight = c.from-weight.ensures ∙ c.get.ensures.value ∙ ap (λ (v : Strategy). v.weight) c.strategy.ensures.value in
+    let near = ceiling c.floor.result inner.strategy.weight c.from-weight.result c.div_ceil.result by c.strategy.ensures.weight.least c.div_ceil.ensures in
+    let under : c.floor.result ≤ inner.strategy.weight * length moves =
+    subst (λ n. n ≤ inner.strategy.weight * length moves) (sym c.floor.ensures.value) (c.floor.ensures.floor (length moves) (moves, refl, own)) in
+    floor_below inner.strategy.weight c.floor.result c.div_ceil.result (length moves) under near.1

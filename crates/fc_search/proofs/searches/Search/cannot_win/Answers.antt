@@ -1,24 +1,23 @@
 use Rattle.std.proofs.Common.{subst}
 use Rattle.fc_best_first.specs.Shown.{Holds, Shows}
 use Rattle.fc_search.proofs.AnswerLemmas.{backed_whole, cannot_win_verdict}
-use Rattle.fc_search.specs.Problem.{classes_of}
+use Rattle.fc_search.specs.Problem.{task_of_problem}
 use Rattle.fc_search.proofs.searches.Search.cannot_win.Goals as goal
 
 pub table_of_all-requires : goal.table_of_all-requires
 table_of_all-requires g c =
     let q = c.args.self.now.problem in
-    record { sound = (subst (Holds (classes_of q) q.method.weight c.args.self.now.problem.method.budget c.args.self.now.store) c.requires.done c.requires.held).0 }
+    record { sound = (subst (Holds (task_of_problem q) c.args.self.now.store) c.requires.done c.requires.held).0 }
 
 pub returns-clause-answers : goal.returns-clause-answers
 returns-clause-answers g c =
     let q = c.args.self.now.problem in
-    let graph = classes_of q in
     let store = c.args.self.now.store in
     let made = c.in_ok-table.ensures in record {
       told = cannot_win_verdict q store c.known.ensures.fits c.known.ensures.rule c.known.ensures.budget.greatest
-          (subst (Holds graph q.method.weight q.method.budget store) c.requires.done c.requires.held)
-          (subst (Shows graph q.method.weight q.method.budget store) c.requires.done c.requires.shown);
+          (subst (Holds (task_of_problem q) store) c.requires.done c.requires.held)
+          (subst (Shows (task_of_problem q) store) c.requires.done c.requires.shown);
       backed = backed_whole q store c.known.ensures.fits c.in_ok-table.table
-          (subst (Holds graph q.method.weight q.method.budget store) c.requires.done c.requires.held) made.rule made.known made.few made.rising made.rows;
+          (subst (Holds (task_of_problem q) store) c.requires.done c.requires.held) made.rule made.known made.few made.rising made.rows;
       searched = (made.rule, made.bound);
     }

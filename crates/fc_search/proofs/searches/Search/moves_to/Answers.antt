@@ -13,8 +13,8 @@ pub loop-next-init : goal.loop-next-init
 loop-next-init g c =
     let now = c.args.self.now in
     let sp = c.space-space.result.now in
-    let e : record { game = g.G.Game.game sp.rules.game; method = record { rule = sp.rules.rule; weight = c.self.inside.search.weight; bound = sp.rules.kind; budget = c.self.inside.search.budget }; start = sp.start } ≡ now.problem =
-    ap (λ v. record { game = g.G.Game.game v.rules.game; method = record { rule = v.rules.rule; weight = c.self.inside.search.weight; bound = v.rules.kind; budget = c.self.inside.search.budget }; start = v.start }) c.space-space.ensures.value
+    let e : record { game = g.G.Game.game sp.rules.game; method = record { rule = sp.rules.rule; bound = sp.rules.kind; strategy = c.self.inside.search.strategy }; start = sp.start } ≡ now.problem =
+    ap (λ v. record { game = g.G.Game.game v.rules.game; method = record { rule = v.rules.rule; bound = v.rules.kind; strategy = c.self.inside.search.strategy }; start = v.start }) c.space-space.ensures.value
     ∙ ap (λ s. s.problem) c.self.view_is in
     let pp = subst (λ v. IsPositionOf v.game v.start) e sp.fits in
     let by = subst (λ v. SettlesBy v.game v.method.rule v.start c.settle-settling.result.items c.settle-settling.new.position) e
@@ -44,8 +44,8 @@ pub follow-requires-clause-fits : goal.follow-requires-clause-fits
 follow-requires-clause-fits g c =
     let now = c.args.self.now in
     let sp = c.space-space.result.now in
-    let e : record { game = g.G.Game.game sp.rules.game; method = record { rule = sp.rules.rule; weight = c.self.inside.search.weight; bound = sp.rules.kind; budget = c.self.inside.search.budget }; start = sp.start } ≡ now.problem =
-    ap (λ v. record { game = g.G.Game.game v.rules.game; method = record { rule = v.rules.rule; weight = c.self.inside.search.weight; bound = v.rules.kind; budget = c.self.inside.search.budget }; start = v.start }) c.space-space.ensures.value
+    let e : record { game = g.G.Game.game sp.rules.game; method = record { rule = sp.rules.rule; bound = sp.rules.kind; strategy = c.self.inside.search.strategy }; start = sp.start } ≡ now.problem =
+    ap (λ v. record { game = g.G.Game.game v.rules.game; method = record { rule = v.rules.rule; bound = v.rules.kind; strategy = c.self.inside.search.strategy }; start = v.start }) c.space-space.ensures.value
     ∙ ap (λ s. s.problem) c.self.view_is in
     let run = subst (λ v. Run v.game v.start c.loop-next.made.items c.loop-next.position) (sym e)
     c.loop-next.invariant.1.3 in
@@ -55,8 +55,8 @@ pub follow-requires-clause-leads : goal.follow-requires-clause-leads
 follow-requires-clause-leads g c =
     let now = c.args.self.now in
     let sp = c.space-space.result.now in
-    let e : record { game = g.G.Game.game sp.rules.game; method = record { rule = sp.rules.rule; weight = c.self.inside.search.weight; bound = sp.rules.kind; budget = c.self.inside.search.budget }; start = sp.start } ≡ now.problem =
-    ap (λ v. record { game = g.G.Game.game v.rules.game; method = record { rule = v.rules.rule; weight = c.self.inside.search.weight; bound = v.rules.kind; budget = c.self.inside.search.budget }; start = v.start }) c.space-space.ensures.value
+    let e : record { game = g.G.Game.game sp.rules.game; method = record { rule = sp.rules.rule; bound = sp.rules.kind; strategy = c.self.inside.search.strategy }; start = sp.start } ≡ now.problem =
+    ap (λ v. record { game = g.G.Game.game v.rules.game; method = record { rule = v.rules.rule; bound = v.rules.kind; strategy = c.self.inside.search.strategy }; start = v.start }) c.space-space.ensures.value
     ∙ ap (λ s. s.problem) c.self.view_is in
     let pp = subst (λ v. IsPositionOf v.game v.start) e sp.fits in
     let at = c.loop-next.invariant.0 in
@@ -78,8 +78,8 @@ pub loop-next-preserved : goal.loop-next-preserved
 loop-next-preserved g c =
     let now = c.args.self.now in
     let sp = c.space-space.result.now in
-    let e : record { game = g.G.Game.game sp.rules.game; method = record { rule = sp.rules.rule; weight = c.self.inside.search.weight; bound = sp.rules.kind; budget = c.self.inside.search.budget }; start = sp.start } ≡ now.problem =
-    ap (λ v. record { game = g.G.Game.game v.rules.game; method = record { rule = v.rules.rule; weight = c.self.inside.search.weight; bound = v.rules.kind; budget = c.self.inside.search.budget }; start = v.start }) c.space-space.ensures.value
+    let e : record { game = g.G.Game.game sp.rules.game; method = record { rule = sp.rules.rule; bound = sp.rules.kind; strategy = c.self.inside.search.strategy }; start = sp.start } ≡ now.problem =
+    ap (λ v. record { game = g.G.Game.game v.rules.game; method = record { rule = v.rules.rule; bound = v.rules.kind; strategy = c.self.inside.search.strategy }; start = v.start }) c.space-space.ensures.value
     ∙ ap (λ s. s.problem) c.self.view_is in
     let pp = subst (λ v. IsPositionOf v.game v.start) e sp.fits in
     let at = c.loop-next.invariant.0 in
@@ -96,7 +96,7 @@ loop-next-preserved g c =
     let run = subst (λ v. Run v.game c.loop-next.position led.0 c.follow.new.position) e led.2 in
     let few : length led.0 ≤ mark.cost - length c.loop-next.made.items = let le = led.3 in omega (arith, le, size) in
     let fits = subst (λ v. IsPositionOf v.game c.follow.new.position) e c.in_ok-follow.ensures.fits in
-    let there = walked_on now.problem.game now.problem.method.rule now.problem.start now.problem.method.budget now.store pp
+    let there = walked_on now.problem.game now.problem.method.rule now.problem.start now.problem.method.strategy.budget now.store pp
     at c.in-Some.next c.loop-next.made.items led.0 c.loop-next.position c.follow.new.position key mark c.loop-next.invariant.1
     c.at.ensures.stands leads.0 run few c.in_ok-follow.ensures.there fits in (
       c.in-Some.next,

@@ -10,7 +10,7 @@ use Rattle.fc_answers.specs.inner.Table.{inside}
 use Rattle.fc_search.specs.inner.Stored.{costs_of}
 use Rattle.fc_answers.proofs.RowLemmas.{inside_few, inside_once}
 use Rattle.fc_search.proofs.RowLemmas.{listed, passed_over, stored_once, looked, stored_long}
-use Rattle.fc_search.specs.Problem.{classes_of}
+use Rattle.fc_search.specs.Problem.{classes_of, task_of_problem}
 use Rattle.fc_search.proofs.searches.Search.table_below.Goals as goal
 use Rattle.fc_search.proofs.searches.Search.table_below.Goals.{then-mark-from+in_ok-push, else-mark-from}
 
@@ -76,8 +76,7 @@ sorted-requires-clause-once g c =
     let same = c.loop-number.invariant ∙ ap (inside low c.args.n) (looked store c.loop-number.number past) in
     subst HaveKeysOnce (sym same)
     (inside_once low c.args.n (costs_of store)
-    (stored_once (classes_of c.args.self.now.problem)
-    c.args.self.now.problem.method.weight c.args.self.now.problem.method.budget store c.requires.sound))
+    (stored_once (task_of_problem c.args.self.now.problem) store c.requires.sound))
 
 pub returns-clause-rows : goal.returns-clause-rows
 returns-clause-rows g c =

@@ -6,7 +6,7 @@ use Rattle.fc_answers.specs.inner.Table.{at_no_cost}
 use Rattle.fc_search.specs.inner.Stored.{costs_of}
 use Rattle.fc_answers.proofs.RowLemmas.{all_few, no_cost_once}
 use Rattle.fc_search.proofs.RowLemmas.{listed_free, stored_once, looked, stored_long}
-use Rattle.fc_search.specs.Problem.{classes_of}
+use Rattle.fc_search.specs.Problem.{task_of_problem}
 use Rattle.fc_search.proofs.searches.Search.table_of_all.Goals as goal
 
 pub loop-number-preserved : goal.loop-number-preserved
@@ -38,8 +38,7 @@ sorted-requires-clause-once g c =
     let same = c.loop-number.invariant ∙ ap at_no_cost (looked store c.loop-number.number past) in
     subst HaveKeysOnce (sym same)
     (no_cost_once (costs_of store)
-    (stored_once (classes_of c.args.self.now.problem)
-    c.args.self.now.problem.method.weight c.args.self.now.problem.method.budget store c.requires.sound))
+    (stored_once (task_of_problem c.args.self.now.problem) store c.requires.sound))
 
 pub returns-clause-rows : goal.returns-clause-rows
 returns-clause-rows g c =

@@ -10,7 +10,7 @@ loop-parent-preserved g c =
     let q = c.args.self.now.problem in
     let s = c.args.self.now.store in
     let from = c.in-Some.ensures.value in
-    let up = parent_less q.game q.method.rule q.method.weight q.method.bound q.start c.args.self.now.problem.method.budget s c.requires.sound c.loop-parent.number
+    let up = parent_less q s c.requires.sound c.loop-parent.number
     c.in-Some.parent from.0 from.1 from.2 from.3 from.4 in
     let more : reverse c.push.new.self.items ≡ c.loop-parent.number ∷ reverse c.loop-parent.way.items =
     ap reverse c.in_ok-push.ensures.items ∙ reverse-append c.loop-parent.way.items (c.loop-parent.number ∷ []) in (

@@ -5,28 +5,28 @@ use Rattle.fc_answers.specs.declared.answers.Verdict.TheVariants as verdict
 use Rattle.fc_answers.specs.inner.Table.{inside}
 use Rattle.fc_search.specs.Search.{IsOfStatus}
 use Rattle.fc_search.specs.inner.Stored.{costs_of}
+use Rattle.fc_best_first.specs.declared.strategies.Strategy.{Strategy}
 use Rattle.fc_search.proofs.AnswerLemmas.{backed_below, backed_shortest, floor_holds}
-use Rattle.fc_search.specs.Problem.{classes_of}
+use Rattle.fc_search.specs.Problem.{task_of_problem}
 use Rattle.fc_search.proofs.searches.Search.won.Goals as goal
 use Rattle.fc_bound.specs.Kinds.{guide_of}
 
 pub returns-clause-answers : goal.returns-clause-answers
 returns-clause-answers g c =
     let q = c.args.self.now.problem in
-    let graph = classes_of q in
     let store = c.args.self.now.store in
     let moves = c.in_ok-moves.moves in
     let table = c.in_ok-table-2.table in
-    let same : c.self.inside.search.weight ≡ q.method.weight = ap (λ s. s.problem.method.weight) c.self.view_is in
-    let value : c.get.result ≡ c.self.inside.search.weight = c.get.ensures.value ∙ c.weight.ensures.value in
-    let least = c.weight.ensures.range.least in
-    let light : q.method.weight ≡ 1 = let few = c.if-get-gt1.false in omega (arith, same, value, least, few) in
+    let same : c.self.inside.search.strategy.weight ≡ q.method.strategy.weight = ap (λ s. s.problem.method.strategy.weight) c.self.view_is in
+    let value : c.get.result ≡ c.self.inside.search.strategy.weight = c.get.ensures.value ∙ ap (λ (v : Strategy). v.weight) c.strategy.ensures.value in
+    let least = c.strategy.ensures.weight.least in
+    let light : q.method.strategy.weight ≡ 1 = let few = c.if-get-gt1.false in omega (arith, same, value, least, few) in
     let shortest = c.in_ok-moves.ensures.shortest light in
     let won = subst (λ s. IsOfStatus q store s (verdict.Shortest moves)) c.requires.done shortest.1 in
     let made = c.in_ok-table-2.ensures in record {
       told = shortest.0;
       backed = backed_shortest q store c.known.ensures.fits light c.args.number moves table
-          (subst (Holds graph q.method.weight q.method.budget store) c.requires.done c.requires.held) won.0 won.1 won.2 won.3 made.rule made.bound made.known
+          (subst (Holds (task_of_problem q) store) c.requires.done c.requires.held) won.0 won.1 won.2 won.3 made.rule made.bound made.known
           made.few made.rising (subst (λ n. IsPermutation (inside (guide_of q.method.bound) n (costs_of store)) table.rows) c.len.ensures.value made.rows);
       searched = (made.rule, made.bound);
     }
@@ -34,15 +34,14 @@ returns-clause-answers g c =
 pub returns-then-get-gt1-clause-answers : goal.returns-then-get-gt1-clause-answers
 returns-then-get-gt1-clause-answers g c =
     let q = c.args.self.now.problem in
-    let graph = classes_of q in
     let store = c.args.self.now.store in
     let floor = c.floor_of-floor.result in
     let told = c.floor_of-floor.ensures.value in
-    let same : c.self.inside.search.weight ≡ q.method.weight = ap (λ s. s.problem.method.weight) c.self.view_is in
-    let value : c.get.result ≡ c.self.inside.search.weight = c.get.ensures.value ∙ c.weight.ensures.value in
+    let same : c.self.inside.search.strategy.weight ≡ q.method.strategy.weight = ap (λ s. s.problem.method.strategy.weight) c.self.view_is in
+    let value : c.get.result ≡ c.self.inside.search.strategy.weight = c.get.ensures.value ∙ ap (λ (v : Strategy). v.weight) c.strategy.ensures.value in
     let many = c.if-get-gt1.true in
-    let heavy : 2 ≤ q.method.weight = omega (arith, same, value, many) in
-    let found = subst (Holds graph q.method.weight q.method.budget store) c.requires.done c.requires.held in
+    let heavy : 2 ≤ q.method.strategy.weight = omega (arith, same, value, many) in
+    let found = subst (Holds (task_of_problem q) store) c.requires.done c.requires.held in
     let holds = floor_holds q store c.known.ensures.fits c.args.number told.0 told.1 floor found told.2 told.3 in
     let made = c.in_ok-table.ensures in record {
       told = (c.in_ok-moves.ensures.within heavy floor told).0;

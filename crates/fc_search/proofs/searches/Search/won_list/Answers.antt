@@ -4,18 +4,17 @@ use Rattle.fc_best_first.proofs.KeptLemmas.{same_entry}
 use Rattle.fc_answers.specs.declared.answers.Verdict.TheVariants as verdict
 use Rattle.fc_search.specs.Search.{IsOfStatus}
 use Rattle.fc_search.proofs.AnswerLemmas.{shortest_verdict, won_length, won_verdict, won_within}
-use Rattle.fc_search.specs.Problem.{classes_of}
+use Rattle.fc_search.specs.Problem.{task_of_problem}
 use Rattle.fc_search.proofs.searches.Search.won_list.Goals as goal
 
 pub returns-clause-shortest : goal.returns-clause-shortest
 returns-clause-shortest g c light =
     let q = c.args.self.now.problem in
-    let graph = classes_of q in
     let store = c.args.self.now.store in
     let moves = c.in_ok-moves.moves in
     let there = c.in_ok-moves.ensures.there in
-    let shows = subst (Shows graph q.method.weight q.method.budget store) c.requires.done c.requires.shown in
-    let found = subst (Holds graph q.method.weight q.method.budget store) c.requires.done c.requires.held in
+    let shows = subst (Shows (task_of_problem q) store) c.requires.done c.requires.shown in
+    let found = subst (Holds (task_of_problem q) store) c.requires.done c.requires.held in
     let won = won_length q store c.known.ensures.fits light c.args.number moves there.0 shows there.1 in (
       shortest_verdict q store c.known.ensures.fits light c.args.number moves there.0
           c.known.ensures.rule c.known.ensures.budget.greatest found shows there.1,
@@ -26,16 +25,15 @@ returns-clause-shortest g c light =
 pub returns-clause-within : goal.returns-clause-within
 returns-clause-within g c heavy floor told =
     let q = c.args.self.now.problem in
-    let graph = classes_of q in
     let store = c.args.self.now.store in
     let moves = c.in_ok-moves.moves in
     let there = c.in_ok-moves.ensures.there in
-    let shows = subst (Shows graph q.method.weight q.method.budget store) c.requires.done c.requires.shown in
-    let found = subst (Holds graph q.method.weight q.method.budget store) c.requires.done c.requires.held in
+    let shows = subst (Shows (task_of_problem q) store) c.requires.done c.requires.shown in
+    let found = subst (Holds (task_of_problem q) store) c.requires.done c.requires.held in
     let mine = told.1 in
     let won = won_within q store c.known.ensures.fits c.args.number moves there.0 shows there.1 in
     let one = same_entry store c.args.number told.0 won.0 mine won.1 told.2 won.2 in
-    let own = subst (λ k. IsLeastOpen graph q.method.weight store k.cost floor) one.1 told.3 in (
+    let own = subst (λ k. IsLeastOpen (task_of_problem q) store k.cost floor) one.1 told.3 in (
       won_verdict q store c.known.ensures.fits heavy c.args.number moves won.0 won.1 floor
           c.known.ensures.rule c.known.ensures.budget.greatest found won.2 own won.3 won.4 won.5,
       subst (λ s. IsOfStatus q store s (verdict.Won moves floor)) (sym c.requires.done)

@@ -1,52 +1,9 @@
-use Rattle.std.proofs.Common.{reverse, sym, subst, ap, ◌∙◌}
-use Rattle.fc_moves.specs.GameRules.{IsPositionOf}
-use Rattle.fc_canonical.specs.Distinct.{ListsClasses}
-use Rattle.fc_canonical.specs.Key.{board_bytes}
-use Rattle.fc_canonical.specs.Order.{IsCanonical}
-use Rattle.fc_home.specs.Settles.{NoneGoesHome}
-use Rattle.fc_canonical.specs.Spelled.{spelled}
 use Rattle.fc_classes.proofs.PathLemmas.{reached_of_positions}
-use Rattle.fc_space.specs.Children.{AreChildrenBy}
-use Rattle.fc_space.specs.inner.Children.{AreAllowed}
-use Rattle.fc_space.proofs.ChildLemmas.{children_all}
-use Rattle.fc_space.proofs.StayLemmas.{none_goes}
 use Rattle.fc_space.proofs.positions.PositionsSpaceClassKey.visit.Goals as goal
 use Rattle.fc_bound.specs.Kinds.{guide_of}
 
-pub position-walk-inside-requires : goal.position-walk-inside-requires
-position-walk-inside-requires g c = record {
+pub position-position-requires : goal.position-position-requires
+position-position-requires g c = record {
   key = (reached_of_positions (guide_of c.args.self.now.rules.kind) (g.G.Game.game c.args.self.now.rules.game) c.args.self.now.rules.rule c.args.self.now.start c.args.key.now
       c.requires.reached.0 c.args.self.now.fits c.requires.reached.1).0;
 }
-
-pub invariant_of-walk : goal.invariant_of-walk
-invariant_of-walk g c =
-    let own = c.args.self.now in
-    let reached = reached_of_positions (guide_of own.rules.kind) (g.G.Game.game own.rules.game) own.rules.rule own.start c.args.key.now
-    c.requires.reached.0 own.fits c.requires.reached.1 in
-    let valid = reached.0 in
-    let settled = subst (NoneGoesHome own.rules.rule (g.G.Game.game own.rules.game)) (sym c.position-walk-inside.ensures.value)
-    (none_goes own.rules.rule (g.G.Game.game own.rules.game) (spelled c.args.key.now) reached.1) in
-    let position = subst (IsPositionOf (g.G.Game.game own.rules.game)) (sym c.position-walk-inside.ensures.value) valid.position in (
-      subst (λ r. IsPositionOf r c.position-walk-inside.result) (sym c.copy.ensures.value) position,
-      subst (λ r. AreAllowed r c.position-walk-inside.result c.distinct_moves-walk-inside.result.items) (sym c.copy.ensures.value)
-          c.distinct_moves-walk-inside.ensures.classes.allowed,
-      c.guide-walk-inside.ensures.value,
-      subst (λ r. NoneGoesHome own.rules.rule r c.position-walk-inside.result) (sym c.copy.ensures.value) settled,
-      (
-        subst IsCanonical (sym c.position-walk-inside.ensures.value) valid.ordered,
-        c.copy-walk-inside.ensures.value ∙ valid.bytes ∙ ap board_bytes (sym c.position-walk-inside.ensures.value),
-      ),
-    )
-
-pub returns-clause-children : goal.returns-clause-children
-returns-clause-children g c =
-    let own = c.args.self.now in
-    let rules = g.G.Game.game own.rules.game in
-    let x = c.args.key.now in
-    let moves = c.distinct_moves-walk-inside.result.items in
-    let valid = (reached_of_positions (guide_of own.rules.kind) rules own.rules.rule own.start x c.requires.reached.0 own.fits c.requires.reached.1).0 in
-    let lists = subst (λ b. ListsClasses rules b moves) c.position-walk-inside.ensures.value c.distinct_moves-walk-inside.ensures.classes in
-    λ children are. children_all rules own.rules.rule own.rules.kind own.start x moves children valid lists
-    (subst (λ b. AreChildrenBy rules own.rules.rule own.rules.kind b (reverse moves) children) c.position-walk-inside.ensures.value
-    (subst (λ r. AreChildrenBy r own.rules.rule own.rules.kind c.position-walk-inside.result (reverse moves) children) c.copy.ensures.value are))

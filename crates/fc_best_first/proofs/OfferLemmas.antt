@@ -1,0 +1,65 @@
+-- Lemmas on offering one key.
+use Rattle.std.proofs.Common.{◌≡◌, ℕ, ◌<◌, ◌≤◌, Some, length, refl, sym, ◌∙◌, ap, arith}
+use Rattle.std.specs.Prelude.{slice_get}
+use Rattle.std.proofs.lemmas.Option.{none-some}
+use Rattle.fc_best_first.specs.declared.books.Mark.{Mark}
+use Rattle.fc_best_first.specs.declared.books.Opening.{Opening}
+use Rattle.fc_best_first.specs.declared.books.Offered.{Offered}
+use Rattle.fc_best_first.specs.declared.books.Offered.TheVariants as offered
+use Rattle.fc_best_first.specs.declared.strategies.Expansion.{Expansion}
+use Rattle.fc_best_first.specs.declared.strategies.Expansion.TheVariants.{Full, Partial}
+use Rattle.fc_best_first.specs.declared.strategies.Strategy.{Strategy}
+use Rattle.fc_best_first.specs.Graph.{Graph}
+use Rattle.fc_best_first.specs.Kept.{AreNoted}
+use Rattle.fc_best_first.specs.Store.{Store, Candidate, IsNew, IsStored, Admits, Offers, PutsOff, Stores, opens_at}
+use Rattle.fc_best_first.specs.inner.Turn.{IsPutOffNear}
+use Rattle.fc_best_first.proofs.KeptLemmas.{stands_within}
+
+module _ {K : Type 0} where
+  -- what is stored is offered where it is admitted
+  pub stores_offers : (strategy : Strategy) (taken : ℕ) (old new : Store K) (offer : Candidate K) (o : Offered K) → IsNew old offer.key
+      → Admits strategy.expansion taken (opens_at offer.mark offer.opening) → Stores strategy old new offer o
+      → Offers strategy taken old new offer o
+  stores_offers strategy taken old new offer offered.Known fresh admits h = absurd h
+  stores_offers strategy taken old new offer offered.Lowered fresh admits h = absurd h
+  stores_offers strategy taken old new offer offered.Added fresh admits h = (fresh, admits, h)
+  stores_offers strategy taken old new offer (offered.Full y) fresh admits h = (fresh, admits, h)
+  stores_offers strategy taken old new offer (offered.PutOff f) fresh admits h = absurd h
+
+  -- and isn't put off
+  pub stores_near : (strategy : Strategy) (old new : Store K) (offer : Candidate K) (o : Offered K) (cost : ℕ)
+      → Stores strategy old new offer o → IsPutOffNear cost o
+  stores_near strategy old new offer offered.Known cost h = absurd h
+  stores_near strategy old new offer offered.Lowered cost h = absurd h
+  stores_near strategy old new offer offered.Added cost h = tt
+  stores_near strategy old new offer (offered.Full y) cost h = tt
+  stores_near strategy old new offer (offered.PutOff f) cost h = absurd h
+
+  -- of a stored key an opening is noted where expansion is partial
+  pub noted_within : (expansion : Expansion) (g : Graph K) (s : Store K) (i : ℕ) (x : K) (m : Mark) → AreNoted expansion g s
+      → IsStored s i x m → expansion ≡ Partial → i < length s.openings
+  noted_within Full g s i x m noted at same = absurd (cc)
+  noted_within Partial g s i x m noted at same =
+      let long = noted.0 in let lt = stands_within s i x m at in omega (arith, long, lt)
+
+  -- what is noted of a stored key tells its bound
+  pub noted_bound : (expansion : Expansion) (g : Graph K) (s : Store K) (i : ℕ) (x : K) (m : Mark) (o : Opening) → AreNoted expansion g s
+      → IsStored s i x m → slice_get s.openings i ≡ Some o → o.bound ≡ g.bound x
+  noted_bound Full g s i x m o noted at there = absurd (none-some o (ap (λ os. slice_get os i) (sym noted) ∙ there))
+  noted_bound Partial g s i x m o noted at there =
+      let own = noted.1 i x m at in
+      let one : o ≡ own.0 = (let both = sym there ∙ own.1 in cc) in
+      ap (λ q. q.bound) one ∙ own.2
+
+-- full expansion admits all, and partial expansion what is within
+pub admits_full : (expansion : Expansion) (taken f : ℕ) → (expansion ≡ Partial → ⊥) → Admits expansion taken f
+admits_full Full taken f other = tt
+admits_full Partial taken f other = absurd (other refl)
+
+pub admits_partial : (expansion : Expansion) (taken f : ℕ) → expansion ≡ Partial → f ≤ taken → Admits expansion taken f
+admits_partial Full taken f same le = tt
+admits_partial Partial taken f same le = le
+
+pub puts_off : (expansion : Expansion) (taken f later : ℕ) → expansion ≡ Partial → taken < later → later ≤ f → PutsOff expansion taken f later
+puts_off Full taken f later same lt le = absurd (cc)
+puts_off Partial taken f later same lt le = (lt, le)
