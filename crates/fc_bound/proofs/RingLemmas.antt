@@ -7,7 +7,6 @@ use Rattle.std.proofs.lemmas.List.Folds.{list_any_at}
 use Rattle.fc_cards.specs.Card.{all_cards}
 use Rattle.fc_position.specs.Board.{last_of}
 use Rattle.fc_bound.specs.Knots.{has_last, ends_with, waits_in, first_knotted, second_knotted, ends_among, is_among, waits_among, is_astray, is_ring, all_but, leave_out, leave_out_each, ring, is_in_knot}
-use Rattle.fc_bound.proofs.AboveLemmas.{not_true}
 use Rattle.fc_bound.proofs.ClearingLemmas.{last_there}
 use Rattle.fc_bound.proofs.HeldLemmas.{Found, found}
 use Rattle.fc_bound.proofs.LeftLemmas.{at_ends, last_is}

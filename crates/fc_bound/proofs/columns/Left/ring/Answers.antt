@@ -1,4 +1,4 @@
-use Rattle.std.proofs.Common.{cond, sym, ◌∙◌, ap, arith}
+use Rattle.std.proofs.Common.{cond, sym, ◌∙◌, ap}
 use Rattle.fc_bound.specs.Knots.{ends_among}
 use Rattle.fc_bound.proofs.RingCode.{Next, left_start, next_out, next_stays, left_end}
 use Rattle.fc_bound.proofs.TakeLemmas.{left_card}
