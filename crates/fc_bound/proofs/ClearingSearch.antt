@@ -16,8 +16,8 @@ use Rattle.fc_bound.proofs.HeldLemmas.{found, bit_most}
 use Rattle.fc_bound.proofs.ClearingLemmas.{cards_without, clearing_least}
 use Rattle.fc_bound.proofs.ClearingOrders.{fronts-wait, cost-taken}
 use Rattle.fc_bound.proofs.ClearingTied.{tied-best}
-use Rattle.fc_bound.proofs.LeftLemmas.{has_last_is}
-use Rattle.fc_bound.proofs.KnotLemmas.{knot-tied, last_is}
+use Rattle.fc_bound.proofs.LeftLemmas.{has_last_is, last_is}
+use Rattle.fc_bound.proofs.KnotLemmas.{knot-tied}
 use Rattle.fc_bound.proofs.KnotShed.{AreCards, is_shed, fronts-among, without-among, loose-free, shed-loose}
 use Rattle.fc_bound.proofs.KnotSteps.{shed_at}
 

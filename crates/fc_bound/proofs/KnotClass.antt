@@ -1,5 +1,5 @@
 -- Columns in another order have the same knots.
-use Rattle.std.proofs.Common.{◌≡◌, ℕ, ◌+◌, zero, suc, Bool, cond, List, refl, sym, ◌∙◌, ap, subst, arith, length}
+use Rattle.std.proofs.Common.{◌≡◌, ℕ, ◌+◌, zero, suc, Bool, cond, List, [], ◌∷◌, refl, sym, ◌∙◌, ap, subst, arith, length}
 use Rattle.std.specs.Prelude.{◌==◌, ◌&&◌, ◌||◌, not, count_by, nat_lt, slice_index}
 use Rattle.std.specs.List.{list_any}
 use Rattle.std.specs.List.Sorted.{IsPermutation}
@@ -8,7 +8,7 @@ use Rattle.fc_cards.specs.Card.{rank, suit, all_cards}
 use Rattle.fc_position.specs.Board.{last_of, front_of}
 use Rattle.fc_bound.specs.Bound.{is_away}
 use Rattle.fc_bound.specs.Clearing.{cards_in}
-use Rattle.fc_bound.specs.Knots.{has_last, ends_with, waits_above, is_loose, are_knotted, first_with, least_last, first_knotted, second_knotted, is_in_knot, shed, knots, knot_count, knot_bound}
+use Rattle.fc_bound.specs.Knots.{has_last, ends_with, waits_in, waits_above, is_loose, are_knotted, first_with, least_last, first_knotted, second_knotted, ends_among, is_among, is_astray, is_ring, all_but, leave_out, leave_out_each, ring, is_in_knot, shed, knots, knot_count, knot_bound}
 use Rattle.fc_bound.specs.Laws.{ClassMatesHaveOneKnotBound}
 use Rattle.fc_bound.proofs.ClearingOrders.{waits-moved}
 
@@ -42,10 +42,31 @@ second-moved xs ys p =
     (λ other. ends_with (first_knotted ys) (last_of other) && are_knotted other column) xs ys
     (λ j other. ends_with (first-moved xs ys p j) (last_of other) && are_knotted other column) p i) p
 
+-- a set is a ring of the one where it is a ring of the other, so the same cards are left out
+ring-is-moved : (set : ℕ → Bool) (xs ys : List (List ℕ)) → IsPermutation xs ys → is_ring xs set ≡ is_ring ys set
+ring-is-moved set xs ys p =
+    λ i. list_any-IsPermutation (λ column. is_among set (last_of column)) xs ys p i
+    && not (any-moved (is_astray xs set) (is_astray ys set) xs ys
+    (λ j column. is_among set (last_of column)
+    && not (list_any-IsPermutation (λ other. is_among set (last_of other) && waits_in column other) xs ys p j)) p i)
+
+left-moved : (cards : List ℕ) (set : ℕ → Bool) (xs ys : List (List ℕ)) → IsPermutation xs ys
+    → leave_out_each xs cards set ≡ leave_out_each ys cards set
+left-moved [] set xs ys p = refl
+left-moved (u ∷ cards) set xs ys p =
+    left-moved cards (leave_out xs u set) xs ys p
+    ∙ ap (λ t. leave_out_each ys cards (cond t (all_but u set) set)) (ring-is-moved (all_but u set) xs ys p)
+
+ring-moved : (xs ys : List (List ℕ)) → IsPermutation xs ys → ring xs ≡ ring ys
+unfolding ring
+ring-moved xs ys p =
+    left-moved all_cards (ends_among xs) xs ys p
+    ∙ ap (leave_out_each ys all_cards) (λ i u. list_any-IsPermutation (λ column. ends_with u (last_of column)) xs ys p i)
+
 in_knot-moved : (xs ys : List (List ℕ)) → IsPermutation xs ys → is_in_knot xs ≡ is_in_knot ys
 in_knot-moved xs ys p =
-    λ i column. (first-moved xs ys p i == 52) || (ends_with (first-moved xs ys p i) (last_of column)
-    || ends_with (second-moved xs ys p i) (last_of column))
+    λ i column. cond (first-moved xs ys p i == 52) (is_among (ring-moved xs ys p i) (last_of column))
+    (ends_with (first-moved xs ys p i) (last_of column) || ends_with (second-moved xs ys p i) (last_of column))
 
 shed-moved : (s t : List ℕ → Bool) (xs ys : List (List ℕ)) → s ≡ t → IsPermutation xs ys → IsPermutation (shed s xs) (shed t ys)
 shed-moved s t xs ys same p =

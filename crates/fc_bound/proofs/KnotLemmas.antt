@@ -13,12 +13,14 @@ use Rattle.fc_cards.specs.Card.{all_cards}
 use Rattle.fc_cards.proofs.CardLemmas.{every_card}
 use Rattle.fc_bound.specs.Bound.{is_lower}
 use Rattle.fc_bound.specs.Clearing.{waits, cards_in, clearing_cost, clearing_bound}
-use Rattle.fc_bound.specs.Knots.{has_last, ends_with, waits_in, waits_above, is_loose, are_knotted, first_with, first_knotted, second_knotted, is_in_knot, shed, knots, knot_count, knot_bound}
+use Rattle.fc_bound.specs.Knots.{has_last, ends_with, waits_in, waits_above, is_loose, are_knotted, first_with, first_knotted, second_knotted, ends_among, is_among, waits_among, is_astray, is_ring, ring, is_in_knot, shed, knots, knot_count, knot_bound}
 use Rattle.fc_bound.specs.Laws.{KnotBoundIsNoGreater}
 use Rattle.fc_bound.proofs.AboveLemmas.{not_true, or-false, contains-stands, stands-counted}
 use Rattle.fc_bound.proofs.HeldLemmas.{Found, found}
 use Rattle.fc_bound.proofs.ClearingLemmas.{last_there}
 use Rattle.fc_bound.proofs.ClearingTied.{TiedBy}
+use Rattle.fc_bound.proofs.LeftLemmas.{at_ends, last_is}
+use Rattle.fc_bound.proofs.RingLemmas.{among_is, all_some, ring_is, ring_some, ring_waits, knot_ring, knot_two}
 use Rattle.fc_bound.proofs.KnotShed.{AreCards, shed-cards, is_shed, shed-tied, shed-loose}
 
 -- the cards of a position are cards
@@ -83,10 +85,6 @@ in-has [] (Some u) waiting = waiting
 in-has (c ∷ cards) o waiting =
     ap has_last (slice_get-get_or (c ∷ cards) (length (c ∷ cards) - 1) 0 (omega arith))
 
-pub last_is : (o : Option ℕ) → has_last o ≡ true → (u : ℕ) × (o ≡ Some u)
-last_is None none = absurd (true≢false (sym none))
-last_is (Some u) one = (u, refl)
-
 last_card : (columns : List (List ℕ)) (i u : ℕ) → AreCards columns → last_of (get_or columns i []) ≡ Some u → u < 52
 last_card columns i u cards last =
     let column : List ℕ = get_or columns i [] in
@@ -114,26 +112,51 @@ tight-waits columns i tight some_last =
     (λ both. not-false (waits columns (last_of x)) (or_parts (not (waits columns (last_of x))) (waits_above x) both).0)
     (and_cases (has_last (last_of x)) (not (waits columns (last_of x)) || waits_above x) here)
 
--- where no two columns are knotted, all that have a last card are tied
-all-tied : (columns : List (List ℕ)) → list_any (is_loose columns) columns ≡ false
+-- where no column is loose, the last cards of all columns are a ring
+all-ring : (columns : List (List ℕ)) → list_any (is_loose columns) columns ≡ false
+    → list_any (λ column. has_last (last_of column)) columns ≡ true → is_ring columns (ends_among columns) ≡ true
+all-ring columns tight some_last =
+    and_from (list_any (λ column. is_among lasts (last_of column)) columns) (not (list_any (is_astray columns lasts) columns))
+    (all_some columns some_last)
+    (ap not (not_true (list_any (is_astray columns lasts) columns) (λ any.
+    let f = found (is_astray columns lasts) columns any in
+    let x : List ℕ = get_or columns f.place [] in
+    let parts = and_parts (is_among lasts (last_of x)) (not (waits_among columns lasts x)) f.passes in
+    let (u, last) = among_is lasts (last_of x) parts.0 in
+    let (j, waiting) = waits-where columns (last_of x) (tight-waits columns f.place tight (ap has_last last)) in
+    let y : List ℕ = get_or columns j [] in
+    let (v, other) = last_is (last_of y) (in-has y (last_of x) waiting) in
+    let there : waits_among columns lasts x ≡ true =
+    list_any_at (λ other. is_among lasts (last_of other) && waits_in x other) columns j [] (last_there columns j v other)
+    (and_from (is_among lasts (last_of y)) (waits_in x y) (ap (is_among lasts) other ∙ at_ends columns j v other) waiting) in
+    true≢false (sym parts.1 ∙ ap not there))))
+  where
+    lasts : ℕ → Bool
+    lasts = ends_among columns
+
+-- where no two columns are knotted, those of the ring are tied
+ring-tied : (columns : List (List ℕ)) → list_any (is_loose columns) columns ≡ false
     → list_any (λ column. has_last (last_of column)) columns ≡ true → (first_knotted columns == 52) ≡ true
     → TiedBy columns (is_shed columns (is_in_knot columns))
-all-tied columns tight some_last none = record {
+ring-tied columns tight some_last none = record {
   one = f.place;
-  one_tied = and_from (is_in_knot columns (get_or columns f.place [])) (has_last (last_of (get_or columns f.place []))) (each f.place) f.passes;
+  one_tied = member f.place f.passes;
   wait = λ i here.
-      let has = (and_parts (is_in_knot columns (get_or columns i [])) (has_last (last_of (get_or columns i []))) here).1 in
-      let (j, waiting) = waits-where columns (last_of (get_or columns i [])) (tight-waits columns i tight has) in
-      let other = in-has (get_or columns j []) (last_of (get_or columns i [])) waiting in
-      (j, and_from (is_in_knot columns (get_or columns j [])) (has_last (last_of (get_or columns j []))) (each j) other, waiting);
+      let x : List ℕ = get_or columns i [] in
+      let among = sym (knot_ring columns x none) ∙ (and_parts (is_in_knot columns x) (has_last (last_of x)) here).0 in
+      let w = ring_waits columns (ring columns) i (ring_is columns (all-ring columns tight some_last)) among in
+      let both = and_parts (is_among (ring columns) (last_of (get_or columns w.place []))) (waits_in x (get_or columns w.place [])) w.passes in
+      (w.place, member w.place both.0, both.1);
 }
   where
-    f : Found (λ column. has_last (last_of column)) columns
-    f = found (λ column. has_last (last_of column)) columns some_last
+    f : Found (λ column. is_among (ring columns) (last_of column)) columns
+    f = found (λ column. is_among (ring columns) (last_of column)) columns (ring_some columns some_last)
 
-    each : (i : ℕ) → is_in_knot columns (get_or columns i []) ≡ true
-    each i = or_left (first_knotted columns == 52) (ends_with (first_knotted columns) (last_of (get_or columns i []))
-        || ends_with (second_knotted columns) (last_of (get_or columns i []))) none
+    member : (i : ℕ) → is_among (ring columns) (last_of (get_or columns i [])) ≡ true → is_shed columns (is_in_knot columns) i ≡ true
+    member i among =
+        let x : List ℕ = get_or columns i [] in
+        let (u, last) = among_is (ring columns) (last_of x) among in
+        and_from (is_in_knot columns x) (has_last (last_of x)) (knot_ring columns x none ∙ among) (ap has_last last)
 
 -- two columns that are knotted, by their last cards
 record Knotted (columns : List (List ℕ)) : Type 0 where
@@ -194,12 +217,10 @@ two-tied columns other k = record {
   wait = λ i here.
       let o : Option ℕ = last_of (get_or columns i []) in
       let parts = and_parts (is_in_knot columns (get_or columns i [])) (has_last o) here in
-      ⊎_elim (λ is. absurd (true≢false (sym is ∙ other)))
-      (λ ends. ⊎_elim
+      ⊎_elim
       (λ is. (k.two, two_in, ap (waits (get_or columns k.two [] ∷ [])) (ends-same first o (last_of (get_or columns k.one [])) is k.one_ends) ∙ k.one_waits))
       (λ is. (k.one, one_in, ap (waits (get_or columns k.one [] ∷ [])) (ends-same second o (last_of (get_or columns k.two [])) is k.two_ends) ∙ k.two_waits))
-      (or_cases (ends_with first o) (ends_with second o) ends))
-      (or_cases (first == 52) (ends_with first o || ends_with second o) parts.0);
+      (or_cases (ends_with first o) (ends_with second o) (sym (knot_two columns (get_or columns i []) other) ∙ parts.0));
 }
   where
     first : ℕ
@@ -212,7 +233,7 @@ two-tied columns other k = record {
         → has_last (last_of (get_or columns i [])) ≡ true → is_shed columns (is_in_knot columns) i ≡ true
     member i ends has =
         and_from (is_in_knot columns (get_or columns i [])) (has_last (last_of (get_or columns i [])))
-        (or_right (first == 52) (ends_with first (last_of (get_or columns i [])) || ends_with second (last_of (get_or columns i []))) ends) has
+        (knot_two columns (get_or columns i []) other ∙ ends) has
 
     one_in : is_shed columns (is_in_knot columns) k.one ≡ true
     one_in =
@@ -227,7 +248,7 @@ two-tied columns other k = record {
 pub knot-tied : (columns : List (List ℕ)) → AreCards columns → list_any (is_loose columns) columns ≡ false
     → list_any (λ column. has_last (last_of column)) columns ≡ true → TiedBy columns (is_shed columns (is_in_knot columns))
 knot-tied columns cards tight some_last =
-    ⊎_elim (λ none. all-tied columns tight some_last none)
+    ⊎_elim (λ none. ring-tied columns tight some_last none)
     (λ other. two-tied columns other (two-knotted columns (second-found columns cards other)))
     (cases_Bool (first_knotted columns == 52))
 

@@ -7,9 +7,10 @@ use Rattle.std.proofs.lemmas.List.Sums.{sum_by-cons}
 use Rattle.fc_position.specs.Board.{last_of, front_of}
 use Rattle.fc_cards.specs.Card.{all_cards}
 use Rattle.fc_bound.specs.Clearing.{waits, cards_in}
-use Rattle.fc_bound.specs.Knots.{has_last, ends_with, waits_above, is_loose, are_knotted, first_with, first_knotted, second_knotted, is_in_knot, shed, knots, knot_count}
+use Rattle.fc_bound.specs.Knots.{has_last, ends_with, waits_above, is_loose, are_knotted, first_with, first_knotted, second_knotted, is_among, ring, is_in_knot, shed, knots, knot_count}
 use Rattle.fc_bound.proofs.AboveLemmas.{or-true}
 use Rattle.fc_bound.proofs.HeldLemmas.{found}
+use Rattle.fc_bound.proofs.RingLemmas.{among_is, ring_some, knot_ring, knot_two}
 
 -- one step
 pub knots_loose : (columns : List (List ℕ)) → list_any (is_loose columns) columns ≡ true → (steps : ℕ)
@@ -135,17 +136,18 @@ pub shed_knot : (columns : List (List ℕ)) → list_any (λ column. has_last (l
 shed_knot columns some_last =
     elim (first_knotted columns == 52) as (λ t. (first_knotted columns == 52) ≡ t → 1 + cards_in (shed (is_in_knot columns) columns) ≤ cards_in columns) [
       | true ↦ λ none.
-          let f = found (λ column. has_last (last_of column)) columns some_last in
-          shed_at (is_in_knot columns) columns f.place f.inside
-          (ap (λ t. t || (ends_with (first_knotted columns) (last_of (get_or columns f.place []))
-          || ends_with (second_knotted columns) (last_of (get_or columns f.place [])))) none) f.passes
+          let f = found (λ column. is_among (ring columns) (last_of column)) columns (ring_some columns some_last) in
+          let x : List ℕ = get_or columns f.place [] in
+          let last = among_is (ring columns) (last_of x) f.passes in
+          shed_at (is_in_knot columns) columns f.place f.inside (knot_ring columns x none ∙ f.passes) (ap has_last last.1)
       | false ↦ λ knotted.
           let first = first_passes (λ u. list_any (λ column. list_any (are_knotted column) columns && ends_with u (last_of column)) columns) all_cards knotted in
           let f = found (λ column. list_any (are_knotted column) columns && ends_with (first_knotted columns) (last_of column)) columns first in
-          let ends = (both (list_any (are_knotted (get_or columns f.place [])) columns) (ends_with (first_knotted columns) (last_of (get_or columns f.place []))) f.passes).1 in
+          let x : List ℕ = get_or columns f.place [] in
+          let ends = (both (list_any (are_knotted x) columns) (ends_with (first_knotted columns) (last_of x)) f.passes).1 in
           shed_at (is_in_knot columns) columns f.place f.inside
-          (ap (λ t. (first_knotted columns == 52) || (t || ends_with (second_knotted columns) (last_of (get_or columns f.place [])))) ends
-          ∙ or-true (first_knotted columns == 52)) (has_ending (first_knotted columns) (last_of (get_or columns f.place [])) ends)
+          (knot_two columns x knotted ∙ ap (λ t. t || ends_with (second_knotted columns) (last_of x)) ends)
+          (has_ending (first_knotted columns) (last_of x) ends)
     ] refl
 
 -- no more knots are met than there are cards

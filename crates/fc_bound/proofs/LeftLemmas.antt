@@ -13,8 +13,8 @@ use Rattle.fc_position.specs.Position.{IsPosition}
 use Rattle.fc_position.proofs.BoardLemmas.{front_last, places_most}
 use Rattle.fc_bound.specs.Bound.{stands_in}
 use Rattle.fc_bound.specs.Clearing.{without}
-use Rattle.fc_bound.specs.inner.Rows.{left_of, left_in, AreBits, AreApart, stands_among, ends_among}
-use Rattle.fc_bound.specs.Knots.{has_last, ends_with, shed}
+use Rattle.fc_bound.specs.inner.Rows.{left_of, left_in, AreBits, AreApart, stands_among}
+use Rattle.fc_bound.specs.Knots.{has_last, ends_with, shed, ends_among}
 use Rattle.fc_bound.proofs.AboveLemmas.{not_true, stands-counted}
 use Rattle.fc_bound.proofs.HeldLemmas.{found}
 use Rattle.fc_bound.proofs.ClearingLemmas.{last_there}
@@ -216,6 +216,10 @@ left_apart b bits p i k u one two =
     (left_stands b bits k u (last_stands (get_or (left_in bits b.columns) k []) u two))
 
 -- a card that is the last of some column
+pub last_is : (o : Option ℕ) → has_last o ≡ true → (u : ℕ) × (o ≡ Some u)
+last_is None none = absurd (true≢false (sym none))
+last_is (Some u) one = (u, refl)
+
 pub ends_last : (u : ℕ) (o : Option ℕ) → ends_with u o ≡ true → o ≡ Some u
 ends_last u None ends = absurd (true≢false (sym ends))
 ends_last u (Some v) ends = ap Some (eqb-true v u ends)

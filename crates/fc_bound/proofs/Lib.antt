@@ -22,6 +22,8 @@ pub mod KnotShed
 pub mod KnotSteps
 pub mod MovedLemmas
 pub mod PairLemmas
+pub mod RingCode
+pub mod RingLemmas
 pub mod ShedLemmas
 pub mod TakeLemmas
 pub mod TellLemmas

@@ -16,13 +16,12 @@ use Rattle.fc_position.proofs.BoardLemmas.{front_last, last_counted, places_most
 use Rattle.fc_bound.specs.Bound.{is_lower, stands_in, is_above_lower}
 use Rattle.fc_bound.specs.Clearing.{waits}
 use Rattle.fc_bound.specs.declared.rows.Row.{Row}
-use Rattle.fc_bound.specs.inner.Rows.{left_of, left_in, HasLower, Mark, IsLeft, stands_among, ends_among, ends_in}
-use Rattle.fc_bound.specs.Knots.{has_last, waits_above, is_loose}
+use Rattle.fc_bound.specs.inner.Rows.{left_of, left_in, HasLower, Mark, IsLeft, stands_among, ends_in}
+use Rattle.fc_bound.specs.Knots.{has_last, waits_above, is_loose, ends_among}
 use Rattle.fc_bound.proofs.AboveLemmas.{and-false, and-true, or-false, not_true, stands-counted, above-one, above-other, above-top}
 use Rattle.fc_bound.proofs.BitLemmas.{is_one, either_bits, waits_bits, some_bit, no_bits}
 use Rattle.fc_bound.proofs.HeldLemmas.{found}
-use Rattle.fc_bound.proofs.KnotLemmas.{last_is}
-use Rattle.fc_bound.proofs.LeftLemmas.{has_last_is, left_rest, left_at, left_stands, stands_inside, same_column, last_stands, at_ends, same_test}
+use Rattle.fc_bound.proofs.LeftLemmas.{has_last_is, left_rest, left_at, left_stands, stands_inside, same_column, last_stands, at_ends, last_is, same_test}
 use Rattle.fc_bound.proofs.TakeLemmas.{left_card}
 
 -- whether a last card is held back is told by the columns as they were at first
@@ -76,6 +75,14 @@ held_left b bits i u p last =
     (λ above. list_any_at (is_above_lower u) b.columns i [] (stands_inside b.columns i u stands)
     (here ∙ ap waits_above (sym at) ∙ above))
 
+-- some bit is set of a number that isn't zero
+pub positive : (n : ℕ) → not (n == 0) ≡ true → 0 < n
+positive n some = grind (arith, nat_tests)
+
+pub not_zero : (n u : ℕ) → bit_at n u ≡ 1 → not (n == 0) ≡ true
+not_zero n u set =
+    ⊎_elim (λ e. absurd (no_bits n u e set)) (λ ne. let test : (n == 0) ≡ false = grind (arith, nat_tests) in ap not test) (cases_eq n 0)
+
 -- some card is left where some bit is set
 pub left_some : (b : Board) (rows : List Row) (held all lasts : ℕ) → IsLeft b rows held all lasts → all < 2 ^ 64
     → not (all == 0) ≡ list_any (λ column. has_last (last_of column)) (left_in all b.columns)
@@ -94,17 +101,10 @@ left_some b rows held all lasts left fits =
     (list_any_at (λ column. stands_in column u.0) v f.place [] f.inside (last_stands (get_or v f.place []) u.0 u.1)) in
     not_zero all u.0 set)
   where
-    positive : (n : ℕ) → not (n == 0) ≡ true → 0 < n
-    positive n some = grind (arith, nat_tests)
-
     has_some : (x : List ℕ) (c : ℕ) → stands_in x c ≡ true → has_last (last_of x) ≡ true
     has_some [] c stands = absurd (true≢false (sym stands))
     has_some (d ∷ x) c stands =
         let more : nat_lt 0 (length (d ∷ x)) ≡ true = grind (arith, nat_tests) in has_last_is (d ∷ x) ∙ more
-
-    not_zero : (n u : ℕ) → bit_at n u ≡ 1 → not (n == 0) ≡ true
-    not_zero n u set =
-        ⊎_elim (λ e. absurd (no_bits n u e set)) (λ ne. let test : (n == 0) ≡ false = grind (arith, nat_tests) in ap not test) (cases_eq n 0)
 
 -- whether a last card waits for one beneath it
 pub held_bit : (b : Board) (rows : List Row) (held all lasts i u : ℕ) → IsLeft b rows held all lasts

@@ -8,15 +8,16 @@ use Rattle.std.proofs.lemmas.Bool.Decides.{nat_tests}
 use Rattle.std.proofs.lemmas.List.Folds.{list_any_at}
 use Rattle.fc_position.specs.Board.{last_of}
 use Rattle.fc_cards.specs.Card.{all_cards}
-use Rattle.fc_bound.specs.inner.Rows.{AreApart, Knotted, Mark, ends_among, ends_in}
-use Rattle.fc_bound.specs.Knots.{has_last, ends_with, waits_in, waits_above, is_loose, are_knotted, first_with, first_knotted, second_knotted, is_in_knot}
+use Rattle.fc_bound.specs.inner.Rows.{AreApart, AreBits, Knotted, Mark, ends_in}
+use Rattle.fc_bound.specs.Knots.{has_last, ends_with, waits_in, waits_above, is_loose, are_knotted, first_with, first_knotted, second_knotted, ends_among, is_among, ring, is_in_knot}
 use Rattle.fc_bound.proofs.AboveLemmas.{not_true, and-true}
 use Rattle.fc_bound.proofs.BitLemmas.{is_one, one_bit_is, bits_or}
 use Rattle.fc_bound.proofs.HeldLemmas.{found}
 use Rattle.fc_bound.proofs.ClearingLemmas.{last_there}
-use Rattle.fc_bound.proofs.KnotLemmas.{in-has, last_is}
+use Rattle.fc_bound.proofs.KnotLemmas.{in-has}
 use Rattle.fc_bound.proofs.KnotShed.{tight-above}
-use Rattle.fc_bound.proofs.LeftLemmas.{ends_at, at_ends, ends_last, last_ends}
+use Rattle.fc_bound.proofs.RingLemmas.{ring_ends, knot_ring, knot_two}
+use Rattle.fc_bound.proofs.LeftLemmas.{ends_at, at_ends, ends_last, last_ends, last_is}
 
 -- the first card that passes is that one
 first_of : (test : ℕ → Bool) (u a n : ℕ) → a ≤ u → u < a + n → test u ≡ true → ((w : ℕ) → w < u → test w ≡ false)
@@ -161,7 +162,7 @@ no_pair columns alone = no_first (is_first columns) all_cards (λ w. not_true (i
     let k = first_at columns w passes in
     true≢false (sym passes ∙ not_first columns w (alone w (at_ends columns k.one w k.first)))))
 
--- the two last cards mark the knot, and where no two are knotted, all do
+-- the two last cards mark the knot, and where no two are knotted, those of the ring do
 abbrev pub OfTwo : ℕ → ℕ → ℕ → Type 0
 OfTwo bits u v = (w : ℕ) → bit_at bits w ≡ cond ((w == u) || (w == v)) 1 0
 
@@ -186,24 +187,29 @@ pair_marks columns bits u v below one two are first second = record {
       (λ e. ap (ends_among columns) (eqb-true w v e) ∙ two)
       (or_cases (w == u) (w == v) (is_one ((w == u) || (w == v)) (sym (are w) ∙ set)));
   each = λ k inside.
-      let o : Option ℕ = last_of (get_or columns k []) in
+      let x : List ℕ = get_or columns k [] in
+      let o : Option ℕ = last_of x in
       two_end bits u v o are
-      ∙ ap (λ t. t && has_last o) (sym (ap (λ n. (n == 52) || (ends_with n o || ends_with (second_knotted columns) o)) first
-      ∙ ap (λ n. (u == 52) || (ends_with u o || ends_with n o)) second ∙ ap (λ t. t || (ends_with u o || ends_with v o)) (below_52 u below)));
+      ∙ ap (λ t. t && has_last o) (sym (knot_two columns x (ap (λ n. n == 52) first ∙ below_52 u below)
+      ∙ ap (λ n. ends_with n o || ends_with (second_knotted columns) o) first ∙ ap (λ n. ends_with u o || ends_with n o) second));
 }
 
-ends_all : (bits : ℕ) (o : Option ℕ) → ((u : ℕ) → o ≡ Some u → bit_at bits u ≡ 1) → ends_in bits o ≡ (true && has_last o)
-ends_all bits None set = refl
-ends_all bits (Some u) set = ap (λ (n : ℕ). n == 1) (set u refl)
+set_end : (bits : ℕ) (set : ℕ → Bool) (o : Option ℕ) → AreBits bits set → ends_in bits o ≡ (is_among set o && has_last o)
+set_end bits set None are = refl
+set_end bits set (Some u) are = ap (λ (n : ℕ). n == 1) (are u) ∙ bit_is (set u) ∙ sym (and-true (set u))
+  where
+    bit_is : (t : Bool) → (cond t 1 0 == 1) ≡ t
+    bit_is true = refl
+    bit_is false = refl
 
-pub all_marks : (columns : List (List ℕ)) (bits : ℕ) → ((u : ℕ) → bit_at bits u ≡ cond (ends_among columns u) 1 0)
-    → first_knotted columns ≡ 52 → Mark bits columns (is_in_knot columns)
-all_marks columns bits are none = record {
-  lasts = λ u set. is_one (ends_among columns u) (sym (are u) ∙ set);
+pub ring_marks : (columns : List (List ℕ)) (bits : ℕ) → AreBits bits (ring columns) → first_knotted columns ≡ 52
+    → Mark bits columns (is_in_knot columns)
+ring_marks columns bits are none = record {
+  lasts = λ u set. ring_ends columns u (is_one (ring columns u) (sym (are u) ∙ set));
   each = λ k inside.
-      let o : Option ℕ = last_of (get_or columns k []) in
-      ends_all bits o (λ u last. are u ∙ ap (λ t. cond t 1 0) (at_ends columns k u last))
-      ∙ ap (λ t. t && has_last o) (sym (ap (λ n. (n == 52) || (ends_with n o || ends_with (second_knotted columns) o)) none));
+      let x : List ℕ = get_or columns k [] in
+      set_end bits (ring columns) (last_of x) are
+      ∙ ap (λ t. t && has_last (last_of x)) (sym (knot_ring columns x (ap (λ (n : ℕ). n == 52) none)));
 }
 
 -- the others that have been gone over are alone, so a last card is knotted with none but those that are still to come

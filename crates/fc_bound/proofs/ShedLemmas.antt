@@ -16,8 +16,7 @@ use Rattle.fc_bound.specs.Knots.{has_last, waits_above, is_loose, shed}
 use Rattle.fc_bound.proofs.AboveLemmas.{and-true, not_true}
 use Rattle.fc_bound.proofs.BitLemmas.{some_bit, no_bits}
 use Rattle.fc_bound.proofs.HeldLemmas.{found}
-use Rattle.fc_bound.proofs.KnotLemmas.{last_is}
-use Rattle.fc_bound.proofs.LeftLemmas.{ends_at, shed_all, same_test}
+use Rattle.fc_bound.proofs.LeftLemmas.{ends_at, shed_all, same_test, last_is}
 use Rattle.fc_bound.proofs.KnotSteps.{above_loose}
 
 -- the last card's bit is among these, and no more among the rest

@@ -12,8 +12,8 @@ use Rattle.fc_position.proofs.BoardLemmas.{front_last, places_most}
 use Rattle.fc_bound.specs.Bound.{stands_in}
 use Rattle.fc_bound.specs.Clearing.{without}
 use Rattle.fc_bound.specs.declared.rows.Row.{Row}
-use Rattle.fc_bound.specs.inner.Rows.{left_of, left_in, AreBits, IsRow, IsLeft, AreApart, stands_among, ends_among, no_row}
-use Rattle.fc_bound.specs.Knots.{ends_with}
+use Rattle.fc_bound.specs.inner.Rows.{left_of, left_in, AreBits, IsRow, IsLeft, AreApart, stands_among, no_row}
+use Rattle.fc_bound.specs.Knots.{ends_with, ends_among}
 use Rattle.fc_bound.proofs.AboveLemmas.{not_true, stands-counted, stands-other}
 use Rattle.fc_bound.proofs.BitLemmas.{either_bits}
 use Rattle.fc_bound.proofs.HeldLemmas.{found, any-set}

@@ -55,17 +55,56 @@ abbrev pub second_knotted : List (List ℕ) → ℕ
 second_knotted columns =
     least_last (λ column. list_any (λ other. ends_with (first_knotted columns) (last_of other) && are_knotted other column) columns) columns
 
--- the column is one of the two; where no two are knotted, each column is
+-- the card is the last one of a column
+abbrev pub ends_among : List (List ℕ) → ℕ → Bool
+ends_among columns u = list_any (λ column. ends_with u (last_of column)) columns
+
+-- the last card of a column is of a set of cards; where there is no card, it isn't
+abbrev pub is_among : (ℕ → Bool) → Option ℕ → Bool
+is_among set None = false
+is_among set (Some u) = set u
+
+-- the last card of this column waits for a card of a column whose last card is of the set
+abbrev pub waits_among : List (List ℕ) → (ℕ → Bool) → List ℕ → Bool
+waits_among columns set column = list_any (λ other. is_among set (last_of other) && waits_in column other) columns
+
+-- the last card of this column is of the set, and waits for no card of a column whose last card is of the set
+abbrev pub is_astray : List (List ℕ) → (ℕ → Bool) → List ℕ → Bool
+is_astray columns set column = is_among set (last_of column) && not (waits_among columns set column)
+
+-- a ring: some last card is of the set, and each that is waits for a card of a column whose last card is of the set
+abbrev pub is_ring : List (List ℕ) → (ℕ → Bool) → Bool
+is_ring columns set = list_any (λ column. is_among set (last_of column)) columns && not (list_any (is_astray columns set) columns)
+
+-- the set without one card
+abbrev pub all_but : ℕ → (ℕ → Bool) → ℕ → Bool
+all_but u set c = set c && not (c == u)
+
+-- the set without this card, where that is a ring; else the set
+abbrev pub leave_out : List (List ℕ) → ℕ → (ℕ → Bool) → ℕ → Bool
+leave_out columns u set = cond (is_ring columns (all_but u set)) (all_but u set) set
+
+-- the set, where each of these cards in turn is left out if a ring is left without it
+abbrev pub leave_out_each : List (List ℕ) → List ℕ → (ℕ → Bool) → ℕ → Bool
+leave_out_each columns [] set = set
+leave_out_each columns (u ∷ cards) set = leave_out_each columns cards (leave_out columns u set)
+
+-- a ring of last cards: of all of them, each is left out, the least first, if a ring is left without it
+unfoldable pub ring : List (List ℕ) → ℕ → Bool
+ring columns = leave_out_each columns all_cards (ends_among columns)
+
+-- the last card of the column is one of the two that are knotted; where no two are, it is of the ring
 abbrev pub is_in_knot : List (List ℕ) → List ℕ → Bool
-is_in_knot columns column = (first_knotted columns == 52) || (ends_with (first_knotted columns) (last_of column)
-    || ends_with (second_knotted columns) (last_of column))
+is_in_knot columns column =
+    cond (first_knotted columns == 52) (is_among (ring columns) (last_of column))
+    (ends_with (first_knotted columns) (last_of column) || ends_with (second_knotted columns) (last_of column))
 
 -- the columns, where those that pass the test have lost their last card
 abbrev pub shed : (List ℕ → Bool) → List (List ℕ) → List (List ℕ)
 shed test columns = map (λ column. cond (test column) (front_of column) column) columns
 
 -- how many knots are met in so many steps: loose cards go first, at one where they wait for a card beneath them; where
--- none is loose, two knotted columns, or else all, lose their last card, at one
+-- none is loose, two knotted columns, or else those of a ring, lose their last card, at one
 unfoldable pub knots : ℕ → List (List ℕ) → ℕ
 knots zero columns = 0
 knots (suc steps) columns =

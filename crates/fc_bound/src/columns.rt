@@ -5,8 +5,8 @@ ghost use Rattle.fc_position.specs.Board.{last_of};
 ghost use Rattle.fc_position.specs.Position.{IsPosition};
 ghost use Rattle.fc_bound.specs.Bound.{is_above_lower};
 ghost use Rattle.fc_bound.specs.Clearing.{without};
-ghost use Rattle.fc_bound.specs.inner.Rows.{AreBits, AreRows, Mark, AreApart, Knotted, stands_among, ends_among, ends_in};
-ghost use Rattle.fc_bound.specs.Knots.{has_last, waits_in, waits_above, is_loose, are_knotted, is_in_knot, shed};
+ghost use Rattle.fc_bound.specs.inner.Rows.{AreBits, AreRows, Mark, AreApart, Knotted, stands_among, ends_in, is_set};
+ghost use Rattle.fc_bound.specs.Knots.{has_last, waits_in, waits_above, is_loose, are_knotted, waits_among, is_ring, ring, is_in_knot, shed, ends_among};
 
 use crate::bits::{above, least, lower_cards, remove};
 use crate::rows::{Marks, Rows};
@@ -187,6 +187,59 @@ impl<'a> Left<'a> {
         None
     }
 
+    // Whether a last card waits for a card of a column that ends with one of these.
+    #[inline]
+    fn waits_among(&self, u: u8, set: u64) -> bool
+        requires last { ends_among self.now u ≡ true }
+        requires lasts { (v : ℕ) → bit_at set v ≡ 1 → ends_among self.now v ≡ true }
+        ensures value { (i : ℕ) → last_of (slice_index_or self.now i []) ≡ Some u
+            → result ≡ waits_among self.now (is_set set) (slice_index_or self.now i []) }
+    {
+        let mut rest = set;
+        while rest != 0 {
+            let v = least(rest);
+            if self.waits_in(u, v) {
+                return true;
+            }
+            rest = remove(rest, v);
+        }
+        false
+    }
+
+    // Whether these last cards are a ring: each waits for a card of a column that ends with one of them.
+    #[inline]
+    fn is_ring(&self, set: u64) -> bool
+        requires lasts { (u : ℕ) → bit_at set u ≡ 1 → ends_among self.now u ≡ true }
+        ensures value { result ≡ is_ring self.now (is_set set) }
+    {
+        let mut rest = set;
+        while rest != 0 {
+            let u = least(rest);
+            if !self.waits_among(u, set) {
+                return false;
+            }
+            rest = remove(rest, u);
+        }
+        set != 0
+    }
+
+    // The bits of a ring of last cards: of all of them, each is left out, the least first, if a ring is left without it.
+    fn ring(&self) -> u64
+        ensures value { AreBits result (ring self.now) }
+    {
+        let mut ring = self.lasts;
+        let mut rest = self.lasts;
+        while rest != 0 {
+            let u = least(rest);
+            rest = remove(rest, u);
+            let others = remove(ring, u);
+            if self.is_ring(others) {
+                ring = others;
+            }
+        }
+        ring
+    }
+
     // The bits of the last cards of the knot, where no card may leave at once.
     #[inline]
     pub(crate) fn knot(&self) -> u64
@@ -201,6 +254,6 @@ impl<'a> Left<'a> {
                 return 1 << u | 1 << v;
             }
         }
-        self.lasts
+        self.ring()
     }
 }

@@ -3,8 +3,8 @@ ghost use Rattle.std.specs.List.{list_any};
 ghost use Rattle.fc_position.specs.Board.{count_in_column, last_of};
 ghost use Rattle.fc_position.specs.Position.{IsPosition};
 ghost use Rattle.fc_bound.specs.Bound.{stands_in, is_above_lower};
-ghost use Rattle.fc_bound.specs.Knots.{ends_with};
-ghost use Rattle.fc_bound.specs.inner.Rows.{AreBits, IsRow, AreRows, no_row, stands_among, ends_among};
+ghost use Rattle.fc_bound.specs.Knots.{ends_with, ends_among};
+ghost use Rattle.fc_bound.specs.inner.Rows.{AreBits, IsRow, AreRows, no_row, stands_among};
 
 use crate::bits::lower_cards;
 use fc_cards::Card;

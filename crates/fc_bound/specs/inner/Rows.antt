@@ -6,7 +6,7 @@ use Rattle.fc_position.specs.Board.{Board, last_of, front_of}
 use Rattle.fc_position.specs.Position.{IsPosition}
 use Rattle.fc_bound.specs.declared.rows.Row.{Row}
 use Rattle.fc_bound.specs.Bound.{is_lower, stands_in, is_above_lower}
-use Rattle.fc_bound.specs.Knots.{has_last, ends_with, are_knotted}
+use Rattle.fc_bound.specs.Knots.{has_last, ends_with, are_knotted, ends_among}
 
 -- the cards of a column up to the first whose bit is not set
 abbrev pub left_of : ℕ → List ℕ → List ℕ
@@ -35,12 +35,13 @@ is_lower_than (Some u) x = is_lower u x
 abbrev pub HasLower : ℕ → ℕ → Type 0
 HasLower bits c = (k : ℕ) × (0 < k) × (4 * k ≤ c) × (bit_at bits (c - 4 * k) ≡ 1)
 
--- the card stands in one of the columns; it is the last of one of them
+-- the card stands in one of the columns
 abbrev pub stands_among : List (List ℕ) → ℕ → Bool
 stands_among columns c = list_any (λ column. stands_in column c) columns
 
-abbrev pub ends_among : List (List ℕ) → ℕ → Bool
-ends_among columns c = list_any (λ column. ends_with c (last_of column)) columns
+-- the bit of a number is set
+abbrev pub is_set : ℕ → ℕ → Bool
+is_set bits u = bit_at bits u == 1
 
 -- a last card has its bit set
 abbrev pub ends_in : ℕ → Option ℕ → Bool

@@ -10,9 +10,8 @@ use Rattle.fc_bound.specs.Knots.{has_last, is_loose, shed}
 use Rattle.fc_bound.proofs.ClearingLemmas.{last_there}
 use Rattle.fc_bound.proofs.ClearingSearch.{loose_cost, loose_fewer, none_cost, knot_first, take_cost, take_fewer, take_cards}
 use Rattle.fc_bound.proofs.BitLemmas.{no_bits}
-use Rattle.fc_bound.proofs.KnotLemmas.{last_is}
 use Rattle.fc_bound.proofs.KnotShed.{AreCards, shed-cards}
-use Rattle.fc_bound.proofs.LeftLemmas.{ends_at}
+use Rattle.fc_bound.proofs.LeftLemmas.{ends_at, last_is}
 use Rattle.fc_bound.proofs.ShedLemmas.{still, kept}
 use Rattle.fc_bound.proofs.clearing.+costs_at_most.Goals as goal
 

@@ -1,10 +1,11 @@
 use Rattle.std.proofs.Common.{◌<◌, ◌*◌, ◌%◌, ◌^◌, cond, bit_or, sym, ◌∙◌, ap, subst, ⊎_elim, arith}
 use Rattle.std.proofs.lemmas.Bool.{cases_eq}
-use Rattle.fc_bound.specs.inner.Rows.{AreApart, ends_among}
+use Rattle.fc_bound.specs.Knots.{ends_among}
+use Rattle.fc_bound.specs.inner.Rows.{AreApart}
 use Rattle.fc_bound.proofs.BitLemmas.{is_one, no_bits}
 use Rattle.fc_bound.proofs.TakeLemmas.{left_card}
 use Rattle.fc_bound.proofs.LeftLemmas.{left_apart}
-use Rattle.fc_bound.proofs.PairLemmas.{IsAlone, alone_but, first_pair, second_pair, no_pair, pair_marks, all_marks, two_bits}
+use Rattle.fc_bound.proofs.PairLemmas.{IsAlone, alone_but, first_pair, second_pair, no_pair, pair_marks, ring_marks, two_bits}
 use Rattle.fc_bound.proofs.ShedLemmas.{still, kept}
 use Rattle.fc_bound.proofs.columns.Left.knot.Goals as goal
 
@@ -66,6 +67,6 @@ pub returns : goal.returns
 returns c =
     let s = c.args.self.now in
     record {
-      value = all_marks s c.self.inside.lasts (λ u. c.self.invariant.ends u ∙ ap (λ v. cond (ends_among v u) 1 0) c.self.view_is)
+      value = ring_marks s c.ring.result c.ring.ensures.value
           (no_pair s (λ w ends. c.loop-rest.invariant.alone w ends (λ set. no_bits c.loop-rest.rest w c.loop-rest-test.false set)));
     }

@@ -1,6 +1,6 @@
 use Rattle.std.proofs.Common.{◌≡◌, ℕ, true}
 use Rattle.std.specs.Int.{bit_at}
-use Rattle.fc_bound.specs.inner.Rows.{ends_among}
+use Rattle.fc_bound.specs.Knots.{ends_among}
 use Rattle.fc_bound.proofs.PairLemmas.{IsAlone}
 use Rattle.fc_bound.proofs.columns.Left.knot.Given as goal
 

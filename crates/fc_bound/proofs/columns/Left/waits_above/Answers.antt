@@ -2,8 +2,8 @@ use Rattle.std.proofs.Common.{[], get_or, length, ap, sym, ◌∙◌, arith}
 use Rattle.std.proofs.lemmas.List.{length-map}
 use Rattle.std.proofs.lemmas.Nat.Bits.{shr_and_one}
 use Rattle.fc_position.specs.Board.{last_of}
-use Rattle.fc_bound.specs.inner.Rows.{ends_among, left_in, left_of}
-use Rattle.fc_bound.specs.Knots.{waits_above}
+use Rattle.fc_bound.specs.inner.Rows.{left_in, left_of}
+use Rattle.fc_bound.specs.Knots.{waits_above, ends_among}
 use Rattle.fc_bound.proofs.TakeLemmas.{left_card}
 use Rattle.fc_bound.proofs.LooseLemmas.{held_bit, bit_test}
 use Rattle.fc_bound.proofs.columns.Left.waits_above.Goals as goal
