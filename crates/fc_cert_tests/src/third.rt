@@ -8,7 +8,9 @@ use fc_cert::{CertFault, Claim, write_answer};
 use fc_checker::{CheckFault, check};
 use fc_io::{FromSlice, Sink, ToArray};
 use fc_runs::run_check;
-use fc_search::{BoundKind, Budget, HomeRule, Method, Question, Strategy, Unheard, Weight, solve_by};
+use fc_search::{
+    BoundKind, Budget, HomeRule, Method, Question, Strategy, Unheard, Weight, solve_by,
+};
 use fc_tests::boards::{FREE_KING, LOCKED, ONE_KING, THREE_SPADES, TWO_KINGS};
 use std::alloc::Global;
 use std::process::Abort;

@@ -43,6 +43,6 @@ returns g c =
     let lists = subst (λ b. ListsClasses rules b moves) c.requires.position c.distinct_moves-walk-inside.ensures.classes in
     record {
       children = λ children are. children_all rules own.rules.rule own.rules.kind own.start x moves children valid lists
-    (subst (λ b. AreChildrenBy rules own.rules.rule own.rules.kind b (reverse moves) children) c.requires.position
-    (subst (λ r. AreChildrenBy r own.rules.rule own.rules.kind c.args.position (reverse moves) children) c.copy.ensures.value are));
+          (subst (λ b. AreChildrenBy rules own.rules.rule own.rules.kind b (reverse moves) children) c.requires.position
+          (subst (λ r. AreChildrenBy r own.rules.rule own.rules.kind c.args.position (reverse moves) children) c.copy.ensures.value are));
     }
