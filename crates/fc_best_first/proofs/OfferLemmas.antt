@@ -11,7 +11,7 @@ use Rattle.fc_best_first.specs.declared.strategies.Expansion.TheVariants.{Full, 
 use Rattle.fc_best_first.specs.declared.strategies.Strategy.{Strategy}
 use Rattle.fc_best_first.specs.Graph.{Graph}
 use Rattle.fc_best_first.specs.Kept.{AreNoted}
-use Rattle.fc_best_first.specs.Store.{Store, Candidate, IsNew, IsStored, Admits, Offers, PutsOff, Stores, opens_at}
+use Rattle.fc_best_first.specs.Store.{Store, Candidate, IsNew, IsStored, Admits, Offers, Stores, opens_at}
 use Rattle.fc_best_first.specs.inner.Turn.{IsPutOffNear}
 use Rattle.fc_best_first.proofs.KeptLemmas.{stands_within}
 
@@ -50,16 +50,3 @@ module _ {K : Type 0} where
       let own = noted.1 i x m at in
       let one : o ≡ own.0 = (let both = sym there ∙ own.1 in cc) in
       ap (λ q. q.bound) one ∙ own.2
-
--- full expansion admits all, and partial expansion what is within
-pub admits_full : (expansion : Expansion) (taken f : ℕ) → (expansion ≡ Partial → ⊥) → Admits expansion taken f
-admits_full Full taken f other = tt
-admits_full Partial taken f other = absurd (other refl)
-
-pub admits_partial : (expansion : Expansion) (taken f : ℕ) → expansion ≡ Partial → f ≤ taken → Admits expansion taken f
-admits_partial Full taken f same le = tt
-admits_partial Partial taken f same le = le
-
-pub puts_off : (expansion : Expansion) (taken f later : ℕ) → expansion ≡ Partial → taken < later → later ≤ f → PutsOff expansion taken f later
-puts_off Full taken f later same lt le = absurd (cc)
-puts_off Partial taken f later same lt le = (lt, le)
