@@ -1,10 +1,10 @@
 //! A child of a key that is taken, as it finds its place: it is known, stored, or put off.
 
-ghost use Rattle.std.specs.Prelude.{◌≡◌, ◌+◌, ◌*◌, ◌<◌, ◌≤◌, ℕ, length, IfOk, IfSome};
+ghost use Rattle.std.specs.Prelude.{◌≡◌, ◌+◌, ◌*◌, ◌<◌, ◌≤◌, ◌↔◌, ℕ, List, length, IfOk, IfSome};
 ghost use Rattle.fc_best_first.specs.Graph.{Graph, Reached, Task};
 ghost use Rattle.fc_best_first.specs.Kept.{AreNoted};
 ghost use Rattle.fc_best_first.specs.Store.{IsNew, Offers};
-ghost use Rattle.fc_best_first.specs.Turn.{TellsBound, opening_of};
+ghost use Rattle.fc_best_first.specs.Turn.{TellsBound, candidate_of};
 ghost use Rattle.fc_best_first.specs.inner.Turn.{IsPutOffNear};
 
 use crate::books::{Book, Mark, Offered, Opening};
@@ -28,15 +28,31 @@ impl Opening {
     }
 }
 
-// The bound of a key that was reached, which its space is asked for where it isn't told.
-pub(crate) fn bound_of<K, S: Space<K>>(space: &S, key: &K, told: Option<u8>) -> u8
+/// What the children of a key are offered by: the f of the pair that was taken, and the mark of a child that would cost nothing,
+/// its cost and number.
+#[derive(Clone, Copy, Debug, PartialEq, Eq)]
+pub(crate) struct Taken {
+    pub(crate) f: u32,
+    pub(crate) origin: Mark,
+}
+
+// The bound of a key that was reached, which its space is asked for where it isn't told; the walk stands at the key.
+pub(crate) fn bound_of<K, S: Space<K>>(
+    space: &S,
+    walk: &mut S::Walk,
+    key: &K,
+    told: Option<u8>,
+) -> u8
     requires reached { (d : ℕ) × Reached (S.graph space.now) key.now d }
+    requires at { S.at walk.old key.now }
     requires told { IfSome told (λ bound. bound ≡ (S.graph space.now).bound key.now) }
     ensures value { result ≡ (S.graph space.now).bound key.now }
+    ensures rest { (children : List (Child K)) → S.rest walk.new children ↔ S.rest walk.old children }
+    ensures left { S.left walk.new ≡ S.left walk.old }
 {
     match told {
         Some(bound) => bound,
-        None => space.bound(key),
+        None => space.bound_within(walk, key, u8::MAX),
     }
 }
 
@@ -53,60 +69,71 @@ fn most_within(weight: Weight, cost: u32, taken: u32) -> u8
 // book.
 fn store_or_put_off<K: ExactKey, F: Frontier + Drop, S: Space<K>>(
     space: &S,
+    walk: &mut S::Walk,
     book: &mut Book<K, F>,
     strategy: &Strategy,
-    taken: u32,
+    taken: &Taken,
     child: Child<K>,
-    mark: Mark,
 ) -> Result<Offered<K>, Full>
     requires reached { (d : ℕ) × Reached (S.graph space.now) child.key d }
+    requires at { S.at walk.old child.key }
     requires told { TellsBound (S.graph space.now) child }
     requires new { IsNew book.old child.key }
-    requires low { mark.cost ≤ MOST_COST * MOST_BUDGET + 255 }
+    requires low { taken.now.origin.cost ≤ MOST_COST * MOST_BUDGET }
     requires partial { strategy.now.expansion ≡ Expansion.Partial }
-    ensures offers { IfOk result (Offers strategy.now taken book.old book.new (record { key = child.key; mark = mark; opening = opening_of (record { graph = S.graph space.now; strategy = strategy.now }) child.key })) }
-    ensures near { IfOk result (IsPutOffNear mark.cost) }
+    ensures offers { IfOk result (Offers strategy.now taken.now.f book.old book.new (candidate_of (record { graph = S.graph space.now; strategy = strategy.now }) taken.now.origin child)) }
+    ensures near { IfOk result (IsPutOffNear (taken.now.origin.cost + 255)) }
+    ensures rest { (children : List (Child K)) → S.rest walk.new children ↔ S.rest walk.old children }
+    ensures left { S.left walk.new ≡ S.left walk.old }
 {
+    let mark = taken.origin.onward(child.cost);
     let Child { key, bound, .. } = child;
     let bound = match bound {
         Some(bound) => bound,
-        None => space.bound_within(&key, most_within(strategy.weight, mark.cost, taken)),
+        None => {
+            let most = most_within(strategy.weight, mark.cost, taken.f);
+            space.bound_within(walk, &key, most)
+        }
     };
     let opening = Opening::new(strategy.weight, bound);
     let f = mark.opens_at(opening);
-    if f > taken {
+    if f > taken.f {
         return Ok(Offered::PutOff(f));
     }
     book.add(strategy, key, mark, opening)
 }
 
-// Offers a key that was reached with a mark, when a pair of this f was taken. Where its bound isn't told, it is asked for only
-// where the key is new, or stored at more and not noted: of most keys that are offered it isn't wanted, and a bound may take
-// longer than all else. At `Err` a growth was refused, and nothing is known of the book.
+// Offers the child that a walk stands at, by what was taken. Where its bound isn't told, it is asked for only where the key is
+// new, or stored at more and not noted: of most keys that are offered it isn't wanted, and a bound may take longer than all else.
+// At `Err` a growth was refused, and nothing is known of the book.
 pub(crate) fn offer<K: ExactKey, F: Frontier + Drop, S: Space<K>>(
     space: &S,
+    walk: &mut S::Walk,
     book: &mut Book<K, F>,
     strategy: &Strategy,
-    taken: u32,
+    taken: &Taken,
     child: Child<K>,
-    mark: Mark,
 ) -> Result<Offered<K>, Full>
     requires reached { (d : ℕ) × Reached (S.graph space.now) child.key d }
+    requires at { S.at walk.old child.key }
     requires told { TellsBound (S.graph space.now) child }
     requires room { length book.old.stored ≤ strategy.now.budget }
     requires noted { AreNoted strategy.now.expansion (S.graph space.now) book.old }
-    requires low { mark.cost ≤ MOST_COST * MOST_BUDGET + 255 }
-    ensures offers { IfOk result (Offers strategy.now taken book.old book.new (record { key = child.key; mark = mark; opening = opening_of (record { graph = S.graph space.now; strategy = strategy.now }) child.key })) }
-    ensures near { IfOk result (IsPutOffNear mark.cost) }
+    requires low { taken.now.origin.cost ≤ MOST_COST * MOST_BUDGET }
+    ensures offers { IfOk result (Offers strategy.now taken.now.f book.old book.new (candidate_of (record { graph = S.graph space.now; strategy = strategy.now }) taken.now.origin child)) }
+    ensures near { IfOk result (IsPutOffNear (taken.now.origin.cost + 255)) }
+    ensures rest { (children : List (Child K)) → S.rest walk.new children ↔ S.rest walk.old children }
+    ensures left { S.left walk.new ≡ S.left walk.old }
 {
     // Its range, by which each key has a number.
     let _ = strategy.budget.get();
+    let mark = taken.origin.onward(child.cost);
     let Some((number, was)) = book.find(&child.key) else {
         if let Expansion::Partial = strategy.expansion {
-            return store_or_put_off(space, book, strategy, taken, child, mark);
+            return store_or_put_off(space, walk, book, strategy, taken, child);
         }
         let Child { key, bound, .. } = child;
-        let bound = bound_of(space, &key, bound);
+        let bound = bound_of(space, walk, &key, bound);
         return book.add(strategy, key, mark, Opening::new(strategy.weight, bound));
     };
     if was.cost <= mark.cost {
@@ -114,7 +141,7 @@ pub(crate) fn offer<K: ExactKey, F: Frontier + Drop, S: Space<K>>(
     }
     let bound = match book.noted(number) {
         Some(opening) => opening.bound,
-        None => bound_of(space, &child.key, child.bound),
+        None => bound_of(space, walk, &child.key, child.bound),
     };
     book.lower(strategy, number, mark, Opening::new(strategy.weight, bound))?;
     Ok(Offered::Lowered)

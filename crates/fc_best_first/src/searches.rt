@@ -92,9 +92,9 @@ impl<K: ExactKey, F: Frontier + Drop, S: Space<K> + Drop> Search<K, F, S> {
         } = strategy;
         // Their ranges, which the search keeps.
         let (_, _) = (weight.get(), budget.get());
-        let (start, walk) = space.start();
+        let (start, mut walk) = space.start();
         let Child { key, cost, bound } = start;
-        let opening = Opening::new(weight, bound_of(&space, &key, bound));
+        let opening = Opening::new(weight, bound_of(&space, &mut walk, &key, bound));
         let mark = Mark {
             cost: u32::from(cost),
             parent: 0,

@@ -26,29 +26,36 @@ pub trait Space<K> {
     // How many children are left.
     ghost left: { Self.Walk → ℕ };
 
-    /// The key that starts, with its cost, and a walk to visit keys with.
+    // The walk stands at this key: the start, or the child that it told last.
+    ghost at: { Self.Walk → K → Type 0 };
+
+    /// The key that starts, with its cost, and a walk to visit keys with, which stands at it.
     fn start(&self) -> (Child<K>, Self::Walk)
         ensures starts { (graph self.now).starts result.0.key result.0.cost }
         ensures told { TellsBound (graph self.now) result.0 }
-        ensures alone { (x : K) (d : ℕ) → (graph self.now).starts x d → (x ≡ result.0.key) × (result.0.cost ≤ d) };
+        ensures alone { (x : K) (d : ℕ) → (graph self.now).starts x d → (x ≡ result.0.key) × (result.0.cost ≤ d) }
+        ensures at { at result.1 result.0.key };
 
     /// Whether a key that was reached is won.
     fn is_won(&self, key: &K) -> bool
         requires reached { (d : ℕ) × Reached (graph self.now) key.now d }
         ensures value { IsTrue result ↔ (graph self.now).won key.now };
 
-    /// The lower bound of a key that was reached. A search asks it of the key that starts, and of each child that it opens,
-    /// one that is new, or stored at more, where the child doesn't tell it. Most children are stored at no more already.
+    /// The lower bound of a key that was reached, wherever a walk stands.
     fn bound(&self, key: &K) -> u8
         requires reached { (d : ℕ) × Reached (graph self.now) key.now d }
         ensures value { result ≡ (graph self.now).bound key.now };
 
-    /// The lower bound of a key that was reached, counted no further than is asked: where it is greater than `most`, any number
-    /// above that and no greater than the bound.
-    fn bound_within(&self, key: &K, most: u8) -> u8
+    /// The lower bound of the key that a walk stands at, counted no further than is asked: where it is greater than `most`, any
+    /// number above that and no greater than the bound. A search asks it of the key that starts, and of each child that it opens,
+    /// one that is new, or stored at more, where the child doesn't tell it. Most children are stored at no more already.
+    fn bound_within(&self, walk: &mut Self::Walk, key: &K, most: u8) -> u8
         requires reached { (d : ℕ) × Reached (graph self.now) key.now d }
+        requires at { at walk.old key.now }
         ensures under { result ≤ (graph self.now).bound key.now }
-        ensures exact { result ≤ most → result ≡ (graph self.now).bound key.now };
+        ensures exact { result ≤ most → result ≡ (graph self.now).bound key.now }
+        ensures rest { (children : List (Child K)) → rest walk.new children ↔ rest walk.old children }
+        ensures left { left walk.new ≡ left walk.old };
 
     /// The lower bound of a key that was reached, by which a pair that was opened at more is known. Its children take the place
     /// of those that were left.
@@ -68,6 +75,7 @@ pub trait Space<K> {
         ensures next { MatchOption result (rest walk.old [])
             (λ child. (children : List (Child K)) → rest walk.new children → rest walk.old (child ∷ children)) }
         ensures some { (children : List (Child K)) × rest walk.new children }
+        ensures at { IfSome result (λ child. at walk.new child.key) }
         ensures fewer { IfSome result (λ _. left walk.new < left walk.old) };
 
     ghost lawful: { (s : Self) → IsLawful (graph s) };

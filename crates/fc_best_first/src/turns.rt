@@ -8,7 +8,7 @@ ghost use Rattle.fc_best_first.specs.inner.Turn.{AreReached, Becomes, IsLaterNea
 use crate::books::{Book, Mark, Offered, Opening};
 use crate::keys::ExactKey;
 use crate::limits::{MOST_BUDGET, Weight};
-use crate::offers::offer;
+use crate::offers::{Taken, offer};
 use crate::spaces::{Child, Space};
 use crate::strategies::Strategy;
 use fc_frontier::{Frontier, Full};
@@ -50,28 +50,25 @@ fn least_of(other: Option<u32>, f: u32) -> u32
     }
 }
 
-// Offers the children of a key, when a pair of this f was taken, by the mark of one that would cost nothing: the cost of the
-// key and its number. At `Err` a growth was refused, and nothing is known of the book.
+// Offers the children of a key by what was taken. At `Err` a growth was refused, and nothing is known of the book.
 fn expand<K: ExactKey, F: Frontier + Drop, S: Space<K>>(
     space: &S,
+    walk: &mut S::Walk,
     book: &mut Book<K, F>,
     strategy: &Strategy,
-    taken: u32,
-    origin: Mark,
-    walk: &mut S::Walk,
+    taken: &Taken,
 ) -> Result<Placing<K>, Full>
     requires room { length book.old.stored ≤ strategy.now.budget }
     requires noted { AreNoted strategy.now.expansion (S.graph space.now) book.old }
-    requires low { origin.cost ≤ MOST_COST * MOST_BUDGET }
+    requires low { taken.now.origin.cost ≤ MOST_COST * MOST_BUDGET }
     requires reached { (children : List (Child K)) → S.rest walk.old children → AreReached (S.graph space.now) children }
-    ensures expands { IfOk result (λ placing. (children : List (Child K)) × S.rest walk.old children × Expands (record { graph = S.graph space.now; strategy = strategy.now }) taken origin children book.old book.new placing) }
-    ensures near { IfOk result (IsLaterNear strategy.now.expansion taken origin.cost) }
+    ensures expands { IfOk result (λ placing. (children : List (Child K)) × S.rest walk.old children × Expands (record { graph = S.graph space.now; strategy = strategy.now }) taken.now.f taken.now.origin children book.old book.new placing) }
+    ensures near { IfOk result (IsLaterNear strategy.now.expansion taken.now.f taken.now.origin.cost) }
     ensures noted { IfOk result (λ placing. AreNoted strategy.now.expansion (S.graph space.now) book.new) }
 {
     let mut later: Option<u32> = None;
     while let Some(child) = space.next(walk) {
-        let mark = origin.onward(child.cost);
-        match offer(space, book, strategy, taken, child, mark)? {
+        match offer(space, walk, book, strategy, taken, child)? {
             Offered::Full(key) => return Ok(Placing::NoRoom(key)),
             Offered::PutOff(f) => later = Some(least_of(later, f)),
             _ => {}
@@ -165,6 +162,6 @@ pub(crate) fn advance<K: ExactKey, F: Frontier + Drop, S: Space<K>>(
         cost: mark.cost,
         parent: number,
     };
-    let placing = expand(space, book, strategy, f, origin, walk)?;
+    let placing = expand(space, walk, book, strategy, &Taken { f, origin })?;
     close(book, number, mark, placing)
 }

@@ -81,6 +81,8 @@ impl Space<Sum> for Sums {
 
     ghost rest = { λ w children. children ≡ option_to_list w.two ++ (option_to_list w.four ++ option_to_list w.six) };
 
+    ghost at = { λ w key. Unit {0} };
+
     ghost left = { λ w. length (option_to_list w.two ++ (option_to_list w.four ++ option_to_list w.six)) };
 
     fn start(&self) -> (Child<Sum>, Addends) {
@@ -105,7 +107,7 @@ impl Space<Sum> for Sums {
         u32::from(self.goal).saturating_sub(key.value) as u8
     }
 
-    fn bound_within(&self, key: &Sum, _most: u8) -> u8 {
+    fn bound_within(&self, _walk: &mut Addends, key: &Sum, _most: u8) -> u8 {
         self.bound(key)
     }
 

@@ -1,6 +1,6 @@
 -- The children of a class are the ends of its edges.
 use Rattle.std.proofs.Common.{◌≡◌, ℕ, zero, suc, ◌+◌, ◌≤◌, List, [], ◌∷◌, ◌++◌, reverse, refl, sym, ◌∙◌, ap, subst, arith}
-use Rattle.std.specs.Prelude.{Contains, IfSome, None}
+use Rattle.std.specs.Prelude.{Contains, IfSome, None, Some}
 use Rattle.std.proofs.lemmas.List.{reverse-append}
 use Rattle.std.proofs.lemmas.List.Elements.{Contains-append_right}
 use Rattle.std.proofs.lemmas.List.Sorted.{Contains-permutation, IsPermutation-reverse}
@@ -27,7 +27,7 @@ use Rattle.fc_classes.specs.Classes.{SettlesTo, classes}
 use Rattle.fc_canonical.specs.Spelled.{IsKeyIn, spelled}
 use Rattle.fc_canonical.proofs.SpelledLemmas.{key_spells}
 use Rattle.fc_canonical.proofs.SortLemmas.{has_key}
-use Rattle.fc_space.specs.Children.{IsChildOf, IsSettledChild, AreChildrenBy}
+use Rattle.fc_space.specs.Children.{IsChildOf, IsSettledChild, AreChildrenBy, Left, StandsAt}
 use Rattle.fc_space.specs.inner.Children.{AreAllowed}
 
 -- a child's bound is that of its key
@@ -36,6 +36,12 @@ pub child_bound : (g : GameRules) (rule : ℕ) (kind : BoundKind) (z : Board) (m
 child_bound g rule kind z moves child p (q, count, settles, key, cost, low) =
     subst (λ k. IfSome child.bound (λ b. b ≡ k))
     ((bounds_lower kind).0.alike q (spelled child.key) (key_spells g q child.key (settles_keep g rule z q count p settles) key).1) low
+
+-- the bound of where the move led at which a walk stands is that of the key
+pub stands_guide : (g : GameRules) (kind : BoundKind) (b : Board) (m : Move) (key : List ℕ) → IsPositionOf g b
+    → (at : StandsAt g b (Some m) key) → guide_of kind at.0 ≡ guide_of kind (spelled key)
+stands_guide g kind b m key p (z, step, is, away) =
+    (bounds_lower kind).0.alike z (spelled key) (key_spells g z key (step_keeps g b z m p step) is).1
 
 -- of class-mates that settle, the one child has the key of what the other settles to, at as many moves
 pub child_once : (g : GameRules) (rule : ℕ) (kind : BoundKind) (x z : Board) (moves count : ℕ) (child : Child (List ℕ)) (y : List ℕ) → IsPositionOf g x
@@ -143,3 +149,15 @@ pub start_alone : (g : GameRules) (rule : ℕ) (kind : BoundKind) (p : Board) (c
 start_alone g rule kind p child pp settled x d starts =
     let once = child_once g rule kind p p 0 d child x pp pp (class-refl p) settled starts in
     (sym once.0, omega (arith, once.1))
+
+-- what is left of the children stays where the walk differs by the move alone that it told last
+pub children_same : {G : Type 0} (rules : G → GameRules) (old new : Left G)
+    → (new.game ≡ old.game) × (new.rule ≡ old.rule) × (new.kind ≡ old.kind) × (new.position ≡ old.position) × (new.moves ≡ old.moves)
+    → (children : List (Child (List ℕ))) → AreChildrenBy (rules new.game) new.rule new.kind new.position (reverse new.moves) children
+    → AreChildrenBy (rules old.game) old.rule old.kind old.position (reverse old.moves) children
+children_same rules old new (game, rule, kind, position, moves) children are =
+    subst (λ v. AreChildrenBy (rules v) old.rule old.kind old.position (reverse old.moves) children) game
+    (subst (λ v. AreChildrenBy (rules new.game) v old.kind old.position (reverse old.moves) children) rule
+    (subst (λ v. AreChildrenBy (rules new.game) new.rule v old.position (reverse old.moves) children) kind
+    (subst (λ v. AreChildrenBy (rules new.game) new.rule new.kind v (reverse old.moves) children) position
+    (subst (λ v. AreChildrenBy (rules new.game) new.rule new.kind new.position (reverse v) children) moves are))))

@@ -1,5 +1,6 @@
 -- The children of a class: where the steps of its position lead, once settled.
-use Rattle.std.specs.Prelude.{◌≡◌, ℕ, ◌+◌, IfSome, List, [], ◌∷◌}
+use Rattle.std.specs.Prelude.{◌≡◌, ◌≢◌, ℕ, ◌+◌, IfSome, List, [], ◌∷◌, Option, None, Some}
+use Rattle.fc_cards.specs.declared.places.Place.TheVariants.{Home}
 use Rattle.fc_position.specs.Board.{Board}
 use Rattle.fc_moves.specs.declared.steps.Move.{Move}
 use Rattle.fc_moves.specs.GameRules.{GameRules}
@@ -19,13 +20,20 @@ IsSettledChild g rule kind z moves child = (q : Board) × (count : ℕ) × Settl
 abbrev pub IsChildOf : GameRules → ℕ → BoundKind → Board → Move → Child (List ℕ) → Type 0
 IsChildOf g rule kind b m child = (z : Board) × Step g b m z × IsSettledChild g rule kind z 1 child
 
--- what is left of the children of a position of a game: the moves that lead to them, the next one last
+-- a walk stands at the key: by a move that was told last it is that of where the move leads, by none it is any
+abbrev pub StandsAt : GameRules → Board → Option Move → List ℕ → Type 0
+StandsAt g b None key = Unit {0}
+StandsAt g b (Some m) key = (z : Board) × Step g b m z × IsKeyOf z key × (m.to ≢ Home)
+
+-- what is left of the children of a position of a game: the moves that lead to them, the next one last; and the move that led to
+-- the child that was told last, where no card went home
 pub record Left (G : Type 0) : Type 0 where
   pub game : G
   pub rule : ℕ
   pub kind : BoundKind
   pub position : Board
   pub moves : List Move
+  pub last : Option Move
 
 -- the children are those to which the moves lead, one after the other
 abbrev pub AreChildrenBy : GameRules → ℕ → BoundKind → Board → List Move → List (Child (List ℕ)) → Type 0

@@ -1,4 +1,5 @@
-ghost use Rattle.std.specs.Prelude.{◌≡◌, ◌≢◌, ◌≤◌, ℕ, IfSome, List, Some, length, reverse};
+ghost use Rattle.std.specs.Prelude.{◌≡◌, ◌≢◌, ◌≤◌, ℕ, IfSome, List, None, Some, length, reverse};
+ghost use Rattle.fc_position.specs.Board.{Board};
 ghost use Rattle.fc_position.specs.Board.{playable, lifted, placed};
 ghost use Rattle.fc_position.specs.Position.{Fits, IsPosition};
 ghost use Rattle.fc_moves.specs.GameRules.{IsPositionOf};
@@ -14,7 +15,7 @@ ghost use Rattle.fc_best_first.specs.declared.spaces.Child.{Child};
 ghost use Rattle.fc_classes.specs.Classes.{classes};
 ghost use Rattle.fc_canonical.specs.Spelled.{IsKeyIn, spelled};
 ghost use Rattle.fc_classes.proofs.TableLemmas.{lawful};
-ghost use Rattle.fc_space.specs.Children.{IsSettledChild, IsChildOf, AreChildrenBy};
+ghost use Rattle.fc_space.specs.Children.{IsSettledChild, IsChildOf, AreChildrenBy, StandsAt};
 ghost use Rattle.fc_space.specs.inner.Children.{OthersStay, Spells};
 ghost use Rattle.fc_bound.proofs.KindLemmas.{bounds_lower};
 
@@ -55,6 +56,8 @@ pub struct Children<G: Game + Drop> {
     key: ClassKey,
     bound: u8,
     left: ArrayVec<Move, 132>,
+    // The move that led to the child that was told last, where no card went home, by the move or after it.
+    last: Option<Move>,
 }
 
 impl<G: Game + Drop> Model for Children<G> {
@@ -68,7 +71,7 @@ impl<G: Game + Drop> Model for Children<G> {
 
     ghost Value = { Left G };
 
-    ghost view = { λ s. record { game = s.rules.game; rule = s.rules.rule; kind = s.rules.kind; position = s.position; moves = s.left.items } };
+    ghost view = { λ s. record { game = s.rules.game; rule = s.rules.rule; kind = s.rules.kind; position = s.position; moves = s.left.items; last = s.last } };
 
     ghost invariant = { λ s. IsPositionOf (G.game s.rules.game) s.position × AreAllowed (G.game s.rules.game) s.position s.left.items
         × (s.bound ≡ guide_of s.rules.kind s.position) × NoneGoesHome s.rules.rule (G.game s.rules.game) s.position × Spells s.key s.position };
@@ -105,6 +108,7 @@ impl<G: Game + Drop> Positions<G> {
     // A walk with no child left, which begins at a class that was reached.
     fn walk(&self, key: &ClassKey) -> Children<G>
         requires reached { (d : ℕ) × Reached (classes (guide_of self.now.rules.kind) (G.game self.now.rules.game) self.now.rules.rule self.now.start) key.now d }
+        ensures last { result.last ≡ None }
     {
         let position = self.position(key);
         let bound = self.rules.kind.guide(&position);
@@ -118,6 +122,7 @@ impl<G: Game + Drop> Positions<G> {
             key: key.copy(),
             bound,
             left: ArrayVec::new(),
+            last: None,
         }
     }
 
@@ -136,6 +141,7 @@ impl<G: Game + Drop> Positions<G> {
         walk.key = key.copy();
         walk.bound = bound;
         walk.left = distinct_moves(&self.rules.game, &walk.position);
+        walk.last = None;
     }
 }
 
@@ -166,6 +172,7 @@ fn settled_already<G: Game + Drop>(
     requires key { IfSome key (IsKeyOf position.now) }
     requires others { OthersStay rules.now.rule (G.game rules.now.game) position.now from }
     ensures settled { IfSome result (IsSettledChild (G.game rules.now.game) rules.now.rule rules.now.kind position.now 1) }
+    ensures own { IfSome result (λ child. IsKeyOf position.now child.key) }
 {
     if goes_home_from(&rules.game, position, rules.rule, from) {
         return None;
@@ -246,6 +253,7 @@ fn child_by_shift<G: Game + Drop>(
     requires key { Spells key.now position.old }
     requires allowed { Allows (G.game rules.now.game) position.old m }
     ensures child { IfSome result (IsChildOf (G.game rules.now.game) rules.now.rule rules.now.kind position.old m) }
+    ensures stands { IfSome result (λ child. StandsAt (G.game rules.now.game) position.old (Some m) child.key) }
     ensures same { position.new ≡ position.old }
 {
     if m.to == Place::Home {
@@ -272,25 +280,40 @@ fn child_by_copy<G: Game + Drop>(
     settled(rules, next, 1)
 }
 
-// The child to which a move leads. The position is as it was.
-fn child_by<G: Game + Drop>(
-    rules: &ClassRules<G>,
-    position: &mut Position,
-    key: &ClassKey,
-    bound: u8,
-    m: Move,
-) -> Child<ClassKey>
-    requires bound { bound ≡ guide_of rules.now.kind position.old }
-    requires settled { NoneGoesHome rules.now.rule (G.game rules.now.game) position.old }
-    requires whole { IsPosition position.old }
-    requires key { Spells key.now position.old }
-    requires allowed { Allows (G.game rules.now.game) position.old m }
-    ensures child { IsChildOf (G.game rules.now.game) rules.now.rule rules.now.kind position.old m result }
-    ensures same { position.new ≡ position.old }
-{
-    match child_by_shift(rules, position, key, bound, m) {
-        Some(child) => child,
-        None => child_by_copy(rules, position, m),
+impl<G: Game + Drop> Children<G> {
+    // The child to which a move leads, at which the walk stands from then on.
+    fn step(&mut self, m: Move) -> Child<ClassKey>
+        requires allowed { Allows (G.game self.old.game) self.old.position m }
+        ensures child { IsChildOf (G.game self.old.game) self.old.rule self.old.kind self.old.position m result }
+        ensures at { StandsAt (G.game self.old.game) self.old.position self.new.last result.key }
+        ensures same { (self.new.game ≡ self.old.game) × (self.new.rule ≡ self.old.rule) × (self.new.kind ≡ self.old.kind)
+            × (self.new.position ≡ self.old.position) × (self.new.moves ≡ self.old.moves) }
+    {
+        match child_by_shift(&self.rules, &mut self.position, &self.key, self.bound, m) {
+            Some(child) => {
+                self.last = Some(m);
+                child
+            }
+            None => {
+                self.last = None;
+                child_by_copy(&self.rules, &self.position, m)
+            }
+        }
+    }
+
+    // The bound of this kind of where a move leads that takes no card home, counted no further than is asked. The walk is as it
+    // was.
+    fn bound_after(&mut self, kind: BoundKind, m: Move, most: u8) -> u8
+        requires allowed { Allows (G.game self.old.game) self.old.position m }
+        requires away { m.to ≢ Home }
+        ensures under { (z : Board) → Step (G.game self.old.game) self.old.position m z → result ≤ guide_of kind z }
+        ensures exact { (z : Board) → Step (G.game self.old.game) self.old.position m z → result ≤ most → result ≡ guide_of kind z }
+        ensures same { self.new ≡ self.old }
+    {
+        apply(&self.rules.game, &mut self.position, m);
+        let bound = kind.guide_within(&self.position, most);
+        self.position.shift(m.to, m.from);
+        bound
     }
 }
 
@@ -302,6 +325,8 @@ impl<G: Game + Drop> Space<ClassKey> for Positions<G> {
     ghost rest = { λ w children. AreChildrenBy (G.game w.game) w.rule w.kind w.position (reverse w.moves) children };
 
     ghost left = { λ w. length w.moves };
+
+    ghost at = { λ w. StandsAt (G.game w.game) w.position w.last };
 
     fn start(&self) -> (Child<ClassKey>, Children<G>) {
         let child = settled(&self.rules, self.start.copy(), 0);
@@ -317,8 +342,11 @@ impl<G: Game + Drop> Space<ClassKey> for Positions<G> {
         self.rules.kind.guide(&self.position(key))
     }
 
-    fn bound_within(&self, key: &ClassKey, most: u8) -> u8 {
-        self.rules.kind.guide_within(&self.position(key), most)
+    fn bound_within(&self, walk: &mut Children<G>, key: &ClassKey, most: u8) -> u8 {
+        match walk.last {
+            Some(m) => walk.bound_after(self.rules.kind, m, most),
+            None => self.rules.kind.guide_within(&self.position(key), most),
+        }
     }
 
     fn visit(&self, key: &ClassKey, walk: &mut Children<G>) -> u8 {
@@ -334,7 +362,7 @@ impl<G: Game + Drop> Space<ClassKey> for Positions<G> {
 
     fn next(&self, walk: &mut Children<G>) -> Option<Child<ClassKey>> {
         let m = walk.left.pop()?;
-        Some(child_by(&walk.rules, &mut walk.position, &walk.key, walk.bound, m))
+        Some(walk.step(m))
     }
 
     ghost lawful = { λ s. lawful (guide_of s.rules.kind) (G.game s.rules.game) s.rules.rule s.start (bounds_lower s.rules.kind).0 s.fits };

@@ -1,5 +1,6 @@
 use Rattle.std.proofs.Common.{◌≡◌, ◌*◌, ◌∙◌, ap, subst, arith}
 use Rattle.fc_best_first.specs.Store.{Lowers}
+use Rattle.fc_best_first.specs.declared.books.Mark.{Mark}
 use Rattle.fc_best_first.specs.Turn.{opening_of}
 use Rattle.fc_best_first.specs.Graph.{Task}
 use Rattle.fc_best_first.proofs.KeptLemmas.{stands_within}
@@ -29,6 +30,7 @@ returns-clause-offers g c =
       number,
       c.in-Some.was,
       c.in-Some.ensures.value,
-      omega (arith, c.if-was-mark.false),
-      subst (Lowers c.args.strategy.now c.args.book.now c.lower.new.self number c.args.mark) opening c.in_ok-lower.ensures.lowers,
+      (let level = ap (λ (m : Mark). m.cost) c.onward-mark.ensures.value in let no = c.if-was-mark.false in omega (arith, level, no)),
+      subst (λ m. Lowers c.args.strategy.now c.args.book.now c.lower.new.self number m (opening_of task c.args.child.key)) c.onward-mark.ensures.value
+          (subst (Lowers c.args.strategy.now c.args.book.now c.lower.new.self number c.onward-mark.result) opening c.in_ok-lower.ensures.lowers),
     )

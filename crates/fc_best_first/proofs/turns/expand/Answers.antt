@@ -38,38 +38,37 @@ returns-in-Full-clause-expands g c =
     let task : Task g.row.K.Denot = record { graph = g.S.Space.graph c.args.space.now; strategy = c.args.strategy.now } in
     let rest = c.in-Some.ensures.some in
     subst (λ (p : Placing g.row.K.Denot). (all : List (Child g.row.K.Denot)) × g.S.Space.rest c.args.walk.now all
-    × Expands task c.args.taken c.args.origin all c.args.book.now c.offer.new.book p) (put_off_room c.loop-child.later c.in-Full.key)
+    × Expands task c.args.taken.now.f c.args.taken.now.origin all c.args.book.now c.offer.new.book p) (put_off_room c.loop-child.later c.in-Full.key)
     (c.loop-child.invariant.onward c.offer.new.book (NoRoom c.in-Full.key) (c.in-Some.child ∷ rest.0)
     (c.in-Some.ensures.next rest.0 rest.1)
-    (expands_full task c.args.taken c.args.origin c.in-Some.child rest.0
-    c.loop-child.book c.offer.new.book c.in-Full.key _ c.in_ok-key.field-0 c.onward-mark.ensures.value c.in-Full.is c.in_ok-key.ensures.offers))
+    (expands_full task c.args.taken.now.f c.args.taken.now.origin c.in-Some.child rest.0
+    c.loop-child.book c.offer.new.book c.in-Full.key _ c.in_ok-key.field-0 refl c.in-Full.is c.in_ok-key.ensures.offers))
 
 pub loop-child-preserved-in-PutOff : goal.loop-child-preserved-in-PutOff
 loop-child-preserved-in-PutOff g c =
     let graph = g.S.Space.graph c.args.space.now in
     let task : Task g.row.K.Denot = record { graph = graph; strategy = c.args.strategy.now } in
-    let here = subst (Offers c.args.strategy.now c.args.taken c.loop-child.book c.offer.new.book _) c.in-PutOff.is c.in_ok-key.ensures.offers in
-    let past = off_past c.args.strategy.now.expansion c.args.taken _ c.in-PutOff.f here.1 in
-    let near : c.in-PutOff.f ≤ c.onward-mark.result.cost + 2550 =
-    subst (λ (o : Offered g.row.K.Denot). IsPutOffNear c.onward-mark.result.cost o) c.in-PutOff.is c.in_ok-key.ensures.near in
-    let edge = c.onward-mark.ensures.near in
+    let here = subst (Offers c.args.strategy.now c.args.taken.now.f c.loop-child.book c.offer.new.book _) c.in-PutOff.is c.in_ok-key.ensures.offers in
+    let past = off_past c.args.strategy.now.expansion c.args.taken.now.f _ c.in-PutOff.f here.1 in
+    let near : c.in-PutOff.f ≤ (c.args.taken.now.origin.cost + 255) + 2550 =
+    subst (λ (o : Offered g.row.K.Denot). IsPutOffNear (c.args.taken.now.origin.cost + 255) o) c.in-PutOff.is c.in_ok-key.ensures.near in
     record {
-      room = offers_room c.args.strategy.now c.args.taken c.loop-child.book c.offer.new.book _ c.in_ok-key.field-0
+      room = offers_room c.args.strategy.now c.args.taken.now.f c.loop-child.book c.offer.new.book _ c.in_ok-key.field-0
           c.loop-child.invariant.room c.in_ok-key.ensures.offers;
-      noted = offers_noted c.args.strategy.now graph c.args.taken c.loop-child.book c.offer.new.book _ c.in_ok-key.field-0
+      noted = offers_noted c.args.strategy.now graph c.args.taken.now.f c.loop-child.book c.offer.new.book _ c.in_ok-key.field-0
           refl c.loop-child.invariant.noted c.in_ok-key.ensures.offers;
-      near = near_least g.row.K.Denot c.args.strategy.now.expansion c.args.taken c.args.origin.cost c.loop-child.later c.in-PutOff.f c.least_of.result
-          c.loop-child.invariant.near past.2 past.0 (omega (arith, near, edge)) c.least_of.ensures.value;
+      near = near_least g.row.K.Denot c.args.strategy.now.expansion c.args.taken.now.f c.args.taken.now.origin.cost c.loop-child.later c.in-PutOff.f c.least_of.result
+          c.loop-child.invariant.near past.2 past.0 (omega (arith, near)) c.least_of.ensures.value;
       reached = λ children rest child there.
-          c.loop-child.invariant.reached (c.in-Some.child ∷ children) (c.in-Some.ensures.next children rest) child
+          c.loop-child.invariant.reached (c.in-Some.child ∷ children) (c.in-Some.ensures.next children ((c.offer.ensures.rest children).0 rest)) child
           (Contains-append_right (c.in-Some.child ∷ []) children child there);
       onward = λ new placing children rest expands.
           subst (λ (p : Placing g.row.K.Denot). (all : List (Child g.row.K.Denot)) × g.S.Space.rest c.args.walk.now all
-          × Expands task c.args.taken c.args.origin all c.args.book.now new p)
+          × Expands task c.args.taken.now.f c.args.taken.now.origin all c.args.book.now new p)
           (put_off_least c.loop-child.later c.in-PutOff.f c.least_of.result placing c.least_of.ensures.value)
-          (c.loop-child.invariant.onward new _ (c.in-Some.child ∷ children) (c.in-Some.ensures.next children rest)
-          (expands_off task c.args.taken c.args.origin c.in-Some.child children
-          c.loop-child.book c.offer.new.book new placing _ c.in-PutOff.f c.in_ok-key.field-0 c.onward-mark.ensures.value c.in-PutOff.is
+          (c.loop-child.invariant.onward new _ (c.in-Some.child ∷ children) (c.in-Some.ensures.next children ((c.offer.ensures.rest children).0 rest))
+          (expands_off task c.args.taken.now.f c.args.taken.now.origin c.in-Some.child children
+          c.loop-child.book c.offer.new.book new placing _ c.in-PutOff.f c.in_ok-key.field-0 refl c.in-PutOff.is
           c.in_ok-key.ensures.offers expands));
     }
 
@@ -78,36 +77,36 @@ loop-child-preserved g c =
     let graph = g.S.Space.graph c.args.space.now in
     let task : Task g.row.K.Denot = record { graph = graph; strategy = c.args.strategy.now } in
     record {
-      room = offers_room c.args.strategy.now c.args.taken c.loop-child.book c.offer.new.book _ c.in_ok-key.field-0
+      room = offers_room c.args.strategy.now c.args.taken.now.f c.loop-child.book c.offer.new.book _ c.in_ok-key.field-0
           c.loop-child.invariant.room c.in_ok-key.ensures.offers;
-      noted = offers_noted c.args.strategy.now graph c.args.taken c.loop-child.book c.offer.new.book _ c.in_ok-key.field-0
+      noted = offers_noted c.args.strategy.now graph c.args.taken.now.f c.loop-child.book c.offer.new.book _ c.in_ok-key.field-0
           refl c.loop-child.invariant.noted c.in_ok-key.ensures.offers;
       near = c.loop-child.invariant.near;
       reached = λ children rest child there.
-          c.loop-child.invariant.reached (c.in-Some.child ∷ children) (c.in-Some.ensures.next children rest) child
+          c.loop-child.invariant.reached (c.in-Some.child ∷ children) (c.in-Some.ensures.next children ((c.offer.ensures.rest children).0 rest)) child
           (Contains-append_right (c.in-Some.child ∷ []) children child there);
       onward = λ new placing children rest expands.
-          c.loop-child.invariant.onward new placing (c.in-Some.child ∷ children) (c.in-Some.ensures.next children rest)
-          (expands_on task c.args.taken c.args.origin c.in-Some.child children
-          c.loop-child.book c.offer.new.book new placing _ c.in_ok-key.field-0 c.onward-mark.ensures.value c.in_default-2.not-Full
+          c.loop-child.invariant.onward new placing (c.in-Some.child ∷ children) (c.in-Some.ensures.next children ((c.offer.ensures.rest children).0 rest))
+          (expands_on task c.args.taken.now.f c.args.taken.now.origin c.in-Some.child children
+          c.loop-child.book c.offer.new.book new placing _ c.in_ok-key.field-0 refl c.in_default-2.not-Full
           c.in_default-2.not-PutOff c.in_ok-key.ensures.offers expands);
     }
 
 pub returns-in-Some-later-clause-expands : goal.returns-in-Some-later-clause-expands
 returns-in-Some-later-clause-expands g c =
     subst (λ (l : Option ℕ). (all : List (Child g.row.K.Denot)) × g.S.Space.rest c.args.walk.now all
-    × Expands (record { graph = g.S.Space.graph c.args.space.now; strategy = c.args.strategy.now }) c.args.taken c.args.origin all
+    × Expands (record { graph = g.S.Space.graph c.args.space.now; strategy = c.args.strategy.now }) c.args.taken.now.f c.args.taken.now.origin all
     c.args.book.now c.loop-child.book (put_off_first l Whole)) c.in-Some-later.is
     (c.loop-child.invariant.onward c.loop-child.book Whole [] c.in_default.ensures.next (refl, refl))
 
 pub returns-in-Some-later-clause-near : goal.returns-in-Some-later-clause-near
 returns-in-Some-later-clause-near g c =
-    subst (λ (l : Option ℕ). IsLaterNear {K = g.row.K.Denot} c.args.strategy.now.expansion c.args.taken c.args.origin.cost (put_off_first l Whole))
+    subst (λ (l : Option ℕ). IsLaterNear {K = g.row.K.Denot} c.args.strategy.now.expansion c.args.taken.now.f c.args.taken.now.origin.cost (put_off_first l Whole))
     c.in-Some-later.is c.loop-child.invariant.near
 
 pub returns-in-None-clause-expands : goal.returns-in-None-clause-expands
 returns-in-None-clause-expands g c =
     subst (λ (l : Option ℕ). (all : List (Child g.row.K.Denot)) × g.S.Space.rest c.args.walk.now all
-    × Expands (record { graph = g.S.Space.graph c.args.space.now; strategy = c.args.strategy.now }) c.args.taken c.args.origin all
+    × Expands (record { graph = g.S.Space.graph c.args.space.now; strategy = c.args.strategy.now }) c.args.taken.now.f c.args.taken.now.origin all
     c.args.book.now c.loop-child.book (put_off_first l Whole)) c.in-None.is
     (c.loop-child.invariant.onward c.loop-child.book Whole [] c.in_default.ensures.next (refl, refl))

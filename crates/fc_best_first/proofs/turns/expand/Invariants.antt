@@ -13,13 +13,13 @@ abbrev pub invariant-loop-child : goal.invariant-loop-child
 invariant-loop-child g l = record {
   room : length l.book.stored ≤ l.strategy.budget;
   noted : AreNoted l.strategy.expansion (g.S.Space.graph l.space) l.book;
-  near : IsLaterNear {K = g.row.K.Denot} l.strategy.expansion l.taken l.origin.cost (put_off_first l.later Whole);
+  near : IsLaterNear {K = g.row.K.Denot} l.strategy.expansion l.taken.f l.taken.origin.cost (put_off_first l.later Whole);
   reached : (children : List (Child g.row.K.Denot)) → g.S.Space.rest l.walk children → AreReached (g.S.Space.graph l.space) children;
   onward : (new : Store g.row.K.Denot) (placing : Placing g.row.K.Denot) (children : List (Child g.row.K.Denot))
       → g.S.Space.rest l.walk children
-      → Expands (record { graph = g.S.Space.graph l.space; strategy = l.strategy }) l.taken l.origin children l.book new placing
+      → Expands (record { graph = g.S.Space.graph l.space; strategy = l.strategy }) l.taken.f l.taken.origin children l.book new placing
       → (all : List (Child g.row.K.Denot)) × g.S.Space.rest l.fn.walk all
-      × Expands (record { graph = g.S.Space.graph l.space; strategy = l.strategy }) l.taken l.origin all l.initial.book new
+      × Expands (record { graph = g.S.Space.graph l.space; strategy = l.strategy }) l.taken.f l.taken.origin all l.initial.book new
       (put_off_first l.later placing);
 }
 

@@ -17,4 +17,5 @@ returns g c =
         refl,
         c.requires.bound,
       );
+      own = c.key_or_new.ensures.value;
     }
