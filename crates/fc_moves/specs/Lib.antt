@@ -1,4 +1,5 @@
 pub mod Class
+pub mod Either
 pub mod GameRules
 pub mod Laws
 pub mod MoveText

@@ -6,6 +6,7 @@
 #![tactic(auto)]
 
 pub use bakers_game::BakersGame;
+pub use either::EitherGame;
 pub use free_cell::FreeCell;
 pub use games::Game;
 pub use lists::moves;
@@ -15,6 +16,7 @@ pub use steps::{Move, allows, apply, may_land};
 pub use texts::{move_text, read_move};
 
 mod bakers_game;
+mod either;
 mod free_cell;
 mod games;
 pub mod laws;

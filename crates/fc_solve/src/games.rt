@@ -2,7 +2,7 @@
 ghost use Rattle.std.specs.Prelude.{◌≤◌};
 
 use crate::endings::Ending;
-use fc_moves::{BakersGame, FreeCell, Game, Kings};
+use fc_moves::{BakersGame, EitherGame, FreeCell, Game, Kings};
 use fc_words::{GameName, GameWords};
 
 /// What is done in a game, whichever it is.
@@ -11,6 +11,9 @@ pub trait InGame {
     fn perform<G: Game + Drop>(&self, rt: &HostRuntime, game: &G) -> Result<u8, Ending>;
 }
 
+// A game other than FreeCell as it is played most: what is done in one of them is compiled once for all three.
+type Other = EitherGame<Kings<FreeCell>, EitherGame<BakersGame, Kings<BakersGame>>>;
+
 /// Does what is asked for in the game that the words name.
 pub fn in_game<T: InGame>(rt: &HostRuntime, words: &GameWords, task: &T) -> Result<u8, Ending>
     requires cells { words.now.cells ≤ 4 }
@@ -18,25 +21,20 @@ pub fn in_game<T: InGame>(rt: &HostRuntime, words: &GameWords, task: &T) -> Resu
     match words.game {
         GameName::FreeCell => {
             let game = FreeCell::new(words.cells).unwrap();
-            with_kings(rt, game, words.kings, task)
+            if words.kings {
+                task.perform(rt, &Other::One(Kings::new(game)))
+            } else {
+                task.perform(rt, &game)
+            }
         }
         GameName::Bakers => {
             let game = BakersGame::new(words.cells).unwrap();
-            with_kings(rt, game, words.kings, task)
+            let either = if words.kings {
+                EitherGame::Other(Kings::new(game))
+            } else {
+                EitherGame::One(game)
+            };
+            task.perform(rt, &Other::Other(either))
         }
-    }
-}
-
-// Does it in this game, or in the one that differs in its empty columns, which kings alone may go to.
-fn with_kings<G: Game + Drop, T: InGame>(
-    rt: &HostRuntime,
-    game: G,
-    kings: bool,
-    task: &T,
-) -> Result<u8, Ending> {
-    if kings {
-        task.perform(rt, &Kings::new(game))
-    } else {
-        task.perform(rt, &game)
     }
 }

@@ -4,7 +4,9 @@ use crate::boards::{THREE_SPADES, TWO_KINGS};
 use crate::games::AnySuit;
 use crate::given::{bakers_game, board, card, cards, free_cell, listed_moves, move_of, play};
 use fc_cards::Place;
-use fc_moves::{BakersGame, FreeCell, Game, Kings, Move, allows, move_text, moves, read_move};
+use fc_moves::{
+    BakersGame, EitherGame, FreeCell, Game, Kings, Move, allows, move_text, moves, read_move,
+};
 use fc_position::Position;
 use std::process::Abort;
 
@@ -87,6 +89,10 @@ fn tells_games(rt: HostRuntime) {
     let kings = Kings::new(suits);
     check_game(&rt, &kings.copy(), (3, 3, false, false), b"QH");
     check_game(&rt, &AnySuit.copy(), (200, 4, true, true), b"QC QD QH QS");
+    let one: EitherGame<FreeCell, BakersGame> = EitherGame::One(game);
+    check_game(&rt, &one.copy(), (0, 4, true, true), b"QC QS");
+    let other: EitherGame<AnySuit, Kings<BakersGame>> = EitherGame::Other(kings);
+    check_game(&rt, &other.copy(), (3, 3, false, false), b"QH");
 }
 
 // The text of a move is that from which it is read.
