@@ -12,7 +12,7 @@ use Rattle.fc_best_first.specs.declared.strategies.Expansion.{Expansion}
 use Rattle.fc_best_first.specs.declared.strategies.Expansion.TheVariants as expansion
 use Rattle.fc_best_first.specs.declared.strategies.Strategy.{Strategy}
 use Rattle.fc_best_first.specs.Graph.{Task, Reached, IsLawful}
-use Rattle.fc_best_first.specs.Store.{Store, Candidate, IsStored, NotesLast, Stores, opens_at}
+use Rattle.fc_best_first.specs.Store.{Store, Candidate, IsStored, NotesLast, Stores, opens_at, weighed}
 use Rattle.fc_best_first.specs.Turn.{opening_of}
 use Rattle.fc_best_first.specs.Kept.{AreNoted, Comes, IsKept, IsNeeded, IsOpenAt, IsOpenOrExpanded, f_of}
 use Rattle.fc_best_first.specs.Shown.{IsFloor}
@@ -22,15 +22,15 @@ use Rattle.fc_best_first.proofs.ClosedLemmas.{weighed_past}
 -- what storing the first key leaves
 pub first_stored : {K : Type 0} (strategy : Strategy) (empty new : Store K) (offer : Candidate K) (o : Offered K)
     → empty.stored ≡ [] → empty.waiting ≡ [] → empty.openings ≡ [] → 1 ≤ strategy.budget → Stores strategy empty new offer o
-    → (new.stored ≡ (offer.key, offer.mark) ∷ []) × Adds [] new.waiting (opens_at offer.mark offer.opening, 0)
+    → (new.stored ≡ (offer.key, offer.mark) ∷ []) × Adds [] new.waiting (opens_at (weighed strategy offer.mark) offer.opening, 0)
     × NotesLast strategy.expansion [] new.openings offer.opening
 first_stored strategy empty new offer Known none quiet unnoted some_room h = absurd h
 first_stored strategy empty new offer Lowered none quiet unnoted some_room h = absurd h
 first_stored strategy empty new offer (PutOff f) none quiet unnoted some_room h = absurd h
 first_stored strategy empty new offer Added none quiet unnoted some_room (lt, stored, opened, noted) = (
   stored ∙ ap (λ es. es ++ (offer.key, offer.mark) ∷ []) none,
-  subst (λ es. Adds [] new.waiting (opens_at offer.mark offer.opening, length es)) none
-      (subst (λ ps. Adds ps new.waiting (opens_at offer.mark offer.opening, length empty.stored)) quiet opened),
+  subst (λ es. Adds [] new.waiting (opens_at (weighed strategy offer.mark) offer.opening, length es)) none
+      (subst (λ ps. Adds ps new.waiting (opens_at (weighed strategy offer.mark) offer.opening, length empty.stored)) quiet opened),
   subst (λ os. NotesLast strategy.expansion os new.openings offer.opening) unnoted noted,
 )
 first_stored strategy empty new offer (Full y) none quiet unnoted some_room (same, full, kept) =
@@ -61,14 +61,14 @@ module _ {K : Type 0} (task : Task K) (s : Store K) (x : K) (e : Mark) (stored :
         (opening_of task x, ap (λ os. slice_get os 0) is, refl),
   )
 
-  first_open : (expansion : Expansion) → NotesLast expansion [] s.openings (opening_of task x) → IsOpenAt expansion s 0 e (f_of task x e)
+  first_open : (expansion : Expansion) → NotesLast expansion [] s.openings (opening_of task x) → IsOpenAt expansion s 0 (weighed task.strategy e) (f_of task x e)
   first_open expansion.Full same = added_there [] s.waiting (f_of task x e, 0) opened
   first_open expansion.Partial is =
       (added_there [] s.waiting (f_of task x e, 0) opened, (opening_of task x, ap (λ os. slice_get os 0) is, refl))
 
-  module _ (lawful : IsLawful task.graph) (heavy : 1 ≤ task.strategy.weight) (start : task.graph.starts x e.cost)
+  module _ (lawful : IsLawful task.graph) (heavy : task.strategy.weight.parts ≤ task.strategy.weight.times) (start : task.graph.starts x e.cost)
       (alone : (y : K) (d : ℕ) → task.graph.starts y d → (y ≡ x) × (e.cost ≤ d)) where
-    -- no answer, times the weight, is below what the first key is open at: an empty table is closed inside it
+    -- no answer, weighed as a bound is, is below what the first key is open at: an empty table is closed inside it
     pub begins_floor : IsFloor task.graph task.strategy.weight (f_of task x e)
     begins_floor n wins = ⊎_elim
         (λ over. absurd (
@@ -83,7 +83,7 @@ module _ {K : Type 0} (task : Task K) (s : Store K) (x : K) (e : Mark) (stored :
         }) n wins in
         omega (arith, le)))
         (λ within. within)
-        (cases_lt (task.strategy.weight * n) (f_of task x e))
+        (cases_lt (task.strategy.weight.times * n) (f_of task x e))
 
     first_needed : (expansion : Expansion) → IsNeeded expansion task.graph task.strategy.weight x
     first_needed expansion.Full = inl (e.cost, start)

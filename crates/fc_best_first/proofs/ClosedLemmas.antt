@@ -3,6 +3,7 @@ use Rattle.std.proofs.Common.{◌≡◌, ℕ, ◌+◌, ◌*◌, ◌<◌, ◌≤�
 use Rattle.std.specs.Prelude.{slice_get, Contains}
 use Rattle.std.proofs.lemmas.Bool.{cases_lt}
 use Rattle.std.proofs.lemmas.Nat.{mul-le}
+use Rattle.std.proofs.Math.Nat.{le_of_mul-le-mul_left}
 use Rattle.std.proofs.lemmas.Option.{none-some}
 use Rattle.std.proofs.lemmas.List.Elements.{Contains-append_right}
 use Rattle.fc_frontier.specs.Queue.{Adds, IsLeast}
@@ -11,53 +12,64 @@ use Rattle.fc_best_first.specs.declared.books.Opening.{Opening}
 use Rattle.fc_best_first.specs.declared.strategies.Expansion.{Expansion}
 use Rattle.fc_best_first.specs.declared.strategies.Expansion.TheVariants.{Full, Partial}
 use Rattle.fc_best_first.specs.Graph.{Graph, Task, Reached, IsLawful, IsClosedInside, Lists}
-use Rattle.fc_best_first.specs.Store.{Store, IsStored, IsTaken, opens_at}
+use Rattle.fc_best_first.specs.Limits.{IsEven, Ratio, weigh}
+use Rattle.fc_best_first.specs.Store.{Store, IsStored, IsTaken, opens_at, weighed}
 use Rattle.fc_best_first.specs.Turn.{IsStale, TakesFloor}
 use Rattle.fc_best_first.specs.Kept.{AreNoted, HasAt, IsDone, IsExpanded, IsExpandedBelow, IsOpenAt, IsOpenLater, IsOpenOrExpanded, IsSound, IsKept, f_of}
 use Rattle.fc_best_first.specs.Shown.{IsFloor}
 use Rattle.fc_best_first.proofs.KeptLemmas.{front_there, front_cases, added_stays, added_cases, least_below, pair_high}
 
--- a cost and a bound that come to n at most, the bound weighed, stay below what n, times the weight, is below
-weighed_below : (weight cost bound n f : ℕ) → 1 ≤ weight → cost + bound < suc n → weight * n < f → cost + weight * bound < f
+-- a cost and a bound that come to n at most stay, weighed, below what n, weighed as a bound is, is below
+weighed_below : (weight : Ratio) (cost bound n f : ℕ) → weight.parts ≤ weight.times → cost + bound < suc n → weight.times * n < f
+    → weigh weight cost bound < f
 weighed_below weight cost bound n f heavy lt over =
-    let all : weight * (cost + bound) ≤ weight * n = mul-le weight (cost + bound) weight n (omega arith) (omega (arith, lt)) in
-    let part : 1 * cost ≤ weight * cost = mul-le 1 cost weight cost heavy (omega arith) in
+    let all : weight.times * (cost + bound) ≤ weight.times * n = mul-le weight.times (cost + bound) weight.times n (omega arith) (omega (arith, lt)) in
+    let part : weight.parts * cost ≤ weight.times * cost = mul-le weight.parts cost weight.times cost heavy (omega arith) in
     omega (arith, all, part, over)
 
--- so what comes to no less, the bound weighed, comes to more than n
-pub weighed_past : (weight cost bound n f : ℕ) → 1 ≤ weight → weight * n < f → f ≤ cost + weight * bound → suc n ≤ cost + bound
+-- so what comes to no less, weighed, comes to more than n
+pub weighed_past : (weight : Ratio) (cost bound n f : ℕ) → weight.parts ≤ weight.times → weight.times * n < f
+    → f ≤ weigh weight cost bound → suc n ≤ cost + bound
 weighed_past weight cost bound n f heavy over le = ⊎_elim
     (λ lt. absurd (let below = weighed_below weight cost bound n f heavy lt over in omega (arith, below, le)))
     (λ past. past)
     (cases_lt (cost + bound) (suc n))
 
--- where a key is open, if it is: by full expansion at its cost plus weighed bound, by partial expansion where it was opened last
+-- where a bound counts as often as a cost, what comes to no less than n, all weighed, comes to no less
+even_past : (weight : Ratio) (cost bound n : ℕ) → 1 ≤ weight.parts → IsEven weight → weight.parts * n ≤ weigh weight cost bound
+    → n ≤ cost + bound
+even_past weight cost bound n some even le =
+    let same : weight.times * bound ≡ weight.parts * bound = ap (λ w. w * bound) even in
+    let all : weight.parts * n ≤ weight.parts * (cost + bound) = omega (arith, le, same) in
+    le_of_mul-le-mul_left all some
+
+-- where a key is open, if it is: by full expansion at its weighed cost plus bound, by partial expansion where it was opened last
 abbrev pub IsAt : {K : Type 0} → Expansion → Task K → Store K → ℕ → K → Mark → ℕ → Type 0
 IsAt Full task s number x mark f = f ≡ f_of task x mark
-IsAt Partial task s number x mark f = (opening : Opening) × (slice_get s.openings number ≡ Some opening) × (f ≡ opens_at mark opening)
+IsAt Partial task s number x mark f = (opening : Opening) × (slice_get s.openings number ≡ Some opening) × (f ≡ opens_at (weighed task.strategy mark) opening)
 
 -- a key that isn't won, and of which each edge's end is stored at no more, or can't be won below n
 abbrev pub IsCoveredBelow : {K : Type 0} → Graph K → Store K → K → ℕ → ℕ → Type 0
 IsCoveredBelow g s x cost n = (g.won x → ⊥) × ((c : ℕ) (y : _) → g.edge x c y → HasAt s y (cost + c) ⊎ (n ≤ cost + c + g.bound y))
 
 module _ {K : Type 0} where
-  pub open_waits : (expansion : Expansion) (s : Store K) (i : ℕ) (m : Mark) (f : ℕ) → IsOpenAt expansion s i m f → Contains s.waiting (f, i)
-  open_waits Full s i m f is_open = is_open
-  open_waits Partial s i m f is_open = is_open.0
+  pub open_waits : (expansion : Expansion) (s : Store K) (i cost f : ℕ) → IsOpenAt expansion s i cost f → Contains s.waiting (f, i)
+  open_waits Full s i cost f is_open = is_open
+  open_waits Partial s i cost f is_open = is_open.0
 
-  -- what is open at its cost plus weighed bound is open where it is
+  -- what is open at its weighed cost plus bound is open where it is
   own_at : (expansion : Expansion) (task : Task K) (s : Store K) (i : ℕ) (x : K) (m : Mark)
-      → IsOpenAt expansion s i m (f_of task x m) → IsAt expansion task s i x m (f_of task x m)
+      → IsOpenAt expansion s i (weighed task.strategy m) (f_of task x m) → IsAt expansion task s i x m (f_of task x m)
   own_at Full task s i x m is_open = refl
   own_at Partial task s i x m is_open = is_open.1
 
   -- an older pair isn't where its key is open
   pub stale_elsewhere : (expansion : Expansion) (task : Task K) (s : Store K) (i : ℕ) (x : K) (m : Mark) (f h : ℕ)
-      → IsStale expansion s i m (f_of task x m) f → IsAt expansion task s i x m h → h ≡ f → ⊥
+      → IsStale expansion s i (weighed task.strategy m) (f_of task x m) f → IsAt expansion task s i x m h → h ≡ f → ⊥
   stale_elsewhere Full task s i x m f h stale at same = omega (arith, stale, at, same)
   stale_elsewhere Partial task s i x m f h (opening, there, other) (last, here, at) same =
       let one : opening ≡ last = (let both = sym there ∙ here in cc) in
-      other (sym same ∙ at ∙ ap (λ o. opens_at m o) (sym one))
+      other (sym same ∙ at ∙ ap (λ o. opens_at (weighed task.strategy m) o) (sym one))
 
   pub noted_same : (expansion : Expansion) (g : Graph K) (old new : Store K) → new.stored ≡ old.stored → new.openings ≡ old.openings
       → AreNoted expansion g old → AreNoted expansion g new
@@ -75,7 +87,7 @@ module _ {K : Type 0} where
   pub kept_expanded : (g : Graph K) (old new : Store K) (x : K) (d : ℕ) → new.stored ≡ old.stored → IsExpanded g old x d → IsExpanded g new x d
   kept_expanded g old new x d kept h = (h.0, λ c y edge. kept_has old new y (d + c) kept (h.1 c y edge))
 
-  pub kept_below : (g : Graph K) (weight : ℕ) (old new : Store K) (x : K) (d n : ℕ) → new.stored ≡ old.stored
+  pub kept_below : (g : Graph K) (weight : Ratio) (old new : Store K) (x : K) (d n : ℕ) → new.stored ≡ old.stored
       → IsExpandedBelow g weight old x d n → IsExpandedBelow g weight new x d n
   kept_below g weight old new x d n kept h =
       (h.0, λ c y edge. ⊎_elim (λ has. inl (kept_has old new y (d + c) kept has)) (λ far. inr far) (h.1 c y edge))
@@ -94,16 +106,13 @@ module _ {K : Type 0} where
   expanded_done Full task s x d n h = h
   expanded_done Partial task s x d n h = (h.0, λ c y edge. inl (h.1 c y edge))
 
-  -- by weight 1 what is done with below n is covered below n
-  pub light_covered : (expansion : Expansion) (task : Task K) (s : Store K) (x : K) (d n : ℕ) → task.strategy.weight ≡ 1
-      → IsDone expansion task s x d n → IsCoveredBelow task.graph s x d n
-  light_covered Full task s x d n light h = (h.0, λ c y edge. inl (h.1 c y edge))
-  light_covered Partial task s x d n light h = (
+  -- where a bound counts as often as a cost, what is done with below n, weighed, is covered below n
+  pub light_covered : (expansion : Expansion) (task : Task K) (s : Store K) (x : K) (d n : ℕ) → 1 ≤ task.strategy.weight.parts
+      → IsEven task.strategy.weight → IsDone expansion task s x d (task.strategy.weight.parts * n) → IsCoveredBelow task.graph s x d n
+  light_covered Full task s x d n some light h = (h.0, λ c y edge. inl (h.1 c y edge))
+  light_covered Partial task s x d n some light h = (
     h.0,
-    λ c y edge. ⊎_elim (λ has. inl has)
-        (λ far.
-        let once : task.strategy.weight * task.graph.bound y ≡ 1 * task.graph.bound y = ap (λ w. w * task.graph.bound y) light in
-        inr (omega (arith, once, far))) (h.1 c y edge),
+    λ c y edge. ⊎_elim (λ has. inl has) (λ far. inr (even_past task.strategy.weight (d + c) (task.graph.bound y) n some light far)) (h.1 c y edge),
   )
 
   -- what is done with below a number is done with below each lesser one
@@ -135,10 +144,10 @@ module _ {K : Type 0} where
       (added_cases new.waiting old.waiting p (h, i) taken waits)
 
   -- where a pair that isn't its own is taken, a key stays open
-  kept_open : (expansion : Expansion) (old new : Store K) (p : ℕ × ℕ) (i : ℕ) (m : Mark) (h : ℕ) → new.openings ≡ old.openings
-      → Adds new.waiting old.waiting p → (h ≡ p.0 → i ≡ p.1 → ⊥) → IsOpenAt expansion old i m h → IsOpenAt expansion new i m h
-  kept_open Full old new p i m h noted taken other waits = kept_waits old new p i h taken other waits
-  kept_open Partial old new p i m h noted taken other (waits, (last, there, at)) = (
+  kept_open : (expansion : Expansion) (old new : Store K) (p : ℕ × ℕ) (i cost h : ℕ) → new.openings ≡ old.openings
+      → Adds new.waiting old.waiting p → (h ≡ p.0 → i ≡ p.1 → ⊥) → IsOpenAt expansion old i cost h → IsOpenAt expansion new i cost h
+  kept_open Full old new p i cost h noted taken other waits = kept_waits old new p i h taken other waits
+  kept_open Partial old new p i cost h noted taken other (waits, (last, there, at)) = (
     kept_waits old new p i h taken other waits,
     (last, ap (λ os. slice_get os i) noted ∙ there, at),
   )
@@ -151,7 +160,7 @@ module _ {K : Type 0} where
   kept_later Full task old new p i x m kept noted taken other later = later
   kept_later Partial task old new p i x m kept noted taken other (h, is_open, below) = (
     h,
-    kept_open Partial old new p i m h noted taken (other h is_open.1) is_open,
+    kept_open Partial old new p i (weighed task.strategy m) h noted taken (other h is_open.1) is_open,
     kept_below task.graph task.strategy.weight old new x m.cost h kept below,
   )
 
@@ -181,17 +190,17 @@ module _ {K : Type 0} (task : Task K) where
       (fewer_pairs old.stored old.waiting new.waiting old.openings new.openings
       (λ p there. added_stays new.waiting old.waiting (f, i) p taken there) noted sound)
 
-  -- the pair that is taken has an f no less than the cost plus weighed bound of its key
+  -- the pair that is taken has an f no less than the weighed cost plus bound of its key
   pub taken_high : (old new : Store K) (f i : ℕ) (x : K) (m : Mark) → IsSound task old → IsTaken old new f i x m → f_of task x m ≤ f
   taken_high old new f i x m sound t = pair_high task old f i new.waiting x m sound t.taken t.stands
 
-  -- a key whose cost plus weighed bound is below the least f is done with below that
+  -- a key whose weighed cost plus bound is below the least f is done with below that
   pub below_least : (s : Store K) (f i : ℕ) → IsKept task s → IsLeast (f, i) s.waiting
       → (j : ℕ) (y : K) (l : Mark) → IsStored s j y l → f_of task y l < f
       → IsDone task.strategy.expansion task s y l.cost f
   below_least s f i kept least j y l at lt = elim (kept.settled j y l at) [
     | inl is_open ↦ absurd (
-        let le = least_below f i (f_of task y l) j s.waiting least (open_waits task.strategy.expansion s j l (f_of task y l) is_open) in
+        let le = least_below f i (f_of task y l) j s.waiting least (open_waits task.strategy.expansion s j (weighed task.strategy l) (f_of task y l) is_open) in
         omega (arith, le, lt))
     | inr (inl done) ↦ expanded_done task.strategy.expansion task s y l.cost f done
     | inr (inr later) ↦ later_done task.strategy.expansion task s j y l f i least later
@@ -202,7 +211,7 @@ module _ {K : Type 0} (task : Task K) where
       → (j : ℕ) (y : K) (l : Mark) → ((h : ℕ) → IsAt task.strategy.expansion task old j y l h → h ≡ f → j ≡ i → ⊥) → IsStored new j y l
       → IsOpenOrExpanded task new j y l
   others_settled old new f i x m kept t j y l other at = elim (kept.settled j y l (kept_back old new j y l t.kept at)) [
-    | inl is_open ↦ inl (kept_open task.strategy.expansion old new (f, i) j l (f_of task y l) t.noted t.taken
+    | inl is_open ↦ inl (kept_open task.strategy.expansion old new (f, i) j (weighed task.strategy l) (f_of task y l) t.noted t.taken
         (other (f_of task y l) (own_at task.strategy.expansion task old j y l is_open)) is_open)
     | inr (inl done) ↦ inr (inl (kept_expanded task.graph old new y l.cost t.kept done))
     | inr (inr later) ↦ inr (inr (kept_later task.strategy.expansion task old new (f, i) j y l t.kept t.noted t.taken other later))
@@ -253,8 +262,8 @@ module _ {K : Type 0} (task : Task K) where
         ((done r.0 x r.1 r.2 (subst (λ k. k + task.graph.bound x < n) (sym r.3) lt)).1 c y edge);
   }
 
-  -- what is done with below f is covered below the next number of one that, times the weight, is below f
-  done_covered : (expansion : Expansion) (s : Store K) (x : K) (d n f : ℕ) → 1 ≤ task.strategy.weight → task.strategy.weight * n < f
+  -- what is done with below f is covered below the next number of one that, weighed as a bound is, is below f
+  done_covered : (expansion : Expansion) (s : Store K) (x : K) (d n f : ℕ) → task.strategy.weight.parts ≤ task.strategy.weight.times → task.strategy.weight.times * n < f
       → IsDone expansion task s x d f → IsCoveredBelow task.graph s x d (suc n)
   done_covered Full s x d n f heavy over done = expanded_covered task.graph s x d (suc n) done
   done_covered Partial s x d n f heavy over done = (
@@ -263,8 +272,8 @@ module _ {K : Type 0} (task : Task K) where
         (λ far. inr (weighed_past task.strategy.weight (d + c) (task.graph.bound y) n f heavy over far)) (done.1 c y edge),
   )
 
-  module _ (lawful : IsLawful task.graph) (heavy : 1 ≤ task.strategy.weight) where
-    -- where each key whose cost plus weighed bound is below f is done with below f, no answer, times the weight, is below f:
+  module _ (lawful : IsLawful task.graph) (heavy : task.strategy.weight.parts ≤ task.strategy.weight.times) where
+    -- where each key whose weighed cost plus bound is below f is done with below f, no answer, weighed as a bound is, is below f:
     -- else the stored keys leave none below the next number
     pub none_below : (s : Store K) (f : ℕ) → IsSound task s
         → ((i : ℕ) (x : K) (m : Mark) → IsStored s i x m → f_of task x m < f
@@ -277,9 +286,9 @@ module _ {K : Type 0} (task : Task K) where
         (done i x m at (weighed_below task.strategy.weight m.cost (task.graph.bound x) n f heavy lt over))) in
         absurd (let le = lawful.closed (suc n) (rows s) closed n wins in omega (arith, le)))
         (λ within. within)
-        (cases_lt (task.strategy.weight * n) f)
+        (cases_lt (task.strategy.weight.times * n) f)
 
-    -- no answer, times the weight, is below the least f
+    -- no answer, weighed as a bound is, is below the least f
     pub least_floor : (s : Store K) (f i : ℕ) → IsKept task s → IsLeast (f, i) s.waiting → IsFloor task.graph task.strategy.weight f
     least_floor s f i kept least = none_below s f kept.sound (below_least task s f i kept least)
 
@@ -288,6 +297,6 @@ module _ {K : Type 0} (task : Task K) where
         → TakesFloor s.waiting old new → IsFloor task.graph task.strategy.weight new
     takes_floor s old new kept floor (inl none) = subst (IsFloor task.graph task.strategy.weight) (sym none.1) floor
     takes_floor s old new kept floor (inr (f, i, there, least, greatest)) = λ n wins.
-        let before : old ≤ task.strategy.weight * n = floor n wins in
-        let taken : f ≤ task.strategy.weight * n = least_floor s f i kept least n wins in
+        let before : old ≤ task.strategy.weight.times * n = floor n wins in
+        let taken : f ≤ task.strategy.weight.times * n = least_floor s f i kept least n wins in
         omega (arith, before, taken, greatest)

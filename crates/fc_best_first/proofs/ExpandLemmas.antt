@@ -11,7 +11,8 @@ use Rattle.fc_best_first.specs.declared.strategies.Expansion.TheVariants.{Full, 
 use Rattle.fc_best_first.specs.declared.turns.Placing.{Placing}
 use Rattle.fc_best_first.specs.declared.turns.Placing.TheVariants.{Whole, Later, NoRoom}
 use Rattle.fc_best_first.specs.Graph.{Reached, IsLawful, Task}
-use Rattle.fc_best_first.specs.Store.{Store, Candidate, IsStored, Admits, Offers}
+use Rattle.fc_best_first.specs.Limits.{weigh}
+use Rattle.fc_best_first.specs.Store.{Store, Candidate, IsStored, Admits, Offers, weighed}
 use Rattle.fc_best_first.specs.Turn.{Expands, IsPresent, candidate_of, opening_of, put_off, work_left}
 use Rattle.fc_best_first.specs.Kept.{AreNoted, HasAt, IsOpenOrExpanded, IsNeeded, Comes, IsSound, f_of}
 use Rattle.fc_best_first.specs.Shown.{IsFloor, IsGivenUp}
@@ -48,7 +49,8 @@ off_on taken later (NoRoom y) lt past = absurd past
 -- a pair that is present stays so while other keys are put in
 still_present : {K : Type 0} (expansion : Expansion) (task : Task K) (old new : Store K) (opening : Opening) (i busy : ℕ) (x : K) (m : Mark)
     (f : ℕ) → Notes expansion old new i opening → AreNoted expansion task.graph old → (busy ≡ i → ⊥)
-    → IsPresent expansion old busy m (f_of task x m) f → IsPresent expansion new busy m (f_of task x m) f
+    → IsPresent expansion old busy (weighed task.strategy m) (f_of task x m) f
+    → IsPresent expansion new busy (weighed task.strategy m) (f_of task x m) f
 still_present Full task old new opening i busy x m f notes noted ne present = present
 still_present Partial task old new opening i busy x m f notes noted ne (last, there, at) = (last, notes.2 noted.0 busy ne ∙ there, at)
 
@@ -64,7 +66,7 @@ module _ {K : Type 0} (task : Task K) where
       pub sound : IsSound task s
       pub settled : (j : ℕ) (y : K) (l : Mark) → (j ≡ busy → ⊥) → IsStored s j y l → IsOpenOrExpanded task s j y l
       pub stands : IsStored s busy xb mb
-      pub present : IsPresent task.strategy.expansion s busy mb (f_of task xb mb) taken
+      pub present : IsPresent task.strategy.expansion s busy (weighed task.strategy mb) (f_of task xb mb) taken
 
     -- the child as it is offered
     abbrev child_offer : Child K → Candidate K
@@ -79,7 +81,7 @@ module _ {K : Type 0} (task : Task K) where
         (suc before.0, (xb, mb.cost, child.cost, before.1, edge, refl))
 
     child_needed : (expansion : Expansion) (s : Store K) (child : Child K) → IsChild child → Doing s
-        → Admits expansion taken (mb.cost + child.cost + task.strategy.weight * task.graph.bound child.key)
+        → Admits expansion taken (weigh task.strategy.weight (mb.cost + child.cost) (task.graph.bound child.key))
         → IsNeeded expansion task.graph task.strategy.weight child.key
     child_needed Full s child edge d admits =
         inr (xb, mb.cost, child.cost, d.sound.reached busy xb mb d.stands, edge, λ n wins. let le = floor n wins in omega (arith, le, high))
@@ -87,7 +89,7 @@ module _ {K : Type 0} (task : Task K) where
         (mb.cost + child.cost, child_reached s child edge d, λ n wins. let le = floor n wins in omega (arith, le, admits))
 
     puts_doing : (old new : Store K) (child : Child K) (i : ℕ) → IsChild child → Doing old → length new.stored ≤ task.strategy.budget
-        → Puts task.strategy.expansion old new child.key (child_offer child).mark (opening_of task child.key) i
+        → Puts task.strategy.expansion task.strategy.weight old new child.key (child_offer child).mark (opening_of task child.key) i
         → mb.cost + child.cost ≤ 53 * i + 53 → IsNeeded task.strategy.expansion task.graph task.strategy.weight child.key → Doing new
     puts_doing old new child i edge d room puts low needed =
         let e : Mark = (child_offer child).mark in
@@ -95,7 +97,7 @@ module _ {K : Type 0} (task : Task K) where
         let self : mb.cost + child.cost ≤ mb.cost + child.cost = omega arith in
         let comes : Comes task.graph old i child.key e = inr (xb, mb, child.cost, d.stands, edge, self) in
         let more : mb.cost ≤ e.cost = omega arith in
-        let other = other_number task.strategy.expansion old new child.key e (opening_of task child.key) i puts busy xb mb d.stands more in
+        let other = other_number task.strategy.expansion task.strategy.weight old new child.key e (opening_of task child.key) i puts busy xb mb d.stands more in
         record {
           sound = still_sound task old new child.key e i puts d.sound room reached low comes needed;
           settled = still_settled task old new child.key e i puts d.sound room reached low comes needed busy d.settled;
@@ -127,7 +129,7 @@ module _ {K : Type 0} (task : Task K) where
         let room = offers_room task.strategy taken old new (child_offer child) Lowered d.sound.room (i, was, at, lt, lowers) in
         let self : mb.cost + child.cost ≤ mb.cost + child.cost = omega arith in (
           puts_doing old new child i edge d room p low (d.sound.needed i child.key was at),
-          still_has task.strategy.expansion old new child.key e (opening_of task child.key) i p,
+          still_has task.strategy.expansion task.strategy.weight old new child.key e (opening_of task child.key) i p,
           (i, e, p.here, self),
           lowered_work task.strategy old new i child.key was e (opening_of task child.key) at lt lowers,
         )
@@ -145,7 +147,7 @@ module _ {K : Type 0} (task : Task K) where
         let room = offers_room task.strategy taken old new (child_offer child) Added d.sound.room (fresh, admits, stores) in
         let self : mb.cost + child.cost ≤ mb.cost + child.cost = omega arith in (
           puts_doing old new child (length old.stored) edge d room p low (child_needed task.strategy.expansion old child edge d admits),
-          still_has task.strategy.expansion old new child.key e (opening_of task child.key) (length old.stored) p,
+          still_has task.strategy.expansion task.strategy.weight old new child.key e (opening_of task child.key) (length old.stored) p,
           (length old.stored, e, p.here, self),
           added_work task.strategy old new (child_offer child) stores low,
         )
@@ -153,7 +155,7 @@ module _ {K : Type 0} (task : Task K) where
     -- a child is stored, or put off
     abbrev pub IsPlaced : Store K → Placing K → Child K → Type 0
     IsPlaced s placing child = HasAt s child.key (mb.cost + child.cost)
-        ⊎ PutOffTo placing (mb.cost + child.cost + task.strategy.weight * task.graph.bound child.key)
+        ⊎ PutOffTo placing (weigh task.strategy.weight (mb.cost + child.cost) (task.graph.bound child.key))
 
     -- after all children: each is stored or put off past what was taken, or one found no place
     abbrev pub Done : List (Child K) → Store K → Store K → Placing K → Type 0
@@ -179,7 +181,7 @@ module _ {K : Type 0} (task : Task K) where
         )
 
     done_off : (child : Child K) (children : List (Child K)) (old new : Store K) (others : Placing K) (later : ℕ) → taken < later
-        → later ≤ mb.cost + child.cost + task.strategy.weight * task.graph.bound child.key
+        → later ≤ weigh task.strategy.weight (mb.cost + child.cost) (task.graph.bound child.key)
         → Done children old new others → Done (child ∷ children) old new (put_off later others)
     done_off child children old new others later lt le (inr (y, out, gave_up)) = inr (y, ap (put_off later) out, gave_up)
     done_off child children old new others later lt le (inl (past, doing, stays, all, less)) =

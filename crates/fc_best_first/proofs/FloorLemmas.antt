@@ -11,7 +11,7 @@ use Rattle.fc_best_first.specs.declared.books.Opening.{Opening}
 use Rattle.fc_best_first.specs.declared.strategies.Expansion.{Expansion}
 use Rattle.fc_best_first.specs.declared.strategies.Expansion.TheVariants.{Full, Partial}
 use Rattle.fc_best_first.specs.Graph.{Graph, Task}
-use Rattle.fc_best_first.specs.Store.{Store, IsStored}
+use Rattle.fc_best_first.specs.Store.{Store, IsStored, weighed}
 use Rattle.fc_best_first.specs.Kept.{AreNoted, IsExpanded, IsOpenAt, IsOpenLater, IsOpenOrExpanded, IsSound, f_of}
 use Rattle.fc_best_first.specs.Laws.{OpenFloorsHold}
 use Rattle.fc_best_first.specs.Shown.{IsLeastOpen, IsOpen, Waits}
@@ -38,9 +38,9 @@ module _ {K : Type 0} where
   at_waits Full task s i x m h at there = subst (λ f. Contains s.waiting (f, i)) at there
   at_waits Partial task s i x m h at there = (h, (there, at))
 
-  -- what is open at its cost plus weighed bound, or later, is open
+  -- what is open at its weighed cost plus bound, or later, is open
   own_waits : (expansion : Expansion) (task : Task K) (s : Store K) (i : ℕ) (x : K) (m : Mark)
-      → IsOpenAt expansion s i m (f_of task x m) → Waits expansion task s i x m
+      → IsOpenAt expansion s i (weighed task.strategy m) (f_of task x m) → Waits expansion task s i x m
   own_waits Full task s i x m is_open = is_open
   own_waits Partial task s i x m is_open = (f_of task x m, is_open)
 
@@ -49,14 +49,14 @@ module _ {K : Type 0} where
   later_waits Full task s i x m later = absurd later
   later_waits Partial task s i x m (h, is_open, below) = (h, is_open)
 
-  -- what a pair so far above the cost of its key tells, by what is noted of the key
+  -- what a pair so far above the weighed cost of its key tells, by what is noted of the key
   pub present_at : (expansion : Expansion) (task : Task K) (s : Store K) (i : ℕ) (x : K) (m : Mark) (f over : ℕ)
       (noted : Option Opening) (told : Option ℕ) → AreNoted expansion task.graph s → IsStored s i x m → f_of task x m ≤ f
-      → over ≡ f - m.cost
+      → over ≡ f - weighed task.strategy m
       → MatchOption noted (length s.openings ≤ i) (λ o. slice_get s.openings i ≡ Some o)
       → MatchOption noted
-      (MatchOption told (over ≢ task.strategy.weight * task.graph.bound x)
-      (λ b. (b ≡ task.graph.bound x) × (over ≡ task.strategy.weight * task.graph.bound x)))
+      (MatchOption told (over ≢ task.strategy.weight.times * task.graph.bound x)
+      (λ b. (b ≡ task.graph.bound x) × (over ≡ task.strategy.weight.times * task.graph.bound x)))
       (λ o. MatchOption told (over ≢ o.over) (λ b. (b ≡ o.bound) × (over ≡ o.over)))
       → MatchOption told (IsAt expansion task s i x m f → ⊥) (λ b. IsAt expansion task s i x m f × (b ≡ task.graph.bound x))
   present_at Full task s i x m f over (Some o) told are at high above is tells =
@@ -234,7 +234,7 @@ module _ {K : Type 0} where
       let h = sound.pairs f i there in
       stands_within s i h.0 h.1 h.2
 
-  -- its f is no less than the cost plus weighed bound of its key
+  -- its f is no less than the weighed cost plus bound of its key
   pub waiting_high : (task : Task K) (s : Store K) (f i : ℕ) (x : K) (m : Mark) → IsSound task s → Contains s.waiting (f, i)
       → IsStored s i x m → f_of task x m ≤ f
   waiting_high task s f i x m sound there at =

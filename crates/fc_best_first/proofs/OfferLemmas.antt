@@ -1,6 +1,7 @@
 -- Lemmas on offering one key.
-use Rattle.std.proofs.Common.{◌≡◌, ℕ, ◌<◌, ◌≤◌, Some, length, refl, sym, ◌∙◌, ap, arith}
+use Rattle.std.proofs.Common.{◌≡◌, ℕ, ◌+◌, ◌*◌, ◌<◌, ◌≤◌, Some, length, refl, sym, ◌∙◌, ap, arith}
 use Rattle.std.specs.Prelude.{slice_get}
+use Rattle.std.proofs.Math.Nat.{mul-le-mul_left}
 use Rattle.std.proofs.lemmas.Option.{none-some}
 use Rattle.fc_best_first.specs.declared.books.Mark.{Mark}
 use Rattle.fc_best_first.specs.declared.books.Opening.{Opening}
@@ -11,14 +12,21 @@ use Rattle.fc_best_first.specs.declared.strategies.Expansion.TheVariants.{Full, 
 use Rattle.fc_best_first.specs.declared.strategies.Strategy.{Strategy}
 use Rattle.fc_best_first.specs.Graph.{Graph}
 use Rattle.fc_best_first.specs.Kept.{AreNoted}
-use Rattle.fc_best_first.specs.Store.{Store, Candidate, IsNew, IsStored, Admits, Offers, Stores, opens_at}
+use Rattle.fc_best_first.specs.Store.{Store, Candidate, IsNew, IsStored, Admits, Offers, Stores, opens_at, weighed}
 use Rattle.fc_best_first.specs.inner.Turn.{IsPutOffNear}
 use Rattle.fc_best_first.proofs.KeptLemmas.{stands_within}
+
+-- a child of a key at a byte more is open near that key's weighed cost
+pub open_near : (parts cost child over : ℕ) → parts ≤ 10 → child ≤ cost + 255 → over ≤ 25500
+    → parts * child + over ≤ parts * cost + 28050
+open_near parts cost child over few near low =
+    let all : parts * child ≤ parts * (cost + 255) = mul-le-mul_left parts near in
+    omega (arith, all, few, low)
 
 module _ {K : Type 0} where
   -- what is stored is offered where it is admitted
   pub stores_offers : (strategy : Strategy) (taken : ℕ) (old new : Store K) (offer : Candidate K) (o : Offered K) → IsNew old offer.key
-      → Admits strategy.expansion taken (opens_at offer.mark offer.opening) → Stores strategy old new offer o
+      → Admits strategy.expansion taken (opens_at (weighed strategy offer.mark) offer.opening) → Stores strategy old new offer o
       → Offers strategy taken old new offer o
   stores_offers strategy taken old new offer offered.Known fresh admits h = absurd h
   stores_offers strategy taken old new offer offered.Lowered fresh admits h = absurd h

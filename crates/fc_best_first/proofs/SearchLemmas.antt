@@ -2,6 +2,7 @@
 use Rattle.std.proofs.Common.{◌≡◌, ℕ, ◌+◌, ◌*◌, ◌<◌, ◌≤◌, ◌⊎◌, suc, zero, Some, None, Option, List, [], ◌∷◌, ◌++◌, length, refl, sym, ◌∙◌, ap, subst, inl, inr, ⊎_elim, arith}
 use Rattle.std.specs.Prelude.{slice_get, Contains}
 use Rattle.std.proofs.lemmas.Bool.{cases_eq}
+use Rattle.std.proofs.Math.Nat.{mul-le-mul_left}
 use Rattle.std.proofs.lemmas.Option.{none-some}
 use Rattle.std.specs.Map.{keys_of}
 use Rattle.std.proofs.lemmas.Map.Entries.{length-keys_of}
@@ -16,7 +17,8 @@ use Rattle.fc_best_first.specs.declared.turns.Placing.TheVariants.{Whole, Later,
 use Rattle.fc_best_first.specs.declared.turns.Status.{Status}
 use Rattle.fc_best_first.specs.declared.turns.Status.TheVariants.{Running, Won, CannotWin, GaveUp, Stopped}
 use Rattle.fc_best_first.specs.Graph.{Task, IsLawful}
-use Rattle.fc_best_first.specs.Store.{Store, IsStored, IsTaken, opens_at}
+use Rattle.fc_best_first.specs.Limits.{weigh}
+use Rattle.fc_best_first.specs.Store.{Store, IsStored, IsTaken, opens_at, weighed}
 use Rattle.fc_best_first.specs.Turn.{Advances, AreChildren, Closes, DropsTaken, ExpandsTaken, Expands, IsPresent, Reopens, work_left}
 use Rattle.fc_best_first.specs.Kept.{AreNoted, Comes, HasAt, IsExpanded, IsExpandedBelow, IsOpenLater, IsOpenOrExpanded, IsNeeded, IsSound, IsKept, f_of}
 use Rattle.fc_best_first.specs.Shown.{IsFloor, IsFound, IsExhausted, IsGivenUp, Holds, Shows}
@@ -38,7 +40,7 @@ key_cases (e ∷ es) y (suc i) x at = elim (key_cases es y i x at) [
 
 -- a key of which children were put off is open again
 module _ {K : Type 0} (task : Task K) (after new : Store K) (number : ℕ) (x : K) (mark : Mark) (later : ℕ)
-    (reopens : Reopens after new number mark later) where
+    (reopens : Reopens after new number (weighed task.strategy mark) later) where
   abbrev next : Opening
   next = reopens.1
 
@@ -83,8 +85,8 @@ module _ {K : Type 0} (task : Task K) (after new : Store K) (number : ℕ) (x : 
       )
 
   -- it was open at what was taken, which is less
-  reopened_rises : (expansion : Expansion) (f : ℕ) → AreNoted expansion task.graph after → IsPresent expansion after number mark (f_of task x mark) f
-      → f < later → opens_at mark reopens.0 < later
+  reopened_rises : (expansion : Expansion) (f : ℕ) → AreNoted expansion task.graph after → IsPresent expansion after number (weighed task.strategy mark) (f_of task x mark) f
+      → f < later → opens_at (weighed task.strategy mark) reopens.0 < later
   reopened_rises expansion.Full f noted present lt = absurd (none_noted noted)
   reopened_rises expansion.Partial f noted (last, there, at) lt =
       let one : last ≡ reopens.0 = (let both = sym there ∙ reopens.2 in cc) in
@@ -118,7 +120,7 @@ module _ {K : Type 0} (task : Task K) (after new : Store K) (number : ℕ) (x : 
   reopened_others : IsSound task after → IsStored after number x mark → (j : ℕ) (y : K) (l : Mark) → (j ≡ number → ⊥)
       → IsOpenOrExpanded task after j y l → IsOpenOrExpanded task new j y l
   reopened_others sound at j y l ne h = elim h [
-    | inl is_open ↦ inl (still_open task.strategy.expansion task.graph after new next number j l (later, number) (f_of task y l) reopens.7
+    | inl is_open ↦ inl (still_open task.strategy.expansion task.graph after new next number j (weighed task.strategy l) (later, number) (f_of task y l) reopens.7
         (reopened_notes task.strategy.expansion sound.noted at) sound.noted ne is_open)
     | inr (inl done) ↦ inr (inl (kept_expanded task.graph after new y l.cost reopens.6 done))
     | inr (inr is_open) ↦ inr (inr (by task.strategy.expansion sound.noted (reopened_notes task.strategy.expansion sound.noted at) is_open))
@@ -130,14 +132,14 @@ module _ {K : Type 0} (task : Task K) (after new : Store K) (number : ℕ) (x : 
       by expansion.Full noted notes is_open = absurd is_open
       by expansion.Partial noted notes (f, is_open, below) = (
         f,
-        still_open expansion.Partial task.graph after new next number j l (later, number) f reopens.7 notes noted ne is_open,
+        still_open expansion.Partial task.graph after new next number j (weighed task.strategy l) (later, number) f reopens.7 notes noted ne is_open,
         kept_below task.graph task.strategy.weight after new y l.cost f reopens.6 below,
       )
 
 module _ {K : Type 0} (task : Task K) where
-  module _ (lawful : IsLawful task.graph) (heavy : 1 ≤ task.strategy.weight) (old new : Store K) (kept : IsKept task old) where
+  module _ (lawful : IsLawful task.graph) (heavy : task.strategy.weight.parts ≤ task.strategy.weight.times) (old new : Store K) (kept : IsKept task old) where
     module _ (number : ℕ) (f : ℕ) (x : K) (mark : Mark) (mid : Store K) (taken : IsTaken old mid f number x mark)
-        (present : IsPresent task.strategy.expansion old number mark (f_of task x mark) f) (not_won : task.graph.won x → ⊥)
+        (present : IsPresent task.strategy.expansion old number (weighed task.strategy mark) (f_of task x mark) f) (not_won : task.graph.won x → ⊥)
         (children : List (Child K)) (are : AreChildren task.graph x children) (after : Store K) where
       high : f_of task x mark ≤ f
       high = taken_high task old mid f number x mark kept.sound taken
@@ -161,27 +163,28 @@ module _ {K : Type 0} (task : Task K) where
           })
           expands
         where
-          kept_present : (expansion : Expansion) → IsPresent expansion old number mark (f_of task x mark) f → IsPresent expansion mid number mark (f_of task x mark) f
+          kept_present : (expansion : Expansion) → IsPresent expansion old number (weighed task.strategy mark) (f_of task x mark) f
+              → IsPresent expansion mid number (weighed task.strategy mark) (f_of task x mark) f
           kept_present expansion.Full is = is
           kept_present expansion.Partial (last, there, at) = (last, ap (λ os. slice_get os number) taken.noted ∙ there, at)
 
       -- each edge's end is stored, or can wait until what the children were put off to
       ends : (placing : Placing K) → ((child : Child K) → Contains children child → IsPlaced task number x mark f high floor after placing child)
           → (c : ℕ) (y : K) → task.graph.edge x c y
-          → HasAt after y (mark.cost + c) ⊎ ((h : ℕ) → placing ≡ Later h → h ≤ mark.cost + c + task.strategy.weight * task.graph.bound y)
+          → HasAt after y (mark.cost + c) ⊎ ((h : ℕ) → placing ≡ Later h → h ≤ weigh task.strategy.weight (mark.cost + c) (task.graph.bound y))
       ends placing all c y edge =
           let child = are.whole c y edge in
           ⊎_elim
           (λ has. inl (
           let low : has.1.cost ≤ mark.cost + c = (let a = has.3 in let b = child.3 in omega (arith, a, b)) in
           (has.0, has.1, subst (λ v. IsStored after has.0 v has.1) child.2 has.2, low)))
-          (λ off. inr (λ h is. subst (λ v. h ≤ mark.cost + c + task.strategy.weight * task.graph.bound v) child.2
-          (let near : h ≤ mark.cost + child.0.cost + task.strategy.weight * task.graph.bound child.0.key =
-          subst (λ p. PutOffTo p (mark.cost + child.0.cost + task.strategy.weight * task.graph.bound child.0.key)) is off in
-          let le = child.3 in omega (arith, near, le))))
+          (λ off. inr (λ h is. subst (λ v. h ≤ weigh task.strategy.weight (mark.cost + c) (task.graph.bound v)) child.2
+          (let near : h ≤ weigh task.strategy.weight (mark.cost + child.0.cost) (task.graph.bound child.0.key) =
+          subst (λ p. PutOffTo p (weigh task.strategy.weight (mark.cost + child.0.cost) (task.graph.bound child.0.key))) is off in
+          let le = mul-le-mul_left task.strategy.weight.parts child.3 in omega (arith, near, le))))
           (all child.0 child.1)
 
-      closed_kept : (placing : Placing K) → Offered placing → Closes after new number mark placing None → IsKept task new
+      closed_kept : (placing : Placing K) → Offered placing → Closes after new number (weighed task.strategy mark) placing None → IsKept task new
       closed_kept Whole (inl (past, doing, stays, all, less)) (same, none) = subst (IsKept task) (sym same) (record {
         sound = doing.sound;
         settled = λ j y l at. ⊎_elim
@@ -230,7 +233,7 @@ module _ {K : Type 0} (task : Task K) where
       closed_kept (Later later) (inr (y, out, gave_up)) closes = absurd (cc)
       closed_kept (NoRoom y) done (same, out) = absurd (none-some y out)
 
-      closed_given_up : (placing : Placing K) (y : K) → Offered placing → Closes after new number mark placing (Some y)
+      closed_given_up : (placing : Placing K) (y : K) → Offered placing → Closes after new number (weighed task.strategy mark) placing (Some y)
           → IsGivenUp task new y number
       closed_given_up Whole y done (same, out) = absurd (none-some y (sym out))
       closed_given_up (Later later) y done (reopens, out) = absurd (none-some y (sym out))
@@ -239,20 +242,20 @@ module _ {K : Type 0} (task : Task K) where
           let one : u ≡ y = cc in
           subst (λ s. IsGivenUp task s y number) (sym same) (subst (λ v. IsGivenUp task after v number) one gave_up)
 
-      closed_less : (placing : Placing K) → Offered placing → Closes after new number mark placing None
+      closed_less : (placing : Placing K) → Offered placing → Closes after new number (weighed task.strategy mark) placing None
           → work_left task.strategy.budget new < work_left task.strategy.budget old
       closed_less placing done closes =
           let first = taken_work task.strategy.budget old mid (f, number) taken.kept taken.noted taken.taken in
           let rest = by placing done closes in
           omega (arith, first, rest)
         where
-          by : (placing : Placing K) → Offered placing → Closes after new number mark placing None
+          by : (placing : Placing K) → Offered placing → Closes after new number (weighed task.strategy mark) placing None
               → work_left task.strategy.budget new ≤ work_left task.strategy.budget mid
           by Whole (inl (past, doing, stays, all, less)) (same, none) =
               subst (λ s. work_left task.strategy.budget s ≤ work_left task.strategy.budget mid) (sym same) less
           by Whole (inr (y, out, gave_up)) closes = absurd (cc)
           by (Later later) (inl (past, doing, stays, all, less)) (reopens, none) =
-              let again = reopened_work task.strategy.budget after new number mark reopens.0 later reopens.2
+              let again = reopened_work task.strategy.budget after new number (weighed task.strategy mark) reopens.0 later reopens.2
               (reopened_rises task after new number x mark later reopens task.strategy.expansion f doing.sound.noted doing.present past) reopens in
               omega (arith, again, less)
           by (Later later) (inr (y, out, gave_up)) closes = absurd (cc)
@@ -305,8 +308,8 @@ module _ {K : Type 0} (task : Task K) where
             mark,
             subst (λ es. slice_get es number ≡ Some (x, mark)) (sym taken.kept) taken.stands,
             won,
-            λ i y m at lt. kept_done task.strategy.expansion task old new y m.cost mark.cost taken.kept
-                (less_done task.strategy.expansion task old y m.cost mark.cost f (omega (arith, high))
+            λ i y m at lt. kept_done task.strategy.expansion task old new y m.cost (weighed task.strategy mark) taken.kept
+                (less_done task.strategy.expansion task old y m.cost (weighed task.strategy mark) f (omega (arith, high))
                 (below_least task old f number kept taken.least i y m (kept_back old new i y m taken.kept at) (omega (arith, lt, high)))),
             λ i y m ne at. others_settled task old new f number x mark kept taken i y m (λ h is same e. ne e) at,
           ),
@@ -316,7 +319,7 @@ module _ {K : Type 0} (task : Task K) where
     none_exhausted (empty, same) = subst (IsExhausted task) (sym same) (
       kept.sound,
       λ i y m at. elim (kept.settled i y m at) [
-        | inl is_open ↦ absurd (none_waits (f_of task y m) i (open_waits task.strategy.expansion old i m (f_of task y m) is_open))
+        | inl is_open ↦ absurd (none_waits (f_of task y m) i (open_waits task.strategy.expansion old i (weighed task.strategy m) (f_of task y m) is_open))
         | inr (inl done) ↦ done
         | inr (inr later) ↦ absurd (by task.strategy.expansion i y m later)
       ],
@@ -338,7 +341,7 @@ module _ {K : Type 0} (task : Task K) where
     takes_holds Stopped t = absurd t
 
   -- what a search that is done shows
-  pub holds_shows : IsLawful task.graph → 1 ≤ task.strategy.weight → (s : Store K) (status : Status K) → Holds task s status → Shows task s status
+  pub holds_shows : IsLawful task.graph → task.strategy.weight.parts ≤ task.strategy.weight.times → (s : Store K) (status : Status K) → Holds task s status → Shows task s status
   holds_shows lawful heavy s Running h = tt
   holds_shows lawful heavy s (Won number) (sound, (x, mark, at, won, done, settled)) =
       let reached = sound.reached number x mark at in (
@@ -348,7 +351,7 @@ module _ {K : Type 0} (task : Task K) where
         won,
         reached,
         lawful.answers x mark.cost reached won,
-        none_below task lawful heavy s mark.cost sound done,
+        none_below task lawful heavy s (weighed task.strategy mark) sound done,
       )
   holds_shows lawful heavy s CannotWin (sound, done) = λ n wins.
       let over = lawful.closed (suc n) (rows s) (closed_inside task s (suc n) sound (λ i x m at lt. expanded_covered task.graph s x m.cost (suc n) (done i x m at))) n wins in

@@ -19,7 +19,7 @@ use Rattle.fc_best_first.specs.declared.turns.Status.TheVariants.{Running, Won, 
 use Rattle.fc_best_first.specs.declared.turns.Placing.{Placing}
 use Rattle.fc_best_first.specs.declared.turns.Placing.TheVariants.{Whole, Later, NoRoom}
 use Rattle.fc_best_first.specs.Graph.{Graph, Task, Reached}
-use Rattle.fc_best_first.specs.Store.{Store, Candidate, IsStored, Offers, PutsOff}
+use Rattle.fc_best_first.specs.Store.{Store, Candidate, IsStored, Offers, PutsOff, weighed}
 use Rattle.fc_best_first.specs.Turn.{Advances, AreChildren, Closes, Expands, ExpandsTaken, IsPresent, IsStale, candidate_of, opening_of, put_off}
 use Rattle.fc_best_first.specs.Kept.{AreNoted, f_of}
 use Rattle.fc_best_first.specs.inner.Turn.{AreReached, Becomes, IsLaterNear, IsReady}
@@ -49,7 +49,7 @@ put_off_least None f least others is = ap (λ h. put_off h others) (sym is)
 put_off_least (Some before) f least others is = sym (put_off_next before f others) ∙ ap (λ h. put_off h others) (sym is)
 
 pub near_least : (K : Type 0) (expansion : Expansion) (taken cost : ℕ) (first : Option ℕ) (f least : ℕ)
-    → IsLaterNear {K = K} expansion taken cost (put_off_first first Whole) → expansion ≡ Partial → taken < f → f ≤ cost + 2805
+    → IsLaterNear {K = K} expansion taken cost (put_off_first first Whole) → expansion ≡ Partial → taken < f → f ≤ cost + 28050
     → MatchOption first (least ≡ f) (λ before. least ≡ min before f)
     → IsLaterNear {K = K} expansion taken cost (put_off_first (Some least) Whole)
 near_least K expansion taken cost None f least near partial lt le is = (partial, omega (arith, lt, is), omega (arith, le, is))
@@ -86,10 +86,10 @@ module _ {K : Type 0} where
   offers_noted strategy g taken old new offer Known told noted (i, was, at, le, same) =
       subst (AreNoted strategy.expansion g) (sym same) noted
   offers_noted strategy g taken old new offer Lowered told noted (i, was, at, lt, lowers) =
-      still_noted strategy.expansion g old new offer.key offer.mark offer.opening i
+      still_noted strategy.expansion strategy.weight g old new offer.key offer.mark offer.opening i
       (puts_lowered strategy old new offer.key offer.mark was offer.opening i at lt lowers) told noted
   offers_noted strategy g taken old new offer Added told noted (fresh, admits, stores) =
-      still_noted strategy.expansion g old new offer.key offer.mark offer.opening (length old.stored)
+      still_noted strategy.expansion strategy.weight g old new offer.key offer.mark offer.opening (length old.stored)
       (puts_added strategy old new offer fresh stores) told noted
   offers_noted strategy g taken old new offer (Full y) told noted (fresh, admits, (is, full, same)) =
       subst (AreNoted strategy.expansion g) (sym same) noted
@@ -187,27 +187,27 @@ module _ {K : Type 0} where
       expands_grow task taken origin children old new others rest
 
   -- a key of which children were put off can be opened again
-  pub placing_ready : (expansion : Expansion) (g : Graph K) (s : Store K) (number taken : ℕ) (mark : Mark) (placing : Placing K)
-      → AreNoted expansion g s → number < length s.stored → mark.cost ≤ taken → IsLaterNear expansion taken mark.cost placing
-      → IsReady s number mark placing
-  placing_ready expansion g s number taken mark Whole noted lt le near = tt
-  placing_ready expansion.Full g s number taken mark (Later f) noted lt le near = absurd (let e = near.0 in cc)
-  placing_ready expansion.Partial g s number taken mark (Later f) noted lt le near =
+  pub placing_ready : (expansion : Expansion) (g : Graph K) (s : Store K) (number taken cost : ℕ) (placing : Placing K)
+      → AreNoted expansion g s → number < length s.stored → cost ≤ taken → IsLaterNear expansion taken cost placing
+      → IsReady s number cost placing
+  placing_ready expansion g s number taken cost Whole noted lt le near = tt
+  placing_ready expansion.Full g s number taken cost (Later f) noted lt le near = absurd (let e = near.0 in cc)
+  placing_ready expansion.Partial g s number taken cost (Later f) noted lt le near =
       let long = noted.0 in
       (omega (arith, long, lt), (let past = near.1 in omega (arith, past, le)), near.2)
-  placing_ready expansion g s number taken mark (NoRoom y) noted lt le near = tt
+  placing_ready expansion g s number taken cost (NoRoom y) noted lt le near = tt
 
   -- whether the pair that was taken is the present one of its key, by what is noted of the key
   pub taken_present : (expansion : Expansion) (task : Task K) (s : Store K) (i : ℕ) (x : K) (m : Mark) (f over : ℕ)
-      (noted : Option Opening) (told : Bool) → AreNoted expansion task.graph s → IsStored s i x m → m.cost ≤ f → m.cost + over ≡ f
+      (noted : Option Opening) (told : Bool) → AreNoted expansion task.graph s → IsStored s i x m → weighed task.strategy m ≤ f → weighed task.strategy m + over ≡ f
       → MatchOption noted (length s.openings ≤ i) (λ o. slice_get s.openings i ≡ Some o)
-      → MatchOption noted (IsTrue told ↔ (over ≤ task.strategy.weight * task.graph.bound x)) (λ o. IsTrue told ↔ (over ≡ o.over))
-      → (IsTrue told → IsPresent expansion s i m (f_of task x m) f) × ((IsTrue told → ⊥) → IsStale expansion s i m (f_of task x m) f)
+      → MatchOption noted (IsTrue told ↔ (over ≤ task.strategy.weight.times * task.graph.bound x)) (λ o. IsTrue told ↔ (over ≡ o.over))
+      → (IsTrue told → IsPresent expansion s i (weighed task.strategy m) (f_of task x m) f) × ((IsTrue told → ⊥) → IsStale expansion s i (weighed task.strategy m) (f_of task x m) f)
   taken_present expansion.Full task s i x m f over (Some o) told are at high above is tells =
       absurd (none-some o (ap (λ os. slice_get os i) (sym are) ∙ is))
   taken_present expansion.Full task s i x m f over None told are at high above is tells = (
     λ yes. let le = tells.0 yes in omega (arith, above, le),
-    λ no. ⊎_elim (λ lt. omega (arith, above, lt)) (λ le. absurd (no (tells.1 le))) (cases_lt (task.strategy.weight * task.graph.bound x) over),
+    λ no. ⊎_elim (λ lt. omega (arith, above, lt)) (λ le. absurd (no (tells.1 le))) (cases_lt (task.strategy.weight.times * task.graph.bound x) over),
   )
   taken_present expansion.Partial task s i x m f over None told are at high above is tells =
       absurd (let lt = stands_within s i x m at in let long = are.0 in omega (arith, lt, long, is))
@@ -217,15 +217,15 @@ module _ {K : Type 0} where
   )
 
   -- a turn that expands a key, by what becomes of it
-  pub becomes_advances : (task : Task K) (old after new : Store K) (number : ℕ) (mark : Mark) (placing : Placing K)
-      → ((left_out : Option K) → Closes after new number mark placing left_out → ExpandsTaken task old new number left_out)
-      → (status : Status K) → Becomes after new number mark placing status → Advances task old new status
-  becomes_advances task old after new number mark placing works Running closes = inr (number, works None closes)
-  becomes_advances task old after new number mark placing works (GaveUp y from) (closes, same) =
+  pub becomes_advances : (task : Task K) (old after new : Store K) (number cost : ℕ) (placing : Placing K)
+      → ((left_out : Option K) → Closes after new number cost placing left_out → ExpandsTaken task old new number left_out)
+      → (status : Status K) → Becomes after new number cost placing status → Advances task old new status
+  becomes_advances task old after new number cost placing works Running closes = inr (number, works None closes)
+  becomes_advances task old after new number cost placing works (GaveUp y from) (closes, same) =
       subst (λ n. ExpandsTaken task old new n (Some y)) (sym same) (works (Some y) closes)
-  becomes_advances task old after new number mark placing works (Won n) h = absurd h
-  becomes_advances task old after new number mark placing works CannotWin h = absurd h
-  becomes_advances task old after new number mark placing works Stopped h = absurd h
+  becomes_advances task old after new number cost placing works (Won n) h = absurd h
+  becomes_advances task old after new number cost placing works CannotWin h = absurd h
+  becomes_advances task old after new number cost placing works Stopped h = absurd h
 
   -- the children of a key that was reached can be reached
   pub children_reached : (g : Graph K) (x : K) (children : List (Child K)) → ((d : ℕ) × Reached g x d) → AreChildren g x children

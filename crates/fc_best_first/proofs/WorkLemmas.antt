@@ -13,7 +13,7 @@ use Rattle.fc_best_first.specs.declared.books.Offered.TheVariants.{Added}
 use Rattle.fc_best_first.specs.declared.strategies.Expansion.{Expansion}
 use Rattle.fc_best_first.specs.declared.strategies.Expansion.TheVariants.{Full, Partial}
 use Rattle.fc_best_first.specs.declared.strategies.Strategy.{Strategy}
-use Rattle.fc_best_first.specs.Store.{Store, Candidate, Lowers, NotesAnew, NotesLast, Stores, opens_at}
+use Rattle.fc_best_first.specs.Store.{Store, Candidate, Lowers, NotesAnew, NotesLast, Stores, opens_at, weighed}
 use Rattle.fc_best_first.specs.Turn.{Reopens, work_left}
 
 added_one : (old new : List (ℕ × ℕ)) (p : ℕ × ℕ) → Adds old new p → length new ≡ suc (length old)
@@ -21,55 +21,55 @@ added_one old new p h = length_permutation (p ∷ old) new h
 
 -- how much further above their costs keys may be opened
 abbrev rises : List Opening → ℕ
-rises os = sum_by (λ o. 2805 - o.over) os
+rises os = sum_by (λ o. 28050 - o.over) os
 
 -- an opening in the place of another
 rises_set : (os : List Opening) (i : ℕ) (was next : Opening) → slice_get os i ≡ Some was
-    → rises (slice_set os i next) + (2805 - was.over) ≡ rises os + (2805 - next.over)
+    → rises (slice_set os i next) + (28050 - was.over) ≡ rises os + (28050 - next.over)
 rises_set [] i was next at = absurd (none-some was at)
 rises_set (o ∷ os) zero was next at =
     let same : o ≡ was = cc in
-    let over = ap (λ q. 2805 - q.over) same in
-    omega (arith, sum_by-cons (λ (q : Opening). 2805 - q.over) o os, sum_by-cons (λ (q : Opening). 2805 - q.over) next os, over)
+    let over = ap (λ q. 28050 - q.over) same in
+    omega (arith, sum_by-cons (λ (q : Opening). 28050 - q.over) o os, sum_by-cons (λ (q : Opening). 28050 - q.over) next os, over)
 rises_set (o ∷ os) (suc i) was next at = omega (
   arith,
-  sum_by-cons (λ (q : Opening). 2805 - q.over) o os,
-  sum_by-cons (λ (q : Opening). 2805 - q.over) o (slice_set os i next),
+  sum_by-cons (λ (q : Opening). 28050 - q.over) o os,
+  sum_by-cons (λ (q : Opening). 28050 - q.over) o (slice_set os i next),
   rises_set os i was next at,
 )
 
-rises_most : (os : List Opening) (i : ℕ) (next : Opening) → rises (slice_set os i next) ≤ rises os + 2805
+rises_most : (os : List Opening) (i : ℕ) (next : Opening) → rises (slice_set os i next) ≤ rises os + 28050
 rises_most [] i next = omega arith
-rises_most (o ∷ os) zero next = omega (arith, sum_by-cons (λ (q : Opening). 2805 - q.over) o os, sum_by-cons (λ (q : Opening). 2805 - q.over) next os)
+rises_most (o ∷ os) zero next = omega (arith, sum_by-cons (λ (q : Opening). 28050 - q.over) o os, sum_by-cons (λ (q : Opening). 28050 - q.over) next os)
 rises_most (o ∷ os) (suc i) next = omega (
   arith,
-  sum_by-cons (λ (q : Opening). 2805 - q.over) o os,
-  sum_by-cons (λ (q : Opening). 2805 - q.over) o (slice_set os i next),
+  sum_by-cons (λ (q : Opening). 28050 - q.over) o os,
+  sum_by-cons (λ (q : Opening). 28050 - q.over) o (slice_set os i next),
   rises_most os i next,
 )
 
 -- what is noted anew or last adds so much at most
 anew_most : (expansion : Expansion) (old new : List Opening) (i : ℕ) (opening : Opening) → NotesAnew expansion old new i opening
-    → rises new ≤ rises old + 2805
+    → rises new ≤ rises old + 28050
 anew_most Full old new i opening same = let e = ap (λ os. rises os) same in omega (arith, e)
 anew_most Partial old new i opening is = let e = ap (λ os. rises os) is in omega (arith, e, rises_most old i opening)
 
 last_most : (expansion : Expansion) (old new : List Opening) (opening : Opening) → NotesLast expansion old new opening
-    → rises new ≤ rises old + 2805
+    → rises new ≤ rises old + 28050
 last_most Full old new opening same = let e = ap (λ os. rises os) same in omega (arith, e)
 last_most Partial old new opening is =
-    let e : rises new ≡ rises old + (2805 - opening.over) = ap (λ os. rises os) is ∙ sum_by_push (λ (q : Opening). 2805 - q.over) old opening in
+    let e : rises new ≡ rises old + (28050 - opening.over) = ap (λ os. rises os) is ∙ sum_by_push (λ (q : Opening). 28050 - q.over) old opening in
     omega (arith, e)
 
 -- a cost that fell counts more than the pair that it opened, and where
 lowered_falls : (old new less more w v before after room : ℕ) → new + more ≡ old + less → less < more → v ≡ suc w
-    → after ≤ before + 2805 → 2806 * (new + room) + after + v ≤ 2806 * (old + room) + before + w
+    → after ≤ before + 28050 → 28051 * (new + room) + after + v ≤ 28051 * (old + room) + before + w
 lowered_falls old new less more w v before after room e lt p most = omega (arith, e, lt, p, most)
 
 -- and so does a place that was taken, by far
 added_falls : (sum cost n left b w v before after : ℕ) → left + suc n ≡ b → cost ≤ 53 * n + 53 → v ≡ suc w
-    → after ≤ before + 2805
-    → 2806 * (sum + cost + left * (53 * b + 54)) + after + v ≤ 2806 * (sum + suc left * (53 * b + 54)) + before + w
+    → after ≤ before + 28050
+    → 28051 * (sum + cost + left * (53 * b + 54)) + after + v ≤ 28051 * (sum + suc left * (53 * b + 54)) + before + w
 added_falls sum cost n left b w v before after e low p more =
     let next : suc left * (53 * b + 54) ≡ left * (53 * b + 54) + (53 * b + 54) = omega arith in
     let most : cost ≤ 53 * b = omega (arith, e, low) in
@@ -99,12 +99,12 @@ module _ {K : Type 0} where
       let size : length new.stored ≡ length old.stored = ap length stored ∙ length-set_value_at old.stored i mark in
       let sum : sum_by (λ e. e.1.cost) new.stored + was.cost ≡ sum_by (λ e. e.1.cost) old.stored + mark.cost =
       ap (λ es. sum_by (λ (e : K × Mark). e.1.cost) es + was.cost) stored ∙ sum_set old.stored i x was mark at in
-      subst (λ n. 2806 * (sum_by (λ e. e.1.cost) new.stored + (budget - n) * (53 * budget + 54)) + rises new.openings + length new.waiting
+      subst (λ n. 28051 * (sum_by (λ e. e.1.cost) new.stored + (budget - n) * (53 * budget + 54)) + rises new.openings + length new.waiting
       ≤ work_left budget old)
       (sym size)
       (lowered_falls (sum_by (λ e. e.1.cost) old.stored) (sum_by (λ e. e.1.cost) new.stored) mark.cost was.cost
       (length old.waiting) (length new.waiting) (rises old.openings) (rises new.openings) ((budget - length old.stored) * (53 * budget + 54)) sum lt
-      (added_one old.waiting new.waiting (opens_at mark opening, i) opened)
+      (added_one old.waiting new.waiting (opens_at (weighed strategy mark) opening, i) opened)
       (anew_most strategy.expansion old.openings new.openings i opening noted))
 
   pub added_work : (strategy : Strategy) (old new : Store K) (offer : Candidate K) → Stores strategy old new offer Added
@@ -120,13 +120,13 @@ module _ {K : Type 0} where
       let sum : sum_by (λ e. e.1.cost) new.stored ≡ sum_by (λ e. e.1.cost) old.stored + offer.mark.cost =
       ap (sum_by (λ (e : K × Mark). e.1.cost)) stored ∙ sum_by_push (λ (e : K × Mark). e.1.cost) old.stored (offer.key, offer.mark) in
       subst (λ k. k ≤ work_left budget old)
-      (ap (λ k. 2806 * (k + left * (53 * budget + 54)) + rises new.openings + length new.waiting) (sym sum)
-      ∙ ap (λ k. 2806 * (sum_by (λ (e : K × Mark). e.1.cost) new.stored + k * (53 * budget + 54)) + rises new.openings + length new.waiting) (sym now))
-      (subst (λ k. 2806 * (sum_by (λ e. e.1.cost) old.stored + offer.mark.cost + left * (53 * budget + 54)) + rises new.openings + length new.waiting
-      ≤ 2806 * (sum_by (λ e. e.1.cost) old.stored + k * (53 * budget + 54)) + rises old.openings + length old.waiting) (sym before)
+      (ap (λ k. 28051 * (k + left * (53 * budget + 54)) + rises new.openings + length new.waiting) (sym sum)
+      ∙ ap (λ k. 28051 * (sum_by (λ (e : K × Mark). e.1.cost) new.stored + k * (53 * budget + 54)) + rises new.openings + length new.waiting) (sym now))
+      (subst (λ k. 28051 * (sum_by (λ e. e.1.cost) old.stored + offer.mark.cost + left * (53 * budget + 54)) + rises new.openings + length new.waiting
+      ≤ 28051 * (sum_by (λ e. e.1.cost) old.stored + k * (53 * budget + 54)) + rises old.openings + length old.waiting) (sym before)
       (added_falls (sum_by (λ e. e.1.cost) old.stored) offer.mark.cost n left budget (length old.waiting) (length new.waiting)
       (rises old.openings) (rises new.openings) all low
-      (added_one old.waiting new.waiting (opens_at offer.mark offer.opening, n) opened)
+      (added_one old.waiting new.waiting (opens_at (weighed strategy offer.mark) offer.opening, n) opened)
       (last_most strategy.expansion old.openings new.openings offer.opening noted)))
 
   -- a pair that is taken leaves less
@@ -134,17 +134,17 @@ module _ {K : Type 0} where
       → Adds new.waiting old.waiting p → work_left budget new < work_left budget old
   taken_work budget old new p kept noted taken =
       let one = added_one new.waiting old.waiting p taken in
-      let same = ap (λ es. 2806 * (sum_by (λ (e : K × Mark). e.1.cost) es + (budget - length es) * (53 * budget + 54))) kept in
+      let same = ap (λ es. 28051 * (sum_by (λ (e : K × Mark). e.1.cost) es + (budget - length es) * (53 * budget + 54))) kept in
       let still = ap (λ os. rises os) noted in
       omega (arith, one, same, still)
 
   -- and so does one at which a key is opened further above its cost
-  pub reopened_work : (budget : ℕ) (old new : Store K) (number : ℕ) (mark : Mark) (was : Opening) (later : ℕ)
-      → slice_get old.openings number ≡ Some was → opens_at mark was < later → Reopens old new number mark later
+  pub reopened_work : (budget : ℕ) (old new : Store K) (number cost : ℕ) (was : Opening) (later : ℕ)
+      → slice_get old.openings number ≡ Some was → opens_at cost was < later → Reopens old new number cost later
       → work_left budget new ≤ work_left budget old
-  reopened_work budget old new number mark was later at rises_to (before, next, there, bound, most, opens, kept, opened, noted) =
+  reopened_work budget old new number cost was later at rises_to (before, next, there, bound, most, opens, kept, opened, noted) =
       let one = added_one old.waiting new.waiting (later, number) opened in
-      let same = ap (λ es. 2806 * (sum_by (λ (e : K × Mark). e.1.cost) es + (budget - length es) * (53 * budget + 54))) kept in
+      let same = ap (λ es. 28051 * (sum_by (λ (e : K × Mark). e.1.cost) es + (budget - length es) * (53 * budget + 54))) kept in
       let sum = ap (λ os. rises os) noted in
       let set = rises_set old.openings number was next at in
       omega (arith, one, same, sum, set, rises_to, most, opens)

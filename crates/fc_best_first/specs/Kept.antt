@@ -6,7 +6,8 @@ use Rattle.fc_best_first.specs.declared.strategies.Expansion.{Expansion}
 use Rattle.fc_best_first.specs.declared.strategies.Expansion.TheVariants.{Full, Partial}
 use Rattle.fc_best_first.specs.declared.turns.TheConstants.{MOST_COST}
 use Rattle.fc_best_first.specs.Graph.{Graph, Task, Reached}
-use Rattle.fc_best_first.specs.Store.{Store, IsStored, opens_at}
+use Rattle.fc_best_first.specs.Limits.{Ratio, weigh}
+use Rattle.fc_best_first.specs.Store.{Store, IsStored, opens_at, weighed}
 
 module _ {K : Type 0} where
   -- the key is stored at no more than this cost
@@ -17,10 +18,10 @@ module _ {K : Type 0} where
   abbrev pub IsExpanded : Graph K → Store K → K → ℕ → Type 0
   IsExpanded g s x cost = (g.won x → ⊥) × ((c : ℕ) (y : K) → g.edge x c y → HasAt s y (cost + c))
 
-  -- the key isn't won, and the end of each of its edges is stored so, or its cost plus weighed bound is at least n
-  abbrev pub IsExpandedBelow : Graph K → ℕ → Store K → K → ℕ → ℕ → Type 0
+  -- the key isn't won, and the end of each of its edges is stored so, or its weighed cost plus bound is at least n
+  abbrev pub IsExpandedBelow : Graph K → Ratio → Store K → K → ℕ → ℕ → Type 0
   IsExpandedBelow g weight s x cost n = (g.won x → ⊥)
-      × ((c : ℕ) (y : K) → g.edge x c y → HasAt s y (cost + c) ⊎ (n ≤ cost + c + weight * g.bound y))
+      × ((c : ℕ) (y : K) → g.edge x c y → HasAt s y (cost + c) ⊎ (n ≤ weigh weight (cost + c) (g.bound y)))
 
   -- what a search does with the keys below n: by full expansion they are expanded, by partial expansion they are expanded
   -- below n
@@ -28,36 +29,36 @@ module _ {K : Type 0} where
   IsDone Full task s x cost n = IsExpanded task.graph s x cost
   IsDone Partial task s x cost n = IsExpandedBelow task.graph task.strategy.weight s x cost n
 
-  -- the cost plus weighed bound of a key with this mark
+  -- the weighed cost plus bound of a key with this mark
   abbrev pub f_of : Task K → K → Mark → ℕ
-  f_of task x mark = mark.cost + task.strategy.weight * task.graph.bound x
+  f_of task x mark = weigh task.strategy.weight mark.cost (task.graph.bound x)
 
-  -- the key with this number and mark is open at this f: such a pair of it waits, and by partial expansion it was opened
-  -- there last
-  abbrev pub IsOpenAt : Expansion → Store K → ℕ → Mark → ℕ → Type 0
-  IsOpenAt Full s number mark f = Contains s.waiting (f, number)
-  IsOpenAt Partial s number mark f = Contains s.waiting (f, number)
-      × ((opening : Opening) × (slice_get s.openings number ≡ Some opening) × (f ≡ opens_at mark opening))
+  -- the key with this number and weighed cost is open at this f: such a pair of it waits, and by partial expansion it was
+  -- opened there last
+  abbrev pub IsOpenAt : Expansion → Store K → ℕ → ℕ → ℕ → Type 0
+  IsOpenAt Full s number cost f = Contains s.waiting (f, number)
+  IsOpenAt Partial s number cost f = Contains s.waiting (f, number)
+      × ((opening : Opening) × (slice_get s.openings number ≡ Some opening) × (f ≡ opens_at cost opening))
 
   -- the key is open at some greater f, and expanded below it: never by full expansion
   abbrev pub IsOpenLater : Expansion → Task K → Store K → ℕ → K → Mark → Type 0
   IsOpenLater Full task s number x mark = ⊥
   IsOpenLater Partial task s number x mark =
-      (f : ℕ) × IsOpenAt Partial s number mark f × IsExpandedBelow task.graph task.strategy.weight s x mark.cost f
+      (f : ℕ) × IsOpenAt Partial s number (weighed task.strategy mark) f × IsExpandedBelow task.graph task.strategy.weight s x mark.cost f
 
-  -- the key is open at its cost plus its weighed bound, or expanded, or open later
+  -- the key is open at its weighed cost plus bound, or expanded, or open later
   abbrev pub IsOpenOrExpanded : Task K → Store K → ℕ → K → Mark → Type 0
-  IsOpenOrExpanded task s number x mark = IsOpenAt task.strategy.expansion s number mark (f_of task x mark)
+  IsOpenOrExpanded task s number x mark = IsOpenAt task.strategy.expansion s number (weighed task.strategy mark) (f_of task x mark)
       ⊎ (IsExpanded task.graph s x mark.cost
       ⊎ IsOpenLater task.strategy.expansion task s number x mark)
 
-  -- no answer, times the weight, is below this cost plus the weighed bound of the key
-  abbrev pub IsWithin : Graph K → ℕ → K → ℕ → Type 0
-  IsWithin g weight x cost = (n : ℕ) → g.wins n → cost + weight * g.bound x ≤ weight * n
+  -- no answer, weighed as a bound is, is below this cost plus the bound of the key, both weighed
+  abbrev pub IsWithin : Graph K → Ratio → K → ℕ → Type 0
+  IsWithin g weight x cost = (n : ℕ) → g.wins n → weigh weight cost (g.bound x) ≤ weight.times * n
 
-  -- the key came by needed work. By full expansion it starts, or an edge leads to it from a key whose cost plus weighed bound
-  -- no answer, times the weight, is below; by partial expansion it was itself reached at such a cost
-  abbrev pub IsNeeded : Expansion → Graph K → ℕ → K → Type 0
+  -- the key came by needed work. By full expansion it starts, or an edge leads to it from a key whose weighed cost plus bound
+  -- no answer, weighed as a bound is, is below; by partial expansion it was itself reached at such a cost
+  abbrev pub IsNeeded : Expansion → Graph K → Ratio → K → Type 0
   IsNeeded Full g weight y = ((d : ℕ) × g.starts y d)
       ⊎ ((x : K) × (d : ℕ) × (c : ℕ) × Reached g x d × g.edge x c y × IsWithin g weight x d)
   IsNeeded Partial g weight y = (d : ℕ) × Reached g y d × IsWithin g weight y d

@@ -1,11 +1,26 @@
--- What limits a search: how often a bound may count, and how many keys may be stored.
-use Rattle.std.specs.Prelude.{ℕ, ◌≤◌}
-use Rattle.fc_best_first.specs.declared.limits.TheConstants.{MOST_BUDGET, MOST_WEIGHT}
+-- What limits a search: how often costs and bounds may count, and how many keys may be stored.
+use Rattle.std.specs.Prelude.{◌≡◌, ℕ, ◌+◌, ◌*◌, ◌≤◌}
+use Rattle.fc_best_first.specs.declared.limits.TheConstants.{MOST_BUDGET, MOST_WEIGHT, TENTHS}
 
--- the bounds may count so many times
-pub record IsWeight (weight : ℕ) : Type 0 where
-  pub least : 1 ≤ weight
-  pub greatest : weight ≤ MOST_WEIGHT
+-- how a search weighs: a cost counts so many times as there are parts, and a bound so many times
+pub record Ratio : Type 0 where
+  pub parts : ℕ
+  pub times : ℕ
+
+-- what a cost and a bound come to, as they are weighed
+abbrev pub weigh : Ratio → ℕ → ℕ → ℕ
+weigh weight cost bound = weight.parts * cost + weight.times * bound
+
+-- a bound counts no less than a cost, and no more than MOST_WEIGHT times as much
+pub record IsWeight (weight : Ratio) : Type 0 where
+  pub least : 1 ≤ weight.parts
+  pub most : weight.parts ≤ TENTHS
+  pub above : weight.parts ≤ weight.times
+  pub greatest : weight.times ≤ MOST_WEIGHT * weight.parts
+
+-- a bound counts as often as a cost
+abbrev pub IsEven : Ratio → Type 0
+IsEven weight = weight.times ≡ weight.parts
 
 -- so many keys may be stored
 pub record IsBudget (budget : ℕ) : Type 0 where

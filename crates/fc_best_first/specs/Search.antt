@@ -28,7 +28,7 @@ module _ {S K : Type 0} where
   task_of graph s = record { graph = graph s.space; strategy = s.strategy }
 
 module _ {K : Type 0} where
-  -- the key that starts is stored under 0, as its own parent, and open at its cost plus weighed bound
+  -- the key that starts is stored under 0, as its own parent, and open at its weighed cost plus bound
   abbrev pub Begins : Task K → Store K → Type 0
   Begins task s = (x : K) × (cost : ℕ) × task.graph.starts x cost × (s.stored ≡ (x, record { cost = cost; parent = 0 }) ∷ [])
       × Adds [] s.waiting (f_of task x (record { cost = cost; parent = 0 }), 0)

@@ -6,21 +6,22 @@ use Rattle.fc_best_first.specs.declared.strategies.Expansion.TheVariants.{Full, 
 use Rattle.fc_best_first.specs.declared.turns.Status.{Status}
 use Rattle.fc_best_first.specs.declared.turns.Status.TheVariants.{Running, Won, CannotWin, GaveUp, Stopped}
 use Rattle.fc_best_first.specs.Graph.{Graph, Task, Reached}
-use Rattle.fc_best_first.specs.Store.{Store, IsStored, IsNew}
+use Rattle.fc_best_first.specs.Limits.{Ratio}
+use Rattle.fc_best_first.specs.Store.{Store, IsStored, IsNew, weighed}
 use Rattle.fc_best_first.specs.Kept.{IsSound, IsKept, IsDone, IsExpanded, IsOpenAt, IsOpenOrExpanded, IsNeeded, f_of}
 
 module _ {K : Type 0} where
-  -- no answer, times the weight, is below it
-  abbrev pub IsFloor : Graph K → ℕ → ℕ → Type 0
-  IsFloor g weight floor = (n : ℕ) → g.wins n → floor ≤ weight * n
+  -- no answer, weighed as a bound is, is below it
+  abbrev pub IsFloor : Graph K → Ratio → ℕ → Type 0
+  IsFloor g weight floor = (n : ℕ) → g.wins n → floor ≤ weight.times * n
 
-  -- a won key is stored under this number, each key whose cost plus weighed bound is below its cost is done with below that
-  -- cost, and each other key is open or expanded
+  -- a won key is stored under this number, each key whose weighed cost plus bound is below its weighed cost is done with below
+  -- that, and each other key is open or expanded
   abbrev pub IsFound : Task K → Store K → ℕ → Type 0
   IsFound task s number = IsSound task s
       × ((x : K) × (mark : Mark) × IsStored s number x mark × task.graph.won x
-      × ((i : ℕ) (y : K) (m : Mark) → IsStored s i y m → f_of task y m < mark.cost
-      → IsDone task.strategy.expansion task s y m.cost mark.cost)
+      × ((i : ℕ) (y : K) (m : Mark) → IsStored s i y m → f_of task y m < weighed task.strategy mark
+      → IsDone task.strategy.expansion task s y m.cost (weighed task.strategy mark))
       × ((i : ℕ) (y : K) (m : Mark) → (i ≡ number → ⊥) → IsStored s i y m → IsOpenOrExpanded task s i y m))
 
   -- each stored key is expanded
@@ -49,21 +50,21 @@ module _ {K : Type 0} where
     pub needed : (i : ℕ) (x : K) → slice_get keys i ≡ Some x
         → IsNeeded task.strategy.expansion task.graph task.strategy.weight x
 
-  -- what a search shows by its status: the cost of the won key is an answer, and no answer, times the weight, is less;
-  -- there is no answer; or one key more than the budget came by needed work
+  -- what a search shows by its status: the cost of the won key is an answer, and, weighed, no more than each answer is, weighed
+  -- as a bound is; there is no answer; or one key more than the budget came by needed work
   abbrev pub Shows : Task K → Store K → Status K → Type 0
   Shows task s Running = Unit {0}
   Shows task s (Won number) = (x : K) × (mark : Mark) × IsStored s number x mark × task.graph.won x × Reached task.graph x mark.cost
-      × task.graph.wins mark.cost × ((n : ℕ) → task.graph.wins n → mark.cost ≤ task.strategy.weight * n)
+      × task.graph.wins mark.cost × ((n : ℕ) → task.graph.wins n → weighed task.strategy mark ≤ task.strategy.weight.times * n)
   Shows task s CannotWin = (n : ℕ) → task.graph.wins n → ⊥
   Shows task s (GaveUp y number) = (keys : List K) × AreNeeded task (task.strategy.budget + 1) keys
   Shows task s Stopped = Unit {0}
 
-  -- a pair of the key with this number and mark waits: at its cost plus weighed bound by full expansion, where it was opened
+  -- a pair of the key with this number and mark waits: at its weighed cost plus bound by full expansion, where it was opened
   -- last by partial expansion
   abbrev pub Waits : Expansion → Task K → Store K → ℕ → K → Mark → Type 0
-  Waits Full task s number x mark = IsOpenAt Full s number mark (f_of task x mark)
-  Waits Partial task s number x mark = (f : ℕ) × IsOpenAt Partial s number mark f
+  Waits Full task s number x mark = IsOpenAt Full s number (weighed task.strategy mark) (f_of task x mark)
+  Waits Partial task s number x mark = (f : ℕ) × IsOpenAt Partial s number (weighed task.strategy mark) f
 
   -- the key with this number and mark is open
   pub record IsOpen (task : Task K) (s : Store K) (number : ℕ) (x : K) (mark : Mark) : Type 0 where

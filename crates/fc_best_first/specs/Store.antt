@@ -1,5 +1,5 @@
 -- The state of a search: the keys that it stores, and the pairs that it has still to look at.
-use Rattle.std.specs.Prelude.{◌≡◌, ℕ, ◌+◌, ◌<◌, ◌≤◌, List, [], ◌∷◌, ◌++◌, length, slice_get, slice_set, Some}
+use Rattle.std.specs.Prelude.{◌≡◌, ℕ, ◌+◌, ◌*◌, ◌<◌, ◌≤◌, List, [], ◌∷◌, ◌++◌, length, slice_get, slice_set, Some}
 use Rattle.indexmap.specs.IndexMap.{set_value_at}
 use Rattle.fc_frontier.specs.Queue.{Adds, IsLeast}
 use Rattle.fc_best_first.specs.declared.books.Mark.{Mark}
@@ -23,9 +23,13 @@ pub record Candidate (K : Type 0) : Type 0 where
   pub mark : Mark
   pub opening : Opening
 
--- what is open at an opening of a key with this mark is open at this f
-abbrev pub opens_at : Mark → Opening → ℕ
-opens_at mark opening = mark.cost + opening.over
+-- the cost of a mark, as a search by this strategy weighs it
+abbrev pub weighed : Strategy → Mark → ℕ
+weighed strategy mark = strategy.weight.parts * mark.cost
+
+-- what is open at an opening of a key of this weighed cost is open at this f
+abbrev pub opens_at : ℕ → Opening → ℕ
+opens_at cost opening = cost + opening.over
 
 -- a new opening is noted last by partial expansion; full expansion notes none
 abbrev pub NotesLast : Expansion → List Opening → List Opening → Opening → Type 0
@@ -62,7 +66,7 @@ module _ {K : Type 0} where
   abbrev pub Stores : Strategy → Store K → Store K → Candidate K → Offered K → Type 0
   Stores strategy old new offer Added =
       (length old.stored < strategy.budget) × (new.stored ≡ old.stored ++ (offer.key, offer.mark) ∷ [])
-      × Adds old.waiting new.waiting (opens_at offer.mark offer.opening, length old.stored)
+      × Adds old.waiting new.waiting (opens_at (weighed strategy offer.mark) offer.opening, length old.stored)
       × NotesLast strategy.expansion old.openings new.openings offer.opening
   Stores strategy old new offer (Full y) = (y ≡ offer.key) × (strategy.budget ≤ length old.stored) × (new ≡ old)
   Stores strategy old new offer _ = ⊥
@@ -70,7 +74,7 @@ module _ {K : Type 0} where
   -- a stored key takes the new mark and is open at its new f
   abbrev pub Lowers : Strategy → Store K → Store K → ℕ → Mark → Opening → Type 0
   Lowers strategy old new number mark opening = (new.stored ≡ set_value_at old.stored number mark)
-      × Adds old.waiting new.waiting (opens_at mark opening, number)
+      × Adds old.waiting new.waiting (opens_at (weighed strategy mark) opening, number)
       × NotesAnew strategy.expansion old.openings new.openings number opening
 
   -- what offering a key does, when a pair of this f was taken: one that is stored is left where it is stored at no more, and
@@ -82,11 +86,11 @@ module _ {K : Type 0} where
       (number : ℕ) × (was : Mark) × IsStored old number offer.key was × (offer.mark.cost < was.cost)
       × Lowers strategy old new number offer.mark offer.opening
   Offers strategy taken old new offer Added = IsNew old offer.key
-      × Admits strategy.expansion taken (opens_at offer.mark offer.opening) × Stores strategy old new offer Added
+      × Admits strategy.expansion taken (opens_at (weighed strategy offer.mark) offer.opening) × Stores strategy old new offer Added
   Offers strategy taken old new offer (Full y) = IsNew old offer.key
-      × Admits strategy.expansion taken (opens_at offer.mark offer.opening) × Stores strategy old new offer (Full y)
+      × Admits strategy.expansion taken (opens_at (weighed strategy offer.mark) offer.opening) × Stores strategy old new offer (Full y)
   Offers strategy taken old new offer (PutOff later) = IsNew old offer.key
-      × PutsOff strategy.expansion taken (opens_at offer.mark offer.opening) later × (new ≡ old)
+      × PutsOff strategy.expansion taken (opens_at (weighed strategy offer.mark) offer.opening) later × (new ≡ old)
 
   -- an open pair of least f is taken, whose key is stored with this mark
   pub record IsTaken (old : Store K) (new : Store K) (f : ℕ) (number : ℕ) (x : K) (mark : Mark) : Type 0 where

@@ -13,7 +13,7 @@ use Rattle.fc_best_first.specs.declared.turns.Status.{Status}
 use Rattle.fc_best_first.specs.declared.turns.Status.TheVariants.{Running, Won, CannotWin, GaveUp, Stopped}
 use Rattle.fc_best_first.specs.declared.turns.TheConstants.{MOST_COST, MOST_OVER}
 use Rattle.fc_best_first.specs.Graph.{Graph, Task}
-use Rattle.fc_best_first.specs.Store.{Store, Candidate, NotesAnew, Offers, IsTaken, opens_at}
+use Rattle.fc_best_first.specs.Store.{Store, Candidate, NotesAnew, Offers, IsTaken, opens_at, weighed}
 use Rattle.fc_best_first.specs.Kept.{f_of}
 
 -- the floor that a turn of a running search leaves, the greatest f that was taken: the same where no pair is open, else the
@@ -35,7 +35,7 @@ module _ {K : Type 0} where
 
   -- where a key is open at its cost plus its weighed bound
   abbrev pub opening_of : Task K → K → Opening
-  opening_of task x = record { over = task.strategy.weight * task.graph.bound x; bound = task.graph.bound x }
+  opening_of task x = record { over = task.strategy.weight.times * task.graph.bound x; bound = task.graph.bound x }
 
   -- a child as it is offered: its mark, by the mark of a child that would cost nothing, and where it is open
   abbrev pub candidate_of : Task K → Mark → Child K → Candidate K
@@ -68,48 +68,48 @@ module _ {K : Type 0} (task : Task K) (taken : ℕ) where
       × ((others : Placing K) × Expands origin children old new others × (placing ≡ put_off later others))))
 
 module _ {K : Type 0} where
-  -- a key with this number and mark is open again at a later f, by the bound that is noted of it
-  abbrev pub Reopens : Store K → Store K → ℕ → Mark → ℕ → Type 0
-  Reopens old new number mark later = (was : Opening) × (next : Opening) × (slice_get old.openings number ≡ Some was)
-      × (next.bound ≡ was.bound) × (next.over ≤ MOST_OVER) × (later ≡ opens_at mark next) × (new.stored ≡ old.stored)
+  -- a key with this number and weighed cost is open again at a later f, by the bound that is noted of it
+  abbrev pub Reopens : Store K → Store K → ℕ → ℕ → ℕ → Type 0
+  Reopens old new number cost later = (was : Opening) × (next : Opening) × (slice_get old.openings number ≡ Some was)
+      × (next.bound ≡ was.bound) × (next.over ≤ MOST_OVER) × (later ≡ opens_at cost next) × (new.stored ≡ old.stored)
       × Adds old.waiting new.waiting (later, number) × NotesAnew expansion.Partial old.openings new.openings number next
 
-  -- what becomes of an expanded key, by how its children were placed: where some were put off it is open again at the least
-  -- f of those
-  abbrev pub Closes : Store K → Store K → ℕ → Mark → Placing K → Option K → Type 0
-  Closes old new number mark Whole left_out = (new ≡ old) × (left_out ≡ None)
-  Closes old new number mark (Later f) left_out = Reopens old new number mark f × (left_out ≡ None)
-  Closes old new number mark (NoRoom y) left_out = (new ≡ old) × (left_out ≡ Some y)
+  -- what becomes of an expanded key of this weighed cost, by how its children were placed: where some were put off it is open
+  -- again at the least f of those
+  abbrev pub Closes : Store K → Store K → ℕ → ℕ → Placing K → Option K → Type 0
+  Closes old new number cost Whole left_out = (new ≡ old) × (left_out ≡ None)
+  Closes old new number cost (Later f) left_out = Reopens old new number cost f × (left_out ≡ None)
+  Closes old new number cost (NoRoom y) left_out = (new ≡ old) × (left_out ≡ Some y)
 
-  -- a pair of this f is the present one of the key with this number and mark: by full expansion it is no greater than the
-  -- key's own, its cost plus weighed bound, by partial expansion it is where the key was opened last
-  abbrev pub IsPresent : Expansion → Store K → ℕ → Mark → ℕ → ℕ → Type 0
-  IsPresent expansion.Full s number mark own f = f ≤ own
-  IsPresent expansion.Partial s number mark own f =
-      (opening : Opening) × (slice_get s.openings number ≡ Some opening) × (f ≡ opens_at mark opening)
+  -- a pair of this f is the present one of the key with this number and weighed cost: by full expansion it is no greater than
+  -- the key's own, its weighed cost plus bound, by partial expansion it is where the key was opened last
+  abbrev pub IsPresent : Expansion → Store K → ℕ → ℕ → ℕ → ℕ → Type 0
+  IsPresent expansion.Full s number cost own f = f ≤ own
+  IsPresent expansion.Partial s number cost own f =
+      (opening : Opening) × (slice_get s.openings number ≡ Some opening) × (f ≡ opens_at cost opening)
 
   -- a pair of this f is an older one: by full expansion it is greater than the key's own, by partial expansion its key was
   -- opened elsewhere since
-  abbrev pub IsStale : Expansion → Store K → ℕ → Mark → ℕ → ℕ → Type 0
-  IsStale expansion.Full s number mark own f = own < f
-  IsStale expansion.Partial s number mark own f =
-      (opening : Opening) × (slice_get s.openings number ≡ Some opening) × (f ≢ opens_at mark opening)
+  abbrev pub IsStale : Expansion → Store K → ℕ → ℕ → ℕ → ℕ → Type 0
+  IsStale expansion.Full s number cost own f = own < f
+  IsStale expansion.Partial s number cost own f =
+      (opening : Opening) × (slice_get s.openings number ≡ Some opening) × (f ≢ opens_at cost opening)
 
   -- a key that isn't won, taken by its present pair, is expanded
   abbrev pub ExpandsTaken : Task K → Store K → Store K → ℕ → Option K → Type 0
   ExpandsTaken task old new number left_out =
       (f : ℕ) × (x : K) × (mark : Mark) × (mid : Store K) × IsTaken old mid f number x mark
-      × (task.graph.won x → ⊥) × IsPresent task.strategy.expansion old number mark (f_of task x mark) f
+      × (task.graph.won x → ⊥) × IsPresent task.strategy.expansion old number (weighed task.strategy mark) (f_of task x mark) f
       × ((children : List (Child K)) × AreChildren task.graph x children
       × ((after : Store K) × (placing : Placing K)
       × Expands task f (record { cost = mark.cost; parent = number }) children mid after placing
-      × Closes after new number mark placing left_out))
+      × Closes after new number (weighed task.strategy mark) placing left_out))
 
   -- a key that isn't won was opened anew since the pair was put in: the pair is dropped
   abbrev pub DropsTaken : Task K → Store K → Store K → Type 0
   DropsTaken task old new =
       (f : ℕ) × (number : ℕ) × (x : K) × (mark : Mark) × IsTaken old new f number x mark
-      × (task.graph.won x → ⊥) × IsStale task.strategy.expansion old number mark (f_of task x mark) f
+      × (task.graph.won x → ⊥) × IsStale task.strategy.expansion old number (weighed task.strategy mark) (f_of task x mark) f
 
   -- one turn of a running search, and the status that it leaves
   abbrev pub Advances : Task K → Store K → Store K → Status K → Type 0

@@ -1,11 +1,12 @@
 ghost use Rattle.std.specs.Prelude.{◌≡◌, ◌+◌, ◌*◌, ◌^◌, ◌<◌, ◌≤◌, ℕ, [], length, slice_get, Some, IfOk, IfSome, IfNone, OnOk, MatchOption};
 ghost use Rattle.std.specs.List.Sorted.{IsPermutation};
 ghost use Rattle.fc_frontier.specs.Queue.{Adds, IsLeast};
-ghost use Rattle.fc_best_first.specs.Store.{Store, IsStored, IsNew, Lowers, NotesLast, Stores, opens_at};
+ghost use Rattle.fc_best_first.specs.Limits.{IsWeight};
+ghost use Rattle.fc_best_first.specs.Store.{Store, IsStored, IsNew, Lowers, NotesLast, Stores, opens_at, weighed};
 ghost use Rattle.fc_best_first.specs.Turn.{Reopens};
 
 use crate::keys::ExactKey;
-use crate::limits::MOST_BUDGET;
+use crate::limits::{MOST_BUDGET, Weight};
 use crate::strategies::{Expansion, Strategy};
 use crate::turns::{MOST_COST, MOST_OVER};
 use fc_frontier::{Frontier, Full, Pairs};
@@ -33,16 +34,27 @@ impl Mark {
         }
     }
 
-    // The f of what is open at this opening.
-    pub(crate) fn opens_at(self, opening: Opening) -> u32
+    // The cost as it is weighed.
+    pub(crate) fn weighed(self, weight: Weight) -> u32
         requires low { self.cost ≤ MOST_COST * MOST_BUDGET + 255 }
-        ensures value { result ≡ opens_at self opening }
+        ensures value { result ≡ weight.parts * self.cost }
+        ensures most { result ≤ 10 * self.cost }
+        ensures range { IsWeight weight }
     {
-        self.cost + u32::from(opening.over)
+        u32::from(weight.parts()) * self.cost
+    }
+
+    // The f of what is open at this opening.
+    pub(crate) fn opens_at(self, weight: Weight, opening: Opening) -> u32
+        requires low { self.cost ≤ MOST_COST * MOST_BUDGET + 255 }
+        ensures value { result ≡ opens_at (weight.parts * self.cost) opening }
+        ensures range { IsWeight weight }
+    {
+        self.weighed(weight) + u32::from(opening.over)
     }
 }
 
-/// Where a key is open: how far above its cost, at most 2,805, and its bound.
+/// Where a key is open: how far above its weighed cost, at most 28,050, and its bound.
 #[derive(Clone, Copy, Debug, PartialEq, Eq)]
 pub struct Opening {
     pub over: u16,
@@ -78,18 +90,19 @@ impl<K: ExactKey, F: Frontier + Drop> Model for Book<K, F> {
 }
 
 impl<K: ExactKey, F: Frontier + Drop> Book<K, F> {
-    /// Nothing stored and nothing open, for a search by this expansion: by the partial one, of equal f the least bound is to be
-    /// taken first, where the queue tells ties. Takes no memory yet.
-    pub fn new(alloc: Global, expansion: Expansion) -> Self
+    /// Nothing stored and nothing open, for a search by this strategy. By partial expansion, of equal f the least bound is to be
+    /// taken first, where the queue tells ties; and by tenths too, where f is greater than a queue without ties wants it.
+    /// Takes no memory yet.
+    pub fn new(alloc: Global, strategy: &Strategy) -> Self
         ensures stored { result.stored ≡ [] }
         ensures waiting { result.waiting ≡ [] }
         ensures openings { result.openings ≡ [] }
     {
         Book {
             table: IndexMap::new(alloc),
-            queue: match expansion {
-                Expansion::Full => F::new(alloc),
-                Expansion::Partial => F::with_ties(alloc),
+            queue: match strategy.expansion {
+                Expansion::Full if strategy.weight.parts() == 1 => F::new(alloc),
+                _ => F::with_ties(alloc),
             },
             openings: Vec::new(alloc),
         }
@@ -174,24 +187,27 @@ impl<K: ExactKey, F: Frontier + Drop> Book<K, F> {
         ensures lowers { OnOk result (Lowers strategy.now self.old self.new number mark opening) }
     {
         self.table[number as usize] = mark;
-        self.queue
-            .push_tied(mark.opens_at(opening), opening.bound, number)?;
+        self.queue.push_tied(
+            mark.opens_at(strategy.weight, opening),
+            opening.bound,
+            number,
+        )?;
         if let Expansion::Partial = strategy.expansion {
             self.openings[number as usize] = opening;
         }
         Ok(())
     }
 
-    /// Opens the key with a number and this mark again, at a later f, where its opening is noted. At `Err` a growth was
+    /// Opens the key with a number and this weighed cost again, at a later f, where its opening is noted. At `Err` a growth was
     /// refused, and nothing is known of the book.
-    pub fn reopen(&mut self, number: u32, mark: Mark, later: u32) -> Result<(), Full>
+    pub fn reopen(&mut self, number: u32, cost: u32, later: u32) -> Result<(), Full>
         requires noted { number < length self.old.openings }
-        requires above { mark.cost ≤ later }
-        requires near { later ≤ mark.cost + MOST_OVER }
-        ensures reopens { OnOk result (Reopens self.old self.new number mark later) }
+        requires above { cost ≤ later }
+        requires near { later ≤ cost + MOST_OVER }
+        ensures reopens { OnOk result (Reopens self.old self.new number cost later) }
     {
         let opening = Opening {
-            over: (later - mark.cost) as u16,
+            over: (later - cost) as u16,
             ..self.openings[number as usize]
         };
         self.queue.push_tied(later, opening.bound, number)?;
@@ -219,8 +235,11 @@ impl<K: ExactKey, F: Frontier + Drop> Book<K, F> {
         }
         self.make_room(most - number);
         self.table.insert(key, mark)?;
-        self.queue
-            .push_tied(mark.opens_at(opening), opening.bound, number as u32)?;
+        self.queue.push_tied(
+            mark.opens_at(strategy.weight, opening),
+            opening.bound,
+            number as u32,
+        )?;
         self.note_last(strategy.expansion, opening)?;
         Ok(Offered::Added)
     }

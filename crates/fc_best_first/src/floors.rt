@@ -10,7 +10,7 @@ use crate::spaces::Space;
 use crate::strategies::Strategy;
 use fc_frontier::Frontier;
 
-// The bound of a key of which a pair so far above its cost waits, if that is its present one: where its opening is noted, the
+// The bound of a key of which a pair so far above its weighed cost waits, if that is its present one: where its opening is noted, the
 // one that is, else the one at its weighed bound.
 fn present_bound<K, S: Space<K>>(
     space: &S,
@@ -21,15 +21,15 @@ fn present_bound<K, S: Space<K>>(
 ) -> Option<u8>
     requires reached { (d : ℕ) × Reached (S.graph space.now) key.now d }
     ensures present { MatchOption noted
-        (MatchOption result (over ≢ weight * (S.graph space.now).bound key.now)
-        (λ bound. (bound ≡ (S.graph space.now).bound key.now) × (over ≡ weight * (S.graph space.now).bound key.now)))
+        (MatchOption result (over ≢ weight.times * (S.graph space.now).bound key.now)
+        (λ bound. (bound ≡ (S.graph space.now).bound key.now) × (over ≡ weight.times * (S.graph space.now).bound key.now)))
         (λ opening. MatchOption result (over ≢ opening.over) (λ bound. (bound ≡ opening.bound) × (over ≡ opening.over))) }
 {
     let (bound, own) = match noted {
         Some(opening) => (opening.bound, u32::from(opening.over)),
         None => {
             let bound = space.bound(key);
-            (bound, u32::from(weight.get()) * u32::from(bound))
+            (bound, u32::from(weight.times()) * u32::from(bound))
         }
     };
     if over == own { Some(bound) } else { None }
@@ -49,7 +49,7 @@ pub(crate) fn least_open<K: ExactKey, F: Frontier + Drop, S: Space<K>>(
     let mut floor = most;
     for (f, number) in book.waiting() {
         let (key, mark) = book.at(number);
-        let over = f - mark.cost;
+        let over = f - mark.weighed(strategy.weight);
         let noted = book.noted(number);
         let Some(bound) = present_bound(space, strategy.weight, key, over, noted) else {
             continue;

@@ -4,7 +4,7 @@
 
 pub use books::{Book, Mark, Offered, Opening};
 pub use keys::ExactKey;
-pub use limits::{Budget, MOST_BUDGET, MOST_WEIGHT, Weight};
+pub use limits::{Budget, MOST_BUDGET, MOST_WEIGHT, TENTHS, Weight};
 pub use searches::{Search, SearchFault, Step};
 pub use spaces::{Child, Space};
 pub use strategies::{Expansion, Strategy};

@@ -1,4 +1,4 @@
-ghost use Rattle.std.specs.Prelude.{◌≡◌, ◌↔◌, IsSome, IfSome};
+ghost use Rattle.std.specs.Prelude.{◌≡◌, ◌≢◌, ◌*◌, ◌/◌, ◌%◌, ◌≤◌, ◌↔◌, IsSome, IfSome};
 ghost use Rattle.fc_best_first.specs.Limits.{IsBudget, IsWeight};
 
 use std::marker::Model;
@@ -6,48 +6,80 @@ use std::marker::Model;
 /// The greatest budget, in stored keys.
 pub const MOST_BUDGET: u32 = 4_000_000;
 
-/// The greatest weight, which says how many times a bound counts.
+/// The greatest weight, which says how many times as much as a cost a bound counts.
 pub const MOST_WEIGHT: u8 = 10;
 
-/// How many times a bound counts, 1 to 10, seen by contracts as its number.
+/// How many times a cost counts where a bound counts in tenths.
+pub const TENTHS: u8 = 10;
+
+/// How many times as much as a cost a bound counts, 1.0 to 10.0, seen by contracts as a ratio: a cost counts once, or ten
+/// times where that takes tenths.
 #[derive(Clone, Copy, Debug, PartialEq, Eq)]
 pub struct Weight {
+    parts: u8,
     times: u8,
 }
 
 impl Model for Weight {
-    ghost use Rattle.std.specs.Prelude.{ℕ};
-    ghost use Rattle.fc_best_first.specs.Limits.{IsWeight};
+    ghost use Rattle.fc_best_first.specs.Limits.{IsWeight, Ratio};
 
-    ghost Value = { ℕ };
+    ghost Value = { Ratio };
 
-    ghost view = { λ weight. weight.times };
+    ghost view = { λ weight. record { parts = weight.parts; times = weight.times } };
 
-    ghost invariant = { λ weight. IsWeight weight.times };
+    ghost invariant = { λ weight. IsWeight (record { parts = weight.parts; times = weight.times }) };
 
-    ghost inverse = { λ n. record { times = n } };
+    ghost inverse = { λ ratio. record { parts = ratio.parts; times = ratio.times } };
 }
 
 impl Weight {
-    /// Each bound counts once: what wins costs no more than any answer.
-    pub const ONE: Weight = Weight { times: 1 };
+    /// A bound counts as much as a cost: what wins costs no more than any answer.
+    pub const ONE: Weight = Weight { parts: 1, times: 1 };
 
-    /// So many times; `None` outside 1 to 10.
+    /// A bound counts so many times; `None` outside 1 to 10.
     pub fn new(times: u8) -> Option<Weight>
-        ensures range { IsSome result ↔ IsWeight times }
-        ensures value { IfSome result (λ weight. weight ≡ times) }
+        ensures range { IsSome result ↔ (1 ≤ times) × (times ≤ MOST_WEIGHT) }
+        ensures value { IfSome result (λ weight. weight ≡ record { parts = 1; times = times }) }
     {
         if times >= 1 && times <= MOST_WEIGHT {
-            Some(Weight { times })
+            Some(Weight { parts: 1, times })
         } else {
             None
         }
     }
 
-    /// How many times, 1 to 10.
+    /// A bound counts so many tenths as much as a cost; `None` outside 10 to 100. A whole number is the same as by `new`.
+    pub fn of_tenths(tenths: u8) -> Option<Weight>
+        ensures range { IsSome result ↔ (TENTHS ≤ tenths) × (tenths ≤ MOST_WEIGHT * TENTHS) }
+        ensures whole { IfSome result (λ weight. tenths % TENTHS ≡ 0 → weight ≡ record { parts = 1; times = tenths / TENTHS }) }
+        ensures other { IfSome result (λ weight. tenths % TENTHS ≢ 0 → weight ≡ record { parts = TENTHS; times = tenths }) }
+    {
+        if tenths % TENTHS == 0 {
+            return Weight::new(tenths / TENTHS);
+        }
+        if tenths >= TENTHS && tenths <= MOST_WEIGHT * TENTHS {
+            Some(Weight {
+                parts: TENTHS,
+                times: tenths,
+            })
+        } else {
+            None
+        }
+    }
+
+    /// How many times a cost counts, 1 to 10.
     #[inline]
-    pub fn get(self) -> u8
-        ensures value { result ≡ self }
+    pub fn parts(self) -> u8
+        ensures value { result ≡ self.parts }
+        ensures range { IsWeight self }
+    {
+        self.parts
+    }
+
+    /// How many times a bound counts, 1 to 100, and no fewer than a cost.
+    #[inline]
+    pub fn times(self) -> u8
+        ensures value { result ≡ self.times }
         ensures range { IsWeight self }
     {
         self.times

@@ -3,7 +3,7 @@
 ghost use Rattle.std.specs.Prelude.{◌≡◌, ◌+◌, ◌*◌, ◌<◌, ◌≤◌, ◌↔◌, ℕ, List, length, IfOk, IfSome};
 ghost use Rattle.fc_best_first.specs.Graph.{Graph, Reached, Task};
 ghost use Rattle.fc_best_first.specs.Kept.{AreNoted};
-ghost use Rattle.fc_best_first.specs.Store.{IsNew, Offers};
+ghost use Rattle.fc_best_first.specs.Store.{IsNew, Offers, weighed};
 ghost use Rattle.fc_best_first.specs.Turn.{TellsBound, candidate_of};
 ghost use Rattle.fc_best_first.specs.inner.Turn.{IsPutOffNear};
 
@@ -16,13 +16,13 @@ use crate::turns::MOST_COST;
 use fc_frontier::{Frontier, Full};
 
 impl Opening {
-    // At the weighed bound above the cost.
+    // At the weighed bound above the weighed cost.
     pub(crate) fn new(weight: Weight, bound: u8) -> Self
-        ensures value { result ≡ record { over = weight * bound; bound = bound } }
-        ensures most { result.over ≤ 2550 }
+        ensures value { result ≡ record { over = weight.times * bound; bound = bound } }
+        ensures most { result.over ≤ 25500 }
     {
         Opening {
-            over: u16::from(weight.get()) * u16::from(bound),
+            over: u16::from(weight.times()) * u16::from(bound),
             bound,
         }
     }
@@ -56,11 +56,11 @@ pub(crate) fn bound_of<K, S: Space<K>>(
     }
 }
 
-// A number that each bound is at most by which a key of this cost is open at no more than was taken.
+// A number that each bound is at most by which a key of this weighed cost is open at no more than was taken.
 fn most_within(weight: Weight, cost: u32, taken: u32) -> u8
-    ensures most { (bound : ℕ) → bound ≤ 255 → cost + weight * bound ≤ taken → bound ≤ result }
+    ensures most { (bound : ℕ) → bound ≤ 255 → cost + weight.times * bound ≤ taken → bound ≤ result }
 {
-    let room = taken.saturating_sub(cost) / u32::from(weight.get());
+    let room = taken.saturating_sub(cost) / u32::from(weight.times());
     room.min(255) as u8
 }
 
@@ -82,7 +82,7 @@ fn store_or_put_off<K: ExactKey, F: Frontier + Drop, S: Space<K>>(
     requires low { taken.now.origin.cost ≤ MOST_COST * MOST_BUDGET }
     requires partial { strategy.now.expansion ≡ Expansion.Partial }
     ensures offers { IfOk result (Offers strategy.now taken.now.f book.old book.new (candidate_of (record { graph = S.graph space.now; strategy = strategy.now }) taken.now.origin child)) }
-    ensures near { IfOk result (IsPutOffNear (taken.now.origin.cost + 255)) }
+    ensures near { IfOk result (IsPutOffNear (weighed strategy.now taken.now.origin)) }
     ensures rest { (children : List (Child K)) → S.rest walk.new children ↔ S.rest walk.old children }
     ensures left { S.left walk.new ≡ S.left walk.old }
 {
@@ -91,12 +91,12 @@ fn store_or_put_off<K: ExactKey, F: Frontier + Drop, S: Space<K>>(
     let bound = match bound {
         Some(bound) => bound,
         None => {
-            let most = most_within(strategy.weight, mark.cost, taken.f);
+            let most = most_within(strategy.weight, mark.weighed(strategy.weight), taken.f);
             space.bound_within(walk, &key, most)
         }
     };
     let opening = Opening::new(strategy.weight, bound);
-    let f = mark.opens_at(opening);
+    let f = mark.opens_at(strategy.weight, opening);
     if f > taken.f {
         return Ok(Offered::PutOff(f));
     }
@@ -121,7 +121,7 @@ pub(crate) fn offer<K: ExactKey, F: Frontier + Drop, S: Space<K>>(
     requires noted { AreNoted strategy.now.expansion (S.graph space.now) book.old }
     requires low { taken.now.origin.cost ≤ MOST_COST * MOST_BUDGET }
     ensures offers { IfOk result (Offers strategy.now taken.now.f book.old book.new (candidate_of (record { graph = S.graph space.now; strategy = strategy.now }) taken.now.origin child)) }
-    ensures near { IfOk result (IsPutOffNear (taken.now.origin.cost + 255)) }
+    ensures near { IfOk result (IsPutOffNear (weighed strategy.now taken.now.origin)) }
     ensures rest { (children : List (Child K)) → S.rest walk.new children ↔ S.rest walk.old children }
     ensures left { S.left walk.new ≡ S.left walk.old }
 {

@@ -85,13 +85,9 @@ impl<K: ExactKey, F: Frontier + Drop, S: Space<K> + Drop> Search<K, F, S> {
         ensures begins { IfOk result (λ search. Begins (task_of S.graph search) search.store) }
         ensures floor { IfOk result (λ search. Adds [] search.store.waiting (search.floor, 0)) }
     {
-        let Strategy {
-            weight,
-            expansion,
-            budget,
-        } = strategy;
+        let Strategy { weight, budget, .. } = strategy;
         // Their ranges, which the search keeps.
-        let (_, _) = (weight.get(), budget.get());
+        let (_, _) = (weight.parts(), budget.get());
         let (start, mut walk) = space.start();
         let Child { key, cost, bound } = start;
         let opening = Opening::new(weight, bound_of(&space, &mut walk, &key, bound));
@@ -99,7 +95,7 @@ impl<K: ExactKey, F: Frontier + Drop, S: Space<K> + Drop> Search<K, F, S> {
             cost: u32::from(cost),
             parent: 0,
         };
-        let mut book = Book::new(alloc, expansion);
+        let mut book = Book::new(alloc, &strategy);
         let _stored = book.add(&strategy, key, mark, opening)?;
         Ok(Search {
             space,
@@ -107,7 +103,7 @@ impl<K: ExactKey, F: Frontier + Drop, S: Space<K> + Drop> Search<K, F, S> {
             book,
             walk,
             status: Status::Running,
-            floor: mark.opens_at(opening),
+            floor: mark.opens_at(weight, opening),
         })
     }
 
@@ -137,7 +133,7 @@ impl<K: ExactKey, F: Frontier + Drop, S: Space<K> + Drop> Search<K, F, S> {
         &self.status
     }
 
-    /// A number that no answer, times the weight, is below: the greatest f that was taken, and before the first turn the f of
+    /// A number that no answer, weighed as a bound is, is below: the greatest f that was taken, and before the first turn the f of
     /// the key that starts. It never falls, and is true of a search that is done or was stopped, too.
     pub fn floor(&self) -> u32
         ensures value { result ≡ self.now.floor }

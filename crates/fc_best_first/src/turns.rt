@@ -1,7 +1,7 @@
 ghost use Rattle.std.specs.Prelude.{◌≡◌, ◌+◌, ◌*◌, ◌<◌, ◌≤◌, ◌↔◌, ℕ, List, length, min, slice_get, Some, IsTrue, IfOk, IfSome, MatchOption};
 ghost use Rattle.fc_best_first.specs.Graph.{Graph, Reached, Task};
 ghost use Rattle.fc_best_first.specs.Kept.{AreNoted, IsKept};
-ghost use Rattle.fc_best_first.specs.Store.{Offers};
+ghost use Rattle.fc_best_first.specs.Store.{Offers, weighed};
 ghost use Rattle.fc_best_first.specs.Turn.{Advances, AreChildren, Closes, Expands, TakesFloor};
 ghost use Rattle.fc_best_first.specs.inner.Turn.{AreReached, Becomes, IsLaterNear, IsReady};
 
@@ -16,8 +16,9 @@ use fc_frontier::{Frontier, Full};
 /// The most that a start or an edge may cost.
 pub const MOST_COST: u8 = 53;
 
-/// The most that a key may be open above its cost: the cost of an edge, and ten times a bound, each a byte.
-pub const MOST_OVER: u16 = 2805;
+/// The most that a key may be open above its weighed cost: ten times the cost of an edge, and a hundred times a bound, each a
+/// byte.
+pub const MOST_OVER: u16 = 28_050;
 
 /// Where a search stands: it is running; the key with this number is won, and its cost is at most the weight times every
 /// answer; there is no answer; it gave up, having found no place for this key, which came from the key with this number;
@@ -63,7 +64,7 @@ fn expand<K: ExactKey, F: Frontier + Drop, S: Space<K>>(
     requires low { taken.now.origin.cost ≤ MOST_COST * MOST_BUDGET }
     requires reached { (children : List (Child K)) → S.rest walk.old children → AreReached (S.graph space.now) children }
     ensures expands { IfOk result (λ placing. (children : List (Child K)) × S.rest walk.old children × Expands (record { graph = S.graph space.now; strategy = strategy.now }) taken.now.f taken.now.origin children book.old book.new placing) }
-    ensures near { IfOk result (IsLaterNear strategy.now.expansion taken.now.f taken.now.origin.cost) }
+    ensures near { IfOk result (IsLaterNear strategy.now.expansion taken.now.f (weighed strategy.now taken.now.origin)) }
     ensures noted { IfOk result (λ placing. AreNoted strategy.now.expansion (S.graph space.now) book.new) }
 {
     let mut later: Option<u32> = None;
@@ -80,7 +81,7 @@ fn expand<K: ExactKey, F: Frontier + Drop, S: Space<K>>(
     }
 }
 
-// Visits a key of which a pair was taken that is so far above its cost, where that is its present one, and says whether it
+// Visits a key of which a pair was taken that is so far above its weighed cost, where that is its present one, and says whether it
 // is: where its opening is noted, the one that is, else one that is no greater than its weighed bound.
 fn visit_present<K, S: Space<K>>(
     space: &S,
@@ -93,7 +94,7 @@ fn visit_present<K, S: Space<K>>(
     requires reached { (d : ℕ) × Reached (S.graph space.now) key.now d }
     requires noted { IfSome noted (λ opening. opening.bound ≡ (S.graph space.now).bound key.now) }
     ensures children { IsTrue result → (children : List (Child K)) → S.rest walk.new children → AreChildren (S.graph space.now) key.now children }
-    ensures present { MatchOption noted (IsTrue result ↔ (over ≤ weight * (S.graph space.now).bound key.now)) (λ opening. IsTrue result ↔ (over ≡ opening.over)) }
+    ensures present { MatchOption noted (IsTrue result ↔ (over ≤ weight.times * (S.graph space.now).bound key.now)) (λ opening. IsTrue result ↔ (over ≡ opening.over)) }
 {
     match noted {
         Some(opening) => {
@@ -105,26 +106,26 @@ fn visit_present<K, S: Space<K>>(
         }
         None => {
             let bound = space.visit(key, walk);
-            over <= u32::from(weight.get()) * u32::from(bound)
+            over <= u32::from(weight.times()) * u32::from(bound)
         }
     }
 }
 
-// What becomes of an expanded key by how its children were placed, and the status that it leaves. At `Err` a growth was
+// What becomes of an expanded key of this weighed cost by how its children were placed, and the status that it leaves. At `Err` a growth was
 // refused, and nothing is known of the book.
 fn close<K: ExactKey, F: Frontier + Drop>(
     book: &mut Book<K, F>,
     number: u32,
-    mark: Mark,
+    cost: u32,
     placing: Placing<K>,
 ) -> Result<Status<K>, Full>
-    requires later { IsReady book.old number mark placing }
-    ensures closes { IfOk result (Becomes book.old book.new number mark placing) }
+    requires later { IsReady book.old number cost placing }
+    ensures closes { IfOk result (Becomes book.old book.new number cost placing) }
 {
     match placing {
         Placing::Whole => Ok(Status::Running),
         Placing::Later(f) => {
-            book.reopen(number, mark, f)?;
+            book.reopen(number, cost, f)?;
             Ok(Status::Running)
         }
         Placing::NoRoom(key) => Ok(Status::GaveUp(key, number)),
@@ -154,7 +155,8 @@ pub(crate) fn advance<K: ExactKey, F: Frontier + Drop, S: Space<K>>(
     if space.is_won(key) {
         return Ok(Status::Won(number));
     }
-    let over = f - mark.cost;
+    let cost = mark.weighed(strategy.weight);
+    let over = f - cost;
     if !visit_present(space, walk, strategy.weight, key, over, book.noted(number)) {
         return Ok(Status::Running);
     }
@@ -163,5 +165,5 @@ pub(crate) fn advance<K: ExactKey, F: Frontier + Drop, S: Space<K>>(
         parent: number,
     };
     let placing = expand(space, walk, book, strategy, &Taken { f, origin })?;
-    close(book, number, mark, placing)
+    close(book, number, cost, placing)
 }

@@ -1,6 +1,5 @@
 -- One turn of a search, within the crate.
 use Rattle.std.specs.Prelude.{◌≡◌, ℕ, ◌+◌, ◌<◌, ◌≤◌, List, length, Contains, Some, None}
-use Rattle.fc_best_first.specs.declared.books.Mark.{Mark}
 use Rattle.fc_best_first.specs.declared.books.Offered.{Offered}
 use Rattle.fc_best_first.specs.declared.books.Offered.TheVariants.{PutOff}
 use Rattle.fc_best_first.specs.declared.spaces.Child.{Child}
@@ -20,24 +19,24 @@ module _ {K : Type 0} where
   abbrev pub AreReached : Graph K → List (Child K) → Type 0
   AreReached g children = (child : Child K) → Contains children child → ((d : ℕ) × Reached g child.key d) × TellsBound g child
 
-  -- a key of this cost was put off, if it was, until an f that is near
+  -- a child of a key of this weighed cost was put off, if it was, until an f that is near
   abbrev pub IsPutOffNear : ℕ → Offered K → Type 0
-  IsPutOffNear cost (PutOff f) = f ≤ cost + 2550
+  IsPutOffNear cost (PutOff f) = f ≤ cost + MOST_OVER
   IsPutOffNear cost other = Unit {0}
 
-  -- where children of a key of this cost were put off, expansion is partial, and it is until an f that is greater than what was
+  -- where children of a key of this weighed cost were put off, expansion is partial, and it is until an f that is greater than what was
   -- taken, and near
   abbrev pub IsLaterNear : Expansion → ℕ → ℕ → Placing K → Type 0
   IsLaterNear expansion taken cost (Later f) = (expansion ≡ Partial) × (taken < f) × (f ≤ cost + MOST_OVER)
   IsLaterNear expansion taken cost other = Unit {0}
 
-  -- a key of which children were put off can be opened again
-  abbrev pub IsReady : Store K → ℕ → Mark → Placing K → Type 0
-  IsReady s number mark (Later f) = (number < length s.openings) × (mark.cost ≤ f) × (f ≤ mark.cost + MOST_OVER)
-  IsReady s number mark other = Unit {0}
+  -- a key of this weighed cost, of which children were put off, can be opened again
+  abbrev pub IsReady : Store K → ℕ → ℕ → Placing K → Type 0
+  IsReady s number cost (Later f) = (number < length s.openings) × (cost ≤ f) × (f ≤ cost + MOST_OVER)
+  IsReady s number cost other = Unit {0}
 
-  -- what becomes of an expanded key, and the status that it leaves
-  abbrev pub Becomes : Store K → Store K → ℕ → Mark → Placing K → Status K → Type 0
-  Becomes old new number mark placing Running = Closes old new number mark placing None
-  Becomes old new number mark placing (GaveUp y from) = Closes old new number mark placing (Some y) × (from ≡ number)
-  Becomes old new number mark placing other = ⊥
+  -- what becomes of an expanded key of this weighed cost, and the status that it leaves
+  abbrev pub Becomes : Store K → Store K → ℕ → ℕ → Placing K → Status K → Type 0
+  Becomes old new number cost placing Running = Closes old new number cost placing None
+  Becomes old new number cost placing (GaveUp y from) = Closes old new number cost placing (Some y) × (from ≡ number)
+  Becomes old new number cost placing other = ⊥

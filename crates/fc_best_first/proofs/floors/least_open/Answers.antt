@@ -1,4 +1,4 @@
-use Rattle.std.proofs.Common.{◌+◌, ◌∙◌, ap, arith, refl, subst, sym}
+use Rattle.std.proofs.Common.{◌+◌, ◌-◌, ◌∙◌, ap, arith, refl, subst, sym}
 use Rattle.std.specs.Prelude.{min}
 use Rattle.std.specs.List.Sorted.{IsPermutation}
 use Rattle.fc_best_first.specs.Graph.{Task}
@@ -48,7 +48,7 @@ loop-f-preserved-in_default g c =
     c.next.new.self c.in-Some.ensures.steps c.loop-f.invariant c.at.result.0.now c.at.result.1 c.at.ensures.stands
     (none_told _ _ c.present_bound.result c.in_default.not-Some
     (present_at task.strategy.expansion task c.args.book.now c.in-Some.number c.at.result.0.now c.at.result.1 c.in-Some.f _
-    c.noted-noted.result c.present_bound.result c.requires.sound.1.noted c.at.ensures.stands high refl
+    c.noted-noted.result c.present_bound.result c.requires.sound.1.noted c.at.ensures.stands high (ap (λ k. c.in-Some.f - k) c.weighed.ensures.value)
     c.noted-noted.ensures.value c.present_bound.ensures.present))
 
 pub loop-f-preserved : goal.loop-f-preserved
@@ -59,7 +59,7 @@ loop-f-preserved g c =
     c.next.new.self c.in-Some.ensures.steps c.loop-f.invariant) c.at.ensures.stands in
     let both = some_told _ _ c.present_bound.result c.in-Some-present_bound.bound c.in-Some-present_bound.is
     (present_at task.strategy.expansion task c.args.book.now c.in-Some.number c.at.result.0.now c.at.result.1 c.in-Some.f _
-    c.noted-noted.result c.present_bound.result c.requires.sound.1.noted c.at.ensures.stands high refl
+    c.noted-noted.result c.present_bound.result c.requires.sound.1.noted c.at.ensures.stands high (ap (λ k. c.in-Some.f - k) c.weighed.ensures.value)
     c.noted-noted.ensures.value c.present_bound.ensures.present) in
     least_counts task c.args.book.now c.args.most c.loop-f.floor c.in-Some.f c.in-Some.number c.loop-f.f-iterator
     c.next.new.self c.in-Some.ensures.steps c.loop-f.invariant c.at.result.0.now c.at.result.1 c.at.ensures.stands c.min-floor.result

@@ -26,7 +26,7 @@ returns-clause-offers g c =
       | in-None w ↦ w.bound-is ∙ w.bound_of-bound-in-None.ensures.value
     ] in
     let opening : c.new-2.result ≡ opening_of task c.args.child.key =
-    c.new-2.ensures.value ∙ ap (λ b. record { over = c.args.strategy.now.weight * b; bound = b }) bound in (
+    c.new-2.ensures.value ∙ ap (λ b. record { over = c.args.strategy.now.weight.times * b; bound = b }) bound in (
       number,
       c.in-Some.was,
       c.in-Some.ensures.value,

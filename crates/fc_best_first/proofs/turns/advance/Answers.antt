@@ -1,13 +1,13 @@
-use Rattle.std.proofs.Common.{◌≡◌, ◌-◌, ◌≤◌, Option, Some, inl, length, subst, arith, refl}
-use Rattle.std.specs.Prelude.{IsTrue, MatchOption, slice_get}
+use Rattle.std.proofs.Common.{◌≡◌, ◌-◌, ◌≤◌, Option, Some, inl, length, subst, sym, arith, refl}
+use Rattle.std.specs.Prelude.{IfOk, IsTrue, MatchOption, slice_get}
 use Rattle.std.proofs.lemmas.Result.{IfOk-weaker}
 use Rattle.fc_best_first.specs.Graph.{Task}
-use Rattle.fc_best_first.specs.Store.{IsTaken}
+use Rattle.fc_best_first.specs.Store.{IsTaken, weighed}
 use Rattle.fc_best_first.specs.Turn.{Advances, Closes, ExpandsTaken, IsPresent, IsStale}
-use Rattle.fc_best_first.specs.inner.Turn.{Becomes}
+use Rattle.fc_best_first.specs.inner.Turn.{Becomes, IsReady}
 use Rattle.fc_best_first.specs.Kept.{f_of}
 use Rattle.fc_best_first.proofs.KeptLemmas.{entry_low, entry_reached, pair_high, stands_within, taken_floor, taken_within}
-use Rattle.fc_best_first.proofs.ClosedLemmas.{kept_back}
+use Rattle.fc_best_first.proofs.ClosedLemmas.{kept_back, noted_same}
 use Rattle.fc_best_first.proofs.TurnLemmas.{becomes_advances, children_reached, expands_grow, placing_ready, taken_present}
 use Rattle.fc_best_first.proofs.turns.advance.Goals as goal
 use Rattle.fc_best_first.proofs.turns.advance.Goals.{After-visit_present}
@@ -32,6 +32,11 @@ overflow_sub-over g c =
     c.requires.kept.sound c.in-Some.ensures.taken stands in
     omega (arith, high)
 
+pub visit_present-requires-clause-reached : goal.visit_present-requires-clause-reached
+visit_present-requires-clause-reached g c =
+    entry_reached (record { graph = g.S.Space.graph c.args.space.now; strategy = c.args.strategy.now }) c.args.book.now c.take.new.self
+    c.in-Some.number _ _ c.requires.kept.sound c.in-Some.ensures.kept c.at.ensures.stands
+
 -- the pair that is taken
 taken : (g : _) (c : After-visit_present g) → IsTaken c.args.book.now c.take.new.self c.in-Some.f c.in-Some.number c.at.result.0.now c.at.result.1
 taken g c = record {
@@ -42,8 +47,8 @@ taken g c = record {
   stands = kept_back c.args.book.now c.take.new.self c.in-Some.number c.at.result.0.now c.at.result.1 c.in-Some.ensures.kept c.at.ensures.stands;
 }
 
--- its cost is no more than its f
-low : (g : _) (c : After-visit_present g) → c.at.result.1.cost ≤ c.in-Some.f
+-- its weighed cost is no more than its f
+low : (g : _) (c : After-visit_present g) → weighed c.args.strategy.now c.at.result.1 ≤ c.in-Some.f
 low g c =
     let task : Task g.row.K.Denot = record { graph = g.S.Space.graph c.args.space.now; strategy = c.args.strategy.now } in
     let high = pair_high task c.args.book.now c.in-Some.f c.in-Some.number c.take.new.self.waiting c.at.result.0.now c.at.result.1
@@ -52,15 +57,15 @@ low g c =
 
 -- whether it is the present one of its key
 present : (g : _) (c : After-visit_present g)
-    → (IsTrue c.visit_present.result → IsPresent c.args.strategy.now.expansion c.args.book.now c.in-Some.number c.at.result.1
+    → (IsTrue c.visit_present.result → IsPresent c.args.strategy.now.expansion c.args.book.now c.in-Some.number (weighed c.args.strategy.now c.at.result.1)
     (f_of (record { graph = g.S.Space.graph c.args.space.now; strategy = c.args.strategy.now }) c.at.result.0.now c.at.result.1) c.in-Some.f)
-    × ((IsTrue c.visit_present.result → ⊥) → IsStale c.args.strategy.now.expansion c.args.book.now c.in-Some.number c.at.result.1
+    × ((IsTrue c.visit_present.result → ⊥) → IsStale c.args.strategy.now.expansion c.args.book.now c.in-Some.number (weighed c.args.strategy.now c.at.result.1)
     (f_of (record { graph = g.S.Space.graph c.args.space.now; strategy = c.args.strategy.now }) c.at.result.0.now c.at.result.1) c.in-Some.f)
 present g c =
     let task : Task g.row.K.Denot = record { graph = g.S.Space.graph c.args.space.now; strategy = c.args.strategy.now } in
     let le = low g c in
     taken_present c.args.strategy.now.expansion task c.args.book.now c.in-Some.number c.at.result.0.now c.at.result.1 c.in-Some.f
-    (c.in-Some.f - c.at.result.1.cost) c.noted.result c.visit_present.result c.requires.kept.sound.noted (taken g c).stands le (omega (arith, le))
+    (c.in-Some.f - c.weighed-cost.result) c.noted.result c.visit_present.result c.requires.kept.sound.noted (taken g c).stands le (omega (arith, le, c.weighed-cost.ensures.value))
     (subst (λ os. MatchOption c.noted.result (length os ≤ c.in-Some.number) (λ o. slice_get os c.in-Some.number ≡ Some o)) c.in-Some.ensures.noted
     c.noted.ensures.value)
     c.visit_present.ensures.present
@@ -90,6 +95,10 @@ expand-requires-clause-low g c =
     entry_low (record { graph = g.S.Space.graph c.args.space.now; strategy = c.args.strategy.now }) c.args.book.now c.take.new.self c.in-Some.number _ _
     c.requires.kept.sound c.get.ensures.range.greatest c.in-Some.ensures.kept c.at.ensures.stands
 
+pub expand-requires-clause-noted : goal.expand-requires-clause-noted
+expand-requires-clause-noted g c = noted_same c.args.strategy.now.expansion (g.S.Space.graph c.args.space.now) c.args.book.now
+    c.take.new.self c.in-Some.ensures.kept c.in-Some.ensures.noted c.requires.kept.sound.noted
+
 pub expand-requires-clause-reached : goal.expand-requires-clause-reached
 expand-requires-clause-reached g c = λ children rest.
     children_reached (g.S.Space.graph c.args.space.now) c.at.result.0.now children
@@ -109,9 +118,10 @@ close-requires g c =
     c.take.new.self c.expand.new.book c.in_ok-placing.placing expands.2 in
     let lt = stands_within c.take.new.self c.in-Some.number c.at.result.0.now c.at.result.1 c.at.ensures.stands in
     record {
-      later = placing_ready c.args.strategy.now.expansion (g.S.Space.graph c.args.space.now) c.expand.new.book c.in-Some.number c.in-Some.f
-          c.at.result.1 c.in_ok-placing.placing c.in_ok-placing.ensures.noted (omega (arith, lt, grow)) (low g now.After-visit_present)
-          c.in_ok-placing.ensures.near;
+      later = subst (λ k. IsReady c.expand.new.book c.in-Some.number k c.in_ok-placing.placing) (sym c.weighed-cost.ensures.value)
+          (placing_ready c.args.strategy.now.expansion (g.S.Space.graph c.args.space.now) c.expand.new.book c.in-Some.number c.in-Some.f
+          (weighed c.args.strategy.now c.at.result.1) c.in_ok-placing.placing c.in_ok-placing.ensures.noted (omega (arith, lt, grow))
+          (low g now.After-visit_present) c.in_ok-placing.ensures.near);
     }
 
 pub returns-clause-takes : goal.returns-clause-takes
@@ -119,7 +129,7 @@ returns-clause-takes g c =
     let now = goal.at.returns-clause-takes g c in
     let task : Task g.row.K.Denot = record { graph = g.S.Space.graph c.args.space.now; strategy = c.args.strategy.now } in
     let expands = c.in_ok-placing.ensures.expands in
-    let works : (left_out : Option g.row.K.Denot) → Closes c.expand.new.book c.close.new.book c.in-Some.number c.at.result.1 c.in_ok-placing.placing left_out
+    let works : (left_out : Option g.row.K.Denot) → Closes c.expand.new.book c.close.new.book c.in-Some.number (weighed c.args.strategy.now c.at.result.1) c.in_ok-placing.placing left_out
     → ExpandsTaken task c.args.book.now c.close.new.book c.in-Some.number left_out = λ left_out closes. (
       c.in-Some.f,
       c.at.result.0.now,
@@ -135,11 +145,12 @@ returns-clause-takes g c =
       ),
     ) in
     IfOk-weaker c.close.result
-    (Becomes c.expand.new.book c.close.new.book c.in-Some.number c.at.result.1 c.in_ok-placing.placing)
+    (Becomes c.expand.new.book c.close.new.book c.in-Some.number (weighed c.args.strategy.now c.at.result.1) c.in_ok-placing.placing)
     (Advances task c.args.book.now c.close.new.book)
-    (λ status becomes. becomes_advances task c.args.book.now c.expand.new.book c.close.new.book c.in-Some.number c.at.result.1
-    c.in_ok-placing.placing works status becomes)
-    c.close.ensures.closes
+    (λ status becomes. becomes_advances task c.args.book.now c.expand.new.book c.close.new.book c.in-Some.number
+    (weighed c.args.strategy.now c.at.result.1) c.in_ok-placing.placing works status becomes)
+    (subst (λ k. IfOk c.close.result (Becomes c.expand.new.book c.close.new.book c.in-Some.number k c.in_ok-placing.placing))
+    c.weighed-cost.ensures.value c.close.ensures.closes)
 
 pub returns-clause-floor : goal.returns-clause-floor
 returns-clause-floor g c = taken_floor c.args.book.now.waiting c.take.new.self.waiting c.in-Some.f c.in-Some.number c.args.floor.now

@@ -1,7 +1,7 @@
 use Rattle.std.proofs.Common.{ℕ, ◌≤◌, ◌+◌, Option, List, [], ◌∷◌, refl, subst, arith}
 use Rattle.std.proofs.lemmas.List.Elements.{Contains-append_right}
 use Rattle.fc_best_first.specs.Graph.{Task}
-use Rattle.fc_best_first.specs.Store.{Offers}
+use Rattle.fc_best_first.specs.Store.{Offers, weighed}
 use Rattle.fc_best_first.specs.Turn.{Expands}
 use Rattle.fc_best_first.specs.inner.Turn.{IsLaterNear, IsPutOffNear}
 use Rattle.fc_best_first.specs.declared.books.Offered.{Offered}
@@ -50,14 +50,14 @@ loop-child-preserved-in-PutOff g c =
     let task : Task g.row.K.Denot = record { graph = graph; strategy = c.args.strategy.now } in
     let here = subst (Offers c.args.strategy.now c.args.taken.now.f c.loop-child.book c.offer.new.book _) c.in-PutOff.is c.in_ok-key.ensures.offers in
     let past = off_past c.args.strategy.now.expansion c.args.taken.now.f _ c.in-PutOff.f here.1 in
-    let near : c.in-PutOff.f ≤ (c.args.taken.now.origin.cost + 255) + 2550 =
-    subst (λ (o : Offered g.row.K.Denot). IsPutOffNear (c.args.taken.now.origin.cost + 255) o) c.in-PutOff.is c.in_ok-key.ensures.near in
+    let near : c.in-PutOff.f ≤ weighed c.args.strategy.now c.args.taken.now.origin + 28050 =
+    subst (λ (o : Offered g.row.K.Denot). IsPutOffNear (weighed c.args.strategy.now c.args.taken.now.origin) o) c.in-PutOff.is c.in_ok-key.ensures.near in
     record {
       room = offers_room c.args.strategy.now c.args.taken.now.f c.loop-child.book c.offer.new.book _ c.in_ok-key.field-0
           c.loop-child.invariant.room c.in_ok-key.ensures.offers;
       noted = offers_noted c.args.strategy.now graph c.args.taken.now.f c.loop-child.book c.offer.new.book _ c.in_ok-key.field-0
           refl c.loop-child.invariant.noted c.in_ok-key.ensures.offers;
-      near = near_least g.row.K.Denot c.args.strategy.now.expansion c.args.taken.now.f c.args.taken.now.origin.cost c.loop-child.later c.in-PutOff.f c.least_of.result
+      near = near_least g.row.K.Denot c.args.strategy.now.expansion c.args.taken.now.f (weighed c.args.strategy.now c.args.taken.now.origin) c.loop-child.later c.in-PutOff.f c.least_of.result
           c.loop-child.invariant.near past.2 past.0 (omega (arith, near)) c.least_of.ensures.value;
       reached = λ children rest child there.
           c.loop-child.invariant.reached (c.in-Some.child ∷ children) (c.in-Some.ensures.next children ((c.offer.ensures.rest children).0 rest)) child
@@ -101,7 +101,7 @@ returns-in-Some-later-clause-expands g c =
 
 pub returns-in-Some-later-clause-near : goal.returns-in-Some-later-clause-near
 returns-in-Some-later-clause-near g c =
-    subst (λ (l : Option ℕ). IsLaterNear {K = g.row.K.Denot} c.args.strategy.now.expansion c.args.taken.now.f c.args.taken.now.origin.cost (put_off_first l Whole))
+    subst (λ (l : Option ℕ). IsLaterNear {K = g.row.K.Denot} c.args.strategy.now.expansion c.args.taken.now.f (weighed c.args.strategy.now c.args.taken.now.origin) (put_off_first l Whole))
     c.in-Some-later.is c.loop-child.invariant.near
 
 pub returns-in-None-clause-expands : goal.returns-in-None-clause-expands

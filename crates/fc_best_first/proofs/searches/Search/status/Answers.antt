@@ -13,4 +13,4 @@ pub returns-clause-shows : goal.returns-clause-shows
 returns-clause-shows g c =
     let task : Task g.row.K.Denot = record { graph = g.S.Space.graph c.self.inside.space; strategy = c.self.inside.strategy } in
     subst (λ p. Shows (task_of g.S.Space.graph p) p.store p.status) c.self.view_is
-    (holds_shows task (g.met.S.Space.lawful c.self.inside.space) c.self.invariant.0.least c.self.inside.book c.self.inside.status c.self.invariant.2)
+    (holds_shows task (g.met.S.Space.lawful c.self.inside.space) c.self.invariant.0.above c.self.inside.book c.self.inside.status c.self.invariant.2)

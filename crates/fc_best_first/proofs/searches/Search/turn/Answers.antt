@@ -15,9 +15,9 @@ invariant_of-self g c =
     let kept = subst (Holds task c.self.inside.book) c.in-Running.is c.self.invariant.2 in (
       c.self.invariant.0,
       c.self.invariant.1,
-      takes_holds task (g.met.S.Space.lawful c.self.inside.space) c.self.invariant.0.least c.self.inside.book c.advance.new.book
+      takes_holds task (g.met.S.Space.lawful c.self.inside.space) c.self.invariant.0.above c.self.inside.book c.advance.new.book
           kept c.in-Ok.status c.in-Ok.ensures.takes,
-      takes_floor task (g.met.S.Space.lawful c.self.inside.space) c.self.invariant.0.least
+      takes_floor task (g.met.S.Space.lawful c.self.inside.space) c.self.invariant.0.above
           c.self.inside.book c.self.inside.floor c.advance.new.floor kept c.self.invariant.3 c.in-Ok.ensures.floor,
     )
 
@@ -27,7 +27,7 @@ invariant_of-self-in-Err g c =
       c.self.invariant.0,
       c.self.invariant.1,
       tt,
-      takes_floor task (g.met.S.Space.lawful c.self.inside.space) c.self.invariant.0.least
+      takes_floor task (g.met.S.Space.lawful c.self.inside.space) c.self.invariant.0.above
           c.self.inside.book c.self.inside.floor c.advance.new.floor
           (subst (Holds task c.self.inside.book) c.in-Running.is c.self.invariant.2)
           c.self.invariant.3 c.in-Err.ensures.floor,
@@ -38,7 +38,7 @@ returns-after-status-clause-falls g c =
     let task : Task g.row.K.Denot = record { graph = g.S.Space.graph c.self.inside.space; strategy = c.self.inside.strategy } in
     elim c.match-status.branch [
       | in-Running-status w ↦ λ e. subst (λ p. work_left p.strategy.budget c.advance.new.book < work_left p.strategy.budget p.store) c.self.view_is
-          (takes_less task (g.met.S.Space.lawful c.self.inside.space) c.self.invariant.0.least c.self.inside.book c.advance.new.book
+          (takes_less task (g.met.S.Space.lawful c.self.inside.space) c.self.invariant.0.above c.self.inside.book c.advance.new.book
           (subst (Holds task c.self.inside.book) c.in-Running.is c.self.invariant.2)
           (subst (Advances task c.self.inside.book c.advance.new.book) w.in-Running-status.is c.in-Ok.ensures.takes))
       | in_default-status w ↦ λ e. absurd (cc)
