@@ -9,7 +9,7 @@ _fc_solve() {
     --expand) words="full partial" ;;
     --cells) words="0 1 2 3 4" ;;
     --rule) words="0 1 2" ;;
-    --within) words="1 2 3 4 5 6 7 8 9 10" ;;
+    --within) words="1 1.1 1.2 1.3 1.5 2 3 4 5 6 7 8 9 10" ;;
     --budget) words="100k 1M max" ;;
     --cert) ;;
     *)

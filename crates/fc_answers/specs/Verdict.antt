@@ -18,21 +18,21 @@ outcome_of (Won moves floor) = outcome.Won (length moves) floor
 outcome_of cannot_win = outcome.CannotWin
 outcome_of (GaveUp told) = outcome.GaveUp told
 
--- the list wins, and is no longer than the weight, which is 2 at least, times any list that wins; and none that wins is below
--- what is told as its floor
-pub record IsWithin (g : GameRules) (weight : ℕ) (b : Board) (moves : List Move) (told : ℕ) : Type 0 where
-  pub above : 2 ≤ weight
+-- the list wins, and its moves, so many parts of them, are no more than so many times those of any list that wins; and none
+-- that wins is below what is told as its floor
+pub record IsWithin (g : GameRules) (parts times : ℕ) (b : Board) (moves : List Move) (told : ℕ) : Type 0 where
+  pub above : parts < times
   pub wins : Wins g b moves
-  pub least : (other : List Move) → Wins g b other → length moves ≤ weight * length other
+  pub least : (other : List Move) → Wins g b other → parts * length moves ≤ times * length other
   pub floor : (other : List Move) → Wins g b other → told ≤ length other
 
--- the verdict of a search by a weight is right for a board and a budget: the moves win and none win in fewer, or the moves
--- win within the weight, or no moves win, or the budget is told and more positions than that can be reached
-abbrev pub IsRight : GameRules → ℕ → Board → ℕ → Verdict → Type 0
-IsRight g weight b budget (Shortest moves) = IsShortest g b moves
-IsRight g weight b budget (Won moves floor) = IsWithin g weight b moves floor
-IsRight g weight b budget cannot_win = CannotWin g b
-IsRight g weight b budget (GaveUp told) = (told ≡ budget) × ReachesMore g b budget
+-- the verdict of a search is right for a board and a budget: the moves win and none win in fewer, or the moves win within
+-- the weight of so many times the parts, or no moves win, or the budget is told and more positions than that can be reached
+abbrev pub IsRight : GameRules → ℕ → ℕ → Board → ℕ → Verdict → Type 0
+IsRight g parts times b budget (Shortest moves) = IsShortest g b moves
+IsRight g parts times b budget (Won moves floor) = IsWithin g parts times b moves floor
+IsRight g parts times b budget cannot_win = CannotWin g b
+IsRight g parts times b budget (GaveUp told) = (told ≡ budget) × ReachesMore g b budget
 
 -- the moves of a list can be written: each has a text, and how many there are is a number of four bytes
 abbrev pub CanBeWritten : Verdict → Type 0

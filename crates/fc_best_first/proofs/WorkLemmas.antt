@@ -1,6 +1,7 @@
 -- Lemmas on how much a search may still do.
-use Rattle.std.proofs.Common.{◌≡◌, ℕ, ◌+◌, ◌-◌, ◌*◌, ◌<◌, ◌≤◌, suc, zero, Some, List, [], ◌∷◌, length, sym, ◌∙◌, ap, subst, arith}
+use Rattle.std.proofs.Common.{◌≡◌, ℕ, ◌+◌, ◌-◌, ◌*◌, ◌<◌, ◌≤◌, suc, zero, Some, List, [], ◌∷◌, length, refl, sym, ◌∙◌, ap, subst, arith}
 use Rattle.std.specs.Prelude.{slice_get, slice_set, sum_by}
+use Rattle.std.proofs.lemmas.Nat.{mul-le}
 use Rattle.std.proofs.lemmas.Option.{none-some}
 use Rattle.std.proofs.lemmas.List.{length_push}
 use Rattle.std.proofs.lemmas.List.Sums.{sum_by-cons, sum_by_push}
@@ -14,7 +15,7 @@ use Rattle.fc_best_first.specs.declared.strategies.Expansion.{Expansion}
 use Rattle.fc_best_first.specs.declared.strategies.Expansion.TheVariants.{Full, Partial}
 use Rattle.fc_best_first.specs.declared.strategies.Strategy.{Strategy}
 use Rattle.fc_best_first.specs.Store.{Store, Candidate, Lowers, NotesAnew, NotesLast, Stores, opens_at, weighed}
-use Rattle.fc_best_first.specs.Turn.{Reopens, work_left}
+use Rattle.fc_best_first.specs.Turn.{Reopens, costs_below, work_left}
 
 added_one : (old new : List (ℕ × ℕ)) (p : ℕ × ℕ) → Adds old new p → length new ≡ suc (length old)
 added_one old new p h = length_permutation (p ∷ old) new h
@@ -66,14 +67,29 @@ lowered_falls : (old new less more w v before after room : ℕ) → new + more �
     → after ≤ before + 28050 → 28051 * (new + room) + after + v ≤ 28051 * (old + room) + before + w
 lowered_falls old new less more w v before after room e lt p most = omega (arith, e, lt, p, most)
 
--- and so does a place that was taken, by far
-added_falls : (sum cost n left b w v before after : ℕ) → left + suc n ≡ b → cost ≤ 53 * n + 53 → v ≡ suc w
+-- and so does a place that was taken
+added_falls : (sum cost n here total w v before after : ℕ) → here + (53 * n + 54) ≤ total → cost ≤ 53 * n + 53 → v ≡ suc w
     → after ≤ before + 28050
-    → 28051 * (sum + cost + left * (53 * b + 54)) + after + v ≤ 28051 * (sum + suc left * (53 * b + 54)) + before + w
-added_falls sum cost n left b w v before after e low p more =
-    let next : suc left * (53 * b + 54) ≡ left * (53 * b + 54) + (53 * b + 54) = omega arith in
-    let most : cost ≤ 53 * b = omega (arith, e, low) in
-    omega (arith, next, most, p, more)
+    → 28051 * (sum + cost + (total - (here + (53 * n + 54)))) + after + v ≤ 28051 * (sum + (total - here)) + before + w
+added_falls sum cost n here total w v before after room low p more =
+    let rest : ℕ = total - (here + (53 * n + 54)) in
+    let all : total - here ≡ rest + (53 * n + 54) = omega (arith, room) in
+    omega (arith, all, low, p, more)
+
+-- what so many keys may cost, and one more
+costs_next : (n : ℕ) → costs_below (suc n) ≡ costs_below n + (53 * n + 54)
+unfolding costs_below
+costs_next n = refl
+
+pub costs_twice : (n : ℕ) → 2 * costs_below n ≡ n * (53 * n + 55)
+unfolding costs_below
+costs_twice zero = refl
+costs_twice (suc n) = omega (arith, costs_twice n)
+
+costs_more : (n b : ℕ) → n ≤ b → costs_below n ≤ costs_below b
+costs_more n b le =
+    let product : n * (53 * n + 55) ≤ b * (53 * b + 55) = mul-le n (53 * n + 55) b (53 * b + 55) le (omega (arith, le)) in
+    omega (arith, costs_twice n, costs_twice b, product)
 
 module _ {K : Type 0} where
   sum_set : (es : List (K × Mark)) (i : ℕ) (x : K) (m w : Mark) → slice_get es i ≡ Some (x, m)
@@ -99,11 +115,11 @@ module _ {K : Type 0} where
       let size : length new.stored ≡ length old.stored = ap length stored ∙ length-set_value_at old.stored i mark in
       let sum : sum_by (λ e. e.1.cost) new.stored + was.cost ≡ sum_by (λ e. e.1.cost) old.stored + mark.cost =
       ap (λ es. sum_by (λ (e : K × Mark). e.1.cost) es + was.cost) stored ∙ sum_set old.stored i x was mark at in
-      subst (λ n. 28051 * (sum_by (λ e. e.1.cost) new.stored + (budget - n) * (53 * budget + 54)) + rises new.openings + length new.waiting
+      subst (λ n. 28051 * (sum_by (λ e. e.1.cost) new.stored + (costs_below budget - costs_below n)) + rises new.openings + length new.waiting
       ≤ work_left budget old)
       (sym size)
       (lowered_falls (sum_by (λ e. e.1.cost) old.stored) (sum_by (λ e. e.1.cost) new.stored) mark.cost was.cost
-      (length old.waiting) (length new.waiting) (rises old.openings) (rises new.openings) ((budget - length old.stored) * (53 * budget + 54)) sum lt
+      (length old.waiting) (length new.waiting) (rises old.openings) (rises new.openings) (costs_below budget - costs_below (length old.stored)) sum lt
       (added_one old.waiting new.waiting (opens_at (weighed strategy mark) opening, i) opened)
       (anew_most strategy.expansion old.openings new.openings i opening noted))
 
@@ -112,29 +128,29 @@ module _ {K : Type 0} where
   added_work strategy old new offer (lt, stored, opened, noted) low =
       let budget = strategy.budget in
       let n = length old.stored in
-      let left : ℕ = budget - suc n in
-      let now : budget - length new.stored ≡ left =
-      (let size = ap length stored ∙ length_push old.stored (offer.key, offer.mark) in omega (arith, size)) in
-      let before : budget - n ≡ suc left = omega (arith, lt) in
-      let all : left + suc n ≡ budget = omega (arith, lt) in
+      let total : ℕ = costs_below budget in
+      let here : ℕ = costs_below n in
+      let size : length new.stored ≡ suc n =
+      (let more = ap length stored ∙ length_push old.stored (offer.key, offer.mark) in omega (arith, more)) in
+      let now : costs_below (length new.stored) ≡ here + (53 * n + 54) = ap costs_below size ∙ costs_next n in
+      let room : here + (53 * n + 54) ≤ total =
+      (let more = costs_more (suc n) budget (omega (arith, lt)) in let next = costs_next n in omega (arith, more, next)) in
       let sum : sum_by (λ e. e.1.cost) new.stored ≡ sum_by (λ e. e.1.cost) old.stored + offer.mark.cost =
       ap (sum_by (λ (e : K × Mark). e.1.cost)) stored ∙ sum_by_push (λ (e : K × Mark). e.1.cost) old.stored (offer.key, offer.mark) in
       subst (λ k. k ≤ work_left budget old)
-      (ap (λ k. 28051 * (k + left * (53 * budget + 54)) + rises new.openings + length new.waiting) (sym sum)
-      ∙ ap (λ k. 28051 * (sum_by (λ (e : K × Mark). e.1.cost) new.stored + k * (53 * budget + 54)) + rises new.openings + length new.waiting) (sym now))
-      (subst (λ k. 28051 * (sum_by (λ e. e.1.cost) old.stored + offer.mark.cost + left * (53 * budget + 54)) + rises new.openings + length new.waiting
-      ≤ 28051 * (sum_by (λ e. e.1.cost) old.stored + k * (53 * budget + 54)) + rises old.openings + length old.waiting) (sym before)
-      (added_falls (sum_by (λ e. e.1.cost) old.stored) offer.mark.cost n left budget (length old.waiting) (length new.waiting)
-      (rises old.openings) (rises new.openings) all low
+      (ap (λ k. 28051 * (k + (total - (here + (53 * n + 54)))) + rises new.openings + length new.waiting) (sym sum)
+      ∙ ap (λ k. 28051 * (sum_by (λ (e : K × Mark). e.1.cost) new.stored + (total - k)) + rises new.openings + length new.waiting) (sym now))
+      (added_falls (sum_by (λ e. e.1.cost) old.stored) offer.mark.cost n here total (length old.waiting) (length new.waiting)
+      (rises old.openings) (rises new.openings) room low
       (added_one old.waiting new.waiting (opens_at (weighed strategy offer.mark) offer.opening, n) opened)
-      (last_most strategy.expansion old.openings new.openings offer.opening noted)))
+      (last_most strategy.expansion old.openings new.openings offer.opening noted))
 
   -- a pair that is taken leaves less
   pub taken_work : (budget : ℕ) (old new : Store K) (p : ℕ × ℕ) → new.stored ≡ old.stored → new.openings ≡ old.openings
       → Adds new.waiting old.waiting p → work_left budget new < work_left budget old
   taken_work budget old new p kept noted taken =
       let one = added_one new.waiting old.waiting p taken in
-      let same = ap (λ es. 28051 * (sum_by (λ (e : K × Mark). e.1.cost) es + (budget - length es) * (53 * budget + 54))) kept in
+      let same = ap (λ es. 28051 * (sum_by (λ (e : K × Mark). e.1.cost) es + (costs_below budget - costs_below (length es)))) kept in
       let still = ap (λ os. rises os) noted in
       omega (arith, one, same, still)
 
@@ -144,7 +160,7 @@ module _ {K : Type 0} where
       → work_left budget new ≤ work_left budget old
   reopened_work budget old new number cost was later at rises_to (before, next, there, bound, most, opens, kept, opened, noted) =
       let one = added_one old.waiting new.waiting (later, number) opened in
-      let same = ap (λ es. 28051 * (sum_by (λ (e : K × Mark). e.1.cost) es + (budget - length es) * (53 * budget + 54))) kept in
+      let same = ap (λ es. 28051 * (sum_by (λ (e : K × Mark). e.1.cost) es + (costs_below budget - costs_below (length es)))) kept in
       let sum = ap (λ os. rises os) noted in
       let set = rises_set old.openings number was next at in
       omega (arith, one, same, sum, set, rises_to, most, opens)

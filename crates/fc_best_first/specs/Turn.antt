@@ -1,5 +1,5 @@
 -- One turn of a search.
-use Rattle.std.specs.Prelude.{◌≡◌, ◌≢◌, ℕ, ◌+◌, ◌-◌, ◌*◌, ◌<◌, ◌≤◌, ◌⊎◌, max, min, List, [], ◌∷◌, length, slice_get, sum_by, IfSome, Contains, Option, Some, None}
+use Rattle.std.specs.Prelude.{◌≡◌, ◌≢◌, ℕ, ◌+◌, ◌-◌, ◌*◌, ◌<◌, ◌≤◌, ◌⊎◌, zero, suc, max, min, List, [], ◌∷◌, length, slice_get, sum_by, IfSome, Contains, Option, Some, None}
 use Rattle.fc_frontier.specs.Queue.{Adds, IsLeast}
 use Rattle.fc_best_first.specs.declared.books.Mark.{Mark}
 use Rattle.fc_best_first.specs.declared.books.Opening.{Opening}
@@ -21,6 +21,12 @@ use Rattle.fc_best_first.specs.Kept.{f_of}
 abbrev pub TakesFloor : List (ℕ × ℕ) → ℕ → ℕ → Type 0
 TakesFloor waiting old new = ((waiting ≡ []) × (new ≡ old))
     ⊎ ((f : ℕ) × (number : ℕ) × Contains waiting (f, number) × IsLeast (f, number) waiting × (new ≡ max old f))
+
+-- what the keys under the numbers below this one may cost together, and one more for each: a key costs at most MOST_COST times
+-- the number after its own
+unfoldable pub costs_below : ℕ → ℕ
+costs_below zero = 0
+costs_below (suc number) = costs_below number + (MOST_COST * number + (MOST_COST + 1))
 
 module _ {K : Type 0} where
   -- the child's bound is that of its key, where it is told
@@ -123,5 +129,5 @@ module _ {K : Type 0} where
   -- how much a search may still do: it falls with each turn that leaves the search running
   abbrev pub work_left : ℕ → Store K → ℕ
   work_left budget s =
-      (MOST_OVER + 1) * (sum_by (λ e. e.1.cost) s.stored + (budget - length s.stored) * (MOST_COST * budget + (MOST_COST + 1)))
+      (MOST_OVER + 1) * (sum_by (λ e. e.1.cost) s.stored + (costs_below budget - costs_below (length s.stored)))
       + sum_by (λ o. MOST_OVER - o.over) s.openings + length s.waiting

@@ -255,13 +255,13 @@ fn claim_of(verdict: &Verdict) -> Option<Claim> {
     }
 }
 
-// A search under the second home rule by so many times a bound of this kind, with a budget of 1000.
-fn method(rt: &impl Abort, weight: u8, bound: BoundKind) -> Method {
+// A search under the second home rule by so many tenths of a bound of this kind, with a budget of 1000.
+fn method(rt: &impl Abort, tenths: u8, bound: BoundKind) -> Method {
     Method {
         rule: HomeRule::FREE,
         bound,
         strategy: Strategy::full(
-            Weight::new(weight).expect(rt, "a weight is 1 to 10"),
+            Weight::of_tenths(tenths).expect(rt, "a weight is 10 to 100 tenths"),
             Budget::new(1000).expect(rt, "a budget is 1 to 4,000,000"),
         ),
     }
@@ -269,23 +269,23 @@ fn method(rt: &impl Abort, weight: u8, bound: BoundKind) -> Method {
 
 // What is written of the answer for a board is accepted as its claim; by another form than the second where the weight or the
 // bound is another than the first.
-fn check_written(rt: &impl Abort, alloc: Global, text: &str, weight: u8, bound: BoundKind) {
+fn check_written(rt: &impl Abort, alloc: Global, text: &str, tenths: u8, bound: BoundKind) {
     let game = free_cell(rt, 4);
     let start = board(rt, &game, text);
-    let question = Question::new(&game, method(rt, weight, bound));
+    let question = Question::new(&game, method(rt, tenths, bound));
     let answer = sure(rt, solve_by(alloc, &question, &start, &mut Unheard));
     let mut out = ToArray::<800>::new();
     assert!(rt; write_answer(&game, &answer, &mut out).is_ok(), "written");
     let told = check(alloc, &game, &start, out.held());
-    assert!(rt; told.ok() == claim_of(&answer.verdict), "weight {weight}");
+    assert!(rt; told.ok() == claim_of(&answer.verdict), "{tenths} tenths");
 }
 
 #[test]
 fn what_is_written_is_accepted(rt: HostRuntime) {
     for text in [ONE_KING, FREE_KING, TWO_KINGS, THREE_SPADES, LOCKED].as_slice() {
-        for weight in 1..4 {
-            check_written(&rt, rt.alloc(), text, weight, BoundKind::Plain);
-            check_written(&rt, rt.alloc(), text, weight, BoundKind::Clearing);
+        for tenths in [10, 13, 20, 30] {
+            check_written(&rt, rt.alloc(), text, tenths, BoundKind::Plain);
+            check_written(&rt, rt.alloc(), text, tenths, BoundKind::Clearing);
         }
     }
 }

@@ -7,7 +7,7 @@ use Rattle.fc_methods.specs.declared.methods.Method.{Method}
 
 -- a search for a shortest list by the plain bound and full expansion
 abbrev pub as_written : ℕ → ℕ → Method
-as_written rule budget = record { rule = rule; bound = Plain; strategy = record { weight = 1; expansion = Full; budget = budget } }
+as_written rule budget = record { rule = rule; bound = Plain; strategy = record { weight = record { parts = 1; times = 1 }; expansion = Full; budget = budget } }
 
 -- a question: by how few moves of the game a list wins, searched by the method
 pub record Asked : Type 0 where

@@ -14,8 +14,8 @@ pub struct Method {
     pub rule: HomeRule,
     /// The kind of bound that the search goes by.
     pub bound: BoundKind,
-    /// How many times a bound counts: what is won has at most so many times the fewest moves, by one a shortest list. Which
-    /// children of a class are stored with it. How many classes may be stored.
+    /// How many times as much as a cost a bound counts: what is won has at most so many times the fewest moves, by one a
+    /// shortest list. Which children of a class are stored with it. How many classes may be stored.
     pub strategy: Strategy,
 }
 

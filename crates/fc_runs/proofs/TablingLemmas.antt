@@ -104,13 +104,13 @@ answered_floor (outcome.Won count least) = Some least
 answered_floor outcome.CannotWin = None
 answered_floor (outcome.GaveUp told) = None
 
-answer_floor : (g : GameRules) (weight budget deal : ℕ) (verdict : Verdict) → IsRight g weight (dealt_board deal) budget verdict
+answer_floor : (g : GameRules) (parts times budget deal : ℕ) (verdict : Verdict) → IsRight g parts times (dealt_board deal) budget verdict
     → IfSome (answered_floor (outcome_of verdict)) (IsDealFloor g deal)
 unfolding answered_floor
-answer_floor g weight budget deal (verdict.Shortest moves) right = right.least
-answer_floor g weight budget deal (verdict.Won moves least) right = right.floor
-answer_floor g weight budget deal verdict.CannotWin right = tt
-answer_floor g weight budget deal (verdict.GaveUp told) right = tt
+answer_floor g parts times budget deal (verdict.Shortest moves) right = right.least
+answer_floor g parts times budget deal (verdict.Won moves least) right = right.floor
+answer_floor g parts times budget deal verdict.CannotWin right = tt
+answer_floor g parts times budget deal (verdict.GaveUp told) right = tt
 
 -- the floor of a row: what its answer tells, and else what was told last
 pub row_floor : (q : Asked) (deal : ℕ) (told : Option Outcome) (far : Option Progress)
@@ -121,7 +121,7 @@ row_floor q deal (Some (outcome.GaveUp told)) far right floor = floor
 row_floor q deal (Some outcome.CannotWin) far right floor = tt
 row_floor q deal (Some (outcome.Shortest count)) far right floor =
     subst (λ o. IfSome (answered_floor o) (IsDealFloor q.game deal)) (sym right.answer)
-    (answer_floor q.game q.method.strategy.weight q.method.strategy.budget deal right.verdict right.decided.right.right)
+    (answer_floor q.game q.method.strategy.weight.parts q.method.strategy.weight.times q.method.strategy.budget deal right.verdict right.decided.right.right)
 row_floor q deal (Some (outcome.Won count least)) far right floor =
     subst (λ o. IfSome (answered_floor o) (IsDealFloor q.game deal)) (sym right.answer)
-    (answer_floor q.game q.method.strategy.weight q.method.strategy.budget deal right.verdict right.decided.right.right)
+    (answer_floor q.game q.method.strategy.weight.parts q.method.strategy.weight.times q.method.strategy.budget deal right.verdict right.decided.right.right)

@@ -5,6 +5,7 @@ use Rattle.std.specs.List.Sorted.{IsPermutation}
 use Rattle.std.proofs.lemmas.List.{length-map}
 use Rattle.std.proofs.lemmas.List.Sorted.{IsPermutation-sym, Contains-permutation, length_permutation}
 use Rattle.std.proofs.lemmas.List.Sums.{length-filter, count_by-le-length}
+use Rattle.std.proofs.Math.Nat.{le_of_mul-le-mul_left, mul-le-mul_left}
 use Rattle.fc_position.specs.Board.{Board}
 use Rattle.fc_position.specs.Position.{IsWon}
 use Rattle.fc_moves.specs.declared.steps.Move.{Move}
@@ -18,6 +19,7 @@ use Rattle.fc_tables.proofs.RowLemmas.{rows_inside, inside_all, costs_free}
 use Rattle.fc_best_first.specs.declared.books.Mark.{Mark}
 use Rattle.fc_best_first.specs.declared.turns.Status.TheVariants as status
 use Rattle.fc_best_first.specs.Kept.{IsSound}
+use Rattle.fc_best_first.specs.Limits.{IsEven, Ratio, weigh}
 use Rattle.fc_best_first.specs.Shown.{IsFound, IsExhausted, IsLeastOpen, Shows}
 use Rattle.fc_best_first.specs.Store.{Store, IsStored}
 use Rattle.fc_best_first.proofs.KeptLemmas.{same_entry, stands_within}
@@ -52,11 +54,20 @@ run_texts g b c (m ∷ ms) p (mid, step, rest) zero d lt = allowed_has_text g b 
 run_texts g b c (m ∷ ms) p (mid, step, rest) (suc k) d lt =
     run_texts g mid c ms (step_keeps g b mid m p step) rest k d (omega (arith, lt))
 
--- a weight of one changes nothing
-one_times : (weight n : ℕ) → weight ≡ 1 → weight * n ≡ n
-one_times weight n one =
-    let same : weight * n ≡ 1 * n = ap (λ w. w * n) one in
-    omega (arith, same)
+-- where a bound counts as often as a cost, what is no more, weighed, is no more
+even_most : (weight : Ratio) (cost n : ℕ) → 1 ≤ weight.parts → IsEven weight → weight.parts * cost ≤ weight.times * n → cost ≤ n
+even_most weight cost n some even le =
+    let same : weight.times * n ≡ weight.parts * n = ap (λ w. w * n) even in
+    let all : weight.parts * cost ≤ weight.parts * n = omega (arith, le, same) in
+    le_of_mul-le-mul_left all some
+
+-- and what is below a cost is below it, weighed
+even_below : (weight : Ratio) (cost bound n : ℕ) → 1 ≤ weight.parts → IsEven weight → cost + bound < n
+    → weigh weight cost bound < weight.parts * n
+even_below weight cost bound n some even lt =
+    let same : weight.times * bound ≡ weight.parts * bound = ap (λ w. w * bound) even in
+    let all : weight.parts * (cost + bound + 1) ≤ weight.parts * n = mul-le-mul_left weight.parts (omega (arith, lt)) in
+    omega (arith, all, same, some)
 
 module _ (pr : Problem) (s : Store (List ℕ)) (pp : IsPositionOf pr.game pr.start) where
   -- the table of a search that found no way to win shows that there is none
@@ -99,7 +110,8 @@ module _ (pr : Problem) (s : Store (List ℕ)) (pp : IsPositionOf pr.game pr.sta
   pub won_within : (number : ℕ) (ms : List Move) (b : Board) → Shows (task_of_problem pr) s (status.Won number)
       → IsAtClass pr.game s pr.start number ms b
       → (x : List ℕ) × (mark : Mark) × IsStored s number x mark × (length ms ≤ mark.cost) × Wins pr.game pr.start ms
-      × ((others : List Move) → Wins pr.game pr.start others → mark.cost ≤ pr.method.strategy.weight * length others)
+      × ((others : List Move) → Wins pr.game pr.start others
+      → pr.method.strategy.weight.parts * mark.cost ≤ pr.method.strategy.weight.times * length others)
   won_within number ms b (x, mark, at, won, reached, answer, least) (y, mine, there, run, same, le) =
       let one = same_entry s number x y mark mine at there in
       let won_there : IsWon b = same.homes ∙ ap (λ k. (spelled k).homes) (sym one.0) ∙ won in
@@ -113,21 +125,21 @@ module _ (pr : Problem) (s : Store (List ℕ)) (pp : IsPositionOf pr.game pr.sta
       )
 
   -- by weight 1 it has as many moves as the class costs, and is a shortest one
-  pub won_length : pr.method.strategy.weight ≡ 1 → (number : ℕ) (ms : List Move) (b : Board)
+  pub won_length : 1 ≤ pr.method.strategy.weight.parts → IsEven pr.method.strategy.weight → (number : ℕ) (ms : List Move) (b : Board)
       → Shows (task_of_problem pr) s (status.Won number) → IsAtClass pr.game s pr.start number ms b
       → (x : List ℕ) × (mark : Mark) × IsStored s number x mark × (length ms ≡ mark.cost) × Wins pr.game pr.start ms
       × ((others : List Move) → Wins pr.game pr.start others → length ms ≤ length others)
-  won_length light number ms b shows walked =
+  won_length positive light number ms b shows walked =
       let won = won_within number ms b shows walked in
       let le = won.3 in
-      let most = won.5 ms won.4 in
-      let long : length ms ≡ won.1.cost = omega (arith, le, most, one_times pr.method.strategy.weight (length ms) light) in (
+      let most = even_most pr.method.strategy.weight won.1.cost (length ms) positive light (won.5 ms won.4) in
+      let long : length ms ≡ won.1.cost = omega (arith, le, most) in (
         won.0,
         won.1,
         won.2,
         long,
         won.4,
-        λ others w. let far = won.5 others w in omega (arith, far, long, one_times pr.method.strategy.weight (length others) light),
+        λ others w. let far = even_most pr.method.strategy.weight won.1.cost (length others) positive light (won.5 others w) in omega (arith, far, long),
       )
 
   -- the table of a search whose stored classes below n are covered shows that no list of fewer moves wins
@@ -172,28 +184,29 @@ module _ (pr : Problem) (s : Store (List ℕ)) (pp : IsPositionOf pr.game pr.sta
       }
 
   -- the table of a search that found a shortest list shows that none is shorter
-  pub backed_shortest : pr.method.strategy.weight ≡ 1 → (number : ℕ) (ms : List Move) (table : Listing)
+  pub backed_shortest : 1 ≤ pr.method.strategy.weight.parts → IsEven pr.method.strategy.weight → (number : ℕ) (ms : List Move) (table : Listing)
       → IsFound (task_of_problem pr) s number
       → (x : List ℕ) (mark : Mark) → IsStored s number x mark → length ms ≡ mark.cost → table.rule ≡ pr.method.rule → table.bound ≡ pr.method.bound → table.rule ≤ 2
       → length table.rows ≤ 4000000 → IsRising table.rows → IsPermutation (inside (guide_of pr.method.bound) (length ms) (costs_of s)) table.rows
       → IsBackedBelow pr.game pr.start (length ms) table
-  backed_shortest light number ms table found x mark at long ruled bounded known few rising moved =
+  backed_shortest positive light number ms table found x mark at long ruled bounded known few rising moved =
       let n = length ms in
       let w = found.1.0 in
       let wmark = found.1.1 in
       let one = same_entry s number x w mark wmark at found.1.2 in
       let cost : n ≡ wmark.cost = long ∙ ap (λ m. m.cost) one.1 in
       backed_below n table found.0
-      (λ i y m there lt. found_covered i y m there (omega (arith, lt, cost, one_times pr.method.strategy.weight (guide_of pr.method.bound (spelled y)) light)))
+      (λ i y m there lt. found_covered i y m there
+      (even_below pr.method.strategy.weight m.cost (guide_of pr.method.bound (spelled y)) wmark.cost positive light (omega (arith, lt, cost))))
       ruled bounded known few rising moved
     where
-      found_covered : (i : ℕ) (y : List ℕ) (m : Mark) → IsStored s i y m → m.cost + pr.method.strategy.weight * guide_of pr.method.bound (spelled y) < found.1.1.cost
+      found_covered : (i : ℕ) (y : List ℕ) (m : Mark) → IsStored s i y m → weigh pr.method.strategy.weight m.cost (guide_of pr.method.bound (spelled y)) < pr.method.strategy.weight.parts * found.1.1.cost
           → IsCoveredBelow (classes_of pr) s y m.cost (length ms)
       found_covered i y m there lt =
           let one = same_entry s number x found.1.0 mark found.1.1 at found.1.2 in
           let cost : length ms ≡ found.1.1.cost = long ∙ ap (λ k. k.cost) one.1 in
           subst (IsCoveredBelow (classes_of pr) s y m.cost) (sym cost)
-          (light_covered pr.method.strategy.expansion (task_of_problem pr) s y m.cost found.1.1.cost light (found.1.4 i y m there lt))
+          (light_covered pr.method.strategy.expansion (task_of_problem pr) s y m.cost found.1.1.cost positive light (found.1.4 i y m there lt))
 
   -- what a number is that is told as a floor: no list has fewer moves, and the stored classes below it are covered
   pub floor_holds : (number : ℕ) (x : List ℕ) (mark : Mark) (floor : ℕ) → IsFound (task_of_problem pr) s number
@@ -228,12 +241,12 @@ module _ (pr : Problem) (s : Store (List ℕ)) (pp : IsPositionOf pr.game pr.sta
       (omega (arith, length-filter test (costs_of s), count_by-le-length test (costs_of s), stored_long s, room, few))
 
   -- the verdict of a search that found a shortest list
-  pub shortest_verdict : pr.method.strategy.weight ≡ 1 → (number : ℕ) (ms : List Move) (b : Board) → pr.method.rule ≤ 2 → pr.method.strategy.budget ≤ 4000000
+  pub shortest_verdict : 1 ≤ pr.method.strategy.weight.parts → IsEven pr.method.strategy.weight → (number : ℕ) (ms : List Move) (b : Board) → pr.method.rule ≤ 2 → pr.method.strategy.budget ≤ 4000000
       → IsFound (task_of_problem pr) s number
       → Shows (task_of_problem pr) s (status.Won number)
       → IsAtClass pr.game s pr.start number ms b → IsVerdict pr (Shortest ms)
-  shortest_verdict light number ms b known few (sound, found) shows walked =
-      let won = won_length light number ms b shows walked in
+  shortest_verdict positive light number ms b known few (sound, found) shows walked =
+      let won = won_length positive light number ms b shows walked in
       let low = sound.low number won.0 won.1 won.2 in
       let inside_store = stands_within s number won.0 won.1 won.2 in
       let room = sound.room in
@@ -241,7 +254,7 @@ module _ (pr : Problem) (s : Store (List ℕ)) (pp : IsPositionOf pr.game pr.sta
       let cost = won.3 in
       let listed = inside_table (length ms) few sound in
       let table = listed.0 in
-      let backed = backed_shortest light number ms table (sound, found) won.0 won.1 won.2 won.3 listed.1 listed.2
+      let backed = backed_shortest positive light number ms table (sound, found) won.0 won.1 won.2 won.3 listed.1 listed.2
       (subst (λ r. r ≤ 2) (sym listed.1) known) listed.3 listed.4 listed.5 in record {
         right = record { wins = won.4; least = won.5 };
         earned = tt;
@@ -251,10 +264,11 @@ module _ (pr : Problem) (s : Store (List ℕ)) (pp : IsPositionOf pr.game pr.sta
       }
 
   -- the verdict of a search by a greater weight that found a list, no longer than the won class costs
-  pub won_verdict : 2 ≤ pr.method.strategy.weight → (number : ℕ) (ms : List Move) (x : List ℕ) (mark : Mark) (floor : ℕ) → pr.method.rule ≤ 2 → pr.method.strategy.budget ≤ 4000000
+  pub won_verdict : pr.method.strategy.weight.parts < pr.method.strategy.weight.times → (number : ℕ) (ms : List Move) (x : List ℕ) (mark : Mark) (floor : ℕ) → pr.method.rule ≤ 2 → pr.method.strategy.budget ≤ 4000000
       → IsFound (task_of_problem pr) s number → IsStored s number x mark
       → IsLeastOpen (task_of_problem pr) s mark.cost floor → length ms ≤ mark.cost → Wins pr.game pr.start ms
-      → ((others : List Move) → Wins pr.game pr.start others → mark.cost ≤ pr.method.strategy.weight * length others)
+      → ((others : List Move) → Wins pr.game pr.start others
+      → pr.method.strategy.weight.parts * mark.cost ≤ pr.method.strategy.weight.times * length others)
       → IsVerdict pr (Won ms floor)
   won_verdict heavy number ms x mark floor known few found at opened le wins least =
       let low = found.0.low number x mark at in
@@ -268,7 +282,7 @@ module _ (pr : Problem) (s : Store (List ℕ)) (pp : IsPositionOf pr.game pr.sta
         right = record {
           above = heavy;
           wins = wins;
-          least = λ others w. let far = least others w in omega (arith, far, le);
+          least = λ others w. let far = least others w in omega (arith, far, mul-le-mul_left pr.method.strategy.weight.parts le);
           floor = holds.1;
         };
         earned = tt;
@@ -308,7 +322,7 @@ module _ (pr : Problem) (s : Store (List ℕ)) (pp : IsPositionOf pr.game pr.sta
       }
 
 -- a right verdict of a search for a shortest list is one of three
-pub one_of_three : (g : GameRules) (b : Board) (budget : ℕ) (verdict : Verdict) → IsRight g 1 b budget verdict → IsOneOfThree g b budget verdict
+pub one_of_three : (g : GameRules) (b : Board) (budget : ℕ) (verdict : Verdict) → IsRight g 1 1 b budget verdict → IsOneOfThree g b budget verdict
 one_of_three g b budget (Shortest moves) right = right
 one_of_three g b budget (Won moves floor) right = let above = right.above in absurd (omega (arith, above))
 one_of_three g b budget CannotWin right = right

@@ -33,13 +33,15 @@ module _ (q : Problem) where
 
   -- the floor that such a search tells
   pub tells_floor : (next : State) (turns : ℕ) (far : Progress) → next.problem ≡ q → far.budget ≡ q.method.strategy.budget → far.turns ≡ turns
-      → (next.floor ≤ next.problem.method.strategy.weight * far.at_least) × (next.problem.method.strategy.weight * far.at_least < next.floor + next.problem.method.strategy.weight)
+      → (next.floor ≤ next.problem.method.strategy.weight.times * far.at_least)
+      × (next.problem.method.strategy.weight.times * far.at_least < next.floor + next.problem.method.strategy.weight.times)
       → ((moves : List Move) → Wins next.problem.game next.problem.start moves → far.at_least ≤ length moves)
       → TellsFloor q (stage_of next turns) far
   tells_floor next turns far asked budgeted counted near least = record {
     budgeted = budgeted;
     counted = counted;
-    near = subst (λ p. (next.floor ≤ p.method.strategy.weight * far.at_least) × (p.method.strategy.weight * far.at_least < next.floor + p.method.strategy.weight)) asked near;
+    near = subst (λ p. (next.floor ≤ p.method.strategy.weight.times * far.at_least)
+        × (p.method.strategy.weight.times * far.at_least < next.floor + p.method.strategy.weight.times)) asked near;
     least = λ moves wins. least moves (subst (λ p. Wins p.game p.start moves) (sym asked) wins);
   }
 

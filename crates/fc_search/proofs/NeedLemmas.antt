@@ -53,7 +53,7 @@ board_of_full pr y pp (inr (x, d, c, reached, (kw, (m, z, count, step, (q, settl
     let settled = class_settle pr.game pr.method.rule z there.1 q count there.3 settles in
     let still = class_settle pr.game pr.method.rule (spelled x) b (spelled x) 0 back (reached_of_positions (guide_of pr.method.bound) pr.game pr.method.rule pr.start x d pp reached).1 in
     let stays = subst (Settles pr.game pr.method.rule b 0) (settles_none pr.game pr.method.rule b still.0 still.1) still.1 in
-    let alike : pr.method.strategy.weight * guide_of pr.method.bound b ≡ pr.method.strategy.weight * guide_of pr.method.bound (spelled x) = ap (λ n. pr.method.strategy.weight * n) ((bounds_lower pr.method.bound).0.alike b (spelled x) same) in record {
+    let alike : pr.method.strategy.weight.times * guide_of pr.method.bound b ≡ pr.method.strategy.weight.times * guide_of pr.method.bound (spelled x) = ap (λ n. pr.method.strategy.weight.times * n) ((bounds_lower pr.method.bound).0.alike b (spelled x) same) in record {
       board = settled.0;
       needed = inr (record {
         moves = before.0;
@@ -65,7 +65,7 @@ board_of_full pr y pp (inr (x, d, c, reached, (kw, (m, z, count, step, (q, settl
         stepped = there.2;
         count = count;
         settles = settled.1;
-        least = λ wins w. let most = least (length wins) (wins, refl, w) in let long = before.2 in omega (arith, most, long, alike);
+        least = λ wins w. let most = least (length wins) (wins, refl, w) in let long = ap (λ n. pr.method.strategy.weight.parts * n) before.2 in omega (arith, most, long, alike);
       });
       key = key_of_mate settled.0 q y (class-sym q settled.0 settled.2) key;
       position = settles_keep pr.game pr.method.rule there.1 settled.0 count (step_keeps pr.game b there.1 there.0 pb there.2) settled.1;
@@ -81,14 +81,14 @@ board_of_partial pr y pp (d, reached, least) =
     let key = reached_of_positions low pr.game pr.method.rule pr.start y d pp reached in
     let still = class_settle pr.game pr.method.rule (spelled y) b (spelled y) 0 (class-sym b (spelled y) same) key.1 in
     let stays = subst (Settles pr.game pr.method.rule b 0) (settles_none pr.game pr.method.rule b still.0 still.1) still.1 in
-    let alike : pr.method.strategy.weight * low b ≡ pr.method.strategy.weight * low (spelled y) =
-    ap (λ n. pr.method.strategy.weight * n) ((bounds_lower pr.method.bound).0.alike b (spelled y) same) in record {
+    let alike : pr.method.strategy.weight.times * low b ≡ pr.method.strategy.weight.times * low (spelled y) =
+    ap (λ n. pr.method.strategy.weight.times * n) ((bounds_lower pr.method.bound).0.alike b (spelled y) same) in record {
       board = b;
       needed = record {
         moves = before.0;
         led = before.3;
         settled = stays;
-        least = λ wins w. let most = least (length wins) (wins, refl, w) in let long = before.2 in omega (arith, most, long, alike);
+        least = λ wins w. let most = least (length wins) (wins, refl, w) in let long = ap (λ n. pr.method.strategy.weight.parts * n) before.2 in omega (arith, most, long, alike);
       };
       key = record { canonical = spelled y; class = same; ordered = key.0.ordered; bytes = key.0.bytes };
       position = run_keeps pr.game pr.start b before.0 pp before.3;

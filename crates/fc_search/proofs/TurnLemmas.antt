@@ -18,6 +18,7 @@ use Rattle.fc_best_first.specs.Graph.{Task, IsLawful}
 use Rattle.fc_best_first.specs.Store.{NotesLast, Store}
 use Rattle.fc_best_first.specs.Search.{Begins, FloorAfter, Turns, TurnsOn, reply_of}
 use Rattle.fc_best_first.specs.Turn.{work_left}
+use Rattle.fc_best_first.proofs.WorkLemmas.{costs_twice}
 use Rattle.fc_search.specs.Problem.{Problem, task_of_problem}
 use Rattle.fc_search.specs.Search.{State}
 use Rattle.fc_search.specs.Watch.{Stage, TurnsMany, TurnsOnce}
@@ -98,22 +99,22 @@ ended_stopped (Err f) status other replied = replied.1
 
 -- how much a search may do that has had no turn
 first_rises : (expansion : Expansion) (new : List Opening) (opening : Opening) → NotesLast expansion [] new opening
-    → sum_by (λ o. 2805 - o.over) new ≤ 2805
-first_rises Full new opening none = let e = ap (sum_by (λ (o : Opening). 2805 - o.over)) none in omega (arith, e)
+    → sum_by (λ o. 28050 - o.over) new ≤ 28050
+first_rises Full new opening none = let e = ap (sum_by (λ (o : Opening). 28050 - o.over)) none in omega (arith, e)
 first_rises Partial new opening one =
-    let e : sum_by (λ o. 2805 - o.over) new ≡ 2805 - opening.over =
-    ap (sum_by (λ (o : Opening). 2805 - o.over)) one ∙ zero-add (2805 - opening.over) in
+    let e : sum_by (λ o. 28050 - o.over) new ≡ 28050 - opening.over =
+    ap (sum_by (λ (o : Opening). 28050 - o.over)) one ∙ zero-add (28050 - opening.over) in
     omega (arith, e)
 
 module _ {K : Type 0} (task : Task K) where
   pub begun_work : (s : Store K) → IsLawful task.graph → Begins task s → task.strategy.budget ≤ MOST_BUDGET
-      → work_left task.strategy.budget s ≤ 2 ^ 62
+      → work_left task.strategy.budget s ≤ 3 * 2 ^ 62
   begun_work s lawful (x, cost, starts, stored, waiting, noted) few =
       let budget = task.strategy.budget in
       let low : cost ≤ 53 = lawful.starts x cost starts in
       let one : length s.waiting ≡ 1 = length_permutation _ s.waiting waiting in
       let sum : sum_by (λ e. e.1.cost) s.stored ≡ cost = ap (sum_by (λ (e : K × Mark). e.1.cost)) stored ∙ zero-add cost in
       let rise = first_rises task.strategy.expansion s.openings _ noted in
-      let each : (budget - length s.stored) * (53 * budget + 54) ≤ 4000000 * (53 * 4000000 + 54) =
-      mul-le-mul {n₂ = 4000000} {m₂ = 53 * 4000000 + 54} (omega (arith, few)) (omega (arith, few)) in
-      omega (arith, low, one, sum, each, rise)
+      let each : budget * (53 * budget + 55) ≤ 4000000 * (53 * 4000000 + 55) =
+      mul-le-mul {n₂ = 4000000} {m₂ = 53 * 4000000 + 55} (omega (arith, few)) (omega (arith, few)) in
+      omega (arith, low, one, sum, each, costs_twice budget, rise)

@@ -9,6 +9,7 @@ use Rattle.fc_home.specs.Settles.{Settles}
 use Rattle.fc_bound.specs.Kinds.{guide_of}
 use Rattle.fc_best_first.specs.declared.strategies.Expansion.{Expansion}
 use Rattle.fc_best_first.specs.declared.strategies.Expansion.TheVariants.{Full, Partial}
+use Rattle.fc_best_first.specs.Limits.{weigh}
 use Rattle.fc_search.specs.Problem.{Problem}
 use Rattle.fc_answers.specs.declared.answers.Verdict.{Verdict}
 use Rattle.fc_answers.specs.declared.answers.Verdict.TheVariants.{Shortest, Won, CannotWin as cannot_win, GaveUp}
@@ -19,8 +20,8 @@ pub record IsSettledStart (p : Problem) (z : Board) : Type 0 where
   pub settles : Settles p.game p.method.rule p.start count z
 
 -- the moves lead from the start to a settled board, a step leads on, and the board is what its result settles to; and no
--- list that wins, times the weight, is shorter than those moves and the weighed bound of the settled board, by which a
--- search of this kind goes
+-- list that wins, weighed as a bound is, is shorter than those moves and the bound of the settled board, both weighed, by
+-- which a search of this kind goes
 pub record IsNextChild (p : Problem) (z : Board) : Type 0 where
   pub moves : List Move
   pub parent : Board
@@ -32,16 +33,16 @@ pub record IsNextChild (p : Problem) (z : Board) : Type 0 where
   pub count : ℕ
   pub settles : Settles p.game p.method.rule child count z
   pub least : (wins : List Move) → Wins p.game p.start wins
-      → length moves + p.method.strategy.weight * guide_of p.method.bound parent ≤ p.method.strategy.weight * length wins
+      → weigh p.method.strategy.weight (length moves) (guide_of p.method.bound parent) ≤ p.method.strategy.weight.times * length wins
 
--- the moves lead from the start to the settled board, and no list that wins, times the weight, is shorter than those moves
--- and its weighed bound
+-- the moves lead from the start to the settled board, and no list that wins, weighed as a bound is, is shorter than those
+-- moves and its bound, both weighed
 pub record IsMetWithin (p : Problem) (z : Board) : Type 0 where
   pub moves : List Move
   pub led : Run p.game p.start moves z
   pub settled : Settles p.game p.method.rule z 0 z
   pub least : (wins : List Move) → Wins p.game p.start wins
-      → length moves + p.method.strategy.weight * guide_of p.method.bound z ≤ p.method.strategy.weight * length wins
+      → weigh p.method.strategy.weight (length moves) (guide_of p.method.bound z) ≤ p.method.strategy.weight.times * length wins
 
 -- the board is needed. By full expansion it is what the start settles to, or such a child; by partial expansion it is met
 -- within each list that wins

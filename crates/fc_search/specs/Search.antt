@@ -1,5 +1,5 @@
 -- A search of a position's classes as a whole: how it begins, runs and is answered.
-use Rattle.std.specs.Prelude.{◌≡◌, ℕ, ◌≤◌, List, length}
+use Rattle.std.specs.Prelude.{◌≡◌, ℕ, ◌<◌, ◌≤◌, List, length}
 use Rattle.fc_position.specs.Board.{Board}
 use Rattle.fc_moves.specs.GameRules.{GameRules}
 use Rattle.fc_best_first.specs.declared.books.Mark.{Mark}
@@ -17,11 +17,11 @@ use Rattle.fc_answers.specs.Answer.{IsBacked, IsSearchedBy, CanBeBacked}
 use Rattle.fc_answers.specs.Verdict.{IsRight, CanBeWritten, HasFewMoves}
 use Rattle.fc_search.specs.Need.{IsEarned}
 use Rattle.fc_search.specs.Problem.{Problem, task_of_problem}
-use Rattle.fc_best_first.specs.Limits.{IsBudget}
+use Rattle.fc_best_first.specs.Limits.{IsBudget, IsEven}
 use Rattle.fc_moves.specs.Run.{IsShortest, ReachesMore, CannotWin as NoneWins}
 
--- where a search stands: its problem, what it stores and has open, its status, and the greatest cost plus weighed bound
--- that it took
+-- where a search stands: its problem, what it stores and has open, its status, and the greatest cost plus bound, both
+-- weighed, that it took
 pub record State : Type 0 where
   pub problem : Problem
   pub store : Store (List ℕ)
@@ -33,9 +33,9 @@ pub record State : Type 0 where
 -- of what is open; that no list wins; or the budget
 abbrev pub IsOfStatus : Problem → Store (List ℕ) → Status (List ℕ) → Verdict → Type 0
 IsOfStatus p s (Won number) (verdict.Shortest moves) =
-    (x : List ℕ) × (mark : Mark) × IsStored s number x mark × (length moves ≡ mark.cost) × (p.method.strategy.weight ≡ 1)
+    (x : List ℕ) × (mark : Mark) × IsStored s number x mark × (length moves ≡ mark.cost) × IsEven p.method.strategy.weight
 IsOfStatus p s (Won number) (verdict.Won moves floor) =
-    (x : List ℕ) × (mark : Mark) × IsStored s number x mark × (length moves ≤ mark.cost) × (2 ≤ p.method.strategy.weight)
+    (x : List ℕ) × (mark : Mark) × IsStored s number x mark × (length moves ≤ mark.cost) × (p.method.strategy.weight.parts < p.method.strategy.weight.times)
     × IsLeastOpen (task_of_problem p) s mark.cost floor
 IsOfStatus p s CannotWin verdict.CannotWin = Unit {0}
 IsOfStatus p s (GaveUp y number) (verdict.GaveUp told) = told ≡ p.method.strategy.budget
@@ -44,7 +44,7 @@ IsOfStatus p s status verdict = ⊥
 -- all that a verdict of a problem is: right, earned, such as can be written, of few moves, and that of an answer that a table
 -- of the problem's rule and bound backs, whether or not it was made
 pub record IsVerdict (p : Problem) (verdict : Verdict) : Type 0 where
-  pub right : IsRight p.game p.method.strategy.weight p.start p.method.strategy.budget verdict
+  pub right : IsRight p.game p.method.strategy.weight.parts p.method.strategy.weight.times p.start p.method.strategy.budget verdict
   pub earned : IsEarned p verdict
   pub written : CanBeWritten verdict
   pub few : HasFewMoves verdict

@@ -51,7 +51,7 @@ TurnsMany (suc made) p old new = (mid : Stage) × TurnsOnce p old mid × TurnsMa
 pub record TellsFloor (p : Problem) (stage : Stage) (far : Progress) : Type 0 where
   pub budgeted : far.budget ≡ p.method.strategy.budget
   pub counted : far.turns ≡ stage.turns
-  pub near : (stage.floor ≤ p.method.strategy.weight * far.at_least) × (p.method.strategy.weight * far.at_least < stage.floor + p.method.strategy.weight)
+  pub near : (stage.floor ≤ p.method.strategy.weight.times * far.at_least) × (p.method.strategy.weight.times * far.at_least < stage.floor + p.method.strategy.weight.times)
   pub least : (moves : List Move) → Wins p.game p.start moves → far.at_least ≤ length moves
 
 -- so far a search of the problem is at this stage, where no turn was refused: how many classes it stores, and how many

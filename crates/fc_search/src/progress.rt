@@ -9,14 +9,14 @@ use fc_frontier::Frontier;
 use fc_moves::Game;
 
 impl<F: Frontier + Drop, G: Game + Drop> Search<F, G> {
-    /// No list of fewer moves wins: the core's floor divided by the weight, rounded up. Takes no memory; for a search in any
+    /// No list of fewer moves wins: the core's floor, which counts as a bound does, divided by how many times that is, rounded up. Takes no memory; for a search in any
     /// state.
     pub fn at_least(&self) -> u32
         ensures floor { (moves : List Move) → Wins self.now.problem.game self.now.problem.start moves → result ≤ length moves }
-        ensures value { (self.now.floor ≤ self.now.problem.method.strategy.weight * result) × (self.now.problem.method.strategy.weight * result < self.now.floor + self.now.problem.method.strategy.weight) }
+        ensures value { (self.now.floor ≤ self.now.problem.method.strategy.weight.times * result) × (self.now.problem.method.strategy.weight.times * result < self.now.floor + self.now.problem.method.strategy.weight.times) }
     {
-        let weight = u32::from(self.search.strategy().weight.get());
-        self.search.floor().div_ceil(weight)
+        let times = u32::from(self.search.strategy().weight.times());
+        self.search.floor().div_ceil(times)
     }
 
     /// How many classes may be stored, 1 to 4,000,000.

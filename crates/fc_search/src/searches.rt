@@ -2,7 +2,7 @@ ghost use Rattle.std.specs.Prelude.{◌≡◌, ◌<◌, ◌≤◌, ◌⊎◌, �
 ghost use Rattle.fc_position.specs.Position.{Fits};
 ghost use Rattle.fc_moves.specs.GameRules.{IsPositionOf};
 ghost use Rattle.fc_frontier.specs.Queue.{Adds};
-ghost use Rattle.fc_best_first.specs.Limits.{IsBudget};
+ghost use Rattle.fc_best_first.specs.Limits.{IsBudget, IsEven, IsWeight};
 ghost use Rattle.fc_best_first.specs.Search.{Begins, FloorAfter, Turns, Runs, reply_of};
 ghost use Rattle.fc_best_first.specs.Kept.{IsSound};
 ghost use Rattle.fc_best_first.specs.Shown.{Holds, Shows};
@@ -192,6 +192,7 @@ impl<F: Frontier + Drop, G: Game + Drop> Search<F, G> {
     pub(crate) fn known(&self)
         ensures rule { self.now.problem.method.rule ≤ GREATEST_RULE }
         ensures budget { IsBudget self.now.problem.method.strategy.budget }
+        ensures weight { IsWeight self.now.problem.method.strategy.weight }
         ensures fits { IsPositionOf self.now.problem.game self.now.problem.start }
     {
         let _ = (self.search.space().rules.rule.get(), self.search.strategy());
@@ -202,10 +203,10 @@ impl<F: Frontier + Drop, G: Game + Drop> Search<F, G> {
         requires held { Holds (task_of_problem self.now.problem) self.now.store self.now.status }
         requires shown { Shows (task_of_problem self.now.problem) self.now.store self.now.status }
         requires done { self.now.status ≡ Status.Won number }
-        ensures shortest { IfOk result (λ moves. self.now.problem.method.strategy.weight ≡ 1
+        ensures shortest { IfOk result (λ moves. IsEven self.now.problem.method.strategy.weight
             → IsVerdict self.now.problem (Verdict.Shortest moves)
             × IsOfStatus self.now.problem self.now.store self.now.status (Verdict.Shortest moves)) }
-        ensures within { IfOk result (λ moves. 2 ≤ self.now.problem.method.strategy.weight → (floor : ℕ) → IsFloorOf self.now number floor
+        ensures within { IfOk result (λ moves. self.now.problem.method.strategy.weight.parts < self.now.problem.method.strategy.weight.times → (floor : ℕ) → IsFloorOf self.now number floor
             → IsVerdict self.now.problem (Verdict.Won moves floor)
             × IsOfStatus self.now.problem self.now.store self.now.status (Verdict.Won moves floor)) }
     {
@@ -233,7 +234,8 @@ impl<F: Frontier + Drop, G: Game + Drop> Search<F, G> {
         ensures kind { IfOk result (IsOfStatus self.now.problem self.now.store self.now.status) }
     {
         let moves = self.won_list(number)?;
-        if self.search.strategy().weight.get() > 1 {
+        let weight = self.search.strategy().weight;
+        if weight.times() > weight.parts() {
             let floor = self.floor_of(number);
             return Ok(Verdict::Won { moves, floor });
         }
@@ -250,7 +252,8 @@ impl<F: Frontier + Drop, G: Game + Drop> Search<F, G> {
     {
         self.known();
         let moves = self.won_list(number)?;
-        if self.search.strategy().weight.get() > 1 {
+        let weight = self.search.strategy().weight;
+        if weight.times() > weight.parts() {
             let floor = self.floor_of(number);
             let table = self.table_below(floor as usize)?;
             return Ok(Answer {

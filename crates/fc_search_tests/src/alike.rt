@@ -86,7 +86,7 @@ fn answered_alike(rt: &impl Abort, alloc: Global, rule: u8, text: &str, classes:
     let game = free_cell(rt, 4);
     let start = board(rt, &game, text);
     let answer = sure(rt, solve(alloc, &game, rule, &start, classes));
-    let method = method(rt, rule, 1, BoundKind::Plain, classes);
+    let method = method(rt, rule, 10, BoundKind::Plain, classes);
     let shortest = Question::shortest(&game, home_rule(rt, rule), budget(rt, classes));
     assert!(rt; shortest.method() == method, "another method");
     asked_alike(rt, alloc, &shortest, &start, &answer);

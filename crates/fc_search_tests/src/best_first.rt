@@ -453,7 +453,7 @@ fn offer_two<F: Frontier + Drop>(rt: &impl Abort, book: &mut Book<Sum, F>)
 
 // The first key alone is stored, at less; the two pairs are open, the lesser first.
 fn one_place<F: Frontier + Drop>(rt: &impl Abort, alloc: Global) {
-    let mut book: Book<Sum, F> = Book::new(alloc, Expansion::Full);
+    let mut book: Book<Sum, F> = Book::new(alloc, &Strategy::full(Weight::ONE, budget(rt, 1)));
     offer_two(rt, &mut book);
     let (key, mark) = book.entry(0).expect(rt, "the key 40");
     assert!(rt; key.value == 40 && mark.cost == 7 && mark.parent == 5);

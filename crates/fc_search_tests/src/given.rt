@@ -51,13 +51,13 @@ pub fn budget(rt: &impl Abort, classes: u32) -> Budget
     Budget::new(classes).expect(rt, "a budget is 1 to 4,000,000")
 }
 
-/// A search under this home rule by so many times a bound of this kind, with a budget of so many classes.
-pub fn method(rt: &impl Abort, rule: u8, weight: u8, bound: BoundKind, classes: u32) -> Method {
+/// A search under this home rule by so many tenths of a bound of this kind, with a budget of so many classes.
+pub fn method(rt: &impl Abort, rule: u8, tenths: u8, bound: BoundKind, classes: u32) -> Method {
     Method {
         rule: home_rule(rt, rule),
         bound,
         strategy: Strategy::full(
-            Weight::new(weight).expect(rt, "a weight is 1 to 10"),
+            Weight::of_tenths(tenths).expect(rt, "a weight is 10 to 100 tenths"),
             budget(rt, classes),
         ),
     }

@@ -13,10 +13,29 @@ fn a_weight_is_1_to_10(rt: HostRuntime) {
         (11, false),
         (255, false),
     ] {
-        let told = Weight::new(times).map(|weight| weight.get());
-        assert!(rt; told == is_one.then_some(times), "{times}");
+        let told = Weight::new(times).map(|weight| (weight.parts(), weight.times()));
+        assert!(rt; told == is_one.then_some((1, times)), "{times}");
     }
-    assert!(rt; Weight::ONE.get() == 1);
+    assert!(rt; Weight::new(1) == Some(Weight::ONE));
+}
+
+#[test]
+fn a_weight_is_10_to_100_tenths(rt: HostRuntime) {
+    for (tenths, ratio) in [
+        (0, None),
+        (9, None),
+        (10, Some((1, 1))),
+        (11, Some((10, 11))),
+        (13, Some((10, 13))),
+        (20, Some((1, 2))),
+        (99, Some((10, 99))),
+        (100, Some((1, 10))),
+        (101, None),
+        (255, None),
+    ] {
+        let told = Weight::of_tenths(tenths).map(|weight| (weight.parts(), weight.times()));
+        assert!(rt; told == ratio, "{tenths}");
+    }
 }
 
 #[test]

@@ -116,7 +116,7 @@ fn answer_of<F: Frontier + Drop, G: Game + Drop>(
     board: &Position,
 ) -> Answer {
     assert!(rt; board.fits(game.cells()));
-    let question = Question::new(game, method(rt, rule, 1, bound, 4000));
+    let question = Question::new(game, method(rt, rule, 10, bound, 4000));
     let mut search: Search<F, G> = sure(rt, Search::new_by(alloc, &question, board));
     sure(rt, search.run());
     sure(rt, search.answer())

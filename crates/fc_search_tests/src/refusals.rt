@@ -25,7 +25,7 @@ fn add(rt: &impl Abort, alloc: Global, batch: &mut Searches, text: &str, wanted:
     let game = free_cell(rt, 4);
     let start = board(rt, &game, text);
     let (bound, expansion) = KINDS[wanted % KINDS.len()];
-    let question = Question::new(&game, expanded(method(rt, 1, 1, bound, 100), expansion));
+    let question = Question::new(&game, expanded(method(rt, 1, 10, bound, 100), expansion));
     let search = match Search::new_by(alloc, &question, &start) {
         Ok(search) => search,
         Err(_refused) => sure(rt, Search::new_by(alloc, &question, &start)),

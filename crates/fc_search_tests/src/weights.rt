@@ -12,22 +12,24 @@ use fc_frontier::{EitherFrontier, Frontier, ListFrontier};
 use fc_home::settle;
 use fc_moves::{Game, Kings};
 use fc_position::Position;
-use fc_search::{Expansion, Method, Question, Search, Step, Unheard, Verdict, decide_by};
+use fc_search::{Expansion, Method, Question, Search, Step, Unheard, Verdict, Weight, decide_by};
 use std::alloc::Global;
 use std::process::Abort;
 
-const WEIGHTS: [u8; 4] = [1, 2, 3, 10];
+// In tenths.
+const WEIGHTS: [u8; 5] = [10, 13, 20, 30, 100];
 
 // Whether a verdict by a weight agrees with what was found, where the plain search had room enough: a list is of the least
 // length, or of at most so many times it.
-fn agrees(verdict: &Verdict, weight: u8, found: Found) -> bool {
+fn agrees(verdict: &Verdict, weight: Weight, found: Found) -> bool {
+    let (parts, times) = (usize::from(weight.parts()), usize::from(weight.times()));
     match (verdict, found) {
         (_, Found::GaveUp) => true,
         (Verdict::Shortest(list), Found::Shortest(moves)) => list.len() == moves,
         (Verdict::Won { moves: list, floor }, Found::Shortest(moves)) => {
             *floor as usize <= moves
                 && moves <= list.len()
-                && list.len() <= moves.saturating_mul(weight as usize)
+                && list.len().saturating_mul(parts) <= moves.saturating_mul(times)
         }
         (Verdict::CannotWin, Found::CannotWin) => true,
         _ => false,
@@ -35,26 +37,34 @@ fn agrees(verdict: &Verdict, weight: u8, found: Found) -> bool {
 }
 
 // The moves of a verdict win; a search by weight 1 alone says that none win in fewer.
-fn check_list<G: Game>(rt: &impl Abort, game: &G, board: &Position, weight: u8, verdict: &Verdict) {
+fn check_list<G: Game>(
+    rt: &impl Abort,
+    game: &G,
+    board: &Position,
+    weight: Weight,
+    verdict: &Verdict,
+) {
     match verdict {
         Verdict::Shortest(list) => {
-            assert!(rt; weight == 1, "said to be shortest by weight {weight}");
+            assert!(rt; weight == Weight::ONE, "said to be shortest by a weight");
             check_wins(rt, game, board, list);
         }
         Verdict::Won { moves, .. } => {
-            assert!(rt; weight > 1, "not said to be shortest by weight 1");
+            assert!(rt; weight != Weight::ONE, "not said to be shortest by weight 1");
             check_wins(rt, game, board, moves);
         }
         _ => {}
     }
 }
 
-// What a search says before its first turn: the home moves at its beginning, which count once, over the weight, rounded up,
-// and the bound of the board after them.
+// What a search says before its first turn: the home moves at its beginning, weighed, over how often a bound counts, rounded
+// up, and the bound of the board after them.
 fn least_at_first<G: Game>(game: &G, method: Method, board: &Position) -> u32 {
     let mut position = board.copy();
     let settling = settle(game, &mut position, method.rule.get());
-    let moves = (settling.len() as u32).div_ceil(u32::from(method.strategy.weight.get()));
+    let weight = method.strategy.weight;
+    let weighed = u32::from(weight.parts()).saturating_mul(settling.len() as u32);
+    let moves = weighed.div_ceil(u32::from(weight.times()));
     moves.saturating_add(u32::from(method.bound.guide(&position)))
 }
 
@@ -82,14 +92,16 @@ fn check_verdict<G: Game>(
     rt: &impl Abort,
     game: &G,
     board: &Position,
-    weight: u8,
+    weight: Weight,
     verdict: &Verdict,
     found: Found,
 ) {
     check_list(rt, game, board, weight, verdict);
     assert!(rt;
         agrees(verdict, weight, found),
-        "another answer by weight {weight}"
+        "another answer by weight {}/{}",
+        weight.times(),
+        weight.parts()
     );
 }
 
@@ -104,7 +116,7 @@ fn compare_turns<F: Frontier + Drop, G: Game + Drop>(
     requires fits { Fits question.now.game.cells board.now }
 {
     let game = question.game();
-    let weight = question.method().strategy.weight.get();
+    let weight = question.method().strategy.weight;
     let mut search: Search<F, G> = sure(rt, Search::new_by(alloc, question, board));
     let least = least_at_first(game, question.method(), board);
     assert!(rt; search.at_least() == least, "another least at first");
@@ -130,7 +142,7 @@ fn compare_search<F: Frontier + Drop, G: Game + Drop>(
 ) {
     assert!(rt; board.fits(game.cells()));
     let question = Question::new(game, method);
-    let weight = question.method().strategy.weight.get();
+    let weight = question.method().strategy.weight;
     compare_turns::<F, G>(rt, alloc, &question, board, found);
     let verdict = sure(rt, decide_by(alloc, &question, board, &mut Unheard));
     check_verdict(rt, game, board, weight, &verdict, found);

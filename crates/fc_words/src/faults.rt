@@ -11,6 +11,9 @@ pub enum WordsFault {
     /// The budget is no number.
     #[error("--budget is a number, such as 100000, 100_000, 100k, 4M or 1e6, or max")]
     NoBudget,
+    /// The weight is no number that is one.
+    #[error("--within is a number from 1 to 10, such as 2 or 1.3")]
+    NoWeight,
     /// The board and the moves are both to be read from standard input.
     #[error("BOARD and MOVES can't both be standard input")]
     OneInput,

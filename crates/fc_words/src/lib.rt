@@ -27,3 +27,4 @@ mod reading;
 mod subcommands;
 mod table;
 mod tasks;
+mod weights;

@@ -8,9 +8,10 @@ use crate::commands::{BoardWord, GameWords, MovesWord, SearchWords};
 use crate::expansions::{EXPANSION_NAMES, expansion_of_name, usual_expansion};
 use crate::faults::WordsFault;
 use crate::games::GameName;
+use crate::weights::weight_of;
 use clap::ArgMatches;
 use fc_home::GREATEST_RULE;
-use fc_methods::{BoundKind, Expansion, HomeRule, MOST_BUDGET, MOST_WEIGHT, Weight};
+use fc_methods::{BoundKind, Expansion, HomeRule, MOST_BUDGET, Weight};
 use fc_plain::read_count;
 
 /// What a word of a subcommand is.
@@ -131,16 +132,18 @@ fn rule(words: &ArgMatches<'_>) -> Option<HomeRule> {
 
 pub(crate) const WITHIN: Word = Word {
     name: "within",
-    kind: Kind::Number {
+    kind: Kind::Text {
         value: "W",
-        range: (1, MOST_WEIGHT),
-        default: "1",
+        default: Some("1"),
     },
-    help: "At most W times the fewest moves, 1 to 10; found far sooner",
+    help: "At most W times the fewest moves, 1 to 10 or as 1.3; far sooner",
 };
 
-fn weight(words: &ArgMatches<'_>) -> Option<Weight> {
-    Weight::new(words.get_one::<u8>(WITHIN.name)?)
+fn weight(words: &ArgMatches<'_>) -> Result<Weight, WordsFault> {
+    match words.get_str(WITHIN.name) {
+        Some(text) => weight_of(text.as_bytes()).ok_or(WordsFault::NoWeight),
+        None => Err(WordsFault::Missing),
+    }
 }
 
 pub(crate) const BOUND: Word = Word {
@@ -170,7 +173,8 @@ fn expansion(words: &ArgMatches<'_>, bound: BoundKind) -> Option<Expansion> {
 /// How the words ask to search.
 pub(crate) fn search(words: &ArgMatches<'_>) -> Result<SearchWords, WordsFault> {
     let budget = budget(words)?;
-    let (Some(rule), Some(weight), Some(bound)) = (rule(words), weight(words), bound(words)) else {
+    let weight = weight(words)?;
+    let (Some(rule), Some(bound)) = (rule(words), bound(words)) else {
         return Err(WordsFault::Missing);
     };
     let Some(expansion) = expansion(words, bound) else {

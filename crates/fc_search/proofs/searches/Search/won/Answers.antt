@@ -1,5 +1,6 @@
-use Rattle.std.proofs.Common.{◌≡◌, ◌∙◌, ◌≤◌, ap, subst, arith}
+use Rattle.std.proofs.Common.{◌≡◌, ◌∙◌, ◌<◌, ◌≤◌, ap, subst, arith}
 use Rattle.std.specs.List.Sorted.{IsPermutation}
+use Rattle.fc_best_first.specs.Limits.{IsEven, Ratio}
 use Rattle.fc_best_first.specs.Shown.{Holds}
 use Rattle.fc_answers.specs.declared.answers.Verdict.TheVariants as verdict
 use Rattle.fc_answers.specs.inner.Table.{inside}
@@ -17,30 +18,34 @@ returns-clause-answers g c =
     let store = c.args.self.now.store in
     let moves = c.in_ok-moves.moves in
     let table = c.in_ok-table-2.table in
-    let same : c.self.inside.search.strategy.weight ≡ q.method.strategy.weight = ap (λ s. s.problem.method.strategy.weight) c.self.view_is in
-    let value : c.get.result ≡ c.self.inside.search.strategy.weight = c.get.ensures.value ∙ ap (λ (v : Strategy). v.weight) c.strategy.ensures.value in
-    let least = c.strategy.ensures.weight.least in
-    let light : q.method.strategy.weight ≡ 1 = let few = c.if-get-gt1.false in omega (arith, same, value, least, few) in
+    let same : c.strategy-weight.result.weight ≡ q.method.strategy.weight =
+    ap (λ (v : Strategy). v.weight) c.strategy-weight.ensures.value ∙ ap (λ s. s.problem.method.strategy.weight) c.self.view_is in
+    let parts : c.parts.result ≡ q.method.strategy.weight.parts = c.parts.ensures.value ∙ ap (λ (w : Ratio). w.parts) same in
+    let times : c.times.result ≡ q.method.strategy.weight.times = c.times.ensures.value ∙ ap (λ (w : Ratio). w.times) same in
+    let range = c.known.ensures.weight in
+    let light : IsEven q.method.strategy.weight = let few = c.if-times-parts.false in omega (arith, parts, times, range, few) in
     let shortest = c.in_ok-moves.ensures.shortest light in
     let won = subst (λ s. IsOfStatus q store s (verdict.Shortest moves)) c.requires.done shortest.1 in
     let made = c.in_ok-table-2.ensures in record {
       told = shortest.0;
-      backed = backed_shortest q store c.known.ensures.fits light c.args.number moves table
+      backed = backed_shortest q store c.known.ensures.fits range.least light c.args.number moves table
           (subst (Holds (task_of_problem q) store) c.requires.done c.requires.held) won.0 won.1 won.2 won.3 made.rule made.bound made.known
           made.few made.rising (subst (λ n. IsPermutation (inside (guide_of q.method.bound) n (costs_of store)) table.rows) c.len.ensures.value made.rows);
       searched = (made.rule, made.bound);
     }
 
-pub returns-then-get-gt1-clause-answers : goal.returns-then-get-gt1-clause-answers
-returns-then-get-gt1-clause-answers g c =
+pub returns-then-times-parts-clause-answers : goal.returns-then-times-parts-clause-answers
+returns-then-times-parts-clause-answers g c =
     let q = c.args.self.now.problem in
     let store = c.args.self.now.store in
     let floor = c.floor_of-floor.result in
     let told = c.floor_of-floor.ensures.value in
-    let same : c.self.inside.search.strategy.weight ≡ q.method.strategy.weight = ap (λ s. s.problem.method.strategy.weight) c.self.view_is in
-    let value : c.get.result ≡ c.self.inside.search.strategy.weight = c.get.ensures.value ∙ ap (λ (v : Strategy). v.weight) c.strategy.ensures.value in
-    let many = c.if-get-gt1.true in
-    let heavy : 2 ≤ q.method.strategy.weight = omega (arith, same, value, many) in
+    let same : c.strategy-weight.result.weight ≡ q.method.strategy.weight =
+    ap (λ (v : Strategy). v.weight) c.strategy-weight.ensures.value ∙ ap (λ s. s.problem.method.strategy.weight) c.self.view_is in
+    let parts : c.parts.result ≡ q.method.strategy.weight.parts = c.parts.ensures.value ∙ ap (λ (w : Ratio). w.parts) same in
+    let times : c.times.result ≡ q.method.strategy.weight.times = c.times.ensures.value ∙ ap (λ (w : Ratio). w.times) same in
+    let many = c.if-times-parts.true in
+    let heavy : q.method.strategy.weight.parts < q.method.strategy.weight.times = omega (arith, parts, times, many) in
     let found = subst (Holds (task_of_problem q) store) c.requires.done c.requires.held in
     let holds = floor_holds q store c.known.ensures.fits c.args.number told.0 told.1 floor found told.2 told.3 in
     let made = c.in_ok-table.ensures in record {

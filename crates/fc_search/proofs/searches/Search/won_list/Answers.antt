@@ -15,8 +15,8 @@ returns-clause-shortest g c light =
     let there = c.in_ok-moves.ensures.there in
     let shows = subst (Shows (task_of_problem q) store) c.requires.done c.requires.shown in
     let found = subst (Holds (task_of_problem q) store) c.requires.done c.requires.held in
-    let won = won_length q store c.known.ensures.fits light c.args.number moves there.0 shows there.1 in (
-      shortest_verdict q store c.known.ensures.fits light c.args.number moves there.0
+    let won = won_length q store c.known.ensures.fits c.known.ensures.weight.least light c.args.number moves there.0 shows there.1 in (
+      shortest_verdict q store c.known.ensures.fits c.known.ensures.weight.least light c.args.number moves there.0
           c.known.ensures.rule c.known.ensures.budget.greatest found shows there.1,
       subst (λ s. IsOfStatus q store s (verdict.Shortest moves)) (sym c.requires.done)
           (won.0, won.1, won.2, won.3, light),
