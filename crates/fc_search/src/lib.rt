@@ -9,8 +9,7 @@ pub use fc_answers::{Answer, MoveList, Table, Verdict};
 pub use fc_best_first::{SearchFault, Step};
 pub use fc_methods::{
     BoundKind, Budget, Expansion, HomeRule, MOST_BUDGET, MOST_WEIGHT, Method, Question, Strategy,
-    TENTHS,
-    Weight,
+    TENTHS, Weight,
 };
 pub use fc_space::{Children, ClassRules, Positions};
 pub use listeners::{Listener, Progress, Unheard};
