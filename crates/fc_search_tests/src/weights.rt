@@ -50,7 +50,10 @@ fn check_list<G: Game>(
             check_wins(rt, game, board, list);
         }
         Verdict::Won { moves, .. } => {
-            assert!(rt; weight != Weight::ONE, "not said to be shortest by weight 1");
+            assert!(rt;
+                weight != Weight::ONE,
+                "not said to be shortest by weight 1"
+            );
             check_wins(rt, game, board, moves);
         }
         _ => {}

@@ -77,10 +77,11 @@ fn tell_words(rt: &HostRuntime, fault: &WordsFault) -> Result<u8, Ending> {
             let _told = usage.print(rt);
             Ok(if usage.exit_code() == 0 { 0 } else { REFUSED })
         }
-        WordsFault::NoBudget | WordsFault::NoWeight | WordsFault::OneInput | WordsFault::Missing => {
-            let _told = eprintln!(rt; "fc_solve: {fault}");
-            Ok(REFUSED)
-        }
+        WordsFault::NoBudget | WordsFault::NoWeight | WordsFault::OneInput | WordsFault::Missing =>
+            {
+                let _told = eprintln!(rt; "fc_solve: {fault}");
+                Ok(REFUSED)
+            }
     }
 }
 

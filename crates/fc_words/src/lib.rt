@@ -13,6 +13,7 @@ pub use faults::WordsFault;
 pub use games::GameName;
 pub use reading::read;
 pub use tasks::Task;
+pub use weights::weight_of;
 
 mod alone;
 mod bounds;

@@ -7,7 +7,7 @@ use fc_methods::{TENTHS, Weight};
 
 /// The weight that a text spells, a number from 1 to 10 with at most one digit behind a point, as in `2`, `2.0` and `1.3`;
 /// `None` for a text that spells none.
-pub(crate) fn weight_of(text: &[u8]) -> Option<Weight>
+pub fn weight_of(text: &[u8]) -> Option<Weight>
     ensures value { IfSome result (λ weight. (tenths : ℕ) × SpellsTenths text.now tenths × (TENTHS * weight.times ≡ tenths * weight.parts)) }
     ensures none { IfNone result ((tenths : ℕ) → SpellsTenths text.now tenths → tenths < TENTHS) }
 {
