@@ -136,7 +136,7 @@ pub(crate) const WITHIN: Word = Word {
         value: "W",
         default: Some("1"),
     },
-    help: "At most W times the fewest moves, 1 to 10 or as 1.3; far sooner",
+    help: "At most W times the fewest moves, 1.0 to 10.0; found far sooner",
 };
 
 fn weight(words: &ArgMatches<'_>) -> Result<Weight, WordsFault> {
