@@ -43,12 +43,7 @@ fn begun<F: Frontier + Drop, G: Game + Drop>(
 ) -> Search<ClassKey, F, Positions<G>> {
     let start = board(rt, &game, text);
     let most = budget(rt, classes);
-    let space = Positions::new(
-        alloc,
-        game,
-        Method::shortest(home_rule(rt, rule), most),
-        start,
-    );
+    let space = Positions::new(game, Method::shortest(home_rule(rt, rule), most), start);
     sure(
         rt,
         Search::new(alloc, space, Strategy::full(Weight::ONE, most)),
