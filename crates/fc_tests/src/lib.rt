@@ -9,6 +9,8 @@ mod canonical;
 #[cfg(test)]
 mod cards;
 #[cfg(test)]
+mod codes;
+#[cfg(test)]
 mod deals;
 #[cfg(test)]
 mod devices;

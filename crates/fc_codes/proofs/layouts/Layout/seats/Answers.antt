@@ -1,0 +1,14 @@
+use Rattle.std.proofs.Common.{length, ap, arith}
+use Rattle.fc_codes.proofs.GatherLemmas.{gather_none, gather_all, none_above}
+use Rattle.fc_codes.proofs.layouts.Layout.seats.Goals as goal
+
+pub loop-index-init : goal.loop-index-init
+loop-index-init c =
+    let new = c.new-seats.ensures in
+    gather_none c.args.self.now c.args.code.now c.new-seats.result (none_above c.new-seats.result.above 52 new.above)
+    (ap length new.above) new.deepest new.cells new.homes
+
+pub returns : goal.returns
+returns c = record {
+  value = gather_all c.args.self.now c.args.code.now c.loop-index.index c.loop-index.seats (omega arith) c.loop-index.invariant;
+}

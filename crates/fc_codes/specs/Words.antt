@@ -1,0 +1,28 @@
+-- Lists of 52 numbers below 8 in three words: 21, 21 and 10 numbers, three bits each, the first one lowest.
+use Rattle.std.specs.Prelude.{ℕ, zero, suc, ◌+◌, ◌*◌, ◌/◌, ◌%◌, ◌^◌, map, List, [], ◌∷◌, slice_index}
+use Rattle.fc_cards.specs.Card.{all_cards}
+
+-- three bits of a word
+abbrev pub digit : ℕ → ℕ → ℕ
+digit word i = word / 2 ^ (3 * i) % 8
+
+-- the word with so many numbers, by their places
+unfoldable pub packed : (ℕ → ℕ) → ℕ → ℕ
+packed f zero = 0
+packed f (suc n) = f 0 + 8 * packed (λ i. f (suc i)) n
+
+-- the number for a card
+abbrev pub read_state : List ℕ → ℕ → ℕ
+read_state words c = digit (slice_index words (c / 21)) (c % 21)
+
+-- the numbers in three words
+unfoldable pub unpacked : List ℕ → List ℕ
+unpacked words = map (read_state words) all_cards
+
+-- the word of so many numbers of a list from a place on
+abbrev pub word_of : List ℕ → ℕ → ℕ → ℕ
+word_of states from count = packed (λ i. slice_index states (from + i)) count
+
+-- the three words of such a list
+abbrev pub words_of : List ℕ → List ℕ
+words_of states = word_of states 0 21 ∷ word_of states 21 21 ∷ word_of states 42 10 ∷ []

@@ -1,0 +1,81 @@
+-- Three words and the list of numbers in them tell the same.
+use Rattle.std.specs.Prelude.{true, nat_eq}
+use Rattle.std.specs.Cmp.{unsigned_Decides}
+use Rattle.std.specs.Cmp.Lexicographic.{pointwise, pointwise_decides}
+use Rattle.std.proofs.Common.{◌≡◌, ℕ, zero, suc, ◌+◌, ◌*◌, ◌/◌, ◌%◌, ◌^◌, ◌<◌, ◌≤◌, List, [], ◌∷◌, length, get_or, refl, sym, ◌∙◌, ap, arith}
+use Rattle.std.proofs.lemmas.List.FromFn.{get_or-map-range_with_len, length-map-range_with_len}
+use Rattle.std.proofs.lemmas.Nat.{pow-add, shr-shr}
+use Rattle.fc_cards.specs.Card.{all_cards}
+use Rattle.fc_codes.specs.Words.{digit, packed, read_state, unpacked, word_of, words_of}
+use Rattle.fc_codes.specs.inner.Words.{AreWords}
+
+-- the place value of one number more
+pub place_value : (i : ℕ) → 2 ^ (3 * suc i) ≡ 8 * 2 ^ (3 * i)
+place_value i = let e : 3 * suc i ≡ 3 + 3 * i = omega arith in ap (λ k. 2 ^ k) e ∙ pow-add 2 3 (3 * i)
+
+pub digit-suc : (w i : ℕ) → digit w (suc i) ≡ digit (w / 8) i
+digit-suc w i =
+    let e : 3 * suc i ≡ 3 + 3 * i = omega arith in
+    ap (λ k. w / 2 ^ k % 8) e ∙ ap (λ n. n % 8) (sym (shr-shr w 3 (3 * i)))
+
+packed-same : (f g : ℕ → ℕ) (n : ℕ) → ((i : ℕ) → i < n → f i ≡ g i) → packed f n ≡ packed g n
+unfolding packed
+packed-same f g zero same = refl
+packed-same f g (suc n) same =
+    let rest = packed-same (λ i. f (suc i)) (λ i. g (suc i)) n (λ i below. same (suc i) (omega arith)) in
+    let first = same 0 (omega arith) in
+    omega (arith, rest, first)
+
+-- a word is packed of its numbers
+packed-digit : (n w : ℕ) → w < 2 ^ (3 * n) → packed (digit w) n ≡ w
+unfolding packed
+packed-digit zero w small = omega arith
+packed-digit (suc n) w small =
+    let value = place_value n in
+    let less : w / 8 < 2 ^ (3 * n) = omega (arith, value, small) in
+    let rest = packed-same (λ i. digit w (suc i)) (digit (w / 8)) n (λ i below. digit-suc w i) ∙ packed-digit n (w / 8) less in
+    omega (arith, rest)
+
+-- the number at a place
+pub unpacked-at : (words : List ℕ) (c : ℕ) → c < 52 → get_or (unpacked words) c 0 ≡ read_state words c
+unfolding unpacked all_cards
+unpacked-at words c below = get_or-map-range_with_len (read_state words) 0 52 c c 0 below (omega arith)
+
+pub length-unpacked : (words : List ℕ) → length (unpacked words) ≡ 52
+unfolding unpacked all_cards
+length-unpacked words = length-map-range_with_len (read_state words) 0 52
+
+-- a word of the list is the word
+word_back : (words : List ℕ) (k from n : ℕ) → n ≤ 21 → from ≡ 21 * k → from + n ≤ 52 → get_or words k 0 < 2 ^ (3 * n)
+    → word_of (unpacked words) from n ≡ get_or words k 0
+word_back words k from n few at within small =
+    packed-same (λ i. get_or (unpacked words) (from + i) 0) (digit (get_or words k 0)) n
+    (λ i below. let q : (from + i) / 21 ≡ k = omega arith in
+    let r : (from + i) % 21 ≡ i = omega arith in
+    unpacked-at words (from + i) (omega arith) ∙ ap (λ j. digit (get_or words j 0) ((from + i) % 21)) q
+    ∙ ap (digit (get_or words k 0)) r)
+    ∙ packed-digit n (get_or words k 0) small
+
+three_of : (xs : List ℕ) → length xs ≡ 3 → get_or xs 0 0 ∷ get_or xs 1 0 ∷ get_or xs 2 0 ∷ [] ≡ xs
+three_of (a ∷ b ∷ c ∷ []) l = refl
+three_of [] l = absurd (omega arith)
+three_of (a ∷ []) l = absurd (omega arith)
+three_of (a ∷ b ∷ []) l = absurd (omega arith)
+three_of (a ∷ b ∷ c ∷ d ∷ xs) l = absurd (omega arith)
+
+-- the words are told by the numbers in them
+pub words_back : (words : List ℕ) → AreWords words → words_of (unpacked words) ≡ words
+words_back words h =
+    let one = word_back words 0 0 21 (omega arith) refl (omega arith) h.first in
+    let two = word_back words 1 21 21 (omega arith) refl (omega arith) h.second in
+    let three = word_back words 2 42 10 (omega arith) refl (omega arith) h.third in
+    ap (λ x. x ∷ word_of (unpacked words) 21 21 ∷ word_of (unpacked words) 42 10 ∷ []) one
+    ∙ ap (λ x. get_or words 0 0 ∷ x ∷ word_of (unpacked words) 42 10 ∷ []) two
+    ∙ ap (λ x. get_or words 0 0 ∷ get_or words 1 0 ∷ x ∷ []) three ∙ three_of words h.three
+
+pub words_told : (words others : List ℕ) → AreWords words → AreWords others → unpacked words ≡ unpacked others → words ≡ others
+words_told words others h i e = sym (words_back words h) ∙ ap words_of e ∙ words_back others i
+
+-- lists of numbers that compare equal are the same
+pub states_exact : (x y : List ℕ) → pointwise nat_eq x y ≡ true → x ≡ y
+states_exact x y e = (pointwise_decides unsigned_Decides x y).0 e

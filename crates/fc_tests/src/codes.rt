@@ -1,0 +1,117 @@
+//! Codes of positions: what they spell after each move of a run, and that they tell classes.
+
+ghost use Rattle.std.specs.Prelude.{◌≡◌};
+ghost use Rattle.fc_position.specs.Position.{IsPosition};
+ghost use Rattle.fc_moves.specs.Step.{Allows};
+ghost use Rattle.fc_codes.specs.State.{IsCodeOf};
+
+use crate::boards::DEAL_ONE;
+use crate::given::{bakers_game, board, free_cell, move_of};
+use fc_canonical::canonical;
+use fc_codes::{Code, Layout};
+use fc_moves::{Game, Move, allows, apply, moves};
+use fc_position::Position;
+use std::process::Abort;
+
+// Makes a move from a position with this code, and tells the code after it, which must spell the canonical position.
+fn step<G: Game>(
+    rt: &impl Abort,
+    game: &G,
+    layout: &Layout,
+    code: &Code,
+    position: &mut Position,
+    m: Move,
+) -> Code
+    requires allowed { Allows (G.game game.now) position.old m }
+    requires code { IsCodeOf layout.now position.old code.now }
+    ensures code { IsCodeOf layout.now position.new result }
+    ensures whole { IsPosition position.new }
+{
+    let next = layout.moved(code, position, m);
+    apply(game, position, m);
+    let spelled = layout.position_of(&next);
+    assert!(rt; spelled.equals(&canonical(position)), "spells another");
+    let told = layout.code_of(position);
+    assert!(rt; told == Some(next), "has another");
+    next
+}
+
+// Makes moves, at each turn the one that stands at a place of the list of allowed ones, and each time so many places later.
+fn wander<G: Game>(rt: &impl Abort, game: &G, text: &str, turns: u8, later: u8) {
+    let mut position = board(rt, text);
+    let layout = Layout::new(&position);
+    let mut code = layout.start_code();
+    let mut place: u8 = 0;
+    for _ in 0..turns {
+        let list = moves(game, &position);
+        if let Some(m) = list.as_slice().get(place as usize) {
+            code = step(rt, game, &layout, &code, &mut position, *m);
+        }
+        place = place.wrapping_add(later) % 7;
+    }
+}
+
+#[test]
+fn spells_what_is_reached(rt: HostRuntime) {
+    wander(&rt, &free_cell(&rt, 4), DEAL_ONE, 80, 5);
+    wander(&rt, &free_cell(&rt, 4), DEAL_ONE, 80, 23);
+    wander(&rt, &bakers_game(&rt, 4), DEAL_ONE, 80, 11);
+    wander(&rt, &free_cell(&rt, 2), WITH_CELLS, 40, 3);
+}
+
+// Cards in the first cell and the third, and two columns behind an empty one.
+const WITH_CELLS: &str = "\
+    Foundations: H-J C-K D-K S-T\n\
+    Freecells: JS - KS\n\
+    :\n\
+    QH\n\
+    KH QS\n";
+
+// The code after the moves of a text, each of which must be allowed.
+fn code_after<G: Game>(rt: &impl Abort, game: &G, text: &str, list: &[u8]) -> Code {
+    let mut position = board(rt, text);
+    let layout = Layout::new(&position);
+    let mut code = layout.start_code();
+    for word in list.chunks(3) {
+        let m = move_of(rt, word.get(..2).expect(rt, "two letters"));
+        let is_allowed = allows(game, &position, m);
+        assert!(rt; is_allowed, "not allowed");
+        code = step(rt, game, &layout, &code, &mut position, m);
+    }
+    code
+}
+
+// Two lists of moves lead to one code, or to two.
+fn check_codes(rt: &impl Abort, text: &str, list: &[u8], other: &[u8], are_same: bool) {
+    let game = free_cell(rt, 4);
+    let code = code_after(rt, &game, text, list);
+    let second = code_after(rt, &game, text, other);
+    let is_same = code == second;
+    assert!(rt; is_same == are_same, "{text}");
+}
+
+#[test]
+fn tells_classes(rt: HostRuntime) {
+    // in which cells, and in which order, cards stand is all one
+    check_codes(&rt, DEAL_ONE, b"1a 2b", b"2c 1a", true);
+    check_codes(&rt, DEAL_ONE, b"1a 2b", b"1a 3b", false);
+    check_codes(&rt, DEAL_ONE, b"1a", b"", false);
+    // a card that comes back to where it stood
+    check_codes(&rt, WITH_CELLS, b"3b b3", b"", true);
+    check_codes(&rt, WITH_CELLS, b"2b b5", b"", true);
+    check_codes(&rt, WITH_CELLS, b"21", b"", true);
+    // and one that goes elsewhere
+    check_codes(&rt, WITH_CELLS, b"a2", b"", false);
+    check_codes(&rt, WITH_CELLS, b"3b b1", b"", false);
+    check_codes(&rt, WITH_CELLS, b"3b b1", b"3b b8", true);
+    check_codes(&rt, WITH_CELLS, b"ah", b"", false);
+}
+
+#[test]
+fn tells_boards_without_a_code(rt: HostRuntime) {
+    let layout = Layout::new(&board(&rt, WITH_CELLS));
+    assert!(rt; layout.code_of(&board(&rt, WITH_CELLS)) == Some(layout.start_code()));
+    assert!(rt; layout.code_of(&board(&rt, DEAL_ONE)).is_none());
+    let other = Layout::new(&board(&rt, DEAL_ONE));
+    assert!(rt; other.code_of(&board(&rt, WITH_CELLS)).is_some());
+}
