@@ -66,7 +66,7 @@ OWNERS = {
     "impl<K: Key, F: Frontier> Book<K, F> ": "Book",
     "impl<R: io::Read> Source for FromReader<R> ": "FromReaderSource",
     "impl<T: Drop> From<AllocFailed<T>> for Full ": "FullFromAllocFailed",
-    "impl<G: Game + Drop> Space<ClassKey> for Positions<G> ": "PositionsSpaceClassKey",
+    "impl<G: Game + Drop> Space<Code> for Positions<G> ": "PositionsSpaceCode",
     "impl<R: Read> Reading for R ": "AnyReading",
     "pub trait Frontier: Drop ": "Frontier",
 }

@@ -44,9 +44,11 @@ pub(crate) fn bound_of<K, S: Space<K>>(
     told: Option<u8>,
 ) -> u8
     requires reached { (d : ℕ) × Reached (S.graph space.now) key.now d }
+    requires owned { S.owns space.now walk.old }
     requires at { S.at walk.old key.now }
     requires told { IfSome told (λ bound. bound ≡ (S.graph space.now).bound key.now) }
     ensures value { result ≡ (S.graph space.now).bound key.now }
+    ensures owned { S.owns space.now walk.new }
     ensures rest { (children : List (Child K)) → S.rest walk.new children ↔ S.rest walk.old children }
     ensures left { S.left walk.new ≡ S.left walk.old }
 {
@@ -76,6 +78,7 @@ fn store_or_put_off<K: ExactKey, F: Frontier + Drop, S: Space<K>>(
     child: Child<K>,
 ) -> Result<Offered<K>, Full>
     requires reached { (d : ℕ) × Reached (S.graph space.now) child.key d }
+    requires owned { S.owns space.now walk.old }
     requires at { S.at walk.old child.key }
     requires told { TellsBound (S.graph space.now) child }
     requires new { IsNew book.old child.key }
@@ -83,6 +86,7 @@ fn store_or_put_off<K: ExactKey, F: Frontier + Drop, S: Space<K>>(
     requires partial { strategy.now.expansion ≡ Expansion.Partial }
     ensures offers { IfOk result (Offers strategy.now taken.now.f book.old book.new (candidate_of (record { graph = S.graph space.now; strategy = strategy.now }) taken.now.origin child)) }
     ensures near { IfOk result (IsPutOffNear (weighed strategy.now taken.now.origin)) }
+    ensures owned { S.owns space.now walk.new }
     ensures rest { (children : List (Child K)) → S.rest walk.new children ↔ S.rest walk.old children }
     ensures left { S.left walk.new ≡ S.left walk.old }
 {
@@ -115,6 +119,7 @@ pub(crate) fn offer<K: ExactKey, F: Frontier + Drop, S: Space<K>>(
     child: Child<K>,
 ) -> Result<Offered<K>, Full>
     requires reached { (d : ℕ) × Reached (S.graph space.now) child.key d }
+    requires owned { S.owns space.now walk.old }
     requires at { S.at walk.old child.key }
     requires told { TellsBound (S.graph space.now) child }
     requires room { length book.old.stored ≤ strategy.now.budget }
@@ -122,6 +127,7 @@ pub(crate) fn offer<K: ExactKey, F: Frontier + Drop, S: Space<K>>(
     requires low { taken.now.origin.cost ≤ MOST_COST * MOST_BUDGET }
     ensures offers { IfOk result (Offers strategy.now taken.now.f book.old book.new (candidate_of (record { graph = S.graph space.now; strategy = strategy.now }) taken.now.origin child)) }
     ensures near { IfOk result (IsPutOffNear (weighed strategy.now taken.now.origin)) }
+    ensures owned { S.owns space.now walk.new }
     ensures rest { (children : List (Child K)) → S.rest walk.new children ↔ S.rest walk.old children }
     ensures left { S.left walk.new ≡ S.left walk.old }
 {

@@ -69,7 +69,7 @@ impl<K: ExactKey, F: Frontier + Drop, S: Space<K> + Drop> Model for Search<K, F,
 
     ghost invariant = { λ s. IsWeight s.strategy.weight × IsBudget s.strategy.budget
         × Holds (record { graph = S.graph s.space; strategy = s.strategy }) s.book s.status
-        × IsFloor (S.graph s.space) s.strategy.weight s.floor };
+        × IsFloor (S.graph s.space) s.strategy.weight s.floor × S.owns s.space s.walk };
 }
 
 impl<K: ExactKey, F: Frontier + Drop, S: Space<K> + Drop> Search<K, F, S> {

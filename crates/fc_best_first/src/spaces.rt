@@ -26,6 +26,9 @@ pub trait Space<K> {
     // How many children are left.
     ghost left: { Self.Walk → ℕ };
 
+    // The walk is one of this space's own: it tells the children of its keys.
+    ghost owns: { Self → Self.Walk → Type 0 };
+
     // The walk stands at this key: the start, or the child that it told last.
     ghost at: { Self.Walk → K → Type 0 };
 
@@ -34,6 +37,7 @@ pub trait Space<K> {
         ensures starts { (graph self.now).starts result.0.key result.0.cost }
         ensures told { TellsBound (graph self.now) result.0 }
         ensures alone { (x : K) (d : ℕ) → (graph self.now).starts x d → (x ≡ result.0.key) × (result.0.cost ≤ d) }
+        ensures owned { owns self.now result.1 }
         ensures at { at result.1 result.0.key };
 
     /// Whether a key that was reached is won.
@@ -51,9 +55,11 @@ pub trait Space<K> {
     /// one that is new, or stored at more, where the child doesn't tell it. Most children are stored at no more already.
     fn bound_within(&self, walk: &mut Self::Walk, key: &K, most: u8) -> u8
         requires reached { (d : ℕ) × Reached (graph self.now) key.now d }
+        requires owned { owns self.now walk.old }
         requires at { at walk.old key.now }
         ensures under { result ≤ (graph self.now).bound key.now }
         ensures exact { result ≤ most → result ≡ (graph self.now).bound key.now }
+        ensures owned { owns self.now walk.new }
         ensures rest { (children : List (Child K)) → rest walk.new children ↔ rest walk.old children }
         ensures left { left walk.new ≡ left walk.old };
 
@@ -61,6 +67,8 @@ pub trait Space<K> {
     /// of those that were left.
     fn visit(&self, key: &K, walk: &mut Self::Walk) -> u8
         requires reached { (d : ℕ) × Reached (graph self.now) key.now d }
+        requires owned { owns self.now walk.old }
+        ensures owned { owns self.now walk.new }
         ensures bound { result ≡ (graph self.now).bound key.now }
         ensures children { (children : List (Child K)) → rest walk.new children → AreChildren (graph self.now) key.now children };
 
@@ -68,10 +76,14 @@ pub trait Space<K> {
     fn revisit(&self, key: &K, bound: u8, walk: &mut Self::Walk)
         requires reached { (d : ℕ) × Reached (graph self.now) key.now d }
         requires bound { bound ≡ (graph self.now).bound key.now }
+        requires owned { owns self.now walk.old }
+        ensures owned { owns self.now walk.new }
         ensures children { (children : List (Child K)) → rest walk.new children → AreChildren (graph self.now) key.now children };
 
     /// The next of the children that are left; whichever may follow it could follow it before.
     fn next(&self, walk: &mut Self::Walk) -> Option<Child<K>>
+        requires owned { owns self.now walk.old }
+        ensures owned { owns self.now walk.new }
         ensures next { MatchOption result (rest walk.old [])
             (λ child. (children : List (Child K)) → rest walk.new children → rest walk.old (child ∷ children)) }
         ensures some { (children : List (Child K)) × rest walk.new children }

@@ -62,10 +62,12 @@ fn expand<K: ExactKey, F: Frontier + Drop, S: Space<K>>(
     requires room { length book.old.stored ≤ strategy.now.budget }
     requires noted { AreNoted strategy.now.expansion (S.graph space.now) book.old }
     requires low { taken.now.origin.cost ≤ MOST_COST * MOST_BUDGET }
+    requires owned { S.owns space.now walk.old }
     requires reached { (children : List (Child K)) → S.rest walk.old children → AreReached (S.graph space.now) children }
     ensures expands { IfOk result (λ placing. (children : List (Child K)) × S.rest walk.old children × Expands (record { graph = S.graph space.now; strategy = strategy.now }) taken.now.f taken.now.origin children book.old book.new placing) }
     ensures near { IfOk result (IsLaterNear strategy.now.expansion taken.now.f (weighed strategy.now taken.now.origin)) }
     ensures noted { IfOk result (λ placing. AreNoted strategy.now.expansion (S.graph space.now) book.new) }
+    ensures owned { S.owns space.now walk.new }
 {
     let mut later: Option<u32> = None;
     while let Some(child) = space.next(walk) {
@@ -92,7 +94,9 @@ fn visit_present<K, S: Space<K>>(
     noted: Option<Opening>,
 ) -> bool
     requires reached { (d : ℕ) × Reached (S.graph space.now) key.now d }
+    requires owned { S.owns space.now walk.old }
     requires noted { IfSome noted (λ opening. opening.bound ≡ (S.graph space.now).bound key.now) }
+    ensures owned { S.owns space.now walk.new }
     ensures children { IsTrue result → (children : List (Child K)) → S.rest walk.new children → AreChildren (S.graph space.now) key.now children }
     ensures present { MatchOption noted (IsTrue result ↔ (over ≤ weight.times * (S.graph space.now).bound key.now)) (λ opening. IsTrue result ↔ (over ≡ opening.over)) }
 {
@@ -141,9 +145,11 @@ pub(crate) fn advance<K: ExactKey, F: Frontier + Drop, S: Space<K>>(
     strategy: &Strategy,
     floor: &mut u32,
 ) -> Result<Status<K>, Full>
+    requires owned { S.owns space.now walk.old }
     requires kept { IsKept (record { graph = S.graph space.now; strategy = strategy.now }) book.old }
     ensures takes { IfOk result (Advances (record { graph = S.graph space.now; strategy = strategy.now }) book.old book.new) }
     ensures floor { TakesFloor book.old.waiting floor.old floor.new }
+    ensures owned { S.owns space.now walk.new }
 {
     // Its range, by which no cost of a stored key is past a number's room.
     let _ = strategy.budget.get();

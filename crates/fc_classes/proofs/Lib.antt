@@ -1,3 +1,4 @@
+pub mod NamingLemmas
 pub mod PaddedLemmas
 pub mod PathLemmas
 pub mod TableLemmas

@@ -1,4 +1,4 @@
--- What a reached key spells, and what leads to it.
+-- What a reached name spells, and what leads to it.
 use Rattle.std.proofs.Common.{◌≡◌, ℕ, zero, suc, ◌+◌, ◌≤◌, List, [], ◌∷◌, ◌++◌, length, refl, sym, ◌∙◌, subst, arith}
 use Rattle.std.proofs.lemmas.List.{length-append}
 use Rattle.fc_position.specs.Board.{Board}
@@ -13,32 +13,33 @@ use Rattle.fc_home.specs.Settles.{Settles, SettlesBy, sent_home}
 use Rattle.fc_home.proofs.MateLemmas.{class_settle}
 use Rattle.fc_home.proofs.SettleLemmas.{settles_keep, settles_run, settled_stays, sent_position, total, total-most, turn_total}
 use Rattle.fc_best_first.specs.Graph.{Reached, ReachedBy}
+use Rattle.fc_classes.specs.Namings.{Naming, IsNaming}
 use Rattle.fc_classes.specs.Classes.{SettlesTo, LeadsTo, classes}
-use Rattle.fc_canonical.specs.Spelled.{IsKeyIn, spelled}
-use Rattle.fc_classes.specs.Laws.{ReachedKeysAreOfPositions, ReachedKeysAreRunTo}
-use Rattle.fc_canonical.proofs.SpelledLemmas.{key_spells}
+use Rattle.fc_classes.specs.Laws.{ReachedNamesAreOfPositions, ReachedNamesAreRunTo}
 
 -- what settles by no move stays as it is
 pub settles_none : (g : GameRules) (rule : ℕ) (b q : Board) → Settles g rule b 0 q → q ≡ b
 settles_none g rule b q ([], long, (same, none)) = same
 settles_none g rule b q (m ∷ ms, long, by) = absurd (omega (arith, long))
 
--- the key of what a position of the game settles to spells a canonical position, which is settled
-settled_key : (g : GameRules) (rule : ℕ) (z : Board) (count : ℕ) (x : List ℕ) → IsPositionOf g z → SettlesTo g rule z count x
-    → IsKeyIn g x × Settles g rule (spelled x) 0 (spelled x)
-settled_key g rule z count x p (q, settles, key) =
-    let k = key_spells g q x (settles_keep g rule z q count p settles) key in
-    let mate = class_settle g rule q (spelled x) q 0 k.1 (settled_stays g rule z q count settles) in
-    (k.0, subst (Settles g rule (spelled x) 0) (settles_none g rule (spelled x) mate.0 mate.1) mate.1)
+-- the name of what a position of the game settles to spells a canonical position, which is settled
+settled_name : (naming : Naming) (g : GameRules) (rule : ℕ) (p z : Board) (count : ℕ) (x : List ℕ) → IsNaming naming g p
+    → IsPositionOf g z → SettlesTo naming g rule z count x
+    → naming.valid g x × Settles g rule (naming.spelled x) 0 (naming.spelled x)
+settled_name naming g rule p z count x good pz (q, settles, name) =
+    let k = good.spells q x (settles_keep g rule z q count pz settles) name in
+    let mate = class_settle g rule q (naming.spelled x) q 0 k.1 (settled_stays g rule z q count settles) in
+    (k.0, subst (Settles g rule (naming.spelled x) 0) (settles_none g rule (naming.spelled x) mate.0 mate.1) mate.1)
 
-reached_spells : (edges : ℕ) (low : Board → ℕ) (g : GameRules) (rule : ℕ) (p : Board) (x : List ℕ) (cost : ℕ) → IsPositionOf g p
-    → ReachedBy edges (classes low g rule p) x cost → IsKeyIn g x × Settles g rule (spelled x) 0 (spelled x)
-reached_spells zero low g rule p x cost pp h = settled_key g rule p cost x pp h
-reached_spells (suc edges) low g rule p x cost pp (w, d, c, h, (kw, (m, z, count, step, to, paid)), e) =
-    settled_key g rule z count x (step_keeps g (spelled w) z m kw.position step) to
+reached_spells : (edges : ℕ) (naming : Naming) (low : Board → ℕ) (g : GameRules) (rule : ℕ) (p : Board) (x : List ℕ) (cost : ℕ)
+    → IsNaming naming g p → IsPositionOf g p → ReachedBy edges (classes naming low g rule p) x cost
+    → naming.valid g x × Settles g rule (naming.spelled x) 0 (naming.spelled x)
+reached_spells zero naming low g rule p x cost good pp h = settled_name naming g rule p p cost x good pp h
+reached_spells (suc edges) naming low g rule p x cost good pp (w, d, c, h, (kw, (m, z, count, step, to, paid)), e) =
+    settled_name naming g rule p z count x good (step_keeps g (naming.spelled w) z m (good.valid w kw).position step) to
 
-pub reached_of_positions : ReachedKeysAreOfPositions
-reached_of_positions low g rule p x cost pp h = reached_spells h.0 low g rule p x cost pp h.1
+pub reached_of_positions : (naming : Naming) → ReachedNamesAreOfPositions naming
+reached_of_positions naming low g rule p x cost good pp h = reached_spells h.0 naming low g rule p x cost good pp h.1
 
 -- runs are joined
 pub run_on : (g : GameRules) (b c d : Board) (ms ns : List Move) → Run g b ms c → Run g c ns d → Run g b (ms ++ ns) d
@@ -55,35 +56,39 @@ run_mate g b c x (m ∷ ms) p q s (mid, step, rest) =
     let long : length (n.0 ∷ later.0) ≡ length (m ∷ ms) = omega (arith, later.2) in
     (n.0 ∷ later.0, later.1, long, (n.1, n.2, later.3), later.4)
 
-reached_run : (edges : ℕ) (low : Board → ℕ) (g : GameRules) (rule : ℕ) (p : Board) (x : List ℕ) (cost : ℕ) → IsPositionOf g p
-    → ReachedBy edges (classes low g rule p) x cost
-    → (ms : List Move) × (b : Board) × (length ms ≡ cost) × Run g p ms b × SameClass b (spelled x)
-reached_run zero low g rule p x cost pp (q, (ms, long, by), key) =
-    (ms, q, long, settles_run g rule p q ms by, (key_spells g q x (settles_keep g rule p q cost pp (ms, long, by)) key).1)
-reached_run (suc edges) low g rule p x cost pp (w, d, c, h, (kw, (m, z, count, step, (q, (ns, long, by), key), paid)), e) =
-    let before = reached_run edges low g rule p w d pp h in
-    let pz = step_keeps g (spelled w) z m kw.position step in
+reached_run : (edges : ℕ) (naming : Naming) (low : Board → ℕ) (g : GameRules) (rule : ℕ) (p : Board) (x : List ℕ) (cost : ℕ)
+    → IsNaming naming g p → IsPositionOf g p → ReachedBy edges (classes naming low g rule p) x cost
+    → (ms : List Move) × (b : Board) × (length ms ≡ cost) × Run g p ms b × SameClass b (naming.spelled x)
+reached_run zero naming low g rule p x cost good pp (q, (ms, long, by), name) =
+    (ms, q, long, settles_run g rule p q ms by, (good.spells q x (settles_keep g rule p q cost pp (ms, long, by)) name).1)
+reached_run (suc edges) naming low g rule p x cost good pp
+    (w, d, c, h, (kw, (m, z, count, step, (q, (ns, long, by), name), paid)), e) =
+    let at = naming.spelled w in
+    let pw = (good.valid w kw).position in
+    let before = reached_run edges naming low g rule p w d good pp h in
+    let pz = step_keeps g at z m pw step in
     let pb = run_keeps g p before.1 before.0 pp before.3 in
-    let run : Run g (spelled w) (m ∷ ns) q = (z, step, settles_run g rule z q ns by) in
-    let mate = run_mate g (spelled w) before.1 q (m ∷ ns) kw.position pb (class-sym before.1 (spelled w) before.4) run in
-    let same = (key_spells g q x (settles_keep g rule z q count pz (ns, long, by)) key).1 in
+    let run : Run g at (m ∷ ns) q = (z, step, settles_run g rule z q ns by) in
+    let mate = run_mate g at before.1 q (m ∷ ns) pw pb (class-sym before.1 at before.4) run in
+    let same = (good.spells q x (settles_keep g rule z q count pz (ns, long, by)) name).1 in
     let size : length (before.0 ++ mate.0) ≡ cost =
     omega (arith, length-append before.0 mate.0, before.2, mate.2, long, paid, e) in (
       before.0 ++ mate.0,
       mate.1,
       size,
       run_on g p before.1 mate.1 before.0 mate.0 before.3 mate.3,
-      class-trans mate.1 q (spelled x) (class-sym q mate.1 mate.4) same,
+      class-trans mate.1 q (naming.spelled x) (class-sym q mate.1 mate.4) same,
     )
 
-pub reached_run_to : ReachedKeysAreRunTo
-reached_run_to low g rule p x cost pp h = reached_run h.0 low g rule p x cost pp h.1
+pub reached_run_to : (naming : Naming) → ReachedNamesAreRunTo naming
+reached_run_to naming low g rule p x cost good pp h = reached_run h.0 naming low g rule p x cost good pp h.1
 
--- so a list of as many moves as a won key is reached at wins
-pub reached_wins : (low : Board → ℕ) (g : GameRules) (rule : ℕ) (p : Board) (x : List ℕ) (cost : ℕ) → IsPositionOf g p
-    → Reached (classes low g rule p) x cost → IsWon (spelled x) → WinsIn g p cost
-reached_wins low g rule p x cost pp h won =
-    let run = reached_run_to low g rule p x cost pp h in
+-- so a list of as many moves as a won name is reached at wins
+pub reached_wins : (naming : Naming) (low : Board → ℕ) (g : GameRules) (rule : ℕ) (p : Board) (x : List ℕ) (cost : ℕ)
+    → IsNaming naming g p → IsPositionOf g p → Reached (classes naming low g rule p) x cost → IsWon (naming.spelled x)
+    → WinsIn g p cost
+reached_wins naming low g rule p x cost good pp h won =
+    let run = reached_run_to naming low g rule p x cost good pp h in
     (run.0, run.2, (run.1, run.3, run.4.homes ∙ won))
 
 -- settling has at most 52 moves
@@ -96,14 +101,15 @@ settles_few g rule b q (m ∷ ms) p (c, first, home, rest) =
     let later = settles_few g rule next q ms (sent_position rule g b m.from c p first) rest in
     omega (arith, more.0, later)
 
-pub settling_few : (g : GameRules) (rule : ℕ) (b : Board) (count : ℕ) (x : List ℕ) → IsPosition b → SettlesTo g rule b count x
-    → count ≤ 52
-settling_few g rule b count x p (q, (ms, long, by), key) =
+pub settling_few : (naming : Naming) (g : GameRules) (rule : ℕ) (b : Board) (count : ℕ) (x : List ℕ) → IsPosition b
+    → SettlesTo naming g rule b count x → count ≤ 52
+settling_few naming g rule b count x p (q, (ms, long, by), name) =
     let few = settles_few g rule b q ms p by in omega (arith, few, long)
 
 -- so an edge costs 1 to 53
-pub edge_costs : (g : GameRules) (rule : ℕ) (x : List ℕ) (c : ℕ) (y : List ℕ) → LeadsTo g rule x c y → (1 ≤ c) × (c ≤ 53)
-edge_costs g rule x c y (k, (m, z, count, step, to, paid)) =
-    let pz = step_keeps g (spelled x) z m k.position step in
-    let few = settling_few g rule z count y pz.position to in
+pub edge_costs : (naming : Naming) (g : GameRules) (rule : ℕ) (p : Board) → IsNaming naming g p
+    → (x : List ℕ) (c : ℕ) (y : List ℕ) → LeadsTo naming g rule x c y → (1 ≤ c) × (c ≤ 53)
+edge_costs naming g rule p good x c y (k, (m, z, count, step, to, paid)) =
+    let pz = step_keeps g (naming.spelled x) z m (good.valid x k).position step in
+    let few = settling_few naming g rule z count y pz.position to in
     (omega (arith, paid), omega (arith, paid, few))

@@ -1,4 +1,4 @@
--- Tables of keys are tables of boards, and what closes the one closes the other.
+-- Tables of names are tables of boards, and what closes the one closes the other.
 use Rattle.std.proofs.Common.{◌≡◌, ℕ, zero, suc, ◌+◌, ◌<◌, List, [], ◌∷◌, refl, sym, ◌∙◌, ap, subst, inl, inr, ⊎_elim, arith}
 use Rattle.std.specs.Prelude.{Contains}
 use Rattle.std.proofs.lemmas.List.Elements.{Contains-append_right}
@@ -14,94 +14,102 @@ use Rattle.fc_tables.specs.Table as boards
 use Rattle.fc_tables.proofs.LookLemmas.{one_enough}
 use Rattle.fc_tables.proofs.TableLemmas.{inside_long}
 use Rattle.fc_best_first.specs.Graph.{IsClosedInside, Covers}
-use Rattle.fc_tables.specs.Table.{as_boards}
 use Rattle.fc_bound.specs.LowerBound.{IsLowerBound}
+use Rattle.fc_classes.specs.Namings.{Naming, IsNaming}
+use Rattle.fc_classes.specs.inner.Boards.{boards_by}
 use Rattle.fc_classes.specs.Classes.{classes}
-use Rattle.fc_canonical.specs.Spelled.{spelled}
 use Rattle.fc_classes.specs.Laws.{ClassesAreLawful}
-use Rattle.fc_canonical.proofs.SpelledLemmas.{key_spells}
-use Rattle.fc_canonical.proofs.SortLemmas.{has_key}
+use Rattle.fc_classes.proofs.NamingLemmas.{named_settled}
 use Rattle.fc_classes.proofs.PathLemmas.{reached_of_positions, reached_wins, settling_few, edge_costs}
 
 -- what the one lists, the other does
-pub board_listed : (table : List (List ℕ × ℕ)) (x : List ℕ) (d : ℕ) → Contains table (x, d) → Contains (as_boards table) (spelled x, d)
-board_listed [] x d (k, lt, e) = absurd (omega (arith, lt))
-board_listed (f ∷ table) x d (zero, lt, e) = (0, omega arith, ap (λ h. (spelled h.0, h.1)) e)
-board_listed (f ∷ table) x d (suc k, lt, e) =
-    Contains-append_right ((spelled f.0, f.1) ∷ []) (as_boards table) (spelled x, d)
-    (board_listed table x d (k, omega (arith, lt), e))
+pub board_listed : (naming : Naming) (table : List (List ℕ × ℕ)) (x : List ℕ) (d : ℕ) → Contains table (x, d)
+    → Contains (boards_by naming table) (naming.spelled x, d)
+board_listed naming [] x d (k, lt, e) = absurd (omega (arith, lt))
+board_listed naming (f ∷ table) x d (zero, lt, e) = (0, omega arith, ap (λ h. (naming.spelled h.0, h.1)) e)
+board_listed naming (f ∷ table) x d (suc k, lt, e) =
+    Contains-append_right ((naming.spelled f.0, f.1) ∷ []) (boards_by naming table) (naming.spelled x, d)
+    (board_listed naming table x d (k, omega (arith, lt), e))
 
-pub key_listed : (table : List (List ℕ × ℕ)) (e : Board × ℕ) → Contains (as_boards table) e
-    → (x : List ℕ) × (d : ℕ) × Contains table (x, d) × (e ≡ (spelled x, d))
-key_listed [] e (k, lt, same) = absurd (omega (arith, lt))
-key_listed (f ∷ table) e (zero, lt, same) = (f.0, f.1, (0, omega arith, refl), sym same)
-key_listed (f ∷ table) e (suc k, lt, same) =
-    let rest = key_listed table e (k, omega (arith, lt), same) in
+pub name_listed : (naming : Naming) (table : List (List ℕ × ℕ)) (e : Board × ℕ) → Contains (boards_by naming table) e
+    → (x : List ℕ) × (d : ℕ) × Contains table (x, d) × (e ≡ (naming.spelled x, d))
+name_listed naming [] e (k, lt, same) = absurd (omega (arith, lt))
+name_listed naming (f ∷ table) e (zero, lt, same) = (f.0, f.1, (0, omega arith, refl), sym same)
+name_listed naming (f ∷ table) e (suc k, lt, same) =
+    let rest = name_listed naming table e (k, omega (arith, lt), same) in
     (rest.0, rest.1, Contains-append_right (f ∷ []) table (rest.0, rest.1) rest.2, rest.3)
 
--- what the table of keys covers by a key of the position, the table of boards covers
-covers_board : (low : Board → ℕ) (g : GameRules) (rule : ℕ) (p : Board) (n : ℕ) (table : List (List ℕ × ℕ)) (q : Board) (y : List ℕ) (cost : ℕ)
-    → IsLowerBound low → SameClass q (spelled y) → Covers (classes low g rule p) n table y cost → boards.Covered low n (as_boards table) q cost
-covers_board low g rule p n table q y cost lower same covers =
-    ⊎_elim (λ far. let equal = lower.alike q (spelled y) same in inl (omega (arith, far, equal)))
-    (λ (d, listed, le). inr ((spelled y, d), board_listed table y d listed, same, le)) covers
+-- what the table of names covers by a name of the position, the table of boards covers
+covers_board : (naming : Naming) (low : Board → ℕ) (g : GameRules) (rule : ℕ) (p : Board) (n : ℕ) (table : List (List ℕ × ℕ))
+    (q : Board) (y : List ℕ) (cost : ℕ) → IsLowerBound low → SameClass q (naming.spelled y)
+    → Covers (classes naming low g rule p) n table y cost → boards.Covered low n (boards_by naming table) q cost
+covers_board naming low g rule p n table q y cost lower same covers =
+    ⊎_elim (λ far. let equal = lower.alike q (naming.spelled y) same in inl (omega (arith, far, equal)))
+    (λ (d, listed, le). inr ((naming.spelled y, d), board_listed naming table y d listed, same, le)) covers
 
 -- so does what starts
-starts_board : (low : Board → ℕ) (g : GameRules) (rule : ℕ) (p : Board) (n : ℕ) (table : List (List ℕ × ℕ)) → IsLowerBound low → IsPositionOf g p
-    → IsClosedInside (classes low g rule p) n table → (q : Board) (k : ℕ) → Settles g rule p k q
-    → boards.Covered low n (as_boards table) q k
-starts_board low g rule p n table lower pp closed q k settles =
-    let key = has_key q in
-    let same = (key_spells g q key.0 (settles_keep g rule p q k pp settles) key.1).1 in
-    covers_board low g rule p n table q key.0 k lower same (closed.starts key.0 k (q, settles, key.1))
+starts_board : (naming : Naming) (low : Board → ℕ) (g : GameRules) (rule : ℕ) (p : Board) (n : ℕ) (table : List (List ℕ × ℕ))
+    → IsNaming naming g p → IsLowerBound low → IsPositionOf g p → IsClosedInside (classes naming low g rule p) n table
+    → (q : Board) (k : ℕ) → Settles g rule p k q → boards.Covered low n (boards_by naming table) q k
+starts_board naming low g rule p n table good lower pp closed q k settles =
+    let name = named_settled naming g rule p p q k good pp good.start settles in
+    let same = (good.spells q name.0 (settles_keep g rule p q k pp settles) name.1).1 in
+    covers_board naming low g rule p n table q name.0 k lower same (closed.starts name.0 k (q, settles, name.1))
 
 -- and what the steps of a listed position lead to
-steps_board : (low : Board → ℕ) (g : GameRules) (rule : ℕ) (p : Board) (n : ℕ) (table : List (List ℕ × ℕ)) → IsLowerBound low → IsPositionOf g p
-    → IsClosedInside (classes low g rule p) n table → (x : List ℕ) (d : ℕ) → Contains table (x, d) → d + low (spelled x) < n
-    → boards.ClassesCovered (boards.Covered low n (as_boards table)) g rule (spelled x) d
-steps_board low g rule p n table lower pp closed x d listed inside m y step =
-    let valid = (reached_of_positions low g rule p x d pp (closed.reached x d listed)).0 in
-    let py = step_keeps g (spelled x) y m valid.position step in
+steps_board : (naming : Naming) (low : Board → ℕ) (g : GameRules) (rule : ℕ) (p : Board) (n : ℕ) (table : List (List ℕ × ℕ))
+    → IsNaming naming g p → IsLowerBound low → IsPositionOf g p → IsClosedInside (classes naming low g rule p) n table
+    → (x : List ℕ) (d : ℕ) → Contains table (x, d) → d + low (naming.spelled x) < n
+    → boards.ClassesCovered (boards.Covered low n (boards_by naming table)) g rule (naming.spelled x) d
+steps_board naming low g rule p n table good lower pp closed x d listed inside m y step =
+    let at = naming.spelled x in
+    let valid = (reached_of_positions naming low g rule p x d good pp (closed.reached x d listed)).0 in
+    let is = good.valid x valid in
+    let py = step_keeps g at y m is.position step in
     let way = every_settles g rule y in
     let k = way.0 in
     let z = way.1 in
-    let key = has_key z in
-    let same = (key_spells g z key.0 (settles_keep g rule y z k py way.2) key.1).1 in
-    let covers = closed.edges x d (1 + k) key.0 listed inside (valid, (m, y, k, step, (z, way.2, key.1), refl)) in
+    let name = named_settled naming g rule p y z k good py (good.steps at y m x is.position is.own step) way.2 in
+    let same = (good.spells z name.0 (settles_keep g rule y z k py way.2) name.1).1 in
+    let covers = closed.edges x d (1 + k) name.0 listed inside (valid, (m, y, k, step, (z, way.2, name.1), refl)) in
     let cost : d + (1 + k) ≡ d + 1 + k = omega arith in
-    let covered = covers_board low g rule p n table z key.0 (d + (1 + k)) lower same covers in
-    (m, y, z, k, step, class-refl y, way.2, subst (boards.Covered low n (as_boards table) z) cost covered)
+    let covered = covers_board naming low g rule p n table z name.0 (d + (1 + k)) lower same covers in
+    (m, y, z, k, step, class-refl y, way.2, subst (boards.Covered low n (boards_by naming table) z) cost covered)
 
 -- of the listed boards
-pub closed_board : (low : Board → ℕ) (g : GameRules) (rule : ℕ) (p : Board) (n : ℕ) (table : List (List ℕ × ℕ)) → IsLowerBound low → IsPositionOf g p
-    → IsClosedInside (classes low g rule p) n table → boards.IsClosedInside low g rule p n (as_boards table)
-closed_board low g rule p n table lower pp closed = record {
+pub closed_board : (naming : Naming) (low : Board → ℕ) (g : GameRules) (rule : ℕ) (p : Board) (n : ℕ) (table : List (List ℕ × ℕ))
+    → IsNaming naming g p → IsLowerBound low → IsPositionOf g p → IsClosedInside (classes naming low g rule p) n table
+    → boards.IsClosedInside low g rule p n (boards_by naming table)
+closed_board naming low g rule p n table good lower pp closed = record {
   not_won = λ e listed inside won.
-      let key = key_listed table e listed in
-      let board : e.0 ≡ spelled key.0 = ap (λ f. f.0) key.3 in
-      let cost : e.1 ≡ key.1 = ap (λ f. f.1) key.3 in
-      let bounds : low e.0 ≡ low (spelled key.0) = ap low board in
-      closed.not_won key.0 key.1 key.2 (omega (arith, inside, cost, bounds)) (sym (ap (λ b. b.homes) board) ∙ won);
-  start = starts_board low g rule p n table lower pp closed;
+      let name = name_listed naming table e listed in
+      let board : e.0 ≡ naming.spelled name.0 = ap (λ f. f.0) name.3 in
+      let cost : e.1 ≡ name.1 = ap (λ f. f.1) name.3 in
+      let bounds : low e.0 ≡ low (naming.spelled name.0) = ap low board in
+      closed.not_won name.0 name.1 name.2 (omega (arith, inside, cost, bounds)) (sym (ap (λ b. b.homes) board) ∙ won);
+  start = starts_board naming low g rule p n table good lower pp closed;
   steps = λ e x listed px same inside.
-      let key = key_listed table e listed in
-      let board : e.0 ≡ spelled key.0 = ap (λ f. f.0) key.3 in
-      let cost : e.1 ≡ key.1 = ap (λ f. f.1) key.3 in
-      let valid = (reached_of_positions low g rule p key.0 key.1 pp (closed.reached key.0 key.1 key.2)).0 in
-      let mates : SameClass x (spelled key.0) = subst (SameClass x) board same in
-      let equal = lower.alike x (spelled key.0) mates in
-      let all = (one_enough low g rule n (as_boards table) (spelled key.0) x key.1 lower valid.position px (class-sym x (spelled key.0) mates)).0
-      (steps_board low g rule p n table lower pp closed key.0 key.1 key.2 (omega (arith, inside, cost, equal))) in
-      subst (boards.StepsCovered (boards.Covered low n (as_boards table)) g rule x) (sym cost) all;
+      let name = name_listed naming table e listed in
+      let at = naming.spelled name.0 in
+      let board : e.0 ≡ at = ap (λ f. f.0) name.3 in
+      let cost : e.1 ≡ name.1 = ap (λ f. f.1) name.3 in
+      let valid = (reached_of_positions naming low g rule p name.0 name.1 good pp (closed.reached name.0 name.1 name.2)).0 in
+      let mates : SameClass x at = subst (SameClass x) board same in
+      let equal = lower.alike x at mates in
+      let all = (one_enough low g rule n (boards_by naming table) at x name.1 lower (good.valid name.0 valid).position px
+      (class-sym x at mates)).0
+      (steps_board naming low g rule p n table good lower pp closed name.0 name.1 name.2 (omega (arith, inside, cost, equal))) in
+      subst (boards.StepsCovered (boards.Covered low n (boards_by naming table)) g rule x) (sym cost) all;
 }
 
 -- so the classes of a game's positions are a lawful question
-pub lawful : ClassesAreLawful
-lawful low g rule p lower pp = record {
-  answers = λ x d reached won. reached_wins low g rule p x d pp reached won;
+pub lawful : (naming : Naming) → ClassesAreLawful naming
+lawful naming low g rule p good lower pp = record {
+  answers = λ x d reached won. reached_wins naming low g rule p x d good pp reached won;
   closed = λ n table closed m (ms, long, wins).
-      let far = inside_long low g rule p n (as_boards table) ms lower pp (closed_board low g rule p n table lower pp closed) wins in
+      let far = inside_long low g rule p n (boards_by naming table) ms lower pp
+      (closed_board naming low g rule p n table good lower pp closed) wins in
       omega (arith, far, long);
-  edges = edge_costs g rule;
-  starts = λ x d to. let few = settling_few g rule p d x pp.position to in omega (arith, few);
+  edges = edge_costs naming g rule p good;
+  starts = λ x d to. let few = settling_few naming g rule p d x pp.position to in omega (arith, few);
 }

@@ -1,4 +1,5 @@
 pub mod Classes
 pub mod Key
 pub mod Laws
+pub mod Namings
 pub mod inner

@@ -1,4 +1,5 @@
-ghost use Rattle.fc_moves.specs.Either.{game_of_either, either_is_game};
+ghost use Rattle.fc_moves.specs.Either.{game_of_either};
+ghost use Rattle.fc_moves.specs.inner.Either.{either_is_game};
 
 use crate::games::Game;
 use arrayvec::ArrayVec;

@@ -24,11 +24,13 @@ use Rattle.fc_best_first.specs.Shown.{IsFound, IsExhausted, IsLeastOpen, Shows}
 use Rattle.fc_best_first.specs.Store.{Store, IsStored}
 use Rattle.fc_best_first.proofs.KeptLemmas.{same_entry, stands_within}
 use Rattle.fc_best_first.proofs.FloorLemmas.{open_floors}
-use Rattle.fc_best_first.proofs.ClosedLemmas.{IsCoveredBelow, closed_inside, expanded_covered, light_covered}
+use Rattle.fc_best_first.specs.Graph.{IsClosedInside}
+use Rattle.fc_best_first.proofs.ClosedLemmas.{IsCoveredBelow, closed_inside, expanded_covered, light_covered, rows as codes_of}
 use Rattle.fc_tables.specs.Table.{as_boards}
-use Rattle.fc_canonical.specs.Spelled.{spelled}
-use Rattle.fc_classes.proofs.PathLemmas.{reached_of_positions}
-use Rattle.fc_classes.proofs.TableLemmas.{board_listed, key_listed, closed_board, lawful}
+use Rattle.fc_canonical.specs.Spelled.{IsKeyIn, spelled}
+use Rattle.fc_codes.specs.Spelled.{board_of_code}
+use Rattle.fc_classes.specs.Namings.{IsNaming, by_codes, by_keys}
+use Rattle.fc_classes.proofs.TableLemmas.{board_listed, name_listed, closed_board, lawful}
 use Rattle.fc_answers.specs.declared.answers.Verdict.TheVariants.{Shortest, Won, CannotWin, GaveUp}
 use Rattle.fc_methods.specs.Method.{Asked, shortest_asked}
 use Rattle.fc_search.specs.Problem.{Problem, classes_of, problem_of, shortest_from, task_of_problem}
@@ -43,7 +45,7 @@ use Rattle.fc_answers.proofs.RowLemmas.{free_listed, freely_listed, inside_liste
 use Rattle.fc_search.specs.inner.Stored.{costs_of}
 use Rattle.fc_search.specs.inner.Walk.{IsAtClass}
 use Rattle.fc_search.proofs.NeedLemmas.{needs_more, needs_reach}
-use Rattle.fc_search.proofs.RowLemmas.{stored_once, stored_long}
+use Rattle.fc_search.proofs.RowLemmas.{boards_same, costs_in, key_in, stored_name, stored_once, stored_long}
 use Rattle.fc_bound.proofs.KindLemmas.{bounds_lower, guides_under}
 use Rattle.fc_tables.proofs.GreaterLemmas.{greater_close}
 
@@ -69,38 +71,51 @@ even_below weight cost bound n some even lt =
     let all : weight.parts * (cost + bound + 1) ≤ weight.parts * n = mul-le-mul_left weight.parts (omega (arith, lt)) in
     omega (arith, all, same, some)
 
-module _ (pr : Problem) (s : Store (List ℕ)) (pp : IsPositionOf pr.game pr.start) where
+module _ (pr : Problem) (s : Store (List ℕ)) (names : IsNaming (by_codes pr.start) pr.game pr.start) (pp : IsPositionOf pr.game pr.start) where
+  -- a table of the stored codes that is closed inside n closes the boards of their keys
+  keys_closed : (n : ℕ) → IsSound (task_of_problem pr) s → IsClosedInside (classes_of pr) n (codes_of s)
+      → boards.IsClosedInside (guide_of pr.method.bound) pr.game pr.method.rule pr.start n (as_boards (costs_of pr.start s))
+  keys_closed n sound closed =
+      subst (boards.IsClosedInside (guide_of pr.method.bound) pr.game pr.method.rule pr.start n) (sym (boards_same pr s names pp sound))
+      (closed_board (by_codes pr.start) (guide_of pr.method.bound) pr.game pr.method.rule pr.start n (codes_of s) names (bounds_lower pr.method.bound).0 pp closed)
+
+  -- a listed key is one of the game
+  listed_key : IsSound (task_of_problem pr) s → (k : List ℕ) (d : ℕ) → Contains (costs_of pr.start s) (k, d) → IsKeyIn pr.game k
+  listed_key sound k d there =
+      let at = costs_in pr.start s (k, d) there in
+      subst (IsKeyIn pr.game) (sym (ap (λ e. e.0) at.4))
+      (key_in pr.start pr.game at.1 (stored_name pr s names pp sound at.0 at.1 at.2 at.3))
+
   -- the table of a search that found no way to win shows that there is none
   pub backed_whole : (table : Listing) → IsExhausted (task_of_problem pr) s → table.rule ≡ pr.method.rule → table.rule ≤ 2
-      → length table.rows ≤ 4000000 → IsRising table.rows → IsPermutation (at_no_cost (costs_of s)) table.rows
+      → length table.rows ≤ 4000000 → IsRising table.rows → IsPermutation (at_no_cost (costs_of pr.start s)) table.rows
       → IsBackedWhole pr.game pr.start table
   backed_whole table (sound, done) ruled known few rising moved =
       let closed = λ (n : ℕ). closed_inside (task_of_problem pr) s n sound (λ i x m at lt. expanded_covered (classes_of pr) s x m.cost n (done i x m at)) in
-      let back = IsPermutation-sym (at_no_cost (costs_of s)) table.rows moved in
-      let all = inside_all (guide_of pr.method.bound) pr.game pr.method.rule pr.start (as_boards (costs_of s)) (λ n. closed_board (guide_of pr.method.bound) pr.game pr.method.rule pr.start n (costs_of s) (bounds_lower pr.method.bound).0 pp (closed n)) in
+      let back = IsPermutation-sym (at_no_cost (costs_of pr.start s)) table.rows moved in
+      let all = inside_all (guide_of pr.method.bound) pr.game pr.method.rule pr.start (as_boards (costs_of pr.start s)) (λ n. keys_closed n sound (closed n)) in
       let free = λ (e : List ℕ × ℕ) (there : Contains table.rows e).
-      free_listed (costs_of s) e (Contains-permutation table.rows (at_no_cost (costs_of s)) e back there) in
-      let own = costs_free pr.game pr.method.rule pr.start (as_boards table.rows) (as_boards (costs_of s)) all
+      free_listed (costs_of pr.start s) e (Contains-permutation table.rows (at_no_cost (costs_of pr.start s)) e back there) in
+      let own = costs_free pr.game pr.method.rule pr.start (as_boards table.rows) (as_boards (costs_of pr.start s)) all
       (λ x. (
-        λ (d, there). let key = key_listed table.rows (x, d) there in
+        λ (d, there). let key = name_listed by_keys table.rows (x, d) there in
             let at = (free (key.0, key.1) key.2).0 in (
               at.0,
-              subst (λ b. Contains (as_boards (costs_of s)) (b, at.0)) (sym (ap (λ e. e.0) key.3))
-                  (board_listed (costs_of s) key.0 at.0 at.1),
+              subst (λ b. Contains (as_boards (costs_of pr.start s)) (b, at.0)) (sym (ap (λ e. e.0) key.3))
+                  (board_listed by_keys (costs_of pr.start s) key.0 at.0 at.1),
             ),
-        λ (d, there). let key = key_listed (costs_of s) (x, d) there in (
+        λ (d, there). let key = name_listed by_keys (costs_of pr.start s) (x, d) there in (
           0,
           subst (λ b. Contains (as_boards table.rows) (b, 0)) (sym (ap (λ e. e.0) key.3))
-              (board_listed table.rows key.0 0 (Contains-permutation (at_no_cost (costs_of s)) table.rows (key.0, 0) moved
-              (freely_listed (costs_of s) key.0 key.1 key.2))),
+              (board_listed by_keys table.rows key.0 0 (Contains-permutation (at_no_cost (costs_of pr.start s)) table.rows (key.0, 0) moved
+              (freely_listed (costs_of pr.start s) key.0 key.1 key.2))),
         ),
       )) in record {
         listed = record {
           known = known;
           few = few;
           rising = rising;
-          classes = λ e there. let at = (free e there).0 in
-              (reached_of_positions (guide_of pr.method.bound) pr.game pr.method.rule pr.start e.0 at.0 pp ((closed 0).reached e.0 at.0 at.1)).0;
+          classes = λ e there. let at = (free e there).0 in listed_key sound e.0 at.0 at.1;
         };
         closed = subst (λ r. boards.IsClosed pr.game r pr.start (as_boards table.rows)) (sym ruled) own;
         free = λ e there. (free e there).1;
@@ -114,7 +129,7 @@ module _ (pr : Problem) (s : Store (List ℕ)) (pp : IsPositionOf pr.game pr.sta
       → pr.method.strategy.weight.parts * mark.cost ≤ pr.method.strategy.weight.times * length others)
   won_within number ms b (x, mark, at, won, reached, answer, least) (y, mine, there, run, same, le) =
       let one = same_entry s number x y mark mine at there in
-      let won_there : IsWon b = same.homes ∙ ap (λ k. (spelled k).homes) (sym one.0) ∙ won in
+      let won_there : IsWon b = same.homes ∙ ap (λ k. (board_of_code pr.start k).homes) (sym one.0) ∙ won in
       let cost : mark.cost ≡ mine.cost = ap (λ m. m.cost) one.1 in (
         x,
         mark,
@@ -144,31 +159,31 @@ module _ (pr : Problem) (s : Store (List ℕ)) (pp : IsPositionOf pr.game pr.sta
 
   -- the table of a search whose stored classes below n are covered shows that no list of fewer moves wins
   pub backed_below : (n : ℕ) (table : Listing) → IsSound (task_of_problem pr) s
-      → ((i : ℕ) (y : List ℕ) (m : Mark) → IsStored s i y m → m.cost + guide_of pr.method.bound (spelled y) < n
+      → ((i : ℕ) (y : List ℕ) (m : Mark) → IsStored s i y m → m.cost + guide_of pr.method.bound (board_of_code pr.start y) < n
       → IsCoveredBelow (classes_of pr) s y m.cost n)
       → table.rule ≡ pr.method.rule → table.bound ≡ pr.method.bound → table.rule ≤ 2
-      → length table.rows ≤ 4000000 → IsRising table.rows → IsPermutation (inside (guide_of pr.method.bound) n (costs_of s)) table.rows
+      → length table.rows ≤ 4000000 → IsRising table.rows → IsPermutation (inside (guide_of pr.method.bound) n (costs_of pr.start s)) table.rows
       → IsBackedBelow pr.game pr.start n table
   backed_below n table sound done ruled bounded known few rising moved =
       let low = guide_of pr.method.bound in
       let lower = (bounds_lower pr.method.bound).0 in
       let closed = closed_inside (task_of_problem pr) s n sound done in
-      let back = IsPermutation-sym (inside low n (costs_of s)) table.rows moved in
+      let back = IsPermutation-sym (inside low n (costs_of pr.start s)) table.rows moved in
       let within = λ (e : List ℕ × ℕ) (there : Contains table.rows e).
-      inside_listed low n (costs_of s) e (Contains-permutation table.rows (inside low n (costs_of s)) e back there) in
-      let own = rows_inside low pr.game pr.method.rule pr.start n (as_boards table.rows) (as_boards (costs_of s)) lower (closed_board low pr.game pr.method.rule pr.start n (costs_of s) lower pp closed)
+      inside_listed low n (costs_of pr.start s) e (Contains-permutation table.rows (inside low n (costs_of pr.start s)) e back there) in
+      let own = rows_inside low pr.game pr.method.rule pr.start n (as_boards table.rows) (as_boards (costs_of pr.start s)) lower (keys_closed n sound closed)
       (λ e. (
-        λ there. let key = key_listed table.rows e there in
+        λ there. let key = name_listed by_keys table.rows e there in
             let at = within (key.0, key.1) key.2 in
             let same : e ≡ (spelled key.0, key.1) = key.3 in (
-              subst (Contains (as_boards (costs_of s))) (sym same) (board_listed (costs_of s) key.0 key.1 at.0),
+              subst (Contains (as_boards (costs_of pr.start s))) (sym same) (board_listed by_keys (costs_of pr.start s) key.0 key.1 at.0),
               subst (λ f. f.1 + low f.0 < n) (sym same) at.1,
             ),
-        λ (there, below). let key = key_listed (costs_of s) e there in
+        λ (there, below). let key = name_listed by_keys (costs_of pr.start s) e there in
             let same : e ≡ (spelled key.0, key.1) = key.3 in
             subst (Contains (as_boards table.rows)) (sym same)
-            (board_listed table.rows key.0 key.1 (Contains-permutation (inside low n (costs_of s)) table.rows (key.0, key.1) moved
-            (listed_inside low n (costs_of s) (key.0, key.1) key.2 (subst (λ f. f.1 + low f.0 < n) same below)))),
+            (board_listed by_keys table.rows key.0 key.1 (Contains-permutation (inside low n (costs_of pr.start s)) table.rows (key.0, key.1) moved
+            (listed_inside low n (costs_of pr.start s) (key.0, key.1) key.2 (subst (λ f. f.1 + low f.0 < n) same below)))),
       )) in
       let greater = greater_close low (low_of pr.method.bound) pr.game pr.method.rule pr.start n (as_boards table.rows) pp (guides_under pr.method.bound) own in
       let ruled_so = subst (λ r. boards.IsClosedBelow (low_of pr.method.bound) pr.game r pr.start n (as_boards table.rows)) (sym ruled) greater in record {
@@ -176,8 +191,7 @@ module _ (pr : Problem) (s : Store (List ℕ)) (pp : IsPositionOf pr.game pr.sta
           known = known;
           few = few;
           rising = rising;
-          classes = λ e there. let at = within e there in
-              (reached_of_positions low pr.game pr.method.rule pr.start e.0 e.1 pp (closed.reached e.0 e.1 at.0)).0;
+          classes = λ e there. let at = within e there in listed_key sound e.0 e.1 at.0;
         };
         closed = subst (λ k. boards.IsClosedBelow (low_of k) pr.game table.rule pr.start n (as_boards table.rows)) (sym bounded) ruled_so;
         below = λ e there. subst (λ k. e.1 + guide_of k (spelled e.0) < n) (sym bounded) (within e there).1;
@@ -187,7 +201,7 @@ module _ (pr : Problem) (s : Store (List ℕ)) (pp : IsPositionOf pr.game pr.sta
   pub backed_shortest : 1 ≤ pr.method.strategy.weight.parts → IsEven pr.method.strategy.weight → (number : ℕ) (ms : List Move) (table : Listing)
       → IsFound (task_of_problem pr) s number
       → (x : List ℕ) (mark : Mark) → IsStored s number x mark → length ms ≡ mark.cost → table.rule ≡ pr.method.rule → table.bound ≡ pr.method.bound → table.rule ≤ 2
-      → length table.rows ≤ 4000000 → IsRising table.rows → IsPermutation (inside (guide_of pr.method.bound) (length ms) (costs_of s)) table.rows
+      → length table.rows ≤ 4000000 → IsRising table.rows → IsPermutation (inside (guide_of pr.method.bound) (length ms) (costs_of pr.start s)) table.rows
       → IsBackedBelow pr.game pr.start (length ms) table
   backed_shortest positive light number ms table found x mark at long ruled bounded known few rising moved =
       let n = length ms in
@@ -197,10 +211,10 @@ module _ (pr : Problem) (s : Store (List ℕ)) (pp : IsPositionOf pr.game pr.sta
       let cost : n ≡ wmark.cost = long ∙ ap (λ m. m.cost) one.1 in
       backed_below n table found.0
       (λ i y m there lt. found_covered i y m there
-      (even_below pr.method.strategy.weight m.cost (guide_of pr.method.bound (spelled y)) wmark.cost positive light (omega (arith, lt, cost))))
+      (even_below pr.method.strategy.weight m.cost (guide_of pr.method.bound (board_of_code pr.start y)) wmark.cost positive light (omega (arith, lt, cost))))
       ruled bounded known few rising moved
     where
-      found_covered : (i : ℕ) (y : List ℕ) (m : Mark) → IsStored s i y m → weigh pr.method.strategy.weight m.cost (guide_of pr.method.bound (spelled y)) < pr.method.strategy.weight.parts * found.1.1.cost
+      found_covered : (i : ℕ) (y : List ℕ) (m : Mark) → IsStored s i y m → weigh pr.method.strategy.weight m.cost (guide_of pr.method.bound (board_of_code pr.start y)) < pr.method.strategy.weight.parts * found.1.1.cost
           → IsCoveredBelow (classes_of pr) s y m.cost (length ms)
       found_covered i y m there lt =
           let one = same_entry s number x found.1.0 mark found.1.1 at found.1.2 in
@@ -211,11 +225,11 @@ module _ (pr : Problem) (s : Store (List ℕ)) (pp : IsPositionOf pr.game pr.sta
   -- what a number is that is told as a floor: no list has fewer moves, and the stored classes below it are covered
   pub floor_holds : (number : ℕ) (x : List ℕ) (mark : Mark) (floor : ℕ) → IsFound (task_of_problem pr) s number
       → IsStored s number x mark → IsLeastOpen (task_of_problem pr) s mark.cost floor
-      → ((i : ℕ) (y : List ℕ) (m : Mark) → IsStored s i y m → m.cost + guide_of pr.method.bound (spelled y) < floor
+      → ((i : ℕ) (y : List ℕ) (m : Mark) → IsStored s i y m → m.cost + guide_of pr.method.bound (board_of_code pr.start y) < floor
       → IsCoveredBelow (classes_of pr) s y m.cost floor)
       × ((others : List Move) → Wins pr.game pr.start others → floor ≤ length others)
   floor_holds number x mark floor found at least =
-      let both = open_floors (classes_of pr) (lawful (guide_of pr.method.bound) pr.game pr.method.rule pr.start (bounds_lower pr.method.bound).0 pp) pr.method.strategy s number x
+      let both = open_floors (classes_of pr) (lawful (by_codes pr.start) (guide_of pr.method.bound) pr.game pr.method.rule pr.start names (bounds_lower pr.method.bound).0 pp) pr.method.strategy s number x
       mark floor found at least in (
         λ i y m there lt. expanded_covered (classes_of pr) s y m.cost floor (both.0 i y m there lt),
         λ others wins. both.1 (length others) (others, refl, wins),
@@ -232,13 +246,13 @@ module _ (pr : Problem) (s : Store (List ℕ)) (pp : IsPositionOf pr.game pr.sta
   -- the rows of the stored classes below n as such a table
   inside_table : (n : ℕ) → pr.method.strategy.budget ≤ 4000000 → IsSound (task_of_problem pr) s
       → (table : Listing) × (table.rule ≡ pr.method.rule) × (table.bound ≡ pr.method.bound) × (length table.rows ≤ 4000000) × IsRising table.rows
-      × IsPermutation (inside (guide_of pr.method.bound) n (costs_of s)) table.rows
+      × IsPermutation (inside (guide_of pr.method.bound) n (costs_of pr.start s)) table.rows
   inside_table n few sound =
       let room = sound.room in
       let test : (List ℕ × ℕ) → Bool = λ e. nat_lt (e.1 + guide_of pr.method.bound (spelled e.0)) n in
-      as_table (inside (guide_of pr.method.bound) n (costs_of s))
-      (inside_once (guide_of pr.method.bound) n (costs_of s) (stored_once (task_of_problem pr) s sound))
-      (omega (arith, length-filter test (costs_of s), count_by-le-length test (costs_of s), stored_long s, room, few))
+      as_table (inside (guide_of pr.method.bound) n (costs_of pr.start s))
+      (inside_once (guide_of pr.method.bound) n (costs_of pr.start s) (stored_once pr s names pp sound))
+      (omega (arith, length-filter test (costs_of pr.start s), count_by-le-length test (costs_of pr.start s), stored_long pr.start s, room, few))
 
   -- the verdict of a search that found a shortest list
   pub shortest_verdict : 1 ≤ pr.method.strategy.weight.parts → IsEven pr.method.strategy.weight → (number : ℕ) (ms : List Move) (b : Board) → pr.method.rule ≤ 2 → pr.method.strategy.budget ≤ 4000000
@@ -297,8 +311,8 @@ module _ (pr : Problem) (s : Store (List ℕ)) (pp : IsPositionOf pr.game pr.sta
   cannot_win_verdict known few (sound, done) none =
       let free : (List ℕ × ℕ) → List ℕ × ℕ = λ e. (e.0, 0) in
       let room = sound.room in
-      let listed = as_table (at_no_cost (costs_of s)) (no_cost_once (costs_of s) (stored_once (task_of_problem pr) s sound))
-      (omega (arith, length-map (costs_of s) free, stored_long s, room, few)) in
+      let listed = as_table (at_no_cost (costs_of pr.start s)) (no_cost_once (costs_of pr.start s) (stored_once pr s names pp sound))
+      (omega (arith, length-map (costs_of pr.start s) free, stored_long pr.start s, room, few)) in
       let table = listed.0 in
       let backed = backed_whole table (sound, done) listed.1 (subst (λ r. r ≤ 2) (sym listed.1) known) listed.3 listed.4 listed.5 in
       record {
@@ -313,7 +327,7 @@ module _ (pr : Problem) (s : Store (List ℕ)) (pp : IsPositionOf pr.game pr.sta
   pub gave_up_verdict : (y : List ℕ) (number told : ℕ) → Shows (task_of_problem pr) s (status.GaveUp y number)
       → told ≡ pr.method.strategy.budget → IsVerdict pr (GaveUp told)
   gave_up_verdict y number told (keys, are) same =
-      let more = needs_more pr keys pp are in record {
+      let more = needs_more pr keys names pp are in record {
         right = (same, needs_reach pr more);
         earned = more;
         written = tt;

@@ -8,15 +8,16 @@ ghost use Rattle.fc_best_first.specs.Kept.{IsSound};
 ghost use Rattle.fc_best_first.specs.Shown.{Holds, Shows};
 ghost use Rattle.fc_best_first.specs.Store.{IsStored};
 ghost use Rattle.fc_best_first.specs.Turn.{work_left};
+ghost use Rattle.fc_classes.specs.Namings.{IsNaming, by_codes};
 ghost use Rattle.fc_methods.specs.Method.{shortest_asked};
 ghost use Rattle.fc_search.specs.Problem.{problem_of, shortest_from, task_of_problem};
 ghost use Rattle.fc_search.specs.Search.{Answers, IsVerdict, IsOfStatus, IsRefused, IsUnanswered};
-ghost use Rattle.fc_search.specs.inner.Search.{IsFloorOf};
+ghost use Rattle.fc_search.specs.inner.Search.{IsFloorOf, Spells};
 
 use fc_answers::{Answer, MoveList, Verdict};
 use fc_best_first as best_first;
 use fc_best_first::{Mark, SearchFault, Status, Step};
-use fc_classes::ClassKey;
+use fc_codes::Code;
 use fc_frontier::Frontier;
 use fc_home::GREATEST_RULE;
 use fc_methods::{Budget, HomeRule, Method, Question};
@@ -31,7 +32,7 @@ use std::marker::Model;
 #[derive(Drop)]
 pub struct Search<F: Frontier + Drop, G: Game + Drop> {
     pub(crate) alloc: Global,
-    pub(crate) search: best_first::Search<ClassKey, F, Positions<G>>,
+    pub(crate) search: best_first::Search<Code, F, Positions<G>>,
 }
 
 impl<F: Frontier + Drop, G: Game + Drop> Model for Search<F, G> {
@@ -180,20 +181,33 @@ impl<F: Frontier + Drop, G: Game + Drop> Search<F, G> {
         }
     }
 
-    // The key of the class with this number, and its mark.
-    pub(crate) fn at(&self, number: u32) -> (&ClassKey, Mark)
+    // The code of the class with this number, and its mark.
+    pub(crate) fn at(&self, number: u32) -> (&Code, Mark)
         requires within { number < length self.now.store.stored }
         ensures stands { IsStored self.now.store number result.0.now result.1 }
     {
         self.search.entry(number).unwrap()
     }
 
-    // What is known of each search: its limits are in range, and its start fits the game.
+    // The position that the code of the class with this number spells, and its mark.
+    pub(crate) fn position_at(&self, number: u32) -> (Position, Mark)
+        requires sound { IsSound (task_of_problem self.now.problem) self.now.store }
+        requires within { number < length self.now.store.stored }
+        ensures spells { Spells self.now number result.0 result.1 }
+    {
+        self.known();
+        let (code, mark) = self.at(number);
+        let space = self.search.space();
+        (space.position(code), mark)
+    }
+
+    // What is known of each search: its limits are in range, its start fits the game, and codes name the classes from there.
     pub(crate) fn known(&self)
         ensures rule { self.now.problem.method.rule ≤ GREATEST_RULE }
         ensures budget { IsBudget self.now.problem.method.strategy.budget }
         ensures weight { IsWeight self.now.problem.method.strategy.weight }
         ensures fits { IsPositionOf self.now.problem.game self.now.problem.start }
+        ensures names { IsNaming (by_codes self.now.problem.start) self.now.problem.game self.now.problem.start }
     {
         let _ = (self.search.space().rules.rule.get(), self.search.strategy());
     }
@@ -221,7 +235,7 @@ impl<F: Frontier + Drop, G: Game + Drop> Search<F, G> {
         requires within { number < length self.now.store.stored }
         ensures value { IsFloorOf self.now number result }
     {
-        let (_key, mark) = self.at(number);
+        let (_code, mark) = self.at(number);
         self.search.least_open(mark.cost)
     }
 

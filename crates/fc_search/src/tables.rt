@@ -11,7 +11,8 @@ ghost use Rattle.fc_search.specs.inner.Stored.{costs_of};
 
 use crate::searches::Search;
 use fc_answers::{Row, Table};
-use fc_best_first::{MOST_BUDGET, Space};
+use fc_best_first::MOST_BUDGET;
+use fc_canonical::key;
 use fc_frontier::Frontier;
 use fc_home::GREATEST_RULE;
 use fc_moves::Game;
@@ -25,7 +26,7 @@ impl<F: Frontier + Drop, G: Game + Drop> Search<F, G> {
         ensures bound { IfOk result (λ table. table.bound ≡ self.now.problem.method.bound) }
         ensures known { IfOk result (λ table. table.rule ≤ GREATEST_RULE) }
         ensures few { IfOk result (λ table. length table.rows ≤ MOST_BUDGET) }
-        ensures rows { IfOk result (λ table. IsPermutation (inside (guide_of self.now.problem.method.bound) n (costs_of self.now.store)) table.rows) }
+        ensures rows { IfOk result (λ table. IsPermutation (inside (guide_of self.now.problem.method.bound) n (costs_of self.now.problem.start self.now.store)) table.rows) }
         ensures rising { IfOk result (λ table. IsRising table.rows) }
     {
         self.known();
@@ -33,11 +34,11 @@ impl<F: Frontier + Drop, G: Game + Drop> Search<F, G> {
         let kind = space.rules.kind;
         let mut rows = Vec::new(self.alloc);
         for number in 0..self.search.len() as u32 {
-            let (key, mark) = self.at(number);
-            let bound = space.bound(key);
+            let (position, mark) = self.position_at(number);
+            let bound = kind.guide(&position);
             if ((mark.cost + u32::from(bound)) as usize) < n {
                 rows.push(Row {
-                    key: key.copied(),
+                    key: key(&position),
                     cost: mark.cost,
                 })?;
             }
@@ -52,19 +53,19 @@ impl<F: Frontier + Drop, G: Game + Drop> Search<F, G> {
         ensures bound { IfOk result (λ table. table.bound ≡ self.now.problem.method.bound) }
         ensures known { IfOk result (λ table. table.rule ≤ GREATEST_RULE) }
         ensures few { IfOk result (λ table. length table.rows ≤ MOST_BUDGET) }
-        ensures rows { IfOk result (λ table. IsPermutation (at_no_cost (costs_of self.now.store)) table.rows) }
+        ensures rows { IfOk result (λ table. IsPermutation (at_no_cost (costs_of self.now.problem.start self.now.store)) table.rows) }
         ensures rising { IfOk result (λ table. IsRising table.rows) }
     {
         self.known();
+        let space = self.search.space();
         let mut rows = Vec::new(self.alloc);
         for number in 0..self.search.len() as u32 {
-            let (key, _mark) = self.at(number);
+            let (position, _mark) = self.position_at(number);
             rows.push(Row {
-                key: key.copied(),
+                key: key(&position),
                 cost: 0,
             })?;
         }
-        let space = self.search.space();
         Ok(Table::sorted(space.rules.rule, space.rules.kind, rows))
     }
 }

@@ -1,4 +1,4 @@
-//! The moves that lead to a stored class, found again from the start by the keys on the way.
+//! The moves that lead to a stored class, found again from the start by the codes on the way.
 
 ghost use Rattle.std.specs.Prelude.{◌≡◌, ◌≢◌, ◌<◌, ℕ, List, length, reverse, IfOk, MatchOption};
 ghost use Rattle.fc_position.specs.Board.{Board};
@@ -23,15 +23,18 @@ impl<F: Frontier + Drop, G: Game + Drop> Search<F, G> {
         requires within { number < length self.now.store.stored }
         ensures there { IfOk result (λ made. (b : Board) × IsAtClass self.now.problem.game self.now.store self.now.problem.start number made b) }
     {
+        self.known();
         let space = self.search.space();
-        let (_start, mut way) = self.way_to(number)?;
+        let (mut last, mut way) = self.way_to(number)?;
         let mut position = space.start.copy();
         let settling = settle(&space.rules.game, &mut position, space.rules.rule.get());
         let mut made = Vec::from_slice(self.alloc, settling.as_slice())?;
         while let Some(next) = way.pop() {
-            let (key, mark) = self.at(next);
+            let (from, _mark) = self.at(last);
+            let (to, mark) = self.at(next);
             let most = mark.cost as usize - made.len();
-            follow(space, &mut position, key, most, &mut made)?;
+            follow(space, &mut position, from, to, most, &mut made)?;
+            last = next;
         }
         Ok(MoveList::new(made))
     }
@@ -57,7 +60,7 @@ impl<F: Frontier + Drop, G: Game + Drop> Search<F, G> {
         ensures value { MatchOption result (IsStart self.now.store number)
             (λ parent. (x : List ℕ) × (mark : Mark) × IsStored self.now.store number x mark × (mark.parent ≡ parent) × (parent ≢ number)) }
     {
-        let (_key, mark) = self.at(number);
+        let (_code, mark) = self.at(number);
         if mark.parent == number {
             return None;
         }

@@ -81,6 +81,8 @@ impl Space<Sum> for Sums {
 
     ghost rest = { λ w children. children ≡ option_to_list w.two ++ (option_to_list w.four ++ option_to_list w.six) };
 
+    ghost owns = { λ s w. Unit {0} };
+
     ghost at = { λ w key. Unit {0} };
 
     ghost left = { λ w. length (option_to_list w.two ++ (option_to_list w.four ++ option_to_list w.six)) };

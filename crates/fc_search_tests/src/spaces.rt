@@ -2,7 +2,7 @@
 
 use crate::given::{bakers_game, board, budget, free_cell, home_rule, sure};
 use fc_best_first::{Search, Status, Strategy};
-use fc_classes::ClassKey;
+use fc_codes::{Code, Layout};
 use fc_frontier::{BucketFrontier, Frontier, ListFrontier};
 use fc_moves::{FreeCell, Game, Kings};
 use fc_position::Position;
@@ -40,7 +40,7 @@ fn begun<F: Frontier + Drop, G: Game + Drop>(
     rule: u8,
     text: &str,
     classes: u32,
-) -> Search<ClassKey, F, Positions<G>> {
+) -> Search<Code, F, Positions<G>> {
     let start = board(rt, &game, text);
     let most = budget(rt, classes);
     let space = Positions::new(game, Method::shortest(home_rule(rt, rule), most), start);
@@ -51,7 +51,7 @@ fn begun<F: Frontier + Drop, G: Game + Drop>(
 }
 
 // How a search ended.
-fn end_of<F: Frontier + Drop, G: Game + Drop>(search: &Search<ClassKey, F, Positions<G>>) -> End {
+fn end_of<F: Frontier + Drop, G: Game + Drop>(search: &Search<Code, F, Positions<G>>) -> End {
     match search.status() {
         Status::Won(number) => match search.entry(*number) {
             Some((_, mark)) => End::Shortest(mark.cost),
@@ -72,7 +72,7 @@ fn ends_by<F: Frontier + Drop, G: Game + Drop>(
     row: &Row,
 ) {
     let copy = game.copy();
-    let mut search: Search<ClassKey, F, Positions<G>> = begun(
+    let mut search: Search<Code, F, Positions<G>> = begun(
         rt, alloc, copy, rule, row.board, row.budget,
     );
     sure(rt, search.run());
@@ -304,16 +304,16 @@ fn a_board_of_495_classes(rt: HostRuntime) {
     all_end(&rt, rt.alloc(), MANY.as_slice());
 }
 
-// A search knows its question and the position in which it has begun, whose key is stored at no cost.
+// A search knows its question and the position in which it has begun, whose code is stored at no cost.
 fn check_start(
     rt: &impl Abort,
-    search: &Search<ClassKey, ListFrontier, Positions<FreeCell>>,
+    search: &Search<Code, ListFrontier, Positions<FreeCell>>,
     start: &Position,
 ) {
     let space = search.space();
     assert!(rt; space.start.equals(start) && space.rules.rule.get() == 1);
-    let (key, mark) = search.entry(0).expect(rt, "the start");
-    assert!(rt; *key == ClassKey::of(start) && mark.cost == 0);
+    let (code, mark) = search.entry(0).expect(rt, "the start");
+    assert!(rt; *code == Layout::new(start).start_code() && mark.cost == 0);
 }
 
 #[test]

@@ -6,15 +6,15 @@ use Rattle.std.proofs.lemmas.List.Elements.{Contains-append_right}
 use Rattle.std.proofs.lemmas.List.Sorted.{Contains-permutation, IsPermutation-reverse}
 use Rattle.fc_position.specs.Board.{Board}
 use Rattle.fc_moves.specs.declared.steps.Move.{Move}
-use Rattle.fc_moves.specs.GameRules.{GameRules, IsPositionOf}
+use Rattle.fc_moves.specs.GameRules.{GameRules, IsGame, IsPositionOf}
 use Rattle.fc_moves.proofs.StepLemmas.{step_keeps}
 use Rattle.fc_moves.specs.Step.{Allows}
 use Rattle.fc_moves.specs.Class.{SameClass}
 use Rattle.fc_canonical.specs.Distinct.{ListsClasses}
 use Rattle.fc_moves.proofs.ClassLemmas.{class-refl, class-sym}
-use Rattle.fc_canonical.proofs.KeyLemmas.{keys_tell}
 use Rattle.fc_moves.proofs.StepLemmas.{step_once}
 use Rattle.fc_home.proofs.MateLemmas.{class_settle}
+use Rattle.fc_home.specs.Settles.{Settles}
 use Rattle.fc_home.proofs.SettleLemmas.{settles_keep}
 use Rattle.fc_home.proofs.WayLemmas.{settles_once}
 use Rattle.fc_bound.specs.declared.kinds.BoundKind.{BoundKind}
@@ -22,142 +22,175 @@ use Rattle.fc_bound.specs.Kinds.{guide_of}
 use Rattle.fc_home.proofs.EveryLemmas.{every_settles}
 use Rattle.fc_bound.proofs.KindLemmas.{bounds_lower}
 use Rattle.fc_best_first.specs.declared.spaces.Child.{Child}
+use Rattle.fc_best_first.specs.Graph.{Reached}
 use Rattle.fc_best_first.specs.Turn.{AreChildren}
-use Rattle.fc_classes.specs.Classes.{SettlesTo, classes}
-use Rattle.fc_canonical.specs.Spelled.{IsKeyIn, spelled}
-use Rattle.fc_canonical.proofs.SpelledLemmas.{key_spells}
-use Rattle.fc_canonical.proofs.SortLemmas.{has_key}
-use Rattle.fc_space.specs.Children.{IsChildOf, IsSettledChild, AreChildrenBy, Left, StandsAt}
-use Rattle.fc_space.specs.inner.Children.{AreAllowed}
+use Rattle.fc_codes.specs.State.{IsCodeOf}
+use Rattle.fc_codes.specs.Spelled.{board_of_code}
+use Rattle.fc_classes.specs.Namings.{IsNaming, IsCodeIn, by_codes}
+use Rattle.fc_classes.specs.Classes.{SettlesTo}
+use Rattle.fc_classes.proofs.NamingLemmas.{codes_name, named_settled}
+use Rattle.fc_classes.proofs.PathLemmas.{reached_of_positions}
+use Rattle.fc_space.specs.Children.{Frame, frame_of, IsChildOf, IsSettledChild, AreChildrenBy, Left, StandsAt}
+use Rattle.fc_space.specs.inner.Children.{AreAllowed, classes_in}
 
--- a child's bound is that of its key
-pub child_bound : (g : GameRules) (rule : ℕ) (kind : BoundKind) (z : Board) (moves : ℕ) (child : Child (List ℕ)) → IsPositionOf g z
-    → IsSettledChild g rule kind z moves child → IfSome child.bound (λ b. b ≡ guide_of kind (spelled child.key))
-child_bound g rule kind z moves child p (q, count, settles, key, cost, low) =
+-- a game's position that the codes are seen from
+pub record IsFrame (w : Frame) : Type 0 where
+  pub sound : IsGame w.game
+  pub fits : IsPositionOf w.game w.start
+
+naming_of : (w : Frame) → IsFrame w → IsNaming (by_codes w.start) w.game w.start
+naming_of w f = codes_name w.game w.start f.sound f.fits
+
+-- a code that is reached spells a position of the game, which is settled
+pub reached_code : (w : Frame) (x : List ℕ) (d : ℕ) → IsFrame w → Reached (classes_in w) x d
+    → IsCodeIn w.start w.game x × Settles w.game w.rule (board_of_code w.start x) 0 (board_of_code w.start x)
+reached_code w x d f reached =
+    reached_of_positions (by_codes w.start) (guide_of w.kind) w.game w.rule w.start x d (naming_of w f) f.fits reached
+
+-- the code of a position of the game spells a class-mate
+class_spelled : (w : Frame) (q : Board) (x : List ℕ) → IsFrame w → IsPositionOf w.game q → IsCodeOf w.start q x
+    → SameClass q (board_of_code w.start x)
+class_spelled w q x f pq code = ((naming_of w f).spells q x pq code).1
+
+-- a child's bound is that of its code
+pub child_bound : (w : Frame) (z : Board) (moves : ℕ) (child : Child (List ℕ)) → IsFrame w → IsPositionOf w.game z
+    → IsSettledChild w z moves child → IfSome child.bound (λ b. b ≡ guide_of w.kind (board_of_code w.start child.key))
+child_bound w z moves child f p (q, count, settles, code, cost, low) =
     subst (λ k. IfSome child.bound (λ b. b ≡ k))
-    ((bounds_lower kind).0.alike q (spelled child.key) (key_spells g q child.key (settles_keep g rule z q count p settles) key).1) low
+    ((bounds_lower w.kind).0.alike q (board_of_code w.start child.key)
+    (class_spelled w q child.key f (settles_keep w.game w.rule z q count p settles) code)) low
 
--- the bound of where the move led at which a walk stands is that of the key
-pub stands_guide : (g : GameRules) (kind : BoundKind) (b : Board) (m : Move) (key : List ℕ) → IsPositionOf g b
-    → (at : StandsAt g b (Some m) key) → guide_of kind at.0 ≡ guide_of kind (spelled key)
-stands_guide g kind b m key p (z, step, is, away) =
-    (bounds_lower kind).0.alike z (spelled key) (key_spells g z key (step_keeps g b z m p step) is).1
+-- the bound of where the move led at which a walk of these classes stands is that of the code
+pub stands_guide : (v w : Frame) (kind : BoundKind) (b : Board) (m : Move) (code : List ℕ) → v ≡ w → IsFrame w
+    → IsPositionOf v.game b → (at : StandsAt v b (Some m) code) → guide_of kind at.0 ≡ guide_of kind (board_of_code w.start code)
+stands_guide v w kind b m code same f p (z, step, is, away) =
+    let there = subst (λ (u : Frame). IsPositionOf u.game z) same (step_keeps v.game b z m p step) in
+    let coded = subst (λ (u : Frame). IsCodeOf u.start z code) same is in
+    (bounds_lower kind).0.alike z (board_of_code w.start code) (class_spelled w z code f there coded)
 
--- of class-mates that settle, the one child has the key of what the other settles to, at as many moves
-pub child_once : (g : GameRules) (rule : ℕ) (kind : BoundKind) (x z : Board) (moves count : ℕ) (child : Child (List ℕ)) (y : List ℕ) → IsPositionOf g x
-    → IsPositionOf g z → SameClass x z → IsSettledChild g rule kind z moves child → SettlesTo g rule x count y
-    → (child.key ≡ y) × (child.cost ≡ moves + count)
-child_once g rule kind x z moves count child y px pz same (r, number, there, key, cost, low) (q, settles, also) =
-    let mate = class_settle g rule x z q count same settles in
-    let once = settles_once g rule z r mate.0 number count pz.position there mate.1 in
-    let pr = settles_keep g rule z r number pz there in
-    let pq = settles_keep g rule x q count px settles in
+-- of class-mates that settle, the one child has the code of what the other settles to, at as many moves
+pub child_once : (w : Frame) (x z : Board) (moves count : ℕ) (child : Child (List ℕ)) (y : List ℕ) → IsFrame w
+    → IsPositionOf w.game x → IsPositionOf w.game z → SameClass x z → IsSettledChild w z moves child
+    → SettlesTo (by_codes w.start) w.game w.rule x count y → (child.key ≡ y) × (child.cost ≡ moves + count)
+child_once w x z moves count child y f px pz same (r, number, there, code, cost, low) (q, settles, also) =
+    let mate = class_settle w.game w.rule x z q count same settles in
+    let once = settles_once w.game w.rule z r mate.0 number count pz.position there mate.1 in
+    let pr = settles_keep w.game w.rule z r number pz there in
+    let pq = settles_keep w.game w.rule x q count px settles in
     let mates : SameClass r q = subst (λ b. SameClass b q) (sym once.1) (class-sym q mate.0 mate.2) in
-    let tell = keys_tell r q child.key y pr.position pq.position key also in
+    let tell = (naming_of w f).tells r q child.key y pr.position pq.position code also in
     (tell.1 mates, omega (arith, cost, once.0))
 
--- every allowed move has a child
-child_exists : (g : GameRules) (rule : ℕ) (kind : BoundKind) (b : Board) (m : Move) → Allows g b m
-    → (child : Child (List ℕ)) × IsChildOf g rule kind b m child
-child_exists g rule kind b m (z, step) =
-    let settling = every_settles g rule z in (
-      record { key = (has_key settling.1).0; cost = 1 + settling.0; bound = None },
-      (z, step, (settling.1, settling.0, settling.2, (has_key settling.1).1, refl, tt)),
+-- every allowed move from a position with a code has a child
+child_exists : (w : Frame) (b : Board) (code : List ℕ) (m : Move) → IsFrame w → IsPositionOf w.game b → IsCodeOf w.start b code
+    → Allows w.game b m → (child : Child (List ℕ)) × IsChildOf w b m child
+child_exists w b code m f pb is (z, step) =
+    let settling = every_settles w.game w.rule z in
+    let naming = naming_of w f in
+    let name = named_settled (by_codes w.start) w.game w.rule w.start z settling.1 settling.0 naming
+    (step_keeps w.game b z m pb step) (naming.steps b z m code pb is step) settling.2 in (
+      record { key = name.0; cost = 1 + settling.0; bound = None },
+      (z, step, (settling.1, settling.0, settling.2, name.1, refl, tt)),
     )
 
 -- allowed moves have their children
-pub children_exist : (g : GameRules) (rule : ℕ) (kind : BoundKind) (b : Board) (moves : List Move) → AreAllowed g b moves
-    → (children : List (Child (List ℕ))) × AreChildrenBy g rule kind b moves children
-children_exist g rule kind b [] allowed = ([], tt)
-children_exist g rule kind b (m ∷ moves) allowed =
-    let first = child_exists g rule kind b m (allowed m (0, omega arith, refl)) in
-    let rest = children_exist g rule kind b moves (λ n there. allowed n (Contains-append_right (m ∷ []) moves n there)) in
+pub children_exist : (w : Frame) (b : Board) (code : List ℕ) (moves : List Move) → IsFrame w → IsPositionOf w.game b
+    → IsCodeOf w.start b code → AreAllowed w.game b moves → (children : List (Child (List ℕ))) × AreChildrenBy w b moves children
+children_exist w b code [] f pb is allowed = ([], tt)
+children_exist w b code (m ∷ moves) f pb is allowed =
+    let first = child_exists w b code m f pb is (allowed m (0, omega arith, refl)) in
+    let rest = children_exist w b code moves f pb is (λ n there. allowed n (Contains-append_right (m ∷ []) moves n there)) in
     (first.0 ∷ rest.0, (first.1, rest.1))
 
 -- each child is by one of the moves
-child_of : (g : GameRules) (rule : ℕ) (kind : BoundKind) (b : Board) (moves : List Move) (children : List (Child (List ℕ))) (child : Child (List ℕ))
-    → AreChildrenBy g rule kind b moves children → Contains children child
-    → (m : Move) × Contains moves m × IsChildOf g rule kind b m child
-child_of g rule kind b [] [] child are (k, lt, e) = absurd (omega (arith, lt))
-child_of g rule kind b [] (other ∷ children) child are there = absurd are
-child_of g rule kind b (m ∷ moves) [] child are there = absurd are
-child_of g rule kind b (m ∷ moves) (other ∷ children) child (is, are) (zero, lt, e) =
-    (m, (0, omega arith, refl), subst (IsChildOf g rule kind b m) e is)
-child_of g rule kind b (m ∷ moves) (other ∷ children) child (is, are) (suc k, lt, e) =
-    let rest = child_of g rule kind b moves children child are (k, omega (arith, lt), e) in
+child_of : (w : Frame) (b : Board) (moves : List Move) (children : List (Child (List ℕ))) (child : Child (List ℕ))
+    → AreChildrenBy w b moves children → Contains children child → (m : Move) × Contains moves m × IsChildOf w b m child
+child_of w b [] [] child are (k, lt, e) = absurd (omega (arith, lt))
+child_of w b [] (other ∷ children) child are there = absurd are
+child_of w b (m ∷ moves) [] child are there = absurd are
+child_of w b (m ∷ moves) (other ∷ children) child (is, are) (zero, lt, e) =
+    (m, (0, omega arith, refl), subst (IsChildOf w b m) e is)
+child_of w b (m ∷ moves) (other ∷ children) child (is, are) (suc k, lt, e) =
+    let rest = child_of w b moves children child are (k, omega (arith, lt), e) in
     (rest.0, Contains-append_right (m ∷ []) moves rest.0 rest.1, rest.2)
 
 -- each of the moves has a child
-move_of : (g : GameRules) (rule : ℕ) (kind : BoundKind) (b : Board) (moves : List Move) (children : List (Child (List ℕ))) (m : Move)
-    → AreChildrenBy g rule kind b moves children → Contains moves m
-    → (child : Child (List ℕ)) × Contains children child × IsChildOf g rule kind b m child
-move_of g rule kind b [] children m are (k, lt, e) = absurd (omega (arith, lt))
-move_of g rule kind b (n ∷ moves) [] m are there = absurd are
-move_of g rule kind b (n ∷ moves) (child ∷ children) m (is, are) (zero, lt, e) =
-    (child, (0, omega arith, refl), subst (λ o. IsChildOf g rule kind b o child) e is)
-move_of g rule kind b (n ∷ moves) (child ∷ children) m (is, are) (suc k, lt, e) =
-    let rest = move_of g rule kind b moves children m are (k, omega (arith, lt), e) in
+move_of : (w : Frame) (b : Board) (moves : List Move) (children : List (Child (List ℕ))) (m : Move)
+    → AreChildrenBy w b moves children → Contains moves m
+    → (child : Child (List ℕ)) × Contains children child × IsChildOf w b m child
+move_of w b [] children m are (k, lt, e) = absurd (omega (arith, lt))
+move_of w b (n ∷ moves) [] m are there = absurd are
+move_of w b (n ∷ moves) (child ∷ children) m (is, are) (zero, lt, e) =
+    (child, (0, omega arith, refl), subst (λ o. IsChildOf w b o child) e is)
+move_of w b (n ∷ moves) (child ∷ children) m (is, are) (suc k, lt, e) =
+    let rest = move_of w b moves children m are (k, omega (arith, lt), e) in
     (rest.0, Contains-append_right (child ∷ []) children rest.0 rest.1, rest.2)
 
 -- the children by moves of which one leads to each class are the ends of the edges
-pub children_all : (g : GameRules) (rule : ℕ) (kind : BoundKind) (p : Board) (x : List ℕ) (moves : List Move) (children : List (Child (List ℕ)))
-    → IsKeyIn g x → ListsClasses g (spelled x) moves → AreChildrenBy g rule kind (spelled x) (reverse moves) children
-    → AreChildren (classes (guide_of kind) g rule p) x children
-children_all g rule kind p x moves children valid lists are = record {
+pub children_all : (w : Frame) (x : List ℕ) (moves : List Move) (children : List (Child (List ℕ))) → IsFrame w
+    → IsCodeIn w.start w.game x → ListsClasses w.game (board_of_code w.start x) moves
+    → AreChildrenBy w (board_of_code w.start x) (reverse moves) children → AreChildren (classes_in w) x children
+children_all w x moves children f valid lists are = record {
   edges = λ child there.
-      let is = child_of g rule kind (spelled x) (reverse moves) children child are there in
+      let at = board_of_code w.start x in
+      let is = child_of w at (reverse moves) children child are there in
       let m = is.0 in
       let z = is.2.0 in
       let step = is.2.1 in
       let settled = is.2.2 in
-      let pz = step_keeps g (spelled x) z m valid.position step in
-      ((valid, (m, z, settled.1, step, (settled.0, settled.2, settled.3), settled.4)), child_bound g rule kind z 1 child pz settled);
+      let pz = step_keeps w.game at z m valid.position step in
+      ((valid, (m, z, settled.1, step, (settled.0, settled.2, settled.3), settled.4)), child_bound w z 1 child f pz settled);
   whole = λ c y edge.
+      let at = board_of_code w.start x in
       let e = edge.1 in
       let other = lists.complete e.0 e.1 e.3 in
       let n = other.0 in
-      let w = other.1 in
-      let at = Contains-permutation moves (reverse moves) n (IsPermutation-reverse moves) other.2 in
-      let px = step_keeps g (spelled x) e.1 e.0 valid.position e.3 in
-      let pw = step_keeps g (spelled x) w n valid.position other.3 in
-      let has = move_of g rule kind (spelled x) (reverse moves) children n are at in
+      let v = other.1 in
+      let there = Contains-permutation moves (reverse moves) n (IsPermutation-reverse moves) other.2 in
+      let px = step_keeps w.game at e.1 e.0 valid.position e.3 in
+      let pv = step_keeps w.game at v n valid.position other.3 in
+      let has = move_of w at (reverse moves) children n are there in
       let child = has.0 in
       let is = has.2 in
-      let same = step_once g (spelled x) n is.0 w is.1 other.3 in
-      let settled = subst (λ b. IsSettledChild g rule kind b 1 child) same is.2 in
-      let once = child_once g rule kind e.1 w 1 e.2 child y px pw other.4 settled e.4 in
+      let same = step_once w.game at n is.0 v is.1 other.3 in
+      let settled = subst (λ b. IsSettledChild w b 1 child) same is.2 in
+      let once = child_once w e.1 v 1 e.2 child y f px pv other.4 settled e.4 in
       (child, has.1, once.0, omega (arith, once.1, e.5));
 }
 
 -- the last of the moves leads to the first of the children
-pub next_child : (g : GameRules) (rule : ℕ) (kind : BoundKind) (b : Board) (moves rest : List Move) (m : Move) (child : Child (List ℕ))
-    (children : List (Child (List ℕ))) → moves ≡ rest ++ m ∷ [] → IsChildOf g rule kind b m child
-    → AreChildrenBy g rule kind b (reverse rest) children → AreChildrenBy g rule kind b (reverse moves) (child ∷ children)
-next_child g rule kind b moves rest m child children e is are =
-    subst (λ l. AreChildrenBy g rule kind b l (child ∷ children)) (sym (ap reverse e ∙ reverse-append rest (m ∷ []))) (is, are)
+pub next_child : (w : Frame) (b : Board) (moves rest : List Move) (m : Move) (child : Child (List ℕ))
+    (children : List (Child (List ℕ))) → moves ≡ rest ++ m ∷ [] → IsChildOf w b m child
+    → AreChildrenBy w b (reverse rest) children → AreChildrenBy w b (reverse moves) (child ∷ children)
+next_child w b moves rest m child children e is are =
+    subst (λ l. AreChildrenBy w b l (child ∷ children)) (sym (ap reverse e ∙ reverse-append rest (m ∷ []))) (is, are)
 
 -- this child starts
-pub settled_starts : (g : GameRules) (rule : ℕ) (kind : BoundKind) (p : Board) (child : Child (List ℕ)) → IsSettledChild g rule kind p 0 child
-    → SettlesTo g rule p child.cost child.key
-settled_starts g rule kind p child (q, count, settles, key, cost, low) =
+pub settled_starts : (w : Frame) (child : Child (List ℕ)) → IsSettledChild w w.start 0 child
+    → SettlesTo (by_codes w.start) w.game w.rule w.start child.cost child.key
+settled_starts w child (q, count, settles, code, cost, low) =
     let same : count ≡ child.cost = omega (arith, cost) in
-    subst (λ n. SettlesTo g rule p n child.key) same (q, settles, key)
+    subst (λ n. SettlesTo (by_codes w.start) w.game w.rule w.start n child.key) same (q, settles, code)
 
 -- what starts is this child, at no less
-pub start_alone : (g : GameRules) (rule : ℕ) (kind : BoundKind) (p : Board) (child : Child (List ℕ)) → IsPositionOf g p → IsSettledChild g rule kind p 0 child
-    → (x : List ℕ) (d : ℕ) → SettlesTo g rule p d x → (x ≡ child.key) × (child.cost ≤ d)
-start_alone g rule kind p child pp settled x d starts =
-    let once = child_once g rule kind p p 0 d child x pp pp (class-refl p) settled starts in
+pub start_alone : (w : Frame) (child : Child (List ℕ)) → IsFrame w → IsSettledChild w w.start 0 child
+    → (x : List ℕ) (d : ℕ) → SettlesTo (by_codes w.start) w.game w.rule w.start d x → (x ≡ child.key) × (child.cost ≤ d)
+start_alone w child f settled x d starts =
+    let once = child_once w w.start w.start 0 d child x f f.fits f.fits (class-refl w.start) settled starts in
     (sym once.0, omega (arith, once.1))
 
 -- what is left of the children stays where the walk differs by the move alone that it told last
 pub children_same : {G : Type 0} (rules : G → GameRules) (old new : Left G)
-    → (new.game ≡ old.game) × (new.rule ≡ old.rule) × (new.kind ≡ old.kind) × (new.position ≡ old.position) × (new.moves ≡ old.moves)
-    → (children : List (Child (List ℕ))) → AreChildrenBy (rules new.game) new.rule new.kind new.position (reverse new.moves) children
-    → AreChildrenBy (rules old.game) old.rule old.kind old.position (reverse old.moves) children
-children_same rules old new (game, rule, kind, position, moves) children are =
-    subst (λ v. AreChildrenBy (rules v) old.rule old.kind old.position (reverse old.moves) children) game
-    (subst (λ v. AreChildrenBy (rules new.game) v old.kind old.position (reverse old.moves) children) rule
-    (subst (λ v. AreChildrenBy (rules new.game) new.rule v old.position (reverse old.moves) children) kind
-    (subst (λ v. AreChildrenBy (rules new.game) new.rule new.kind v (reverse old.moves) children) position
-    (subst (λ v. AreChildrenBy (rules new.game) new.rule new.kind new.position (reverse v) children) moves are))))
+    → (new.game ≡ old.game) × (new.rule ≡ old.rule) × (new.kind ≡ old.kind) × (new.start ≡ old.start)
+    × (new.position ≡ old.position) × (new.moves ≡ old.moves)
+    → (children : List (Child (List ℕ)))
+    → AreChildrenBy (frame_of (rules new.game) new.rule new.kind new.start) new.position (reverse new.moves) children
+    → AreChildrenBy (frame_of (rules old.game) old.rule old.kind old.start) old.position (reverse old.moves) children
+children_same rules old new (game, rule, kind, start, position, moves) children are =
+    subst (λ v. AreChildrenBy (frame_of (rules v) old.rule old.kind old.start) old.position (reverse old.moves) children) game
+    (subst (λ v. AreChildrenBy (frame_of (rules new.game) v old.kind old.start) old.position (reverse old.moves) children) rule
+    (subst (λ v. AreChildrenBy (frame_of (rules new.game) new.rule v old.start) old.position (reverse old.moves) children) kind
+    (subst (λ v. AreChildrenBy (frame_of (rules new.game) new.rule new.kind v) old.position (reverse old.moves) children) start
+    (subst (λ v. AreChildrenBy (frame_of (rules new.game) new.rule new.kind new.start) v (reverse old.moves) children) position
+    (subst (λ v. AreChildrenBy (frame_of (rules new.game) new.rule new.kind new.start) new.position (reverse v) children)
+    moves are)))))

@@ -1,4 +1,5 @@
 mod ChildLemmas
+mod SentLemmas
 mod ShiftLemmas
 mod StayLemmas
 mod WonLemmas

@@ -1,6 +1,6 @@
 -- The bound of where a move leads that takes no card home.
 use mir.Val.{bool_byte}
-use Rattle.std.proofs.Common.{◌≡◌, ◌≢◌, ℕ, ◌+◌, ◌-◌, ◌≤◌, Bool, true, false, cond, refl, ◌∙◌, ap, arith}
+use Rattle.std.proofs.Common.{◌≡◌, ◌≢◌, ℕ, ◌+◌, ◌-◌, ◌≤◌, Bool, true, false, cond, refl, sym, ◌∙◌, ap, subst, arith}
 use Rattle.std.specs.Prelude.{◌↔◌, IsTrue, IfSome, Option, Some, None, List}
 use Rattle.fc_cards.specs.declared.places.Place.TheVariants.{Home}
 use Rattle.fc_position.specs.Board.{Board}
@@ -8,12 +8,12 @@ use Rattle.fc_position.specs.Position.{IsPosition}
 use Rattle.fc_moves.specs.declared.steps.Move.{Move}
 use Rattle.fc_moves.specs.GameRules.{GameRules}
 use Rattle.fc_moves.specs.Step.{Step}
-use Rattle.fc_bound.specs.declared.kinds.BoundKind.{BoundKind}
 use Rattle.fc_bound.specs.Bound.{bound, is_held_back, PlayableIsHeldBack}
 use Rattle.fc_bound.proofs.HeldLemmas.{step_moves, bound_small}
 use Rattle.fc_bound.proofs.MovedLemmas.{told_card}
 use Rattle.fc_best_first.specs.declared.spaces.Child.{Child}
-use Rattle.fc_space.specs.Children.{IsSettledChild, IsChildOf}
+use Rattle.fc_codes.specs.State.{IsCodeOf}
+use Rattle.fc_space.specs.Children.{Frame, IsSettledChild, IsChildOf, StandsAt}
 use Rattle.fc_canonical.proofs.BackLemmas.{taken_back}
 
 byte_is : (t : Bool) → bool_byte t ≡ cond t 1 0
@@ -47,7 +47,14 @@ shifts g b c m low before after step p other is told seen =
     }
 
 -- what the result of a step settles to is a child of the move
-pub child_of_step : (g : GameRules) (rule : ℕ) (kind : BoundKind) (b z : Board) (m : Move) (child : Option (Child (List ℕ))) → Step g b m z
-    → IfSome child (IsSettledChild g rule kind z 1) → IfSome child (IsChildOf g rule kind b m)
-child_of_step g rule kind b z m None step settled = settled
-child_of_step g rule kind b z m (Some child) step settled = (z, step, settled)
+pub child_of_step : (w : Frame) (b z : Board) (m : Move) (child : Option (Child (List ℕ))) → Step w.game b m z
+    → IfSome child (IsSettledChild w z 1) → IfSome child (IsChildOf w b m)
+child_of_step w b z m None step settled = settled
+child_of_step w b z m (Some child) step settled = (z, step, settled)
+
+-- a walk stands at a child with the code of where the move leads
+pub child_stands : (w : Frame) (b z : Board) (m : Move) (code : List ℕ) (child : Option (Child (List ℕ))) → Step w.game b m z
+    → m.to ≢ Home → IsCodeOf w.start z code → IfSome child (λ c. c.key ≡ code)
+    → IfSome child (λ c. StandsAt w b (Some m) c.key)
+child_stands w b z m code None step away is own = own
+child_stands w b z m code (Some child) step away is own = (z, step, subst (IsCodeOf w.start z) (sym own) is, away)

@@ -5,5 +5,6 @@
 pub use positions::{Children, ClassRules, Positions};
 pub use ways::follow;
 
+mod coded;
 mod positions;
 mod ways;

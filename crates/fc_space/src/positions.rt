@@ -1,31 +1,33 @@
 ghost use Rattle.std.specs.Prelude.{◌≡◌, ◌≢◌, ◌≤◌, ℕ, IfSome, List, None, Some, length, reverse};
 ghost use Rattle.fc_position.specs.Board.{Board};
-ghost use Rattle.fc_position.specs.Board.{playable, lifted, placed};
 ghost use Rattle.fc_position.specs.Position.{Fits, IsPosition};
 ghost use Rattle.fc_moves.specs.GameRules.{IsPositionOf};
 ghost use Rattle.fc_cards.specs.declared.places.Place.TheVariants.{Home};
 ghost use Rattle.fc_moves.specs.Step.{Allows, Step};
-ghost use Rattle.fc_canonical.specs.Key.{IsKeyOf};
-ghost use Rattle.fc_canonical.specs.Moved.{MayMove};
+ghost use Rattle.fc_codes.specs.State.{IsCodeOf};
+ghost use Rattle.fc_codes.specs.Spelled.{board_of_code};
 ghost use Rattle.fc_home.specs.Settles.{NoneGoesHome};
 ghost use Rattle.fc_bound.specs.Kinds.{guide_of};
 ghost use Rattle.fc_best_first.specs.Graph.{Reached};
 ghost use Rattle.fc_best_first.specs.Turn.{AreChildren};
 ghost use Rattle.fc_best_first.specs.declared.spaces.Child.{Child};
+ghost use Rattle.fc_classes.specs.Namings.{IsCodeIn, by_codes};
 ghost use Rattle.fc_classes.specs.Classes.{classes};
-ghost use Rattle.fc_canonical.specs.Spelled.{IsKeyIn, spelled};
+ghost use Rattle.fc_classes.proofs.NamingLemmas.{codes_name};
 ghost use Rattle.fc_classes.proofs.TableLemmas.{lawful};
-ghost use Rattle.fc_space.specs.Children.{IsSettledChild, IsChildOf, AreChildrenBy, StandsAt};
-ghost use Rattle.fc_space.specs.inner.Children.{OthersStay, Spells};
+ghost use Rattle.fc_space.specs.Children.{frame_of, IsWalkIn, IsSettledChild, IsChildOf, AreChildrenBy, StandsAt};
+ghost use Rattle.fc_space.specs.inner.Children.{OthersStay, classes_in};
+ghost use Rattle.fc_space.specs.inner.Codes.{IsCodeAfter};
 ghost use Rattle.fc_bound.proofs.KindLemmas.{bounds_lower};
 
+use crate::coded::settle_coded;
 use arrayvec::ArrayVec;
 use fc_best_first::{Child, Space};
 use fc_bound::{BoundKind, is_held_back};
-use fc_canonical::{distinct_moves, position_of};
+use fc_canonical::distinct_moves;
 use fc_cards::Place;
-use fc_classes::ClassKey;
-use fc_home::{HomeRule, goes_home_from, settle};
+use fc_codes::{Code, Layout};
+use fc_home::{HomeRule, goes_home_from};
 use fc_methods::Method;
 use fc_moves::{Game, Move, apply};
 use fc_position::Position;
@@ -39,21 +41,25 @@ pub struct ClassRules<G: Game + Drop> {
     pub kind: BoundKind,
 }
 
-/// The classes that can be reached from a position that fits a game, as a space to be searched.
+/// The classes that can be reached from a position that fits a game, as a space to be searched. Each is known by its code,
+/// as seen from there.
 #[derive(Drop)]
 pub struct Positions<G: Game + Drop> {
     pub rules: ClassRules<G>,
     pub start: Position,
+    pub(crate) layout: Layout,
     pub ghost fits: { IsPositionOf (G.game rules.game) start },
+    pub ghost laid: { layout ≡ start },
 }
 
-/// The children of a class that are left: its position, with its key and its bound, and the moves that lead to them, the
+/// The children of a class that are left: its position, with its code and its bound, and the moves that lead to them, the
 /// next one last.
 #[derive(Drop)]
 pub struct Children<G: Game + Drop> {
     rules: ClassRules<G>,
+    layout: Layout,
     position: Position,
-    key: ClassKey,
+    code: Code,
     bound: u8,
     left: ArrayVec<Move, 132>,
     // The move that led to the child that was told last, where no card went home, by the move or after it.
@@ -67,14 +73,14 @@ impl<G: Game + Drop> Model for Children<G> {
     ghost use Rattle.fc_bound.specs.Kinds.{guide_of};
     ghost use Rattle.fc_space.specs.Children.{Left};
     ghost use Rattle.fc_space.specs.inner.Children.{AreAllowed};
-    ghost use Rattle.fc_space.specs.inner.Children.{Spells};
+    ghost use Rattle.fc_codes.specs.State.{IsCodeOf};
 
     ghost Value = { Left G };
 
-    ghost view = { λ s. record { game = s.rules.game; rule = s.rules.rule; kind = s.rules.kind; position = s.position; moves = s.left.items; last = s.last } };
+    ghost view = { λ s. record { game = s.rules.game; rule = s.rules.rule; kind = s.rules.kind; start = s.layout; position = s.position; moves = s.left.items; last = s.last } };
 
     ghost invariant = { λ s. IsPositionOf (G.game s.rules.game) s.position × AreAllowed (G.game s.rules.game) s.position s.left.items
-        × (s.bound ≡ guide_of s.rules.kind s.position) × NoneGoesHome s.rules.rule (G.game s.rules.game) s.position × Spells s.key s.position };
+        × (s.bound ≡ guide_of s.rules.kind s.position) × NoneGoesHome s.rules.rule (G.game s.rules.game) s.position × IsCodeOf s.layout s.position s.code };
 }
 
 impl<G: Game + Drop> Positions<G> {
@@ -92,25 +98,31 @@ impl<G: Game + Drop> Positions<G> {
             rule,
             kind: bound,
         };
-        Positions { rules, start }
+        let layout = Layout::new(&start);
+        Positions {
+            rules,
+            start,
+            layout,
+        }
     }
 
-    // The position that a key of the game spells.
+    /// The canonical position of the class with this code, which is that of a position of the game.
     #[inline]
-    fn position(&self, key: &ClassKey) -> Position
-        requires key { IsKeyIn (G.game self.now.rules.game) key.now }
-        ensures value { result ≡ spelled key.now }
+    pub fn position(&self, code: &Code) -> Position
+        requires code { IsCodeIn self.now.start (G.game self.now.rules.game) code.now }
+        ensures value { result ≡ board_of_code self.now.start code.now }
         ensures whole { IsPosition result }
     {
-        position_of(key.bytes())
+        self.layout.position_of(code)
     }
 
     // A walk with no child left, which begins at a class that was reached.
-    fn walk(&self, key: &ClassKey) -> Children<G>
-        requires reached { (d : ℕ) × Reached (classes (guide_of self.now.rules.kind) (G.game self.now.rules.game) self.now.rules.rule self.now.start) key.now d }
+    fn walk(&self, code: &Code) -> Children<G>
+        requires reached { (d : ℕ) × Reached (classes_in (frame_of (G.game self.now.rules.game) self.now.rules.rule self.now.rules.kind self.now.start)) code.now d }
+        ensures owned { IsWalkIn G.game (frame_of (G.game self.now.rules.game) self.now.rules.rule self.now.rules.kind self.now.start) result }
         ensures last { result.last ≡ None }
     {
-        let position = self.position(key);
+        let position = self.position(code);
         let bound = self.rules.kind.guide(&position);
         Children {
             rules: ClassRules {
@@ -118,94 +130,74 @@ impl<G: Game + Drop> Positions<G> {
                 rule: self.rules.rule,
                 kind: self.rules.kind,
             },
+            layout: self.layout.copy(),
             position,
-            key: key.copy(),
+            code: *code,
             bound,
             left: ArrayVec::new(),
             last: None,
         }
     }
 
-    // Begins a walk anew at a class that was reached, whose position and bound are these.
-    fn set_out(&self, key: &ClassKey, position: Position, bound: u8, walk: &mut Children<G>)
-        requires reached { (d : ℕ) × Reached (classes (guide_of self.now.rules.kind) (G.game self.now.rules.game) self.now.rules.rule self.now.start) key.now d }
-        requires position { position ≡ spelled key.now }
+    // Begins a walk of this space anew at a class that was reached, whose position and bound are these.
+    fn set_out(&self, code: &Code, position: Position, bound: u8, walk: &mut Children<G>)
+        requires owned { IsWalkIn G.game (frame_of (G.game self.now.rules.game) self.now.rules.rule self.now.rules.kind self.now.start) walk.old }
+        requires reached { (d : ℕ) × Reached (classes_in (frame_of (G.game self.now.rules.game) self.now.rules.rule self.now.rules.kind self.now.start)) code.now d }
+        requires position { position ≡ board_of_code self.now.start code.now }
         requires bound { bound ≡ guide_of self.now.rules.kind position }
-        ensures children { (children : List (Child (List ℕ))) → AreChildrenBy (G.game walk.new.game) walk.new.rule walk.new.kind walk.new.position (reverse walk.new.moves) children
-            → AreChildren (classes (guide_of self.now.rules.kind) (G.game self.now.rules.game) self.now.rules.rule self.now.start) key.now children }
+        ensures owned { IsWalkIn G.game (frame_of (G.game self.now.rules.game) self.now.rules.rule self.now.rules.kind self.now.start) walk.new }
+        ensures children { (children : List (Child (List ℕ))) → AreChildrenBy (frame_of (G.game walk.new.game) walk.new.rule walk.new.kind walk.new.start) walk.new.position (reverse walk.new.moves) children
+            → AreChildren (classes_in (frame_of (G.game self.now.rules.game) self.now.rules.rule self.now.rules.kind self.now.start)) code.now children }
     {
-        walk.rules.game = self.rules.game.copy();
-        walk.rules.rule = self.rules.rule;
-        walk.rules.kind = self.rules.kind;
         walk.position = position;
-        walk.key = key.copy();
+        walk.code = *code;
         walk.bound = bound;
         walk.left = distinct_moves(&self.rules.game, &walk.position);
         walk.last = None;
     }
 }
 
-// The class that the position settles to, where so many moves led to the position.
-fn settled<G: Game + Drop>(rules: &ClassRules<G>, position: Position, moves: u8) -> Child<ClassKey>
+// The class that the position with this code settles to, where so many moves led to the position.
+fn settled<G: Game + Drop>(
+    rules: &ClassRules<G>,
+    position: Position,
+    code: Code,
+    moves: u8,
+) -> Child<Code>
     requires few { moves ≤ 1 }
-    ensures settled { IsSettledChild (G.game rules.now.game) rules.now.rule rules.now.kind position moves result }
+    ensures settled { (s : Board) → IsCodeOf s position code → IsSettledChild (frame_of (G.game rules.now.game) rules.now.rule rules.now.kind s) position moves result }
 {
     let mut position = position;
-    let settling = settle(&rules.game, &mut position, rules.rule.get());
+    let (settling, code) = settle_coded(&rules.game, rules.rule, &mut position, code);
     Child {
-        key: ClassKey::of(&position),
+        key: code,
         cost: moves + settling.len() as u8,
         bound: None,
     }
 }
 
-// The class of the position to which a card that was moved from this place led, where no card goes home by the rule
-// after it: only the card that lay below it can.
+// The class of the position with this code to which a card that was moved from this place led, where no card goes home by
+// the rule after it: only the card that lay below it can.
 fn settled_already<G: Game + Drop>(
     rules: &ClassRules<G>,
     position: &Position,
     from: Place,
     bound: Option<u8>,
-    key: Option<ClassKey>,
-) -> Option<Child<ClassKey>>
+    code: Code,
+) -> Option<Child<Code>>
     requires bound { IfSome bound (λ b. b ≡ guide_of rules.now.kind position.now) }
-    requires key { IfSome key (IsKeyOf position.now) }
     requires others { OthersStay rules.now.rule (G.game rules.now.game) position.now from }
-    ensures settled { IfSome result (IsSettledChild (G.game rules.now.game) rules.now.rule rules.now.kind position.now 1) }
-    ensures own { IfSome result (λ child. IsKeyOf position.now child.key) }
+    ensures settled { (s : Board) → IsCodeOf s position.now code → IfSome result (IsSettledChild (frame_of (G.game rules.now.game) rules.now.rule rules.now.kind s) position.now 1) }
+    ensures own { IfSome result (λ child. child.key ≡ code) }
 {
     if goes_home_from(&rules.game, position, rules.rule, from) {
         return None;
     }
     Some(Child {
-        key: key_or_new(key, position),
+        key: code,
         cost: 1,
         bound,
     })
-}
-
-// The key of the position, where there is none yet written anew.
-#[inline]
-fn key_or_new(key: Option<ClassKey>, position: &Position) -> ClassKey
-    requires key { IfSome key (IsKeyOf position.now) }
-    ensures value { IsKeyOf position.now result }
-{
-    match key {
-        Some(key) => key,
-        None => ClassKey::of(position),
-    }
-}
-
-// The key of where a move leads that takes no card home, made from the key of the position, if it can be.
-#[inline]
-fn key_after(key: &ClassKey, position: &Position, m: Move) -> Option<ClassKey>
-    requires whole { IsPosition position.now }
-    requires key { Spells key.now position.now }
-    requires may { (u : ℕ) × MayMove position.now u m.from m.to }
-    ensures value { IfSome result (λ k. (u : ℕ) → playable position.now m.from ≡ Some u → IsKeyOf (placed (lifted position.now m.from) u m.to) k) }
-{
-    let card = position.playable(m.from)?;
-    key.moved(position, card, m.from, m.to)
 }
 
 // Moves a card, not home, and tells the plain bound of where it leads, by the bound of where it was moved from: it changes
@@ -238,65 +230,68 @@ fn shift<G: Game>(
     }
 }
 
-// The child to which a move leads, made by moving the card forth and back; `None` where cards go home, which can't be
-// taken back. The position is as it was.
+// The child to which a move leads, to a position with this code, made by moving the card forth and back; `None` where
+// cards go home, which can't be taken back. The position is as it was.
 fn child_by_shift<G: Game + Drop>(
     rules: &ClassRules<G>,
     position: &mut Position,
-    key: &ClassKey,
     bound: u8,
     m: Move,
-) -> Option<Child<ClassKey>>
+    code: Code,
+) -> Option<Child<Code>>
     requires bound { bound ≡ guide_of rules.now.kind position.old }
     requires settled { NoneGoesHome rules.now.rule (G.game rules.now.game) position.old }
     requires whole { IsPosition position.old }
-    requires key { Spells key.now position.old }
     requires allowed { Allows (G.game rules.now.game) position.old m }
-    ensures child { IfSome result (IsChildOf (G.game rules.now.game) rules.now.rule rules.now.kind position.old m) }
-    ensures stands { IfSome result (λ child. StandsAt (G.game rules.now.game) position.old (Some m) child.key) }
+    ensures child { (s : Board) → IsCodeAfter s (G.game rules.now.game) position.old m code
+        → IfSome result (IsChildOf (frame_of (G.game rules.now.game) rules.now.rule rules.now.kind s) position.old m) }
+    ensures stands { (s : Board) → IsCodeAfter s (G.game rules.now.game) position.old m code
+        → IfSome result (λ child. StandsAt (frame_of (G.game rules.now.game) rules.now.rule rules.now.kind s) position.old (Some m) child.key) }
     ensures same { position.new ≡ position.old }
 {
     if m.to == Place::Home {
         return None;
     }
-    let key = key_after(key, position, m);
     let bound = shift(&rules.game, rules.kind, position, bound, m);
-    let child = settled_already(rules, position, m.from, bound, key);
+    let child = settled_already(rules, position, m.from, bound, code);
     position.shift(m.to, m.from);
     child
 }
 
-// The child to which a move leads, made on a copy of the position.
+// The child to which a move leads, to a position with this code, made on a copy of the position.
 fn child_by_copy<G: Game + Drop>(
     rules: &ClassRules<G>,
     position: &Position,
     m: Move,
-) -> Child<ClassKey>
+    code: Code,
+) -> Child<Code>
     requires allowed { Allows (G.game rules.now.game) position.now m }
-    ensures child { IsChildOf (G.game rules.now.game) rules.now.rule rules.now.kind position.now m result }
+    ensures child { (s : Board) → IsCodeAfter s (G.game rules.now.game) position.now m code
+        → IsChildOf (frame_of (G.game rules.now.game) rules.now.rule rules.now.kind s) position.now m result }
 {
     let mut next = position.copy();
     apply(&rules.game, &mut next, m);
-    settled(rules, next, 1)
+    settled(rules, next, code, 1)
 }
 
 impl<G: Game + Drop> Children<G> {
     // The child to which a move leads, at which the walk stands from then on.
-    fn step(&mut self, m: Move) -> Child<ClassKey>
+    fn step(&mut self, m: Move) -> Child<Code>
         requires allowed { Allows (G.game self.old.game) self.old.position m }
-        ensures child { IsChildOf (G.game self.old.game) self.old.rule self.old.kind self.old.position m result }
-        ensures at { StandsAt (G.game self.old.game) self.old.position self.new.last result.key }
+        ensures child { IsChildOf (frame_of (G.game self.old.game) self.old.rule self.old.kind self.old.start) self.old.position m result }
+        ensures at { StandsAt (frame_of (G.game self.old.game) self.old.rule self.old.kind self.old.start) self.old.position self.new.last result.key }
         ensures same { (self.new.game ≡ self.old.game) × (self.new.rule ≡ self.old.rule) × (self.new.kind ≡ self.old.kind)
-            × (self.new.position ≡ self.old.position) × (self.new.moves ≡ self.old.moves) }
+            × (self.new.start ≡ self.old.start) × (self.new.position ≡ self.old.position) × (self.new.moves ≡ self.old.moves) }
     {
-        match child_by_shift(&self.rules, &mut self.position, &self.key, self.bound, m) {
+        let code = self.layout.moved(&self.code, &self.position, m);
+        match child_by_shift(&self.rules, &mut self.position, self.bound, m, code) {
             Some(child) => {
                 self.last = Some(m);
                 child
             }
             None => {
                 self.last = None;
-                child_by_copy(&self.rules, &self.position, m)
+                child_by_copy(&self.rules, &self.position, m, code)
             }
         }
     }
@@ -317,53 +312,56 @@ impl<G: Game + Drop> Children<G> {
     }
 }
 
-impl<G: Game + Drop> Space<ClassKey> for Positions<G> {
-    ghost graph = { λ s. classes (guide_of s.rules.kind) (G.game s.rules.game) s.rules.rule s.start };
+impl<G: Game + Drop> Space<Code> for Positions<G> {
+    ghost graph = { λ s. classes (by_codes s.start) (guide_of s.rules.kind) (G.game s.rules.game) s.rules.rule s.start };
 
     type Walk = Children<G>;
 
-    ghost rest = { λ w children. AreChildrenBy (G.game w.game) w.rule w.kind w.position (reverse w.moves) children };
+    ghost rest = { λ w children. AreChildrenBy (frame_of (G.game w.game) w.rule w.kind w.start) w.position (reverse w.moves) children };
 
     ghost left = { λ w. length w.moves };
 
-    ghost at = { λ w. StandsAt (G.game w.game) w.position w.last };
+    ghost owns = { λ s w. IsWalkIn G.game (frame_of (G.game s.rules.game) s.rules.rule s.rules.kind s.start) w };
 
-    fn start(&self) -> (Child<ClassKey>, Children<G>) {
-        let child = settled(&self.rules, self.start.copy(), 0);
+    ghost at = { λ w. StandsAt (frame_of (G.game w.game) w.rule w.kind w.start) w.position w.last };
+
+    fn start(&self) -> (Child<Code>, Children<G>) {
+        let child = settled(&self.rules, self.start.copy(), self.layout.start_code(), 0);
         let walk = self.walk(&child.key);
         (child, walk)
     }
 
-    fn is_won(&self, key: &ClassKey) -> bool {
-        key.bytes().starts_with(&[13; 4])
+    fn is_won(&self, code: &Code) -> bool {
+        *code == Code::all_home()
     }
 
-    fn bound(&self, key: &ClassKey) -> u8 {
-        self.rules.kind.guide(&self.position(key))
+    fn bound(&self, code: &Code) -> u8 {
+        self.rules.kind.guide(&self.position(code))
     }
 
-    fn bound_within(&self, walk: &mut Children<G>, key: &ClassKey, most: u8) -> u8 {
+    fn bound_within(&self, walk: &mut Children<G>, code: &Code, most: u8) -> u8 {
         match walk.last {
             Some(m) => walk.bound_after(self.rules.kind, m, most),
-            None => self.rules.kind.guide_within(&self.position(key), most),
+            None => self.rules.kind.guide_within(&self.position(code), most),
         }
     }
 
-    fn visit(&self, key: &ClassKey, walk: &mut Children<G>) -> u8 {
-        let position = self.position(key);
+    fn visit(&self, code: &Code, walk: &mut Children<G>) -> u8 {
+        let position = self.position(code);
         let bound = self.rules.kind.guide(&position);
-        self.set_out(key, position, bound, walk);
+        self.set_out(code, position, bound, walk);
         bound
     }
 
-    fn revisit(&self, key: &ClassKey, bound: u8, walk: &mut Children<G>) {
-        self.set_out(key, self.position(key), bound, walk);
+    fn revisit(&self, code: &Code, bound: u8, walk: &mut Children<G>) {
+        self.set_out(code, self.position(code), bound, walk);
     }
 
-    fn next(&self, walk: &mut Children<G>) -> Option<Child<ClassKey>> {
+    fn next(&self, walk: &mut Children<G>) -> Option<Child<Code>> {
         let m = walk.left.pop()?;
         Some(walk.step(m))
     }
 
-    ghost lawful = { λ s. lawful (guide_of s.rules.kind) (G.game s.rules.game) s.rules.rule s.start (bounds_lower s.rules.kind).0 s.fits };
+    ghost lawful = { λ s. lawful (by_codes s.start) (guide_of s.rules.kind) (G.game s.rules.game) s.rules.rule s.start
+        (codes_name (G.game s.rules.game) s.start (G.sound s.rules.game) s.fits) (bounds_lower s.rules.kind).0 s.fits };
 }

@@ -1,8 +1,11 @@
 -- A search of a position's classes as a whole: how it begins, runs and is answered, within the crate.
-use Rattle.std.specs.Prelude.{ℕ, List}
+use Rattle.std.specs.Prelude.{◌≡◌, ℕ, List}
 use Rattle.fc_best_first.specs.declared.books.Mark.{Mark}
 use Rattle.fc_best_first.specs.Shown.{IsLeastOpen}
 use Rattle.fc_best_first.specs.Store.{IsStored}
+use Rattle.fc_position.specs.Board.{Board}
+use Rattle.fc_codes.specs.Spelled.{board_of_code}
+use Rattle.fc_classes.specs.Namings.{IsName, by_codes}
 use Rattle.fc_search.specs.Problem.{task_of_problem}
 use Rattle.fc_search.specs.Search.{State}
 
@@ -10,3 +13,10 @@ use Rattle.fc_search.specs.Search.{State}
 abbrev pub IsFloorOf : State → ℕ → ℕ → Type 0
 IsFloorOf s number floor = (x : List ℕ) × (mark : Mark) × IsStored s.store number x mark
     × IsLeastOpen (task_of_problem s.problem) s.store mark.cost floor
+
+-- the board is what the code of the class with this number and mark spells, and the code names it
+pub record Spells (s : State) (number : ℕ) (b : Board) (mark : Mark) : Type 0 where
+  pub code : List ℕ
+  pub stands : IsStored s.store number code mark
+  pub board : b ≡ board_of_code s.problem.start code
+  pub name : IsName (by_codes s.problem.start) s.problem.game code

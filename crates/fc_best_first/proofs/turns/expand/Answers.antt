@@ -14,6 +14,7 @@ use Rattle.fc_best_first.proofs.turns.expand.Goals as goal
 
 pub loop-child-init : goal.loop-child-init
 loop-child-init g c = record {
+  owned = c.requires.owned;
   room = c.requires.room;
   noted = c.requires.noted;
   near = tt;
@@ -53,6 +54,7 @@ loop-child-preserved-in-PutOff g c =
     let near : c.in-PutOff.f ≤ weighed c.args.strategy.now c.args.taken.now.origin + 28050 =
     subst (λ (o : Offered g.row.K.Denot). IsPutOffNear (weighed c.args.strategy.now c.args.taken.now.origin) o) c.in-PutOff.is c.in_ok-key.ensures.near in
     record {
+      owned = c.offer.ensures.owned;
       room = offers_room c.args.strategy.now c.args.taken.now.f c.loop-child.book c.offer.new.book _ c.in_ok-key.field-0
           c.loop-child.invariant.room c.in_ok-key.ensures.offers;
       noted = offers_noted c.args.strategy.now graph c.args.taken.now.f c.loop-child.book c.offer.new.book _ c.in_ok-key.field-0
@@ -77,6 +79,7 @@ loop-child-preserved g c =
     let graph = g.S.Space.graph c.args.space.now in
     let task : Task g.row.K.Denot = record { graph = graph; strategy = c.args.strategy.now } in
     record {
+      owned = c.offer.ensures.owned;
       room = offers_room c.args.strategy.now c.args.taken.now.f c.loop-child.book c.offer.new.book _ c.in_ok-key.field-0
           c.loop-child.invariant.room c.in_ok-key.ensures.offers;
       noted = offers_noted c.args.strategy.now graph c.args.taken.now.f c.loop-child.book c.offer.new.book _ c.in_ok-key.field-0

@@ -11,6 +11,7 @@ use Rattle.fc_best_first.proofs.turns.expand.Given as goal
 
 abbrev pub invariant-loop-child : goal.invariant-loop-child
 invariant-loop-child g l = record {
+  owned : g.S.Space.owns l.space l.walk;
   room : length l.book.stored ≤ l.strategy.budget;
   noted : AreNoted l.strategy.expansion (g.S.Space.graph l.space) l.book;
   near : IsLaterNear {K = g.row.K.Denot} l.strategy.expansion l.taken.f (weighed l.strategy l.taken.origin) (put_off_first l.later Whole);

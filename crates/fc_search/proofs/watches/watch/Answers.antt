@@ -7,6 +7,7 @@ use Rattle.fc_best_first.specs.declared.searches.Step.TheVariants.{Running as ru
 use Rattle.fc_best_first.specs.declared.turns.Status.TheVariants.{Stopped}
 use Rattle.fc_best_first.specs.Search.{Runs, reply_of}
 use Rattle.fc_best_first.specs.Turn.{work_left}
+use Rattle.fc_classes.specs.Namings.{by_codes}
 use Rattle.fc_classes.proofs.TableLemmas.{lawful}
 use Rattle.fc_search.specs.Problem.{Problem, task_of_problem}
 use Rattle.fc_search.specs.declared.listeners.Progress.{Progress}
@@ -29,7 +30,7 @@ overflow_add-turns g c =
     let first = c.args.search.now in
     let q = first.problem in
     let work = begun_work (task_of_problem q) first.store
-    (lawful (guide_of q.method.bound) q.game q.method.rule q.start (bounds_lower q.method.bound).0 c.known.ensures.fits) c.requires.begins c.known.ensures.budget.greatest in
+    (lawful (by_codes q.start) (guide_of q.method.bound) q.game q.method.rule q.start c.known.ensures.names (bounds_lower q.method.bound).0 c.known.ensures.fits) c.requires.begins c.known.ensures.budget.greatest in
     let falls = c.loop-step.invariant.falls in
     let few = c.run_on-made.ensures.few in
     omega (arith, work, falls, few)

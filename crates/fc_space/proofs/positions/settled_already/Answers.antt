@@ -3,19 +3,10 @@ use Rattle.fc_home.proofs.RuleLemmas.{refuted}
 use Rattle.fc_space.proofs.StayLemmas.{settled_here}
 use Rattle.fc_space.proofs.positions.settled_already.Goals as goal
 
-pub returns : goal.returns
-returns g c =
+pub returns-clause-settled : goal.returns-clause-settled
+returns-clause-settled g c =
+    λ s coded.
     let b = c.args.position.now in
     let game = g.G.Game.game c.args.rules.now.game in
     let stays = refuted c.goes_home_from.result c.goes_home_from.ensures.value c.if-goes_home_from.false in
-    record {
-      settled = (
-        b,
-        0,
-        settled_here c.args.rules.now.rule game b c.args.from c.requires.others stays,
-        c.key_or_new.ensures.value,
-        refl,
-        c.requires.bound,
-      );
-      own = c.key_or_new.ensures.value;
-    }
+    (b, 0, settled_here c.args.rules.now.rule game b c.args.from c.requires.others stays, coded, refl, c.requires.bound)

@@ -38,4 +38,5 @@ invariant_of-result g c =
       begins_kept task c.add.new.self key mark first.0 opened notes (g.met.S.Space.lawful c.args.space) heavy start alone some_room refl,
       subst (IsFloor graph c.args.strategy.weight) (sym (c.opens_at.ensures.value ∙ ap (opens_at (weighed c.args.strategy mark)) opening))
           (begins_floor task c.add.new.self key mark first.0 opened notes (g.met.S.Space.lawful c.args.space) heavy start alone),
+      c.bound_of.ensures.owned,
     )

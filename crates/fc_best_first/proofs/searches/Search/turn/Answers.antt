@@ -19,6 +19,7 @@ invariant_of-self g c =
           kept c.in-Ok.status c.in-Ok.ensures.takes,
       takes_floor task (g.met.S.Space.lawful c.self.inside.space) c.self.invariant.0.above
           c.self.inside.book c.self.inside.floor c.advance.new.floor kept c.self.invariant.3 c.in-Ok.ensures.floor,
+      c.advance.ensures.owned,
     )
 
 pub invariant_of-self-in-Err : goal.invariant_of-self-in-Err
@@ -31,6 +32,7 @@ invariant_of-self-in-Err g c =
           c.self.inside.book c.self.inside.floor c.advance.new.floor
           (subst (Holds task c.self.inside.book) c.in-Running.is c.self.invariant.2)
           c.self.invariant.3 c.in-Err.ensures.floor,
+      c.advance.ensures.owned,
     )
 
 pub returns-after-status-clause-falls : goal.returns-after-status-clause-falls

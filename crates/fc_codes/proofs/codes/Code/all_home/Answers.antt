@@ -1,7 +1,7 @@
 use Rattle.std.proofs.Common.{◌≡◌, ℕ, ◌<◌, List, [], ◌∷◌, get_or, eqb, true, arith, ◌∙◌, refl}
 use Rattle.std.proofs.lemmas.Bool.{agree_below, agree_below_at}
 use Rattle.std.proofs.lemmas.Bool.Decides.{nat_tests}
-use Rattle.fc_codes.specs.inner.Words.{unpacked, read_state}
+use Rattle.fc_codes.specs.Words.{unpacked, read_state}
 use Rattle.fc_codes.specs.inner.Packing.{unpacked-at, length-unpacked}
 use Rattle.fc_codes.proofs.codes.Code.all_home.Goals as goal
 

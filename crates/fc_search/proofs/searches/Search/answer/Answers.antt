@@ -4,6 +4,7 @@ use Rattle.fc_best_first.specs.Shown.{Shows}
 use Rattle.fc_best_first.specs.declared.strategies.Strategy.{Strategy}
 use Rattle.fc_best_first.specs.declared.turns.Status.TheVariants.{GaveUp}
 use Rattle.fc_answers.specs.declared.answers.Verdict.TheVariants as verdict
+use Rattle.fc_classes.proofs.NamingLemmas.{codes_name}
 use Rattle.fc_search.specs.Search.{Answers}
 use Rattle.fc_search.proofs.AnswerLemmas.{gave_up_verdict}
 use Rattle.fc_search.specs.Problem.{Problem, task_of_problem}
@@ -41,7 +42,7 @@ returns-in-Ok-clause-answers g c =
           let shows = subst (Shows (task_of_problem own) inner.store)
           stands c.status.ensures.shows in
           let told = gave_up_verdict own inner.store
-          inner.space.fits w.in-GaveUp.field-0 w.in-GaveUp.field-1 w.get.result shows (w.get.ensures.value ∙ ap (λ (v : Strategy). v.budget) w.strategy.ensures.value) in
+          (codes_name own.game own.start (g.met.G.Game.sound inner.space.rules.game) inner.space.fits) inner.space.fits w.in-GaveUp.field-0 w.in-GaveUp.field-1 w.get.result shows (w.get.ensures.value ∙ ap (λ (v : Strategy). v.budget) w.strategy.ensures.value) in
           let answers : Answers own (record { verdict = verdict.GaveUp w.get.result; table = None }) =
           record { told = told; backed = tt; searched = tt } in
           subst (λ r. IfOk r (Answers now.problem))

@@ -7,4 +7,4 @@ use Rattle.fc_search.proofs.searches.Search.table_below.Given as goal
 
 -- the rows so far are those of the first stored keys that are inside n
 abbrev pub invariant-loop-number : goal.invariant-loop-number
-invariant-loop-number g l = pairs_of l.rows.items ≡ inside (guide_of l.self.problem.method.bound) l.n (take l.number (costs_of l.self.store))
+invariant-loop-number g l = pairs_of l.rows.items ≡ inside (guide_of l.self.problem.method.bound) l.n (take l.number (costs_of l.self.problem.start l.self.store))

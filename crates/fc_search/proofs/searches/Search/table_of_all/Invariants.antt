@@ -6,4 +6,4 @@ use Rattle.fc_search.proofs.searches.Search.table_of_all.Given as goal
 
 -- the rows so far are the first stored keys, each at no cost
 abbrev pub invariant-loop-number : goal.invariant-loop-number
-invariant-loop-number g l = pairs_of l.rows.items ≡ at_no_cost (take l.number (costs_of l.self.store))
+invariant-loop-number g l = pairs_of l.rows.items ≡ at_no_cost (take l.number (costs_of l.self.problem.start l.self.store))

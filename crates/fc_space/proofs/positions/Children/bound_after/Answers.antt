@@ -6,7 +6,7 @@ use Rattle.fc_canonical.proofs.BackLemmas.{taken_back}
 use Rattle.fc_home.specs.Settles.{NoneGoesHome}
 use Rattle.fc_bound.specs.Kinds.{guide_of}
 use Rattle.fc_space.specs.Children.{Left}
-use Rattle.fc_space.specs.inner.Children.{Spells}
+use Rattle.fc_codes.specs.State.{IsCodeOf}
 use Rattle.fc_space.proofs.positions.Children.bound_after.Goals as goal
 
 pub shift-requires : goal.shift-requires
@@ -25,7 +25,7 @@ invariant_of-self g c =
       λ m there. subst (λ b. Allows rules b m) same (c.self.invariant.1 m there),
       subst (λ b. inner.bound ≡ guide_of inner.rules.kind b) same c.self.invariant.2,
       subst (NoneGoesHome inner.rules.rule rules) same c.self.invariant.3,
-      subst (Spells inner.key) same c.self.invariant.4,
+      subst (λ b. IsCodeOf inner.layout b inner.code) same c.self.invariant.4,
     )
 
 pub returns-clause-same : goal.returns-clause-same
@@ -36,6 +36,7 @@ returns-clause-same g c =
       game = inner.rules.game;
       rule = inner.rules.rule;
       kind = inner.rules.kind;
+      start = inner.layout;
       position = b;
       moves = inner.left.items;
       last = inner.last;

@@ -1,48 +1,56 @@
-use Rattle.std.proofs.Common.{reverse, sym, subst, ap, ◌∙◌}
+use Rattle.std.proofs.Common.{◌≡◌, reverse, sym, subst, ap, ◌∙◌}
 use Rattle.fc_moves.specs.GameRules.{IsPositionOf}
 use Rattle.fc_canonical.specs.Distinct.{ListsClasses}
-use Rattle.fc_canonical.specs.Key.{board_bytes}
-use Rattle.fc_canonical.specs.Order.{IsCanonical}
+use Rattle.fc_codes.specs.Spelled.{board_of_code}
+use Rattle.fc_codes.specs.State.{IsCodeOf}
 use Rattle.fc_home.specs.Settles.{NoneGoesHome}
-use Rattle.fc_canonical.specs.Spelled.{spelled}
-use Rattle.fc_classes.proofs.PathLemmas.{reached_of_positions}
-use Rattle.fc_space.specs.Children.{AreChildrenBy}
+use Rattle.fc_bound.specs.Kinds.{guide_of}
+use Rattle.fc_space.specs.Children.{Frame, frame_of, AreChildrenBy}
 use Rattle.fc_space.specs.inner.Children.{AreAllowed}
-use Rattle.fc_space.proofs.ChildLemmas.{children_all}
+use Rattle.fc_space.proofs.ChildLemmas.{IsFrame, reached_code, children_all}
 use Rattle.fc_space.proofs.StayLemmas.{none_goes}
 use Rattle.fc_space.proofs.positions.Positions.set_out.Goals as goal
-use Rattle.fc_bound.specs.Kinds.{guide_of}
 
 pub invariant_of-walk : goal.invariant_of-walk
 invariant_of-walk g c =
     let own = c.args.self.now in
-    let reached = reached_of_positions (guide_of own.rules.kind) (g.G.Game.game own.rules.game) own.rules.rule own.start c.args.key.now
-    c.requires.reached.0 own.fits c.requires.reached.1 in
+    let w = frame_of (g.G.Game.game own.rules.game) own.rules.rule own.rules.kind own.start in
+    let f : IsFrame w = record { sound = g.met.G.Game.sound own.rules.game; fits = own.fits } in
+    let inner = c.walk.inside in
+    let v = frame_of (g.G.Game.game inner.rules.game) inner.rules.rule inner.rules.kind inner.layout in
+    let here : v ≡ w = ap (λ u. frame_of (g.G.Game.game u.game) u.rule u.kind u.start) c.walk.view_is ∙ c.requires.owned in
+    let x = c.args.code.now in
+    let p = c.args.position in
+    let moves = c.distinct_moves-walk-inside.result.items in
+    let reached = reached_code w x c.requires.reached.0 f c.requires.reached.1 in
     let valid = reached.0 in
-    let settled = subst (NoneGoesHome own.rules.rule (g.G.Game.game own.rules.game)) (sym c.requires.position)
-    (none_goes own.rules.rule (g.G.Game.game own.rules.game) (spelled c.args.key.now) reached.1) in
-    let position = subst (IsPositionOf (g.G.Game.game own.rules.game)) (sym c.requires.position) valid.position in (
-      subst (λ r. IsPositionOf r c.args.position) (sym c.copy.ensures.value) position,
-      subst (λ r. AreAllowed r c.args.position c.distinct_moves-walk-inside.result.items) (sym c.copy.ensures.value)
-          c.distinct_moves-walk-inside.ensures.classes.allowed,
+    let same = sym c.requires.position in
+    subst (λ (u : Frame). IsPositionOf u.game p × AreAllowed u.game p moves × (c.args.bound ≡ guide_of u.kind p) × NoneGoesHome u.rule u.game p
+    × IsCodeOf u.start p x) (sym here) (
+      subst (IsPositionOf w.game) same valid.position,
+      c.distinct_moves-walk-inside.ensures.classes.allowed,
       c.requires.bound,
-      subst (λ r. NoneGoesHome own.rules.rule r c.args.position) (sym c.copy.ensures.value) settled,
-      (
-        subst IsCanonical (sym c.requires.position) valid.ordered,
-        c.copy-walk-inside.ensures.value ∙ valid.bytes ∙ ap board_bytes (sym c.requires.position),
-      ),
+      subst (NoneGoesHome w.rule w.game) same (none_goes w.rule w.game (board_of_code w.start x) reached.1),
+      subst (λ b. IsCodeOf w.start b x) same valid.coded,
     )
 
 pub returns : goal.returns
 returns g c =
     let own = c.args.self.now in
-    let rules = g.G.Game.game own.rules.game in
-    let x = c.args.key.now in
+    let w = frame_of (g.G.Game.game own.rules.game) own.rules.rule own.rules.kind own.start in
+    let f : IsFrame w = record { sound = g.met.G.Game.sound own.rules.game; fits = own.fits } in
+    let inner = c.walk.inside in
+    let v = frame_of (g.G.Game.game inner.rules.game) inner.rules.rule inner.rules.kind inner.layout in
+    let here : v ≡ w = ap (λ u. frame_of (g.G.Game.game u.game) u.rule u.kind u.start) c.walk.view_is ∙ c.requires.owned in
+    let x = c.args.code.now in
+    let p = c.args.position in
     let moves = c.distinct_moves-walk-inside.result.items in
-    let valid = (reached_of_positions (guide_of own.rules.kind) rules own.rules.rule own.start x c.requires.reached.0 own.fits c.requires.reached.1).0 in
-    let lists = subst (λ b. ListsClasses rules b moves) c.requires.position c.distinct_moves-walk-inside.ensures.classes in
+    let reached = reached_code w x c.requires.reached.0 f c.requires.reached.1 in
+    let valid = reached.0 in
+    let lists = subst (λ b. ListsClasses w.game b moves) c.requires.position c.distinct_moves-walk-inside.ensures.classes in
     record {
-      children = λ children are. children_all rules own.rules.rule own.rules.kind own.start x moves children valid lists
-          (subst (λ b. AreChildrenBy rules own.rules.rule own.rules.kind b (reverse moves) children) c.requires.position
-          (subst (λ r. AreChildrenBy r own.rules.rule own.rules.kind c.args.position (reverse moves) children) c.copy.ensures.value are));
+      owned = here;
+      children = λ children are. children_all w x moves children f valid lists
+          (subst (λ b. AreChildrenBy w b (reverse moves) children) c.requires.position
+          (subst (λ (u : Frame). AreChildrenBy u p (reverse moves) children) here are));
     }

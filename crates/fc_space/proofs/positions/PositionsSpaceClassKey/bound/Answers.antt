@@ -1,9 +1,0 @@
-use Rattle.fc_classes.proofs.PathLemmas.{reached_of_positions}
-use Rattle.fc_space.proofs.positions.PositionsSpaceClassKey.bound.Goals as goal
-use Rattle.fc_bound.specs.Kinds.{guide_of}
-
-pub position-requires : goal.position-requires
-position-requires g c = record {
-  key = (reached_of_positions (guide_of c.args.self.now.rules.kind) (g.G.Game.game c.args.self.now.rules.game) c.args.self.now.rules.rule c.args.self.now.start c.args.key.now
-      c.requires.reached.0 c.args.self.now.fits c.requires.reached.1).0;
-}
