@@ -61,9 +61,6 @@ is_over s b i k old new below card p inside at t ends = record {
   told = λ l e. last_told s b (take k (column b i)) old new below l t ends e;
 }
 
-pub tells_none : (s b : Board) (code : List ℕ) → TellsCards s b [] code code
-tells_none s b code = record { told = λ c some. absurd (omega (arith, some)); others = λ c none. refl }
-
 pub tells_more : (s b : Board) (i k : ℕ) (old new : List ℕ) (card state : ℕ) → k < length (column b i)
     → card ≡ get_or (column b i) k card → length new ≡ 52 → card < 52 → TellsCards s b (take k (column b i)) old new
     → IsStateOf s b card state → TellsCards s b (take (k + 1) (column b i)) old (set new card state)
@@ -92,10 +89,6 @@ pub ends_more : (b : Board) (i k card : ℕ) → k < length (column b i) → car
     → EndsWith (take (k + 1) (column b i)) (Some card)
 ends_more b i k card inside at =
     (take k (column b i), take_more (column b i) k card inside ∙ ap (λ c. take k (column b i) ++ c ∷ []) (sym at))
-
--- the columns so far
-pub columns_none : (s b : Board) (code : List ℕ) → TellsColumns s b 0 code code
-columns_none s b code = record { told = λ j c below. absurd (omega arith); others = λ c none. refl }
 
 pub columns_more : (s b : Board) (i : ℕ) (old mid new : List ℕ) → IsPosition b → i < 8 → TellsColumns s b i old mid
     → TellsCards s b (column b i) mid new → TellsColumns s b (i + 1) old new
