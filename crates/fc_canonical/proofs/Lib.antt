@@ -6,7 +6,6 @@ pub mod KeyLemmas
 pub mod ListedLemmas
 pub mod ListingLemmas
 pub mod MoveLemmas
-pub mod MovedLemmas
 pub mod OrderLemmas
 pub mod PartLemmas
 pub mod ReadLemmas

@@ -1,10 +1,9 @@
 -- Keys as they are written: the order of the columns, the room for them, and the bytes one after the other.
-use Rattle.std.proofs.Common.{◌≡◌, ℕ, zero, suc, ◌+◌, ◌-◌, ◌<◌, ◌≤◌, Option, None, List, [], ◌∷◌, ◌++◌, length, map, take, set, replicate, get_or, refl, sym, ◌∙◌, ap, subst, append_assoc, arith}
+use Rattle.std.proofs.Common.{◌≡◌, ℕ, zero, suc, ◌+◌, ◌<◌, ◌≤◌, Option, None, List, [], ◌∷◌, ◌++◌, length, map, take, get_or, refl, sym, ◌∙◌, ap, subst, arith}
 use Rattle.std.specs.Prelude.{All, swap, sum_by, slice_index}
 use Rattle.std.specs.List.{flat_map}
 use Rattle.std.specs.List.Sorted.{IsPermutation, IsNonDecreasing, IsNonDecreasingBy}
-use Rattle.std.proofs.Math.Seq.{set-append_seam}
-use Rattle.std.proofs.lemmas.List.{map-id, take_at, take_more, length-take-le, length-map, length-append, get_or-map}
+use Rattle.std.proofs.lemmas.List.{map-id, length-map, get_or-map}
 use Rattle.std.proofs.lemmas.List.Concat.{length-flat_map}
 use Rattle.std.proofs.lemmas.List.Elements.{All-cons, All-nil}
 use Rattle.std.proofs.lemmas.List.FromFn.{get_or-range_with_len}
@@ -14,7 +13,7 @@ use Rattle.fc_position.specs.Board.{Board, column}
 use Rattle.fc_position.specs.Position.{IsPosition}
 use Rattle.fc_position.proofs.LayoutLemmas.{eight, map-swap}
 use Rattle.fc_position.proofs.BoardLemmas.{cards_most}
-use Rattle.fc_canonical.specs.Key.{column_bytes, padded, IsKeyOf}
+use Rattle.fc_canonical.specs.Key.{column_bytes, IsKeyOf}
 use Rattle.fc_canonical.specs.Order.{column_order, cell_byte}
 
 -- the numbers of the columns
@@ -138,37 +137,3 @@ key_spells b ns bytes key long perm up cells rising e =
       ordered = record { columns = ordered_columns b ns up; cells = ordered_cells f.0 (subst IsNonDecreasing f.2 rising) };
       bytes = e ∙ ap (λ x. b.homes ++ x ++ flat_map column_bytes (map (column b) ns)) f.2;
     }
-
--- the next byte is written over the first of the zeros
-padded-set : (key : List ℕ) (i v : ℕ) → length key ≡ i → i < 68 → set (padded key) i v ≡ padded (key ++ v ∷ [])
-padded-set key i v long below =
-    let size : length (key ++ v ∷ []) ≡ suc i = omega (arith, long, length-append key (v ∷ [])) in
-    let before : 68 - length key ≡ suc (67 - i) = omega (arith, long) in
-    let after : 67 - i ≡ 68 - length (key ++ v ∷ []) = omega (arith, size) in
-    ap (λ n. set (key ++ replicate n 0) i v) before
-    ∙ ap (λ n. set (key ++ 0 ∷ replicate (67 - i) 0) n v) (sym long)
-    ∙ set-append_seam key 0 (replicate (67 - i) 0) v
-    ∙ sym (append_assoc key (v ∷ []) (replicate (67 - i) 0))
-    ∙ ap (λ n. (key ++ v ∷ []) ++ replicate n 0) after
-
--- what stands before the zeros
-pub take-padded : (key : List ℕ) (n : ℕ) → length key ≡ n → take n (padded key) ≡ key
-take-padded key n long = take_at key (replicate (68 - length key) 0) n long
-
--- one more byte of a part is written behind what stands before the part
-pub padded_more : (front part : List ℕ) (from i d : ℕ) → length front ≡ from → i < length part → from + i < 68
-    → set (padded (front ++ take i part)) (from + i) (get_or part i d) ≡ padded (front ++ take (i + 1) part)
-padded_more front part from i d long inside below =
-    padded-set (front ++ take i part) (from + i) (get_or part i d)
-    (omega (arith, long, length-append front (take i part), length-take-le i part (omega arith))) below
-    ∙ ap padded (append_assoc front (take i part) (get_or part i d ∷ []) ∙ ap (λ l. front ++ l) (sym (take_more part i d inside)))
-
--- the counts are written, and then the cells behind them
-pub front_written : (counts cells one two : List ℕ) → length counts ≡ 4 → length cells ≡ 4 → one ≡ padded counts
-    → two ≡ padded (take 4 one ++ cells)
-    → (length (counts ++ cells) ≡ 8) × (two ≡ padded (counts ++ cells)) × (take 8 two ≡ counts ++ cells)
-front_written counts cells one two four also first second =
-    let size : length (counts ++ cells) ≡ 8 = omega (arith, length-append counts cells, four, also) in
-    let all : two ≡ padded (counts ++ cells) =
-    second ∙ ap (λ l. padded (l ++ cells)) (ap (take 4) first ∙ take-padded counts 4 four) in
-    (size, all, ap (take 8) all ∙ take-padded (counts ++ cells) 8 size)

@@ -1,5 +1,5 @@
 -- Keys: the bytes that spell the canonical board of a class.
-use Rattle.std.specs.Prelude.{◌≡◌, ℕ, ◌+◌, ◌-◌, length, map, replicate, List, ◌∷◌, ◌++◌}
+use Rattle.std.specs.Prelude.{◌≡◌, ℕ, ◌+◌, length, map, List, ◌∷◌, ◌++◌}
 use Rattle.std.specs.List.{flat_map}
 use Rattle.fc_position.specs.Board.{Board}
 use Rattle.fc_position.specs.Position.{IsPosition}
@@ -28,14 +28,6 @@ pub record IsKeyOf (b : Board) (key : List ℕ) : Type 0 where
 -- how many bytes the longest keys have: four counts, four cells, the lengths of eight columns, and 52 cards
 abbrev pub longest_key : ℕ
 longest_key = 68
-
--- zeros follow the key up to the length of the longest keys
-abbrev pub padded : List ℕ → List ℕ
-padded key = key ++ replicate (longest_key - length key) 0
-
--- the bytes are the key of the board's class, and zeros up to the length of the longest keys
-abbrev pub IsPaddedKeyOf : Board → List ℕ → Type 0
-IsPaddedKeyOf b bytes = (key : List ℕ) × IsKeyOf b key × (bytes ≡ padded key)
 
 -- the first n bytes are eight bytes and then eight columns by their length bytes, whatever the other bytes are
 pub record HasExtent (bytes : List ℕ) (n : ℕ) : Type 0 where

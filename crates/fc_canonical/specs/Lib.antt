@@ -2,7 +2,6 @@ pub mod Distinct
 pub mod Key
 pub mod KeyOrder
 pub mod Laws
-pub mod Moved
 pub mod Order
 pub mod Spelled
 pub mod inner

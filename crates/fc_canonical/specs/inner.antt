@@ -1,5 +1,4 @@
 -- What this crate's own functions and proofs speak of, and no public promise.
 pub mod Distinct
-pub mod Moved
 pub mod Order
 pub mod Parts

@@ -3,8 +3,7 @@
 
 pub use checks::is_key;
 pub use distinct::distinct_moves;
-pub use keys::{Key, key, padded_key};
-pub use moved::moved_key;
+pub use keys::{Key, key};
 pub use orders::canonical;
 pub use readers::{key_len, key_size, position_of, read_key};
 pub use searches::find_move;
@@ -14,7 +13,6 @@ mod checks;
 mod distinct;
 mod keys;
 pub mod laws;
-mod moved;
 mod orders;
 mod readers;
 mod searches;

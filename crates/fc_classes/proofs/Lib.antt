@@ -1,4 +1,3 @@
 pub mod NamingLemmas
-pub mod PaddedLemmas
 pub mod PathLemmas
 pub mod TableLemmas

@@ -5,7 +5,4 @@
 //! lists of moves can do is a law.
 #![tactic(auto)]
 
-pub use keys::ClassKey;
-
-mod keys;
 pub mod laws;

@@ -1,9 +1,10 @@
-ghost use Rattle.std.specs.Prelude.{◌≡◌, ℕ, ◌^◌, ◌<◌, length, slice_index, slice_set};
+ghost use Rattle.std.specs.Prelude.{◌≡◌, ℕ, ◌+◌, ◌*◌, ◌^◌, ◌<◌, length, slice_index, slice_set};
 ghost use Rattle.fc_cards.specs.declared.places.Place.{Place};
 ghost use Rattle.fc_position.specs.Board.{Board};
 ghost use Rattle.fc_moves.specs.declared.steps.Move.{Move};
 ghost use Rattle.fc_codes.specs.Moved.{Moves};
 ghost use Rattle.fc_codes.specs.State.{IsCodeOf};
+ghost use Rattle.fc_codes.specs.Words.{digit};
 ghost use Rattle.fc_codes.specs.inner.Words.{with_number};
 
 use fc_best_first::ExactKey;
@@ -125,6 +126,15 @@ impl Code {
         self.with_state(card, 1)
     }
 
+    // The states of the 21, 21 or 10 cards of a word, three bits each, the first one lowest.
+    #[inline]
+    pub(crate) fn word(&self, index: u8) -> u64
+        requires there { index < 3 }
+        ensures value { (place : ℕ) → place < 21 → 21 * index + place < 52 → digit result place ≡ slice_index self.now (21 * index + place) }
+    {
+        self.words[index as usize]
+    }
+
     // The card's state, 0 to 7.
     #[inline]
     pub(crate) fn state(&self, card: Card) -> u8
@@ -149,6 +159,15 @@ impl Code {
         words[index / 21] = with_digit(words[index / 21], index % 21, state);
         Code { words }
     }
+}
+
+// The number, 0 to 7, at one of the 21 places of a word.
+#[inline]
+pub(crate) fn state_at(word: u64, place: u8) -> u8
+    requires place { place < 21 }
+    ensures value { result ≡ digit word place }
+{
+    (word >> (3 * place) & 7) as u8
 }
 
 // The word with another number, 0 to 7, at one of its 21 places.

@@ -9,7 +9,7 @@ ghost use Rattle.fc_codes.specs.State.{IsStateOf, IsCodeOf};
 ghost use Rattle.fc_codes.specs.inner.Landed.{table_state, card_state, IsCellState, IsHomeState, IsOver, TellsCards};
 ghost use Rattle.fc_codes.specs.inner.Seats.{AreSeatsOf};
 
-use crate::codes::Code;
+use crate::codes::{Code, state_at};
 use crate::seats::{Seats, cells_with, fill_columns};
 use fc_cards::{Card, Place};
 use fc_moves::Move;
@@ -219,25 +219,29 @@ impl Layout {
         ensures value { AreSeatsOf self.now code.now all_cards result }
     {
         let mut seats = Seats::new();
-        for index in 0..52 {
-            if let Some(card) = Card::from_index(index) {
-                self.put_card(code, card, &mut seats);
-            }
-        }
+        self.put_word(code, 0, 21, &mut seats);
+        self.put_word(code, 1, 21, &mut seats);
+        self.put_word(code, 2, 10, &mut seats);
         seats
     }
 
-    // Adds what the next card lies on by a code.
+    // Adds what the cards lie on whose states stand in a word of a code, so many of them.
     #[inline]
-    fn put_card(&self, code: &Code, card: Card, seats: &mut Seats)
+    fn put_word(&self, code: &Code, index: u8, count: u8, seats: &mut Seats)
         requires columns { length (deepest_cards self.now code.now) ≤ 8 }
         requires cells { length (cell_cards code.now) ≤ 4 }
-        requires before { AreSeatsOf self.now code.now (range_with_len 0 card) seats.old }
-        ensures value { AreSeatsOf self.now code.now (range_with_len 0 (card + 1)) seats.new }
+        requires count { count ≤ 21 }
+        requires room { 21 * index + count ≤ 52 }
+        requires before { AreSeatsOf self.now code.now (range_with_len 0 (21 * index)) seats.old }
+        ensures value { AreSeatsOf self.now code.now (range_with_len 0 (21 * index + count)) seats.new }
     {
-        let state = code.state(card);
-        seats.lay(card, self.seat(card, state));
-        seats.lay_aside(card, state);
+        let word = code.word(index);
+        for place in 0..count {
+            if let Some(card) = Card::from_index(21 * index + place) {
+                let state = state_at(word, place);
+                seats.put(card, state, self.seat(card, state));
+            }
+        }
     }
 
     // What a card with this state lies on.

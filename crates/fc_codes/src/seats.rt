@@ -35,38 +35,26 @@ impl Seats {
         }
     }
 
-    // Puts a card where it lies: on a card, on the table, or nowhere.
+    // Puts a card with this state, by which it lies on a card or on the table, home, into a cell, there, or nowhere.
     #[inline]
-    pub fn lay(&mut self, card: Card, seat: u8)
-        requires room { seat ≡ 52 → array_vec_len self.old.deepest < 8 }
-        requires count { length self.old.above ≡ 52 }
+    pub fn put(&mut self, card: Card, state: u8, seat: u8)
+        requires aside { 1 ≤ state → state ≤ 2 → 52 < seat }
+        requires on_table { seat ≡ 52 → array_vec_len self.old.deepest < 8 }
+        requires in_cell { state ≡ 2 → array_vec_len self.old.cells < 4 }
+        requires above { length self.old.above ≡ 52 }
+        requires homes { length self.old.homes ≡ 4 }
+        requires few { slice_index self.old.homes (suit card) < 255 }
         ensures above { self.new.above ≡ (if nat_lt seat 52 then slice_set self.old.above seat (Some card) else self.old.above) }
         ensures deepest { self.new.deepest.items ≡ self.old.deepest.items ++ (if seat == 52 then card ∷ [] else []) }
-        ensures cells { self.new.cells ≡ self.old.cells }
-        ensures homes { self.new.homes ≡ self.old.homes }
-    {
-        if seat < 52 {
-            self.above[seat as usize] = Some(card);
-        } else if seat == 52 {
-            self.deepest.push(card);
-        }
-    }
-
-    // Puts a card with this state home, or into a cell, or nowhere.
-    #[inline]
-    pub fn lay_aside(&mut self, card: Card, state: u8)
-        requires room { state ≡ 2 → array_vec_len self.old.cells < 4 }
-        requires count { length self.old.homes ≡ 4 }
-        requires few { slice_index self.old.homes (suit card) < 255 }
         ensures cells { self.new.cells.items ≡ self.old.cells.items ++ (if state == 2 then card ∷ [] else []) }
         ensures homes { self.new.homes ≡ (if state == 1
             then slice_set self.old.homes (suit card) (slice_index self.old.homes (suit card) + 1) else self.old.homes) }
-        ensures above { self.new.above ≡ self.old.above }
-        ensures deepest { self.new.deepest ≡ self.old.deepest }
     {
         match state {
             1 => self.homes[card.suit().index() as usize] += 1,
             2 => self.cells.push(card),
+            _ if seat < 52 => self.above[seat as usize] = Some(card),
+            _ if seat == 52 => self.deepest.push(card),
             _ => {}
         }
     }

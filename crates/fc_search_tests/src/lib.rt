@@ -12,7 +12,6 @@ mod best_first;
 #[cfg(test)]
 mod bounds;
 #[cfg(test)]
-mod classes;
 #[cfg(test)]
 mod faults;
 #[cfg(test)]

@@ -4,8 +4,7 @@ use crate::boards::{ALL_HOME, DEAL_ONE, LOCKED, LONE_SPADES, THREE_SPADES, TWO_K
 use crate::given::{bakers_game, board, free_cell, make, sure};
 use arrayvec::ArrayVec;
 use fc_canonical::{
-    Key, canonical, distinct_moves, find_move, is_key, key, key_len, moved_key, padded_key,
-    position_of, read_key,
+    Key, canonical, distinct_moves, find_move, is_key, key, key_len, position_of, read_key,
 };
 use fc_cards::{Card, Place};
 use fc_moves::{Game, Kings, Move, allows, moves};
@@ -61,23 +60,6 @@ fn check_key(rt: &impl Abort, text: &str, bytes: &[u8]) {
 
 #[test]
 fn writes_keys(rt: HostRuntime) {
-    check_key(&rt, TWO_KINGS, FOUR_CARDS_KEY);
-    let parted = "Foundations: H-J C-K D-K S-J\n:\nQH KS\n:\nQS KH\n";
-    check_key(&rt, parted, FOUR_CARDS_KEY);
-    check_key(&rt, LOCKED, LOCKED_KEY);
-}
-
-// The key of a board's text and the zeros behind it.
-fn check_padded(rt: &impl Abort, text: &str, front: &[u8]) {
-    let bytes = padded_key(&board(rt, text));
-    assert!(rt; bytes.starts_with(front), "{text}");
-    for byte in bytes.iter().skip(front.len()) {
-        assert!(rt; *byte == 0, "{text}");
-    }
-}
-
-#[test]
-fn writes_padded_keys(rt: HostRuntime) {
     let turned = "\
         Foundations: H-7 C-7 D-7 S-7\n\
         Freecells: KH KS KC KD\n\
@@ -89,12 +71,26 @@ fn writes_padded_keys(rt: HostRuntime) {
         TH QH JH\n\
         8H 9H\n\
         TD QD JD\n";
-    check_padded(&rt, TWO_KINGS, FOUR_CARDS_KEY);
-    let exchanged = "Foundations: H-J C-K D-K S-J\nQH KS\nQS KH\n";
-    check_padded(&rt, exchanged, FOUR_CARDS_KEY);
-    let parted = "Foundations: H-J C-K D-K S-J\n:\nQS KH\n:\n:\n:\nQH KS\n";
-    check_padded(&rt, parted, FOUR_CARDS_KEY);
-    check_padded(&rt, turned, LOCKED_KEY);
+    let keys = [
+        (TWO_KINGS, FOUR_CARDS_KEY),
+        (
+            "Foundations: H-J C-K D-K S-J\n:\nQH KS\n:\nQS KH\n",
+            FOUR_CARDS_KEY,
+        ),
+        (
+            "Foundations: H-J C-K D-K S-J\nQH KS\nQS KH\n",
+            FOUR_CARDS_KEY,
+        ),
+        (
+            "Foundations: H-J C-K D-K S-J\n:\nQS KH\n:\n:\n:\nQH KS\n",
+            FOUR_CARDS_KEY,
+        ),
+        (LOCKED, LOCKED_KEY),
+        (turned, LOCKED_KEY),
+    ];
+    for (text, bytes) in keys {
+        check_key(&rt, text, bytes);
+    }
 }
 
 // Some bytes begin with this key, whose position has it.
@@ -417,75 +413,4 @@ fn boards_that_do_not_fit_step_otherwise(rt: HostRuntime) {
     let class = key(&board(&rt, fits));
     check_king(&rt, &board(&rt, fits), &class, false);
     check_king(&rt, &board(&rt, other), &class, true);
-}
-
-// Whether the columns keep their order at a move: it doesn't take a column's only card, nor go to an empty column.
-fn keeps_order(position: &Position, m: Move) -> bool {
-    let leaves = match m.from {
-        Place::Column(i) => i >= 8 || position.column(i).len() > 1,
-        _ => true,
-    };
-    let joins = match m.to {
-        Place::Column(j) => j >= 8 || !position.column(j).is_empty(),
-        _ => true,
-    };
-    leaves && joins
-}
-
-// The key that was made is that of where the move leads, and there is none exactly where the columns may change their
-// order. Whether there is one.
-fn check_moved<G: Game>(
-    rt: &impl Abort,
-    game: &G,
-    position: &Position,
-    m: Move,
-    bytes: Option<[u8; 68]>,
-) -> bool {
-    assert!(rt; bytes.is_some() == keeps_order(position, m));
-    let mut after = position.copy();
-    make(rt, game, &mut after, m);
-    let key = padded_key(&after);
-    match bytes {
-        Some(bytes) => assert!(rt; bytes == key),
-        None => return false,
-    }
-    true
-}
-
-// Each allowed move from the canonical position of the board's class, but those home: the key that is made from the
-// position's own is right. Whether any is made.
-fn check_moved_keys<G: Game>(rt: &impl Abort, game: &G, board: &Position) -> bool {
-    let position = canonical(board);
-    let before = padded_key(&position);
-    let mut made = false;
-    for m in moves(game, &position).as_slice() {
-        if m.to == Place::Home || !allows(game, &position, *m) {
-            continue;
-        }
-        let card = position.playable(m.from).expect(rt, "a playable card");
-        let bytes = moved_key(&before, &position, card, m.from, m.to);
-        made |= check_moved(rt, game, &position, *m, bytes);
-    }
-    made
-}
-
-#[test]
-fn makes_keys_of_moved_positions(rt: HostRuntime) {
-    let texts = [
-        DEAL_ONE,
-        TWO_KINGS,
-        LOCKED,
-        LONE_SPADES,
-        WITH_CELLS,
-        "Foundations: H-J C-K D-T S-T\nFreecells: QD QH - JS\nKD JD\nQS KH\nKS\n",
-    ];
-    let game = free_cell(&rt, 4);
-    let suits = bakers_game(&rt, 3);
-    let mut made = false;
-    for text in texts {
-        let position = board(&rt, text);
-        made |= check_moved_keys(&rt, &game, &position);
-        made |= check_moved_keys(&rt, &suits, &position);
-    }
-    assert!(rt; made);
 }
