@@ -1,4 +1,4 @@
-ghost use Rattle.std.specs.Prelude.{◌≡◌, ℕ, ◌+◌, ◌<◌, ◌≤◌, Some, IfSome, IfNone, List, [], length, slice_index};
+ghost use Rattle.std.specs.Prelude.{◌≡◌, ℕ, ◌+◌, ◌*◌, ◌<◌, ◌≤◌, Some, IfSome, IfNone, List, [], length, slice_index};
 ghost use Rattle.std.specs.List.{range_with_len};
 ghost use Rattle.fc_cards.specs.Card.{all_cards};
 ghost use Rattle.fc_position.specs.Board.{Board, column, last_of};
