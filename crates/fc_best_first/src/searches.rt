@@ -88,7 +88,7 @@ impl<K: ExactKey, F: Frontier + Drop, S: Space<K> + Drop> Search<K, F, S> {
         let Strategy { weight, budget, .. } = strategy;
         // Their ranges, which the search keeps.
         let (_, _) = (weight.parts(), budget.get());
-        let (start, mut walk) = space.start();
+        let (start, mut walk) = space.start(alloc)?;
         let Child { key, cost, bound } = start;
         let opening = Opening::new(weight, bound_of(&space, &mut walk, &key, bound));
         let mark = Mark {

@@ -1,6 +1,8 @@
-ghost use Rattle.std.specs.Prelude.{◌≡◌, ◌≤◌, ◌<◌, ◌↔◌, ℕ, List, [], ◌∷◌, IsTrue, IfSome, MatchOption};
+ghost use Rattle.std.specs.Prelude.{◌≡◌, ◌≤◌, ◌<◌, ◌↔◌, ℕ, List, [], ◌∷◌, IsTrue, IfOk, IfSome, MatchOption};
 ghost use Rattle.fc_best_first.specs.Graph.{Graph, IsLawful, Reached};
 ghost use Rattle.fc_best_first.specs.Turn.{AreChildren, TellsBound};
+
+use std::alloc::{AllocError, Global};
 
 /// A key at the end of an edge, what the edge costs, and the bound of the key where telling it costs next to nothing.
 #[derive(Default, Drop)]
@@ -33,12 +35,15 @@ pub trait Space<K> {
     ghost at: { Self.Walk → K → Type 0 };
 
     /// The key that starts, with its cost, and a walk to visit keys with, which stands at it.
-    fn start(&self) -> (Child<K>, Self::Walk)
-        ensures starts { (graph self.now).starts result.0.key result.0.cost }
-        ensures told { TellsBound (graph self.now) result.0 }
-        ensures alone { (x : K) (d : ℕ) → (graph self.now).starts x d → (x ≡ result.0.key) × (result.0.cost ≤ d) }
-        ensures owned { owns self.now result.1 }
-        ensures at { at result.1 result.0.key };
+    ///
+    /// # Errors
+    /// A growth was refused.
+    fn start(&self, alloc: Global) -> Result<(Child<K>, Self::Walk), AllocError>
+        ensures starts { IfOk result (λ begun. (graph self.now).starts begun.0.key begun.0.cost) }
+        ensures told { IfOk result (λ begun. TellsBound (graph self.now) begun.0) }
+        ensures alone { IfOk result (λ begun. (x : K) (d : ℕ) → (graph self.now).starts x d → (x ≡ begun.0.key) × (begun.0.cost ≤ d)) }
+        ensures owned { IfOk result (λ begun. owns self.now begun.1) }
+        ensures at { IfOk result (λ begun. at begun.1 begun.0.key) };
 
     /// Whether a key that was reached is won.
     fn is_won(&self, key: &K) -> bool

@@ -11,7 +11,7 @@ use fc_best_first::{
     Strategy, Weight,
 };
 use fc_frontier::{BucketFrontier, EitherFrontier, Frontier, ListFrontier};
-use std::alloc::Global;
+use std::alloc::{AllocError, Global};
 use std::marker::Model;
 use std::process::Abort;
 
@@ -87,7 +87,7 @@ impl Space<Sum> for Sums {
 
     ghost left = { λ w. length (option_to_list w.two ++ (option_to_list w.four ++ option_to_list w.six)) };
 
-    fn start(&self) -> (Child<Sum>, Addends) {
+    fn start(&self, _alloc: Global) -> Result<(Child<Sum>, Addends), AllocError> {
         let child = Child {
             key: Sum { value: 0 },
             cost: 0,
@@ -98,7 +98,7 @@ impl Space<Sum> for Sums {
             four: None,
             six: None,
         };
-        (child, walk)
+        Ok((child, walk))
     }
 
     fn is_won(&self, key: &Sum) -> bool {

@@ -1,4 +1,5 @@
 -- What this crate's own functions and proofs speak of, and no public promise.
 pub mod Children
 pub mod Codes
+pub mod Remembered
 pub mod Ways

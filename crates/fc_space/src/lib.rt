@@ -7,4 +7,5 @@ pub use ways::follow;
 
 mod coded;
 mod positions;
+mod remembered;
 mod ways;

@@ -1,4 +1,4 @@
-ghost use Rattle.std.specs.Prelude.{◌≡◌, ◌≢◌, ◌≤◌, ℕ, IfSome, List, None, Some, length, reverse};
+ghost use Rattle.std.specs.Prelude.{◌≡◌, ◌≢◌, ◌≤◌, ℕ, IfOk, IfSome, List, None, Some, length, reverse};
 ghost use Rattle.fc_position.specs.Board.{Board};
 ghost use Rattle.fc_position.specs.Position.{Fits, IsPosition};
 ghost use Rattle.fc_moves.specs.GameRules.{IsPositionOf};
@@ -18,9 +18,11 @@ ghost use Rattle.fc_classes.proofs.TableLemmas.{lawful};
 ghost use Rattle.fc_space.specs.Children.{frame_of, IsWalkIn, IsSettledChild, IsChildOf, AreChildrenBy, StandsAt};
 ghost use Rattle.fc_space.specs.inner.Children.{OthersStay, classes_in};
 ghost use Rattle.fc_space.specs.inner.Codes.{IsCodeAfter};
+ghost use Rattle.fc_space.specs.inner.Remembered.{IsCount, bound_by_code};
 ghost use Rattle.fc_bound.proofs.KindLemmas.{bounds_lower};
 
 use crate::coded::settle_coded;
+use crate::remembered::{Remembered, places};
 use arrayvec::ArrayVec;
 use fc_best_first::{Child, Space};
 use fc_bound::{BoundKind, is_held_back};
@@ -31,6 +33,7 @@ use fc_home::{HomeRule, goes_home_from};
 use fc_methods::Method;
 use fc_moves::{Game, Move, apply};
 use fc_position::Position;
+use std::alloc::{AllocError, Global};
 use std::marker::Model;
 
 /// How positions of a game make classes: they are settled by a home rule, and have a bound of a kind.
@@ -48,6 +51,8 @@ pub struct Positions<G: Game + Drop> {
     pub rules: ClassRules<G>,
     pub start: Position,
     pub(crate) layout: Layout,
+    // How many bounds a walk remembers.
+    places: usize,
     pub ghost fits: { IsPositionOf (G.game rules.game) start },
     pub ghost laid: { layout ≡ start },
 }
@@ -64,6 +69,7 @@ pub struct Children<G: Game + Drop> {
     left: ArrayVec<Move, 132>,
     // The move that led to the child that was told last, where no card went home, by the move or after it.
     last: Option<Move>,
+    remembered: Remembered,
 }
 
 impl<G: Game + Drop> Model for Children<G> {
@@ -73,6 +79,7 @@ impl<G: Game + Drop> Model for Children<G> {
     ghost use Rattle.fc_bound.specs.Kinds.{guide_of};
     ghost use Rattle.fc_space.specs.Children.{Left};
     ghost use Rattle.fc_space.specs.inner.Children.{AreAllowed};
+    ghost use Rattle.fc_space.specs.inner.Remembered.{TellBounds, bound_by_code};
     ghost use Rattle.fc_codes.specs.State.{IsCodeOf};
 
     ghost Value = { Left G };
@@ -80,7 +87,8 @@ impl<G: Game + Drop> Model for Children<G> {
     ghost view = { λ s. record { game = s.rules.game; rule = s.rules.rule; kind = s.rules.kind; start = s.layout; position = s.position; moves = s.left.items; last = s.last } };
 
     ghost invariant = { λ s. IsPositionOf (G.game s.rules.game) s.position × AreAllowed (G.game s.rules.game) s.position s.left.items
-        × (s.bound ≡ guide_of s.rules.kind s.position) × NoneGoesHome s.rules.rule (G.game s.rules.game) s.position × IsCodeOf s.layout s.position s.code };
+        × (s.bound ≡ guide_of s.rules.kind s.position) × NoneGoesHome s.rules.rule (G.game s.rules.game) s.position × IsCodeOf s.layout s.position s.code
+        × TellBounds (bound_by_code s.rules.kind s.layout) s.remembered };
 }
 
 impl<G: Game + Drop> Positions<G> {
@@ -92,6 +100,7 @@ impl<G: Game + Drop> Positions<G> {
         ensures kind { result.rules.kind ≡ method.bound }
         ensures start { result.start ≡ start }
     {
+        let places = places(&method);
         let Method { rule, bound, .. } = method;
         let rules = ClassRules {
             game,
@@ -103,6 +112,7 @@ impl<G: Game + Drop> Positions<G> {
             rules,
             start,
             layout,
+            places,
         }
     }
 
@@ -117,14 +127,15 @@ impl<G: Game + Drop> Positions<G> {
     }
 
     // A walk with no child left, which begins at a class that was reached.
-    fn walk(&self, code: &Code) -> Children<G>
+    fn walk(&self, alloc: Global, code: &Code) -> Result<Children<G>, AllocError>
         requires reached { (d : ℕ) × Reached (classes_in (frame_of (G.game self.now.rules.game) self.now.rules.rule self.now.rules.kind self.now.start)) code.now d }
-        ensures owned { IsWalkIn G.game (frame_of (G.game self.now.rules.game) self.now.rules.rule self.now.rules.kind self.now.start) result }
-        ensures last { result.last ≡ None }
+        ensures owned { IfOk result (IsWalkIn G.game (frame_of (G.game self.now.rules.game) self.now.rules.rule self.now.rules.kind self.now.start)) }
+        ensures last { IfOk result (λ walk. walk.last ≡ None) }
     {
+        let remembered = Remembered::new(alloc, self.places)?;
         let position = self.position(code);
         let bound = self.rules.kind.guide(&position);
-        Children {
+        Ok(Children {
             rules: ClassRules {
                 game: self.rules.game.copy(),
                 rule: self.rules.rule,
@@ -136,7 +147,8 @@ impl<G: Game + Drop> Positions<G> {
             bound,
             left: ArrayVec::new(),
             last: None,
-        }
+            remembered,
+        })
     }
 
     // Begins a walk of this space anew at a class that was reached, whose position and bound are these.
@@ -154,6 +166,21 @@ impl<G: Game + Drop> Positions<G> {
         walk.bound = bound;
         walk.left = distinct_moves(&self.rules.game, &walk.position);
         walk.last = None;
+    }
+
+    // Counts the bound of the class with this code, at which a walk of this space stands, no further than is asked. The walk is as it
+    // was.
+    fn count_within(&self, walk: &mut Children<G>, code: &Code, most: u8) -> u8
+        requires reached { (d : ℕ) × Reached (classes_in (frame_of (G.game self.now.rules.game) self.now.rules.rule self.now.rules.kind self.now.start)) code.now d }
+        requires owned { IsWalkIn G.game (frame_of (G.game self.now.rules.game) self.now.rules.rule self.now.rules.kind self.now.start) walk.old }
+        requires at { StandsAt (frame_of (G.game walk.old.game) walk.old.rule walk.old.kind walk.old.start) walk.old.position walk.old.last code.now }
+        ensures count { IsCount (bound_by_code self.now.rules.kind self.now.start code.now) most result }
+        ensures same { walk.new ≡ walk.old }
+    {
+        match walk.last {
+            Some(m) => walk.bound_after(self.rules.kind, m, most),
+            None => self.rules.kind.guide_within(&self.position(code), most),
+        }
     }
 }
 
@@ -325,10 +352,10 @@ impl<G: Game + Drop> Space<Code> for Positions<G> {
 
     ghost at = { λ w. StandsAt (frame_of (G.game w.game) w.rule w.kind w.start) w.position w.last };
 
-    fn start(&self) -> (Child<Code>, Children<G>) {
+    fn start(&self, alloc: Global) -> Result<(Child<Code>, Children<G>), AllocError> {
         let child = settled(&self.rules, self.start.copy(), self.layout.start_code(), 0);
-        let walk = self.walk(&child.key);
-        (child, walk)
+        let walk = self.walk(alloc, &child.key)?;
+        Ok((child, walk))
     }
 
     fn is_won(&self, code: &Code) -> bool {
@@ -340,10 +367,12 @@ impl<G: Game + Drop> Space<Code> for Positions<G> {
     }
 
     fn bound_within(&self, walk: &mut Children<G>, code: &Code, most: u8) -> u8 {
-        match walk.last {
-            Some(m) => walk.bound_after(self.rules.kind, m, most),
-            None => self.rules.kind.guide_within(&self.position(code), most),
+        if let Some(bound) = walk.remembered.get(code, most) {
+            return bound;
         }
+        let bound = self.count_within(walk, code, most);
+        walk.remembered.note(code, most, bound);
+        bound
     }
 
     fn visit(&self, code: &Code, walk: &mut Children<G>) -> u8 {

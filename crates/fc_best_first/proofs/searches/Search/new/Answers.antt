@@ -13,13 +13,13 @@ abbrev opening_at : ℕ → ℕ → Opening
 opening_at times bound = record { over = times * bound; bound = bound }
 
 pub bound_of-requires-clause-reached : goal.bound_of-requires-clause-reached
-bound_of-requires-clause-reached g c = (_, (0, c.start-start.ensures.starts))
+bound_of-requires-clause-reached g c = (_, (0, c.in_ok-start.ensures.starts))
 
 pub invariant_of-result : goal.invariant_of-result
 invariant_of-result g c =
     let graph = g.S.Space.graph c.args.space in
     let task : Task g.row.K.Denot = record { graph = graph; strategy = c.args.strategy } in
-    let key = c.start-start.result.0.key in
+    let key = c.in_ok-start.start.key in
     let mark : Mark = record { cost = c.from.result; parent = 0 } in
     let some_room : 1 ≤ c.args.strategy.budget = c.get.ensures.range.least in
     let heavy : c.args.strategy.weight.parts ≤ c.args.strategy.weight.times = c.parts.ensures.range.above in
@@ -30,9 +30,9 @@ invariant_of-result g c =
     c.new-book.ensures.stored c.new-book.ensures.waiting c.new-book.ensures.openings some_room c.in_ok-_stored.ensures.stores in
     let opened = subst (λ (o : Opening). Adds [] c.add.new.self.waiting (opens_at (weighed c.args.strategy mark) o, 0)) opening first.1 in
     let notes = subst (λ (o : Opening). NotesLast c.args.strategy.expansion [] c.add.new.self.openings o) opening first.2 in
-    let start = subst (graph.starts key) (sym c.from.ensures) c.start-start.ensures.starts in
+    let start = subst (graph.starts key) (sym c.from.ensures) c.in_ok-start.ensures.starts in
     let alone : (y : g.row.K.Denot) (d : ℕ) → graph.starts y d → (y ≡ key) × (c.from.result ≤ d) =
-    λ y d h. let a = c.start-start.ensures.alone y d h in (a.0, subst (λ k. k ≤ d) (sym c.from.ensures) a.1) in (
+    λ y d h. let a = c.in_ok-start.ensures.alone y d h in (a.0, subst (λ k. k ≤ d) (sym c.from.ensures) a.1) in (
       c.parts.ensures.range,
       c.get.ensures.range,
       begins_kept task c.add.new.self key mark first.0 opened notes (g.met.S.Space.lawful c.args.space) heavy start alone some_room refl,

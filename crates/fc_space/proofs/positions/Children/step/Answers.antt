@@ -19,6 +19,7 @@ invariant_of-self g c =
       subst (λ b. inner.bound ≡ guide_of inner.rules.kind b) same c.self.invariant.2,
       subst (NoneGoesHome inner.rules.rule rules) same c.self.invariant.3,
       subst (λ b. IsCodeOf inner.layout b inner.code) same c.self.invariant.4,
+      c.self.invariant.5,
     )
 
 pub invariant_of-self-in-None : goal.invariant_of-self-in-None
@@ -31,6 +32,7 @@ invariant_of-self-in-None g c =
       subst (λ b. inner.bound ≡ guide_of inner.rules.kind b) same c.self.invariant.2,
       subst (NoneGoesHome inner.rules.rule rules) same c.self.invariant.3,
       subst (λ b. IsCodeOf inner.layout b inner.code) same c.self.invariant.4,
+      c.self.invariant.5,
     )
 
 pub returns-in-Some-clause-child : goal.returns-in-Some-clause-child

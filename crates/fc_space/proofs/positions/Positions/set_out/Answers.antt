@@ -25,6 +25,7 @@ invariant_of-walk g c =
     let reached = reached_code w x c.requires.reached.0 f c.requires.reached.1 in
     let valid = reached.0 in
     let same = sym c.requires.position in
+    let kept =
     subst (λ (u : Frame). IsPositionOf u.game p × AreAllowed u.game p moves × (c.args.bound ≡ guide_of u.kind p) × NoneGoesHome u.rule u.game p
     × IsCodeOf u.start p x) (sym here) (
       subst (IsPositionOf w.game) same valid.position,
@@ -32,7 +33,8 @@ invariant_of-walk g c =
       c.requires.bound,
       subst (NoneGoesHome w.rule w.game) same (none_goes w.rule w.game (board_of_code w.start x) reached.1),
       subst (λ b. IsCodeOf w.start b x) same valid.coded,
-    )
+    ) in
+    (kept.0, kept.1, kept.2, kept.3, kept.4, c.walk.invariant.5)
 
 pub returns : goal.returns
 returns g c =

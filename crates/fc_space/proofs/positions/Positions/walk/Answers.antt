@@ -5,6 +5,7 @@ use Rattle.fc_codes.specs.Spelled.{board_of_code}
 use Rattle.fc_codes.specs.State.{IsCodeOf}
 use Rattle.fc_home.specs.Settles.{NoneGoesHome}
 use Rattle.fc_space.specs.Children.{frame_of}
+use Rattle.fc_space.specs.inner.Remembered.{bound_by_code}
 use Rattle.fc_space.proofs.ChildLemmas.{IsFrame, reached_code}
 use Rattle.fc_space.proofs.StayLemmas.{none_goes}
 use Rattle.fc_space.proofs.positions.Positions.walk.Goals as goal
@@ -30,10 +31,11 @@ invariant_of-result g c =
     let coded = subst (λ b. IsCodeOf w.start b x) same valid.coded in
     let start = sym (c.copy-2.ensures.value ∙ own.laid) in (
       subst (λ r. IsPositionOf r c.position-position.result) (sym c.copy.ensures.value) position,
-      λ m there. absurd (let none = subst (λ l. Contains l m) c.new.ensures there in omega (arith, none.1)),
+      λ m there. absurd (let none = subst (λ l. Contains l m) c.new-2.ensures there in omega (arith, none.1)),
       c.guide-bound.ensures.value,
       subst (λ r. NoneGoesHome own.rules.rule r c.position-position.result) (sym c.copy.ensures.value) settled,
       subst (λ s. IsCodeOf s c.position-position.result x) start coded,
+      c.in_ok-remembered.ensures.tells (bound_by_code own.rules.kind c.copy-2.result),
     )
 
 pub returns-clause-owned : goal.returns-clause-owned

@@ -1,40 +1,23 @@
-use Rattle.std.proofs.Common.{◌≤◌, Some, sym, ◌∙◌, ap, subst}
-use Rattle.fc_moves.specs.GameRules.{IsPositionOf}
-use Rattle.fc_space.specs.Children.{frame_of, StandsAt}
-use Rattle.fc_space.proofs.ChildLemmas.{IsFrame, reached_code, stands_guide}
+use Rattle.std.proofs.Common.{◌≡◌, sym, subst, ap, ◌∙◌}
+use Rattle.fc_space.specs.Children.{Frame, frame_of}
+use Rattle.fc_space.specs.inner.Remembered.{IsCount, bound_by_code}
 use Rattle.fc_space.proofs.positions.PositionsSpaceCode.bound_within.Goals as goal
 
-pub position-requires : goal.position-requires
-position-requires g c =
+pub invariant_of-walk : goal.invariant_of-walk
+invariant_of-walk g c =
     let own = c.args.self.now in
     let w = frame_of (g.G.Game.game own.rules.game) own.rules.rule own.rules.kind own.start in
-    let f : IsFrame w = record { sound = g.met.G.Game.sound own.rules.game; fits = own.fits } in
-    record { code = (reached_code w c.args.code.now c.requires.reached.0 f c.requires.reached.1).0 }
-
-pub returns-in-Some-clause-under : goal.returns-in-Some-clause-under
-returns-in-Some-clause-under g c =
-    let own = c.args.self.now in
-    let w = frame_of (g.G.Game.game own.rules.game) own.rules.rule own.rules.kind own.start in
-    let f : IsFrame w = record { sound = g.met.G.Game.sound own.rules.game; fits = own.fits } in
-    let now = c.args.walk.now in
-    let v = frame_of (g.G.Game.game now.game) now.rule now.kind now.start in
-    let code = c.args.code.now in
-    let stands : StandsAt v now.position (Some c.in-Some.m) code =
-    subst (λ l. StandsAt v now.position l code) (sym (ap (λ u. u.last) c.walk.view_is) ∙ c.in-Some.is) c.requires.at in
-    let whole = subst (λ u. IsPositionOf (g.G.Game.game u.game) u.position) c.walk.view_is c.walk.invariant.0 in
-    let guide = stands_guide v w w.kind now.position c.in-Some.m code c.requires.owned f whole stands in
-    subst (λ n. c.bound_after.result ≤ n) guide (c.bound_after.ensures.under stands.0 stands.1)
-
-pub returns-in-Some-clause-exact : goal.returns-in-Some-clause-exact
-returns-in-Some-clause-exact g c =
-    let own = c.args.self.now in
-    let w = frame_of (g.G.Game.game own.rules.game) own.rules.rule own.rules.kind own.start in
-    let f : IsFrame w = record { sound = g.met.G.Game.sound own.rules.game; fits = own.fits } in
-    let now = c.args.walk.now in
-    let v = frame_of (g.G.Game.game now.game) now.rule now.kind now.start in
-    let code = c.args.code.now in
-    let stands : StandsAt v now.position (Some c.in-Some.m) code =
-    subst (λ l. StandsAt v now.position l code) (sym (ap (λ u. u.last) c.walk.view_is) ∙ c.in-Some.is) c.requires.at in
-    let whole = subst (λ u. IsPositionOf (g.G.Game.game u.game) u.position) c.walk.view_is c.walk.invariant.0 in
-    let guide = stands_guide v w w.kind now.position c.in-Some.m code c.requires.owned f whole stands in
-    λ le. c.bound_after.ensures.exact stands.0 stands.1 le ∙ guide
+    let inner = c.walk-2.inside in
+    let v = frame_of (g.G.Game.game inner.rules.game) inner.rules.rule inner.rules.kind inner.layout in
+    let here : v ≡ w =
+    ap (λ s. frame_of (g.G.Game.game s.game) s.rule s.kind s.start) (c.walk-2.view_is ∙ c.count_within-bound.ensures.same) ∙ c.requires.owned in
+    let count = subst (λ (u : Frame). IsCount (bound_by_code u.kind u.start c.args.code.now) c.args.most c.count_within-bound.result) (sym here)
+    c.count_within-bound.ensures.count in
+    let kept = c.walk-2.invariant in (
+      kept.0,
+      kept.1,
+      kept.2,
+      kept.3,
+      kept.4,
+      c.note.ensures.tells (bound_by_code inner.rules.kind inner.layout) kept.5 count,
+    )

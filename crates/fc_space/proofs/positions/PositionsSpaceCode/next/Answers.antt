@@ -16,6 +16,7 @@ invariant_of-walk-2 g c =
       c.walk.invariant.2,
       c.walk.invariant.3,
       c.walk.invariant.4,
+      c.walk.invariant.5,
     )
 
 pub step-requires : goal.step-requires

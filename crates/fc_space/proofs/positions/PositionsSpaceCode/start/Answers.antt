@@ -4,8 +4,8 @@ use Rattle.fc_space.specs.Children.{frame_of, IsSettledChild}
 use Rattle.fc_space.proofs.ChildLemmas.{IsFrame, child_bound, settled_starts, start_alone}
 use Rattle.fc_space.proofs.positions.PositionsSpaceCode.start.Goals as goal
 
-pub walk-walk-requires : goal.walk-walk-requires
-walk-walk-requires g c =
+pub walk-requires : goal.walk-requires
+walk-requires g c =
     let own = c.args.self.now in
     let w = frame_of (g.G.Game.game own.rules.game) own.rules.rule own.rules.kind own.start in
     let f : IsFrame w = record { sound = g.met.G.Game.sound own.rules.game; fits = own.fits } in

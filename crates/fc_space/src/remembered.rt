@@ -1,0 +1,108 @@
+//! Bounds that were counted, as far as a table of a fixed size remembers them: a class that was put off is met again, from the
+//! same class or from another, and what was counted of its bound then most often serves.
+
+ghost use Rattle.std.specs.Prelude.{◌≡◌, ◌^◌, ◌<◌, ◌≤◌, ◌⊎◌, ℕ, List, [], length, Contains, IfOk, IfNone, IfSome};
+ghost use Rattle.fc_space.specs.inner.Remembered.{IsCount, TellBounds};
+
+use fc_codes::Code;
+use fc_methods::{BoundKind, Expansion, Method};
+use std::alloc::{AllocError, Global};
+use std::hash::{FoldHasher, Hash, Hasher};
+use std::marker::Model;
+
+// What was counted of the bound of the class with a code: a number that is no greater, and whether it is the bound.
+#[derive(Clone, Copy)]
+pub(crate) struct Counted {
+    code: Code,
+    bound: u8,
+    exact: bool,
+}
+
+// What was counted of bounds, each in the place that its code tells, which a later one of this place takes. A place where
+// nothing was noted yet tells that some bound is at least 0.
+#[derive(Drop)]
+pub(crate) struct Remembered {
+    places: Vec<Counted>,
+}
+
+impl Model for Remembered {
+    ghost use Rattle.std.specs.Prelude.{List};
+    ghost use Rattle.fc_space.specs.declared.remembered.Counted.{Counted};
+
+    ghost Value = { List Counted };
+
+    ghost view = { λ s. s.places.items };
+}
+
+// How many bounds a walk remembers in a search by a method, a power of two: by partial expansion and the clearing bound, which
+// takes long to count and is asked of many classes again and again, about as many as half the classes that may be stored; else none.
+pub(crate) fn places(method: &Method) -> usize
+    ensures most { result ≤ 2 ^ 17 }
+{
+    match (method.bound, method.strategy.expansion) {
+        (BoundKind::Clearing, Expansion::Partial) => {
+            let half = method.strategy.budget.get() / 2;
+            half.next_power_of_two().clamp(1 << 10, 1 << 17) as usize
+        }
+        _ => 0,
+    }
+}
+
+impl Remembered {
+    // So many places, at which nothing is noted. Where there are none, nothing ever is, and no memory is taken.
+    pub(crate) fn new(alloc: Global, places: usize) -> Result<Self, AllocError>
+        ensures size { IfOk result (λ table. length table ≡ places) }
+        ensures tells { IfOk result (λ table. (bound : List ℕ → ℕ) → TellBounds bound table) }
+    {
+        let nothing = Counted {
+            code: Code::all_home(),
+            bound: 0,
+            exact: false,
+        };
+        let places = vec![in alloc; nothing; places]?;
+        Ok(Remembered { places })
+    }
+
+    // The place of a code, where there are places.
+    #[inline]
+    fn place(&self, code: &Code) -> Option<usize>
+        ensures within { IfSome result (λ place. place < length self.now) }
+        ensures none { IfNone result (self.now ≡ []) }
+    {
+        let greatest = self.places.len().checked_sub(1)?;
+        let mut hasher = FoldHasher::default();
+        code.hash(&mut hasher);
+        Some(hasher.finish() as usize & greatest)
+    }
+
+    // What counting the bound of the class with this code, no further than asked, may give, where that is remembered.
+    #[inline]
+    pub(crate) fn get(&self, code: &Code, most: u8) -> Option<u8>
+        ensures count { (bound : List ℕ → ℕ) → TellBounds bound self.now → IfSome result (IsCount (bound code.now) most) }
+    {
+        let counted = self.places[self.place(code)?];
+        if counted.code != *code {
+            return None;
+        }
+        if counted.exact || counted.bound > most {
+            Some(counted.bound)
+        } else {
+            None
+        }
+    }
+
+    // Notes what counting the bound of the class with this code, no further than asked, gave.
+    #[inline]
+    pub(crate) fn note(&mut self, code: &Code, most: u8, count: u8)
+        ensures tells { (bound : List ℕ → ℕ) → TellBounds bound self.old → IsCount (bound code.now) most count → TellBounds bound self.new }
+        ensures size { length self.new ≡ length self.old }
+    {
+        if let Some(place) = self.place(code) {
+            self.places[place] = Counted {
+                code: *code,
+                bound: count,
+                exact: count <= most,
+            };
+        }
+    }
+}
