@@ -77,7 +77,7 @@ loose_fewer columns loose =
     (and_parts (has_last (last_of x)) (not (waits columns (last_of x)) || waits_above x) f.passes).0
 
 -- columns without last cards cost nothing
-no_cards : (columns : List (List ℕ)) → list_any (λ column. has_last (last_of column)) columns ≡ false → cards_in columns ≡ 0
+pub no_cards : (columns : List (List ℕ)) → list_any (λ column. has_last (last_of column)) columns ≡ false → cards_in columns ≡ 0
 no_cards [] none = refl
 no_cards ([] ∷ xs) none = omega (arith, sum_by-cons (λ (cards : List ℕ). length cards) [] xs, no_cards xs none)
 no_cards ((d ∷ cards) ∷ xs) none =

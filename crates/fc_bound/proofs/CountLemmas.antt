@@ -51,7 +51,7 @@ sum-of_two f h k a (suc n) adds =
     )
 
 -- the same of counts over all cards
-count-same_of : (n : ℕ) (p q : ℕ → Bool) → ((x : ℕ) → x < n → p x ≡ q x)
+pub count-same_of : (n : ℕ) (p q : ℕ → Bool) → ((x : ℕ) → x < n → p x ≡ q x)
     → count_by p (range_with_len 0 n) ≡ count_by q (range_with_len 0 n)
 count-same_of n p q same =
     sum-same (λ x. cond (p x) 1 0) (λ x. cond (q x) 1 0) 0 n (λ x from below. ap (λ t. cond t 1 0) (same x (omega arith)))
@@ -60,7 +60,7 @@ pub count-same : (p q : ℕ → Bool) → ((x : ℕ) → x < 52 → p x ≡ q x)
 unfolding all_cards
 count-same p q same = count-same_of 52 p q same
 
-count-but_one_of : (n u : ℕ) (p q : ℕ → Bool) → u < n → ((x : ℕ) → x ≢ u → p x ≡ q x)
+pub count-but_one_of : (n u : ℕ) (p q : ℕ → Bool) → u < n → ((x : ℕ) → x ≢ u → p x ≡ q x)
     → count_by p (range_with_len 0 n) + cond (q u) 1 0 ≡ count_by q (range_with_len 0 n) + cond (p u) 1 0
 count-but_one_of n u p q below same =
     sum-but_one (λ x. cond (p x) 1 0) (λ x. cond (q x) 1 0) 0 n u (omega arith) (omega arith)
@@ -71,7 +71,7 @@ pub count-but_one : (u : ℕ) (p q : ℕ → Bool) → u < 52 → ((x : ℕ) →
 unfolding all_cards
 count-but_one u p q below same = count-but_one_of 52 u p q below same
 
-count-of_two_of : (n : ℕ) (p q r : ℕ → Bool) → ((x : ℕ) → x < n → cond (p x) 1 0 ≡ cond (q x) 1 0 + cond (r x) 1 0)
+pub count-of_two_of : (n : ℕ) (p q r : ℕ → Bool) → ((x : ℕ) → x < n → cond (p x) 1 0 ≡ cond (q x) 1 0 + cond (r x) 1 0)
     → count_by p (range_with_len 0 n) ≡ count_by q (range_with_len 0 n) + count_by r (range_with_len 0 n)
 count-of_two_of n p q r adds =
     sum-of_two (λ x. cond (p x) 1 0) (λ x. cond (q x) 1 0) (λ x. cond (r x) 1 0) 0 n (λ x from below. adds x (omega arith))
@@ -90,7 +90,7 @@ unfolding all_cards
 count-most p = count-most_of 52 p
 
 -- none are counted where none passes
-count-none_of : (n : ℕ) → count_by (λ x. false) (range_with_len 0 n) ≡ 0
+pub count-none_of : (n : ℕ) → count_by (λ x. false) (range_with_len 0 n) ≡ 0
 count-none_of n = none 0 n
   where
     none : (a n : ℕ) → sum_by (λ (x : ℕ). 0) (range_with_len a n) ≡ 0

@@ -261,7 +261,7 @@ apart b i c p inside before here =
     )
 
 -- two tests that aren't both passed count as one
-either : (p q r : Bool) → p ≡ (q || r) → (q ≡ true → r ≡ true → ⊥) → cond p 1 0 ≡ cond q 1 0 + cond r 1 0
+pub either : (p q r : Bool) → p ≡ (q || r) → (q ≡ true → r ≡ true → ⊥) → cond p 1 0 ≡ cond q 1 0 + cond r 1 0
 either p q r is apart = rw is (elim q as (λ q. (q ≡ true → r ≡ true → ⊥) → cond (q || r) 1 0 ≡ cond q 1 0 + cond r 1 0) [
   | true ↦ λ apart. rw (not_true r (apart refl)) refl
   | false ↦ λ apart. elim r as (λ r. cond (false || r) 1 0 ≡ cond false 1 0 + cond r 1 0) [ true ↦ refl | false ↦ refl ]

@@ -98,7 +98,7 @@ held-less : (test : List ℕ → Bool) (columns : List (List ℕ))
 held-less test columns = held-shed (λ c. false) test columns
 
 -- where no column is loose, no last card waits for a card beneath it
-tight-none : (columns rest : List (List ℕ)) → list_any (is_loose columns) rest ≡ false → count_by waits_above rest ≡ 0
+pub tight-none : (columns rest : List (List ℕ)) → list_any (is_loose columns) rest ≡ false → count_by waits_above rest ≡ 0
 tight-none columns [] tight = refl
 tight-none columns (x ∷ xs) tight =
     let parts = or_parts (is_loose columns x) (list_any (is_loose columns) xs) tight in

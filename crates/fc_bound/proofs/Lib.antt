@@ -21,9 +21,11 @@ pub mod KnotLemmas
 pub mod KnotShed
 pub mod KnotSteps
 pub mod MovedLemmas
+pub mod OnesLemmas
 pub mod PairLemmas
 pub mod RingCode
 pub mod RingLemmas
 pub mod ShedLemmas
 pub mod TakeLemmas
 pub mod TellLemmas
+pub mod WaitingLemmas

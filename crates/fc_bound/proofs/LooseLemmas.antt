@@ -25,7 +25,7 @@ use Rattle.fc_bound.proofs.LeftLemmas.{has_last_is, left_rest, left_at, left_sta
 use Rattle.fc_bound.proofs.TakeLemmas.{left_card}
 
 -- whether a last card is held back is told by the columns as they were at first
-above_rest : (u : ℕ) (cards rest : List ℕ) → stands_in rest u ≡ false → is_above_lower u (cards ++ rest) ≡ is_above_lower u cards
+pub above_rest : (u : ℕ) (cards rest : List ℕ) → stands_in rest u ≡ false → is_above_lower u (cards ++ rest) ≡ is_above_lower u cards
 above_rest u cards [] none = ap (is_above_lower u) (append-nil cards)
 above_rest u cards (d ∷ rest) none =
     let parts = or_parts (d == u) (stands_in rest u) none in
@@ -39,7 +39,7 @@ not_lower u = go (suit u) (rank u)
     go : (s r : ℕ) → ((s == s) && nat_lt r r) ≡ false
     go s r = grind (arith, nat_tests)
 
-above_waits : (x : List ℕ) (u : ℕ) → last_of x ≡ Some u → is_above_lower u x ≡ waits_above x
+pub above_waits : (x : List ℕ) (u : ℕ) → last_of x ≡ Some u → is_above_lower u x ≡ waits_above x
 above_waits x u last =
     let whole = front_last x u last in
     ap (is_above_lower u) whole ∙ above-top u (front_of x)

@@ -5,7 +5,7 @@ ghost use Rattle.fc_position.specs.Board.{last_of};
 ghost use Rattle.fc_position.specs.Position.{IsPosition};
 ghost use Rattle.fc_bound.specs.Bound.{is_above_lower};
 ghost use Rattle.fc_bound.specs.Clearing.{without};
-ghost use Rattle.fc_bound.specs.inner.Rows.{AreBits, AreRows, Mark, AreApart, Knotted, stands_among, ends_in, is_set};
+ghost use Rattle.fc_bound.specs.inner.Rows.{AreBits, AreRows, Mark, AreApart, Knotted, stands_among, ends_in, is_set, waiting_in};
 ghost use Rattle.fc_bound.specs.Knots.{has_last, waits_in, waits_above, is_loose, are_knotted, waits_among, is_ring, ring, is_in_knot, shed, ends_among};
 
 use crate::bits::{above, least, lower_cards, remove};
@@ -76,6 +76,14 @@ impl<'a> Left<'a> {
         ensures value { result ≡ list_any (λ column. has_last (last_of column)) self.now }
     {
         self.all != 0
+    }
+
+    // How many of the cards that are left wait for a card beneath them.
+    #[inline]
+    pub(crate) fn waiting(&self) -> u8
+        ensures value { result ≡ waiting_in self.now }
+    {
+        (self.held & self.all).count_ones() as u8
     }
 
     // Takes out the card with this number, the last one of a column, of which there is only one.

@@ -1,47 +1,43 @@
-ghost use Rattle.std.specs.Prelude.{◌≡◌, ℕ, suc, ◌+◌, ◌≤◌, IfSome, IfNone};
+ghost use Rattle.std.specs.Prelude.{◌≡◌, ◌+◌, ◌≤◌, false};
+ghost use Rattle.std.specs.List.{list_any};
 ghost use Rattle.fc_position.specs.Position.{IsPosition};
 ghost use Rattle.fc_bound.specs.Clearing.{cards_in};
-ghost use Rattle.fc_bound.specs.Knots.{knots, knot_count, knot_bound};
+ghost use Rattle.fc_bound.specs.Knots.{is_loose, knot_count, knot_bound};
+ghost use Rattle.fc_bound.specs.inner.Rows.{waiting_in};
 
 use crate::bounds::{GREATEST_BOUND, away};
 use crate::columns::Left;
 use crate::rows::{blank, fill};
 use fc_position::Position;
 
-// Takes out the loose cards, or else a knot: how many knots are met so; `None` where no card is left.
+// Takes out loose cards until no card is loose.
 #[inline]
-fn round(left: &mut Left<'_>) -> Option<u8>
-    ensures met { IfSome result (λ met. (steps : ℕ) → knots (suc steps) left.old ≡ met + knots steps left.new) }
-    ensures none { IfNone result ((steps : ℕ) → knots steps left.old ≡ 0) }
+fn loosen(left: &mut Left<'_>)
+    ensures count { knot_count left.old + waiting_in left.new ≡ knot_count left.new + waiting_in left.old }
+    ensures tight { list_any (is_loose left.new) left.new ≡ false }
+    ensures fewer { cards_in left.new ≤ cards_in left.old }
 {
-    if let Some(met) = left.take_loose() {
-        return Some(met);
-    }
-    if left.has_cards() {
-        let knot = left.knot();
-        left.shed(knot);
-        return Some(1);
-    }
-    None
+    while left.take_loose().is_some() {}
 }
 
 // How many knots are met until no card is left, counted no further than asked: all of them where they are at most so many,
-// else as many as were met when that was known. It takes the cards out.
+// else as many as it was known by then that there are. It takes the cards out. Each card that waits for one beneath it is
+// met sooner or later, and none of the others but by a knot: so the former are counted first, all at once.
 fn knots_within(left: &mut Left<'_>, most: u8) -> u8
     requires few { cards_in left.old ≤ 52 }
     ensures lower { result ≤ knot_count left.old }
     ensures exact { result ≤ most → result ≡ knot_count left.old }
     ensures greatest { result ≤ 52 }
 {
-    let mut count = 0;
-    for step in 0..52u8 {
-        if most < count {
+    let mut count = left.waiting();
+    while count <= most {
+        loosen(left);
+        if !left.has_cards() {
             return count;
         }
-        match round(left) {
-            Some(met) => count += met,
-            None => return count,
-        }
+        let knot = left.knot();
+        left.shed(knot);
+        count += 1;
     }
     count
 }

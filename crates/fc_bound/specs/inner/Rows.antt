@@ -1,12 +1,12 @@
 -- What is left of columns while cards are taken out of them, as bits of cards.
-use Rattle.std.specs.Prelude.{◌≡◌, ℕ, ◌-◌, ◌*◌, ◌<◌, ◌≤◌, ◌==◌, ◌&&◌, Bool, true, false, not, cond, bit_and, length, take, map, List, [], ◌∷◌, Option, Some, None, slice_index_or}
+use Rattle.std.specs.Prelude.{◌≡◌, ℕ, zero, suc, ◌+◌, ◌-◌, ◌*◌, ◌<◌, ◌≤◌, ◌==◌, ◌&&◌, Bool, true, false, not, cond, bit_and, length, take, map, List, [], ◌∷◌, Option, Some, None, slice_index_or, sum_by}
 use Rattle.std.specs.Int.{bit_at}
 use Rattle.std.specs.List.{list_any}
 use Rattle.fc_position.specs.Board.{Board, last_of, front_of}
 use Rattle.fc_position.specs.Position.{IsPosition}
 use Rattle.fc_bound.specs.declared.rows.Row.{Row}
 use Rattle.fc_bound.specs.Bound.{is_lower, stands_in, is_above_lower}
-use Rattle.fc_bound.specs.Knots.{has_last, ends_with, are_knotted, ends_among}
+use Rattle.fc_bound.specs.Knots.{has_last, ends_with, waits_above, are_knotted, ends_among}
 
 -- the cards of a column up to the first whose bit is not set
 abbrev pub left_of : ℕ → List ℕ → List ℕ
@@ -85,3 +85,12 @@ pub record IsLeft (b : Board) (rows : List Row) (held all lasts : ℕ) : Type 0 
   pub above : AreBits held (λ c. list_any (is_above_lower c) b.columns)
   pub stand : AreBits all (stands_among (left_in all b.columns))
   pub ends : AreBits lasts (ends_among (left_in all b.columns))
+
+-- how many of the lowest cards of a column, so many at most, wait for a card beneath them
+abbrev pub waiting_of : ℕ → List ℕ → ℕ
+waiting_of zero column = 0
+waiting_of (suc high) column = cond (waits_above (take (suc high) column)) 1 0 + waiting_of high column
+
+-- how many cards in the columns wait for a card beneath them
+abbrev pub waiting_in : List (List ℕ) → ℕ
+waiting_in columns = sum_by (λ column. waiting_of (length column) column) columns

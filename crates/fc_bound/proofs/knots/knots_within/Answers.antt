@@ -1,55 +1,84 @@
-use Rattle.std.proofs.Common.{◌≡◌, ℕ, ◌+◌, ◌-◌, suc, ap, ◌∙◌, arith}
+use Rattle.std.proofs.Common.{◌≡◌, true, sym, ◌∙◌, ap, arith}
+use Rattle.std.specs.List.{list_any}
+use Rattle.fc_position.specs.Board.{last_of}
 use Rattle.fc_bound.specs.Clearing.{cards_in}
-use Rattle.fc_bound.specs.Knots.{knots}
-use Rattle.fc_bound.proofs.KnotFuel.{knots_zero, knots_count}
-use Rattle.fc_bound.proofs.KnotSteps.{knots_few, count_is}
+use Rattle.fc_bound.specs.Knots.{has_last, is_in_knot, knot_count, shed}
+use Rattle.fc_bound.specs.inner.Rows.{ends_in, waiting_in}
+use Rattle.fc_bound.proofs.KnotSteps.{count_is, knots_few, shed_knot}
+use Rattle.fc_bound.proofs.LeftLemmas.{shed_same}
+use Rattle.fc_bound.proofs.WaitingLemmas.{count_knot, count_none, waiting_counts, waiting_tight}
 use Rattle.fc_bound.proofs.knots.knots_within.Goals as goal
 
-pub loop-step-init : goal.loop-step-init
-loop-step-init c = omega (arith, knots_count 52 c.args.left.now c.requires.few)
+pub returns-then-not-has_cards-clause-lower : goal.returns-then-not-has_cards-clause-lower
+returns-then-not-has_cards-clause-lower c =
+    omega (arith, c.loop-count.invariant.counts, waiting_counts c.loop-count.left)
 
-pub returns-then-most-count-clause-lower : goal.returns-then-most-count-clause-lower
-returns-then-most-count-clause-lower c = omega (arith, c.loop-step.invariant)
+pub returns-then-not-has_cards-clause-exact : goal.returns-then-not-has_cards-clause-exact
+returns-then-not-has_cards-clause-exact c = λ _.
+    let none = count_none c.loosen.new.left c.loosen.ensures.tight (sym c.has_cards.ensures.value ∙ c.if-not-has_cards.true) in
+    omega (arith, c.loop-count.invariant.counts, c.loosen.ensures.count, none.0, none.1)
 
-pub returns-then-most-count-clause-greatest : goal.returns-then-most-count-clause-greatest
-returns-then-most-count-clause-greatest c =
-    omega (arith, c.loop-step.invariant, knots_few (cards_in c.args.left.now) c.args.left.now, count_is c.args.left.now, c.requires.few)
-
-pub returns-in-None : goal.returns-in-None
-returns-in-None c = record {
-  lower = omega (arith, c.loop-step.invariant);
-  exact = λ within. omega (arith, c.loop-step.invariant, c.in-None.ensures.none (52 - c.loop-step.step));
-  greatest = omega (arith, c.loop-step.invariant, knots_few (cards_in c.args.left.now) c.args.left.now, count_is c.args.left.now, c.requires.few);
-}
-
-pub overflow_add-count : goal.overflow_add-count
-overflow_add-count c =
-    let rest : ◌≡◌ {A = ℕ} (52 - c.loop-step.step) (suc (52 - c.loop-step.step - 1)) = omega (arith, c.loop-step-test.true) in
-    let split = ap (λ n. knots n c.loop-step.left) rest in
+pub returns-then-not-has_cards-clause-greatest : goal.returns-then-not-has_cards-clause-greatest
+returns-then-not-has_cards-clause-greatest c =
+    let s = c.args.left.now in
     omega (
       arith,
-      c.loop-step.invariant,
-      split,
-      c.in-Some.ensures.met (52 - c.loop-step.step - 1),
-      knots_few (cards_in c.args.left.now) c.args.left.now,
-      count_is c.args.left.now,
+      c.loop-count.invariant.counts,
+      waiting_counts c.loop-count.left,
+      knots_few (cards_in s) s,
+      count_is s,
       c.requires.few,
     )
 
-pub loop-step-preserved : goal.loop-step-preserved
-loop-step-preserved c =
-    let rest : ◌≡◌ {A = ℕ} (52 - c.loop-step.step) (suc (52 - c.loop-step.step - 1)) = omega (arith, c.loop-step-test.true) in
-    let split = ap (λ n. knots n c.loop-step.left) rest in
-    let less : ◌≡◌ {A = ℕ} (52 - (c.loop-step.step + 1)) (52 - c.loop-step.step - 1) = omega arith in
-    let after = ap (λ n. knots n c.round.new.left) less in
-    omega (arith, c.loop-step.invariant, split, c.in-Some.ensures.met (52 - c.loop-step.step - 1), after)
+pub overflow_add-count : goal.overflow_add-count
+overflow_add-count c =
+    let s = c.args.left.now in
+    omega (
+      arith,
+      c.loop-count.invariant.counts,
+      waiting_counts c.loop-count.left,
+      knots_few (cards_in s) s,
+      count_is s,
+      c.requires.few,
+    )
 
-pub returns : goal.returns
-returns c =
-    let none : ◌≡◌ {A = ℕ} (52 - c.loop-step.step) 0 = omega (arith, c.loop-step-test.false) in
-    let split = ap (λ n. knots n c.loop-step.left) none ∙ knots_zero c.loop-step.left in
+pub loop-count-smaller : goal.loop-count-smaller
+loop-count-smaller c =
+    let v = c.loosen.new.left in
+    let taken : c.shed.new.self ≡ shed (is_in_knot v) v =
+    c.shed.ensures.value ∙ shed_same (λ x. ends_in c.knot-knot.result (last_of x)) (is_in_knot v) v c.knot-knot.ensures.value.each in
+    omega (arith, c.loosen.ensures.fewer, shed_knot v (sym c.has_cards.ensures.value ∙ c.if-not-has_cards.false), ap cards_in taken)
+
+pub loop-count-preserved : goal.loop-count-preserved
+loop-count-preserved c =
+    let v = c.loosen.new.left in
+    let taken : c.shed.new.self ≡ shed (is_in_knot v) v =
+    c.shed.ensures.value ∙ shed_same (λ x. ends_in c.knot-knot.result (last_of x)) (is_in_knot v) v c.knot-knot.ensures.value.each in
+    let some_last : list_any (λ column. has_last (last_of column)) v ≡ true = sym c.has_cards.ensures.value ∙ c.if-not-has_cards.false in
     record {
-      lower = omega (arith, c.loop-step.invariant);
-      exact = λ within. omega (arith, c.loop-step.invariant, split);
-      greatest = omega (arith, c.loop-step.invariant, knots_few (cards_in c.args.left.now) c.args.left.now, count_is c.args.left.now, c.requires.few);
+      counts = omega (
+        arith,
+        c.loop-count.invariant.counts,
+        c.loosen.ensures.count,
+        count_knot v c.loosen.ensures.tight some_last,
+        waiting_tight v c.loosen.ensures.tight,
+        ap knot_count taken,
+        ap waiting_in taken,
+      );
     }
+
+pub returns-clause-lower : goal.returns-clause-lower
+returns-clause-lower c =
+    omega (arith, c.loop-count.invariant.counts, waiting_counts c.loop-count.left)
+
+pub returns-clause-greatest : goal.returns-clause-greatest
+returns-clause-greatest c =
+    let s = c.args.left.now in
+    omega (
+      arith,
+      c.loop-count.invariant.counts,
+      waiting_counts c.loop-count.left,
+      knots_few (cards_in s) s,
+      count_is s,
+      c.requires.few,
+    )
