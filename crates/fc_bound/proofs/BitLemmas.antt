@@ -1,122 +1,36 @@
--- Cards and tests as bits: what the bits of cards tell, and which bits the lower cards of a suit have.
-use Rattle.std.proofs.Common.{◌≡◌, ◌↔◌, ◌⊎◌, ℕ, ◌+◌, ◌-◌, ◌*◌, ◌/◌, ◌%◌, ◌^◌, ◌<◌, ◌≤◌, min, max, bit_and, bit_or, Bool, true, false, cond, Option, Some, None, List, [], ◌∷◌, ◌++◌, length, get_or, inl, inr, refl, sym, ◌∙◌, ap, ⊎_elim, zero-mul, one-mul, add-zero, subst, w64, arith}
-use Rattle.std.specs.Prelude.{◌==◌, ◌&&◌, ◌||◌, not, nat_lt}
+-- Cards and tests as bits: what the bits of cards tell, and which bits the higher cards of a suit have.
+use Rattle.std.proofs.Common.{◌≡◌, ◌↔◌, ◌⊎◌, ℕ, ◌+◌, ◌-◌, ◌*◌, ◌/◌, ◌%◌, ◌^◌, ◌<◌, ◌≤◌, min, max, bit_and, bit_or, Bool, true, false, cond, Some, List, [], ◌∷◌, ◌++◌, length, get_or, inl, inr, refl, sym, ◌∙◌, ap, ⊎_elim, add-zero, w64, arith}
+use Rattle.std.specs.Prelude.{◌==◌, ◌&&◌, ◌||◌, nat_lt}
 use Rattle.std.specs.Int.{bit_at, bit_not, trailing_zeros}
 use Rattle.std.specs.List.{list_any}
-use Rattle.std.proofs.lemmas.Bool.{cases_eq, cases_lt, agree_below, agree_below_at, and_parts, eqb-true, eqb-false, ltb-true}
+use Rattle.std.proofs.lemmas.Bool.{cases_eq, cases_lt, agree_below, agree_below_at, eqb-true, eqb-false}
 use Rattle.std.proofs.lemmas.Bool.Decides.{nat_tests}
 use Rattle.std.proofs.lemmas.List.{get_or_push, length_push}
-use Rattle.std.proofs.lemmas.List.Folds.{list_any-append, list_any_at, Any-from_list_any}
+use Rattle.std.proofs.lemmas.List.Folds.{list_any_at, Any-from_list_any}
 use Rattle.std.proofs.lemmas.Option.{slice_get-get_or}
-use Rattle.std.proofs.lemmas.Nat.{and_comm, and_le_l, and_mask, one_shl, pow_pos}
-use Rattle.std.proofs.lemmas.Nat.Bits.{bit_at_and, bit_at_or, bit_at_ones, bit_at_above, bit_at_cat_low, bit_at_cat_high, bit_at_clear_same, bit_at_clear_other, bit_at-lt, bit_at-zero, bit_at-pow_same, bit_at-pow_other, bit_at-trailing_zeros, and_pow, same_from_bits}
+use Rattle.std.proofs.lemmas.Nat.{and_le_l, and_mask, one_shl, pow_pos}
+use Rattle.std.proofs.lemmas.Nat.Bits.{bit_at_and, bit_at_or, bit_at_ones, bit_at_above, bit_at_cat_low, bit_at_cat_high, bit_at_clear_same, bit_at_clear_other, bit_at-lt, bit_at-zero, bit_at-pow_same, bit_at-pow_other, bit_at-trailing_zeros}
 use Rattle.fc_cards.specs.Card.{rank, suit}
 use Rattle.fc_position.specs.Board.{last_of}
 use Rattle.fc_bound.specs.Bound.{is_lower, stands_in}
-use Rattle.fc_bound.specs.Clearing.{waits}
-use Rattle.fc_bound.specs.inner.Rows.{AreBits, Tells, HasLower, is_lower_than, stands_among}
-use Rattle.fc_bound.specs.Knots.{waits_in}
-use Rattle.fc_bound.proofs.AboveLemmas.{or-false, contains-stands, stands-contains}
+use Rattle.fc_bound.specs.inner.Rows.{AreBits, HasLower, stands_among}
+use Rattle.fc_bound.proofs.AboveLemmas.{contains-stands, stands-contains}
 use Rattle.fc_bound.proofs.HeldLemmas.{found}
 
--- bits that are shared with none of two are shared with none of both together
-apart_first : (a b p : ℕ) → bit_and (bit_or a b) p ≡ 0 → bit_and a p ≡ 0
-apart_first a b p none = same_from_bits (bit_and a p) 0 (λ i.
-    let all : min (max (bit_at a i) (bit_at b i)) (bit_at p i) ≡ 0 =
-    ap (λ n. min n (bit_at p i)) (sym (bit_at_or a b i)) ∙ sym (bit_at_and (bit_or a b) p i) ∙ ap (λ n. bit_at n i) none ∙ bit_at-zero i in
-    let one : min (bit_at a i) (bit_at p i) ≡ 0 = omega arith in
-    bit_at_and a p i ∙ one ∙ sym (bit_at-zero i))
-
-apart_second : (a b p : ℕ) → bit_and (bit_or a b) p ≡ 0 → bit_and b p ≡ 0
-apart_second a b p none = same_from_bits (bit_and b p) 0 (λ i.
-    let all : min (max (bit_at a i) (bit_at b i)) (bit_at p i) ≡ 0 =
-    ap (λ n. min n (bit_at p i)) (sym (bit_at_or a b i)) ∙ sym (bit_at_and (bit_or a b) p i) ∙ ap (λ n. bit_at n i) none ∙ bit_at-zero i in
-    let one : min (bit_at b i) (bit_at p i) ≡ 0 = omega arith in
-    bit_at_and b p i ∙ one ∙ sym (bit_at-zero i))
-
-apart_both : (a b p : ℕ) → bit_and a p ≡ 0 → bit_and b p ≡ 0 → bit_and (bit_or a b) p ≡ 0
-apart_both a b p first second = same_from_bits (bit_and (bit_or a b) p) 0 (λ i.
-    let one : min (bit_at a i) (bit_at p i) ≡ 0 = sym (bit_at_and a p i) ∙ ap (λ n. bit_at n i) first ∙ bit_at-zero i in
-    let two : min (bit_at b i) (bit_at p i) ≡ 0 = sym (bit_at_and b p i) ∙ ap (λ n. bit_at n i) second ∙ bit_at-zero i in
-    let both : min (max (bit_at a i) (bit_at b i)) (bit_at p i) ≡ 0 = omega arith in
-    bit_at_and (bit_or a b) p i ∙ ap (λ n. min n (bit_at p i)) (bit_at_or a b i) ∙ both ∙ sym (bit_at-zero i))
-
-apart_or : (a b p : ℕ) → (bit_and (bit_or a b) p == 0) ≡ ((bit_and a p == 0) && (bit_and b p == 0))
-apart_or a b p =
-    go (bit_and (bit_or a b) p) (bit_and a p) (bit_and b p) (apart_first a b p) (apart_second a b p) (apart_both a b p)
-  where
-    go : (x y z : ℕ) → (x ≡ 0 → y ≡ 0) → (x ≡ 0 → z ≡ 0) → (y ≡ 0 → z ≡ 0 → x ≡ 0) → (x == 0) ≡ ((y == 0) && (z == 0))
-    go x y z one two both =
-        ⊎_elim
-        (λ e. let y0 = one e in let z0 = two e in grind (arith, nat_tests))
-        (λ ne. ⊎_elim (λ y0. ⊎_elim (λ z0. absurd (ne (both y0 z0))) (λ z1. grind (arith, nat_tests)) (cases_eq z 0))
-        (λ y1. grind (arith, nat_tests)) (cases_eq y 0))
-        (cases_eq x 0)
-
--- one number's bit is shared with those of a test that it passes
-one_bit : (passing y : ℕ) (test : ℕ → Bool) → AreBits passing test → y < 64 → (bit_and (1 * 2 ^ y % 2 ^ 64) passing == 0) ≡ not (test y)
-one_bit passing y test are below =
-    let is : bit_and (1 * 2 ^ y % 2 ^ 64) passing ≡ cond (test y) 1 0 * 2 ^ y =
-    ap (λ n. bit_and n passing) (one_shl y 64 below) ∙ and_comm (2 ^ y) passing ∙ and_pow passing y ∙ ap (λ n. n * 2 ^ y) (are y) in
-    ap (λ (n : ℕ). n == 0) is ∙ elim (test y) as (λ t. (cond t 1 0 * 2 ^ y == 0) ≡ not t) [
-      | true ↦ let pos = pow_pos y in let one = one-mul (2 ^ y) in grind (arith, nat_tests)
-      | false ↦ let none = zero-mul (2 ^ y) in grind (arith, nat_tests)
-    ]
-
--- what is told of more cards and of more columns
-not-or : (p q : Bool) → (not p && not q) ≡ not (p || q)
-not-or true q = refl
-not-or false q = refl
-
-pub tells_card : (bits y : ℕ) (cards : List ℕ) → Tells bits (cards ∷ []) → y < 64 → Tells (bit_or bits (1 * 2 ^ y % 2 ^ 64)) ((cards ++ y ∷ []) ∷ [])
-tells_card bits y cards tells below passing test are =
-    let before : (bit_and bits passing == 0) ≡ not (list_any test cards) =
-    tells passing test are ∙ ap not (or-false (list_any test cards)) in
-    apart_or bits (1 * 2 ^ y % 2 ^ 64) passing
-    ∙ ap (λ t. t && (bit_and (1 * 2 ^ y % 2 ^ 64) passing == 0)) before
-    ∙ ap (λ t. not (list_any test cards) && t) (one_bit passing y test are below)
-    ∙ not-or (list_any test cards) (test y)
-    ∙ ap not (sym (or-false (list_any test (cards ++ y ∷ [])) ∙ list_any-append test cards (y ∷ []) ∙ ap (λ t. list_any test cards || t) (or-false (test y))))
-
--- what two columns' bits tell
-none_lower : (columns : List (List ℕ)) → list_any (list_any (is_lower_than None)) columns ≡ false
-none_lower [] = refl
-none_lower (x ∷ columns) = ap (λ t. t || list_any (list_any (is_lower_than None)) columns) (go x) ∙ none_lower columns
-  where
-    go : (cards : List ℕ) → list_any (is_lower_than None) cards ≡ false
-    go [] = refl
-    go (c ∷ cards) = go cards
-
-waits_lower : (columns : List (List ℕ)) (o : Option ℕ) → list_any (list_any (is_lower_than o)) columns ≡ waits columns o
-waits_lower columns None = none_lower columns
-waits_lower columns (Some u) = refl
-
-pub apart_is : (all lower : ℕ) (columns : List (List ℕ)) (o : Option ℕ) → Tells all columns → AreBits lower (is_lower_than o)
-    → (bit_and all lower == 0) ≡ not (waits columns o)
-apart_is all lower columns o tells are = tells lower (is_lower_than o) are ∙ ap not (waits_lower columns o)
-
--- a table of the bits of the lower cards of each card's suit, looked through bit by bit
+-- a table of the bits of the higher cards of each card's suit, looked through bit by bit
 abbrev is_right : List ℕ → ℕ → Bool
-is_right table c = agree_below (λ x. bit_at (get_or table c 0) x == 1) (is_lower c) 52 && nat_lt (get_or table c 0) (2 ^ 52)
+is_right table c = agree_below (λ x. bit_at (get_or table c 0) x == 1) (λ x. is_lower x c) 52
 
 told : (n : ℕ) (t : Bool) → n < 2 → (n == 1) ≡ t → n ≡ cond t 1 0
 told n true small is = eqb-true n 1 is
 told n false small is = let other : n ≡ 1 → ⊥ = eqb-false n 1 is in omega (arith, small, other)
 
-no_higher : (sx sc rx rc : ℕ) → rc ≤ rx → ((sx == sc) && nat_lt rx rc) ≡ false
-no_higher sx sc rx rc more = grind (arith, nat_tests)
-
-pub lower_bits : (table : List ℕ) (c : ℕ) → agree_below (is_right table) (λ c. true) 52 ≡ true → c < 52
-    → AreBits (get_or table c 0) (is_lower c)
-lower_bits table c right below x =
-    let bits : ℕ = get_or table c 0 in
+pub higher_bits : (table : List ℕ) (c : ℕ) → agree_below (is_right table) (λ c. true) 52 ≡ true → c < 52
+    → (x : ℕ) → x < 52 → bit_at (get_or table c 0) x ≡ cond (is_lower x c) 1 0
+higher_bits table c right below x under =
     let here : is_right table c ≡ true = agree_below_at (is_right table) (λ c. true) 52 c right below in
-    let parts = and_parts (agree_below (λ x. bit_at bits x == 1) (is_lower c) 52) (nat_lt bits (2 ^ 52)) here in
-    ⊎_elim
-    (λ lt. told (bit_at bits x) (is_lower c x) (bit_at-lt bits x) (agree_below_at (λ x. bit_at bits x == 1) (is_lower c) 52 x parts.0 lt))
-    (λ past. bit_at_above bits 52 x (ltb-true bits (2 ^ 52) parts.1) past
-    ∙ sym (ap (λ t. cond t 1 0) (no_higher (suit x) (suit c) (rank x) (rank c) (omega (arith, below, past)))))
-    (cases_lt x 52)
+    told (bit_at (get_or table c 0) x) (is_lower x c) (bit_at-lt (get_or table c 0) x)
+    (agree_below_at (λ y. bit_at (get_or table c 0) y == 1) (λ y. is_lower y c) 52 x here under)
 
 -- the last card after a push
 pub last_of-push : (cards : List ℕ) (y : ℕ) → last_of (cards ++ y ∷ []) ≡ Some y
@@ -316,14 +230,3 @@ some_bit bits some fits =
 
 pub no_bits : (bits c : ℕ) → bits ≡ 0 → bit_at bits c ≡ 1 → ⊥
 no_bits bits c none set = zero_one (bit_at bits c) (ap (λ n. bit_at n c) none ∙ bit_at-zero c) set
-
--- what two columns' bits tell of the last card of one
-pub not_not : (p : Bool) → not (not p) ≡ p
-not_not true = refl
-not_not false = refl
-
-pub shares : (bits lower v : ℕ) (x y : List ℕ) → Tells bits (x ∷ []) → AreBits lower (is_lower v) → last_of y ≡ Some v
-    → not (bit_and bits lower == 0) ≡ waits_in y x
-shares bits lower v x y tells are last =
-    ap not (apart_is bits lower (x ∷ []) (last_of y) tells (subst (λ o. AreBits lower (is_lower_than o)) (sym last) are))
-    ∙ not_not (waits_in y x)

@@ -1,19 +1,21 @@
 -- How the rows of a column are filled, card by card.
-use Rattle.std.proofs.Common.{◌≡◌, ◌≢◌, ℕ, ◌+◌, ◌-◌, ◌*◌, ◌%◌, ◌^◌, ◌<◌, ◌≤◌, bit_or, bit_and, true, false, cond, Some, List, [], ◌∷◌, ◌++◌, length, get_or, set, take, drop, refl, sym, ◌∙◌, ap, subst, ⊎_elim, true≢false, arith}
-use Rattle.std.specs.Prelude.{◌==◌, ◌||◌, not}
+use Rattle.std.proofs.Common.{◌≡◌, ◌≢◌, ℕ, ◌+◌, ◌-◌, ◌*◌, ◌%◌, ◌^◌, ◌<◌, ◌≤◌, min, max, bit_or, bit_and, true, false, cond, Some, List, [], ◌∷◌, ◌++◌, length, get_or, set, take, drop, refl, sym, ◌∙◌, ap, subst, ⊎_elim, true≢false, arith}
+use Rattle.std.specs.Prelude.{◌==◌}
+use Rattle.std.specs.Int.{bit_at}
 use Rattle.std.specs.List.{list_any}
 use Rattle.std.proofs.lemmas.Bool.{cases_eq, cases_lt, or_left, eq-eqb}
 use Rattle.std.proofs.lemmas.Bool.Decides.{nat_tests}
 use Rattle.std.proofs.lemmas.List.{take_at, take-take, take_all, length_push, get_or-set_same, get_or-set_other, take-append-drop}
 use Rattle.std.proofs.lemmas.List.Folds.{list_any-append}
 use Rattle.std.proofs.lemmas.List.Sums.{sum_by_push}
+use Rattle.std.proofs.lemmas.Nat.Bits.{bit_at_and, bit_at_or, bit_at-lt}
 use Rattle.fc_position.specs.Board.{last_of, front_of, count_in_column}
 use Rattle.fc_bound.specs.Bound.{is_lower, stands_in, is_above_lower}
 use Rattle.fc_bound.specs.declared.rows.Row.{Row}
-use Rattle.fc_bound.specs.inner.Rows.{AreBits, Tells, IsRow, no_row}
+use Rattle.fc_bound.specs.inner.Rows.{AreBits, AreWaiting, IsRow, no_row}
 use Rattle.fc_bound.specs.Knots.{ends_with}
-use Rattle.fc_bound.proofs.AboveLemmas.{or-false, or-true, not_true, stands-more, stands-counted, above-one, above-other, above-top}
-use Rattle.fc_bound.proofs.BitLemmas.{bits_or, one_bit_is, last_of-push, tells_card}
+use Rattle.fc_bound.proofs.AboveLemmas.{lower-more, not_true, stands-more, stands-counted, above-one, above-other, above-top}
+use Rattle.fc_bound.proofs.BitLemmas.{bits_or, either_bits, one_bit_is, last_of-push}
 use Rattle.fc_bound.proofs.LeftLemmas.{last_stands}
 
 -- a card that stands once isn't among those before it
@@ -31,43 +33,50 @@ stand_more all n seen below are =
 pub end_one : (n : ℕ) (seen : List ℕ) → n < 64 → AreBits (1 * 2 ^ n % 2 ^ 64) (λ c. ends_with c (last_of (seen ++ n ∷ [])))
 end_one n seen below c = one_bit_is n c below ∙ ap (λ o. cond (ends_with c o) 1 0) (sym (last_of-push seen n))
 
--- whether a lower card of its suit is among those before it
-pub lower_flag : (all lower n : ℕ) (seen : List ℕ) → Tells all (seen ∷ []) → AreBits lower (is_lower n)
-    → (bit_and all lower == 0) ≡ not (list_any (is_lower n) seen)
-lower_flag all lower n seen tells are = tells lower (is_lower n) are ∙ ap not (or-false (list_any (is_lower n) seen))
+-- the cards that wait for one of these, or for the next
+pub waiting_more : (waiting higher n : ℕ) (seen : List ℕ) → AreWaiting waiting seen
+    → ((c : ℕ) → c < 52 → bit_at higher c ≡ cond (is_lower c n) 1 0) → AreWaiting (bit_or waiting higher) (seen ++ n ∷ [])
+waiting_more waiting higher n seen are up c below =
+    bit_at_or waiting higher c ∙ ap (λ m. max m (bit_at higher c)) (are c below) ∙ ap (max (cond (list_any (is_lower c) seen) 1 0)) (up c below)
+    ∙ either_bits (list_any (is_lower c) seen) (is_lower c n) (list_any (is_lower c) (seen ++ n ∷ [])) (lower-more c n seen)
 
-pub above_set : (held n : ℕ) (seen : List ℕ) → n < 64 → AreBits held (λ c. is_above_lower c seen) → list_any (is_lower n) seen ≡ true
-    → AreBits (bit_or held (1 * 2 ^ n % 2 ^ 64)) (λ c. is_above_lower c (seen ++ n ∷ []))
-above_set held n seen below are waiting =
-    bits_or held (1 * 2 ^ n % 2 ^ 64) (λ c. is_above_lower c seen) (λ c. n == c) (λ c. is_above_lower c (seen ++ n ∷ [])) are
-    (λ c. one_bit_is n c below) (λ c. ⊎_elim
-    (λ e. ap (λ k. is_above_lower k (seen ++ n ∷ [])) (sym e) ∙ above-top n seen ∙ waiting
-    ∙ sym (ap (λ t. is_above_lower c seen || t) (eq-eqb n c e) ∙ or-true (is_above_lower c seen)))
-    (λ ne. let other : n ≢ c = ne in
-    above-other c n seen other ∙ sym (ap (λ t. is_above_lower c seen || t) (not_equal n c ne) ∙ or-false (is_above_lower c seen)))
-    (cases_eq n c))
+-- the next card stands above a lower one of its suit where it waits for one of those before it
+pub above_more : (held waiting n : ℕ) (seen : List ℕ) → n < 52 → stands_in seen n ≡ false → AreBits held (λ c. is_above_lower c seen)
+    → AreWaiting waiting seen → AreBits (bit_or held (bit_and waiting (1 * 2 ^ n % 2 ^ 64))) (λ c. is_above_lower c (seen ++ n ∷ []))
+above_more held waiting n seen below new are wait c =
+    let bit : ℕ = 1 * 2 ^ n % 2 ^ 64 in
+    bit_at_or held (bit_and waiting bit) c ∙ ap (max (bit_at held c)) (bit_at_and waiting bit c) ∙ ⊎_elim
+    (λ e.
+    let none : bit_at held n ≡ 0 = are n ∙ ap (λ t. cond t 1 0) (not_true (is_above_lower n seen) (λ above.
+    true≢false (sym (above-one n seen above).stands ∙ new))) in
+    let one : bit_at bit n ≡ 1 = one_bit_is n n (omega (arith, below)) ∙ ap (λ t. cond t 1 0) (eq-eqb n n refl) in
+    let top : bit_at waiting n ≡ cond (is_above_lower n (seen ++ n ∷ [])) 1 0 = wait n below ∙ ap (λ t. cond t 1 0) (sym (above-top n seen)) in
+    ap (λ d. max (bit_at held d) (min (bit_at waiting d) (bit_at bit d))) (sym e)
+    ∙ its_own (bit_at held n) (bit_at waiting n) (bit_at bit n) none one (bit_at-lt waiting n) ∙ top
+    ∙ ap (λ d. cond (is_above_lower d (seen ++ n ∷ [])) 1 0) e)
+    (λ ne.
+    let other : n ≢ c = ne in
+    let none : bit_at bit c ≡ 0 = one_bit_is n c (omega (arith, below)) ∙ ap (λ t. cond t 1 0) (not_equal n c ne) in
+    anothers (bit_at held c) (bit_at waiting c) (bit_at bit c) none ∙ are c ∙ ap (λ t. cond t 1 0) (sym (above-other c n seen other)))
+    (cases_eq n c)
   where
     not_equal : (a b : ℕ) → (a ≡ b → ⊥) → (a == b) ≡ false
     not_equal a b ne = grind (arith, nat_tests)
 
-pub above_unset : (held n : ℕ) (seen : List ℕ) → stands_in seen n ≡ false → AreBits held (λ c. is_above_lower c seen)
-    → list_any (is_lower n) seen ≡ false → AreBits held (λ c. is_above_lower c (seen ++ n ∷ []))
-above_unset held n seen new are free c =
-    are c ∙ ap (λ t. cond t 1 0) (⊎_elim
-    (λ e. let none : is_above_lower n seen ≡ false = not_true (is_above_lower n seen) (λ above.
-    true≢false (sym (above-one n seen above).stands ∙ new)) in
-    ap (λ k. is_above_lower k seen) (sym e) ∙ none ∙ sym (ap (λ k. is_above_lower k (seen ++ n ∷ [])) (sym e) ∙ above-top n seen ∙ free))
-    (λ ne. let other : n ≢ c = ne in sym (above-other c n seen other))
-    (cases_eq n c))
+    its_own : (x y z : ℕ) → x ≡ 0 → z ≡ 1 → y < 2 → max x (min y z) ≡ y
+    its_own x y z none one small = omega arith
+
+    anothers : (x y z : ℕ) → z ≡ 0 → max x (min y z) ≡ x
+    anothers x y z none = omega arith
 
 -- the row of the next card
 front-push : (seen : List ℕ) (n : ℕ) → front_of (seen ++ n ∷ []) ≡ seen
 front-push seen n = take_at seen (n ∷ []) (length (seen ++ n ∷ []) - 1) (omega (arith, length_push seen n))
 
-pub row_next : (row : Row) (all n : ℕ) (seen : List ℕ) → n < 64 → Tells all (seen ∷ []) → row.cards ≡ bit_or all (1 * 2 ^ n % 2 ^ 64)
+pub row_next : (row : Row) (n : ℕ) (seen : List ℕ) → AreWaiting row.waiting (seen ++ n ∷ [])
     → AreBits row.beneath (λ c. ends_with c (last_of seen)) → IsRow row (seen ++ n ∷ [])
-row_next row all n seen below tells cards beneath = record {
-  tells = subst (λ b. Tells b ((seen ++ n ∷ []) ∷ [])) (sym cards) (tells_card all n seen tells below);
+row_next row n seen waiting beneath = record {
+  waiting = waiting;
   beneath = λ c. beneath c ∙ ap (λ x. cond (ends_with c (last_of x)) 1 0) (sym (front-push seen n));
 }
 

@@ -1,5 +1,5 @@
 -- Which last cards wait for a card beneath them, and which may leave at once.
-use Rattle.std.proofs.Common.{◌≡◌, ◌≢◌, ◌↔◌, ℕ, ◌-◌, ◌^◌, ◌<◌, Bool, true, false, cond, min, max, bit_and, bit_or, Option, Some, None, List, [], ◌∷◌, ◌++◌, length, get_or, set, refl, sym, ◌∙◌, ap, ⊎_elim, true≢false, append_assoc, w64, arith}
+use Rattle.std.proofs.Common.{◌≡◌, ◌≢◌, ◌↔◌, ℕ, ◌-◌, ◌/◌, ◌^◌, ◌<◌, Bool, true, false, cond, min, max, bit_and, bit_or, Option, Some, None, List, [], ◌∷◌, ◌++◌, length, get_or, set, refl, sym, ◌∙◌, ap, ⊎_elim, true≢false, append_assoc, w64, arith}
 use Rattle.std.specs.Prelude.{◌==◌, ◌&&◌, ◌||◌, not, nat_lt}
 use Rattle.std.specs.Int.{bit_at, bit_not}
 use Rattle.std.specs.List.{list_any}
@@ -8,7 +8,7 @@ use Rattle.std.proofs.lemmas.Bool.Decides.{nat_tests}
 use Rattle.std.proofs.lemmas.List.{append-nil}
 use Rattle.std.proofs.lemmas.List.Folds.{list_any-append, list_any_at}
 use Rattle.std.proofs.lemmas.List.Sums.{sum_by-append, get_or-le-sum_by}
-use Rattle.std.proofs.lemmas.Nat.Bits.{bit_at_and, bit_at_or, bit_at_not, bit_at-lt}
+use Rattle.std.proofs.lemmas.Nat.Bits.{bit_at_and, bit_at_or, bit_at_not, bit_at-lt, shr_and_one}
 use Rattle.fc_cards.specs.Card.{rank, suit}
 use Rattle.fc_position.specs.Board.{Board, last_of, front_of, count_in_column}
 use Rattle.fc_position.specs.Position.{IsPosition}
@@ -16,8 +16,8 @@ use Rattle.fc_position.proofs.BoardLemmas.{front_last, last_counted, places_most
 use Rattle.fc_bound.specs.Bound.{is_lower, stands_in, is_above_lower}
 use Rattle.fc_bound.specs.Clearing.{waits}
 use Rattle.fc_bound.specs.declared.rows.Row.{Row}
-use Rattle.fc_bound.specs.inner.Rows.{left_of, left_in, HasLower, Mark, IsLeft, stands_among, ends_in}
-use Rattle.fc_bound.specs.Knots.{has_last, waits_above, is_loose, ends_among}
+use Rattle.fc_bound.specs.inner.Rows.{left_of, left_in, AreWaiting, HasLower, Mark, IsLeft, stands_among, ends_in}
+use Rattle.fc_bound.specs.Knots.{has_last, waits_in, waits_above, is_loose, ends_among}
 use Rattle.fc_bound.proofs.AboveLemmas.{and-false, and-true, or-false, not_true, stands-counted, above-one, above-other, above-top}
 use Rattle.fc_bound.proofs.BitLemmas.{is_one, either_bits, waits_bits, some_bit, no_bits}
 use Rattle.fc_bound.proofs.HeldLemmas.{found}
@@ -115,6 +115,15 @@ held_bit b rows held all lasts i u left last = left.above u ∙ ap (λ t. cond t
 pub bit_test : (n : ℕ) (t : Bool) → n ≡ cond t 1 0 → not (n == 0) ≡ t
 bit_test n true is = ap (λ (m : ℕ). not (m == 0)) is
 bit_test n false is = ap (λ (m : ℕ). not (m == 0)) is
+
+-- whether a last card waits for a card of a column, by the bits of all that do
+pub waits_now : (bits u : ℕ) (x y : List ℕ) → u < 52 → AreWaiting bits x → last_of y ≡ Some u → bit_at bits u ≡ cond (waits_in y x) 1 0
+waits_now bits u x y below are last =
+    are u below ∙ ap (λ t. cond t 1 0) (sym (ap (waits (x ∷ [])) last ∙ or-false (list_any (is_lower u) x)))
+
+pub waits_bit : (bits u : ℕ) (x y : List ℕ) → u < 52 → AreWaiting bits x → last_of y ≡ Some u
+    → not (bit_and (bits / 2 ^ u) 1 == 0) ≡ waits_in y x
+waits_bit bits u x y below are last = bit_test _ (waits_in y x) (shr_and_one bits u ∙ waits_now bits u x y below are last)
 
 -- the last cards that may leave at once
 loose_end : (v : List (List ℕ)) (x : List ℕ) (o : Option ℕ) (bits : ℕ) → last_of x ≡ o

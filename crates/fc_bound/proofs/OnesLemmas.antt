@@ -179,8 +179,7 @@ held_bits b rows held all lasts left c =
     (λ above.
     let f = found (is_above_lower c) v above in
     let at : get_or v f.place [] ≡ left_of all (get_or b.columns f.place []) = left_at all b.columns f.place in
-    let stands = (above-one c (get_or v f.place []) f.passes).stands in
-    (
+    let stands = (above-one c (get_or v f.place []) f.passes).stands in (
       list_any_at (is_above_lower c) b.columns f.place [] (stands_inside b.columns f.place c (left_stands b all f.place c stands))
           (left_above b all f.place c left.whole (ap (λ x. stands_in x c) (sym at) ∙ stands) ∙ ap (is_above_lower c) (sym at) ∙ f.passes),
       list_any_at (λ x. stands_in x c) v f.place [] f.inside stands,

@@ -3,62 +3,62 @@
 ghost use Rattle.std.specs.Prelude.{◌≡◌, ℕ, ◌<◌, ◌==◌, ◌↔◌, cond};
 ghost use Rattle.std.specs.Int.{bit_at};
 ghost use Rattle.fc_bound.specs.Bound.{is_lower};
-ghost use Rattle.fc_bound.specs.inner.Rows.{AreBits, HasLower};
+ghost use Rattle.fc_bound.specs.inner.Rows.{HasLower};
 
-// The bits of the lower cards of each card's suit, by the card's number: to look them up takes less than to make them.
-static LOWER: [u64; 52] = [
+// The bits of the higher cards of each card's suit, by the card's number: to look them up takes less than to make them.
+static HIGHER: [u64; 52] = [
+    0x1_1111_1111_1110,
+    0x2_2222_2222_2220,
+    0x4_4444_4444_4440,
+    0x8_8888_8888_8880,
+    0x1_1111_1111_1100,
+    0x2_2222_2222_2200,
+    0x4_4444_4444_4400,
+    0x8_8888_8888_8800,
+    0x1_1111_1111_1000,
+    0x2_2222_2222_2000,
+    0x4_4444_4444_4000,
+    0x8_8888_8888_8000,
+    0x1_1111_1111_0000,
+    0x2_2222_2222_0000,
+    0x4_4444_4444_0000,
+    0x8_8888_8888_0000,
+    0x1_1111_1110_0000,
+    0x2_2222_2220_0000,
+    0x4_4444_4440_0000,
+    0x8_8888_8880_0000,
+    0x1_1111_1100_0000,
+    0x2_2222_2200_0000,
+    0x4_4444_4400_0000,
+    0x8_8888_8800_0000,
+    0x1_1111_1000_0000,
+    0x2_2222_2000_0000,
+    0x4_4444_4000_0000,
+    0x8_8888_8000_0000,
+    0x1_1111_0000_0000,
+    0x2_2222_0000_0000,
+    0x4_4444_0000_0000,
+    0x8_8888_0000_0000,
+    0x1_1110_0000_0000,
+    0x2_2220_0000_0000,
+    0x4_4440_0000_0000,
+    0x8_8880_0000_0000,
+    0x1_1100_0000_0000,
+    0x2_2200_0000_0000,
+    0x4_4400_0000_0000,
+    0x8_8800_0000_0000,
+    0x1_1000_0000_0000,
+    0x2_2000_0000_0000,
+    0x4_4000_0000_0000,
+    0x8_8000_0000_0000,
+    0x1_0000_0000_0000,
+    0x2_0000_0000_0000,
+    0x4_0000_0000_0000,
+    0x8_0000_0000_0000,
     0x0,
     0x0,
     0x0,
     0x0,
-    0x1,
-    0x2,
-    0x4,
-    0x8,
-    0x11,
-    0x22,
-    0x44,
-    0x88,
-    0x111,
-    0x222,
-    0x444,
-    0x888,
-    0x1111,
-    0x2222,
-    0x4444,
-    0x8888,
-    0x1_1111,
-    0x2_2222,
-    0x4_4444,
-    0x8_8888,
-    0x11_1111,
-    0x22_2222,
-    0x44_4444,
-    0x88_8888,
-    0x111_1111,
-    0x222_2222,
-    0x444_4444,
-    0x888_8888,
-    0x1111_1111,
-    0x2222_2222,
-    0x4444_4444,
-    0x8888_8888,
-    0x1_1111_1111,
-    0x2_2222_2222,
-    0x4_4444_4444,
-    0x8_8888_8888,
-    0x11_1111_1111,
-    0x22_2222_2222,
-    0x44_4444_4444,
-    0x88_8888_8888,
-    0x111_1111_1111,
-    0x222_2222_2222,
-    0x444_4444_4444,
-    0x888_8888_8888,
-    0x1111_1111_1111,
-    0x2222_2222_2222,
-    0x4444_4444_4444,
-    0x8888_8888_8888,
 ];
 
 // The least number whose bit is set.
@@ -82,13 +82,13 @@ pub(crate) fn remove(bits: u64, c: u8) -> u64
     bits & !(1 << c)
 }
 
-// The bits of the lower cards of the suit of the card with this number.
+// The bits of the higher cards of the suit of the card with this number.
 #[inline]
-pub(crate) fn lower_cards(index: u8) -> u64
+pub(crate) fn higher_cards(index: u8) -> u64
     requires below { index < 52 }
-    ensures value { AreBits result (is_lower index) }
+    ensures value { (c : ℕ) → c < 52 → bit_at result c ≡ cond (is_lower c index) 1 0 }
 {
-    LOWER[index as usize]
+    HIGHER[index as usize]
 }
 
 // The bits of all numbers that are greater than one of these by a multiple of four: of the cards that have a lower card of

@@ -8,7 +8,7 @@ ghost use Rattle.fc_bound.specs.Clearing.{without};
 ghost use Rattle.fc_bound.specs.inner.Rows.{AreBits, AreRows, Mark, AreApart, Knotted, stands_among, ends_in, is_set, waiting_in};
 ghost use Rattle.fc_bound.specs.Knots.{has_last, waits_in, waits_above, is_loose, are_knotted, waits_among, is_ring, ring, is_in_knot, shed, ends_among};
 
-use crate::bits::{above, least, lower_cards, remove};
+use crate::bits::{above, least, remove};
 use crate::rows::{Marks, Rows};
 use fc_position::Position;
 use std::marker::Model;
@@ -160,7 +160,7 @@ impl<'a> Left<'a> {
         ensures value { (i j : ℕ) → last_of (slice_index_or self.now i []) ≡ Some u → last_of (slice_index_or self.now j []) ≡ Some v
             → result ≡ waits_in (slice_index_or self.now i []) (slice_index_or self.now j []) }
     {
-        self.rows[v as usize].cards & lower_cards(u) != 0
+        self.rows[v as usize].waiting >> u & 1 != 0
     }
 
     // Whether two last cards wait for cards of each other's columns.
@@ -184,7 +184,8 @@ impl<'a> Left<'a> {
         ensures least { IfSome result (λ v. (w : ℕ) → w < v → bit_at others w ≡ 1 → Knotted self.now u w false) }
         ensures none { IfNone result ((w : ℕ) → bit_at others w ≡ 1 → Knotted self.now u w false) }
     {
-        let mut rest = others;
+        // None of them is knotted with it but those that wait for a card of its column.
+        let mut rest = others & self.rows[u as usize].waiting;
         while rest != 0 {
             let v = least(rest);
             if self.is_knotted(u, v) {

@@ -6,14 +6,15 @@ ghost use Rattle.fc_bound.specs.Bound.{stands_in, is_above_lower};
 ghost use Rattle.fc_bound.specs.Knots.{ends_with, ends_among};
 ghost use Rattle.fc_bound.specs.inner.Rows.{AreBits, IsRow, AreRows, no_row, stands_among};
 
-use crate::bits::lower_cards;
+use crate::bits::higher_cards;
 use fc_cards::Card;
 use fc_position::Position;
 
-// What is known of a card in a column: the bits of the column's cards up to it, and that of the card beneath it, if there is one.
+// What is known of a card in a column: the bits of all cards that wait for one of the column's cards up to it, and that of the
+// card beneath it, if there is one.
 #[derive(Clone, Copy)]
 pub(crate) struct Row {
-    pub(crate) cards: u64,
+    pub(crate) waiting: u64,
     pub(crate) beneath: u64,
 }
 
@@ -34,7 +35,7 @@ pub(crate) fn blank() -> Rows
     ensures { length result ≡ 52 }
 {
     let row = Row {
-        cards: 0,
+        waiting: 0,
         beneath: 0,
     };
     [row; 52]
@@ -76,15 +77,15 @@ fn fill_column(rows: &mut Rows, cards: &[Card]) -> Marks
     let mut all = 0;
     let mut last = 0;
     let mut held = 0;
+    let mut waiting = 0;
     for card in cards {
         let index = card.index();
         let bit = 1 << index;
-        if all & lower_cards(index) != 0 {
-            held |= bit;
-        }
+        held |= waiting & bit;
+        waiting |= higher_cards(index);
         all |= bit;
         rows[index as usize] = Row {
-            cards: all,
+            waiting,
             beneath: last,
         };
         last = bit;

@@ -1,5 +1,5 @@
 -- What is left of columns while cards are taken out of them, as bits of cards.
-use Rattle.std.specs.Prelude.{◌≡◌, ℕ, zero, suc, ◌+◌, ◌-◌, ◌*◌, ◌<◌, ◌≤◌, ◌==◌, ◌&&◌, Bool, true, false, not, cond, bit_and, length, take, map, List, [], ◌∷◌, Option, Some, None, slice_index_or, sum_by}
+use Rattle.std.specs.Prelude.{◌≡◌, ℕ, zero, suc, ◌+◌, ◌-◌, ◌*◌, ◌<◌, ◌≤◌, ◌==◌, ◌&&◌, Bool, true, false, cond, length, take, map, List, [], ◌∷◌, Option, Some, None, slice_index_or, sum_by}
 use Rattle.std.specs.Int.{bit_at}
 use Rattle.std.specs.List.{list_any}
 use Rattle.fc_position.specs.Board.{Board, last_of, front_of}
@@ -21,15 +21,9 @@ left_in bits columns = map (left_of bits) columns
 abbrev pub AreBits : ℕ → (ℕ → Bool) → Type 0
 AreBits bits test = (x : ℕ) → bit_at bits x ≡ cond (test x) 1 0
 
--- the bits tell of cards whether one of them passes a test: they share a bit with those of the test
-abbrev pub Tells : ℕ → List (List ℕ) → Type 0
-Tells bits columns = (passing : ℕ) (test : ℕ → Bool) → AreBits passing test
-    → (bit_and bits passing == 0) ≡ not (list_any (list_any test) columns)
-
--- a lower card of the suit of the last card; where there is none, no card is
-abbrev pub is_lower_than : Option ℕ → ℕ → Bool
-is_lower_than None x = false
-is_lower_than (Some u) x = is_lower u x
+-- the bits of cards that wait for one of these: a lower card of their own suit is among these
+abbrev pub AreWaiting : ℕ → List ℕ → Type 0
+AreWaiting bits cards = (c : ℕ) → c < 52 → bit_at bits c ≡ cond (list_any (is_lower c) cards) 1 0
 
 -- a number that is less by a multiple of four has its bit set
 abbrev pub HasLower : ℕ → ℕ → Type 0
@@ -65,11 +59,11 @@ Knotted columns u v so = (i j : ℕ) → last_of (slice_index_or columns i []) �
 
 -- what is read past the end of rows
 abbrev pub no_row : Row
-no_row = record { cards = 0; beneath = 0 }
+no_row = record { waiting = 0; beneath = 0 }
 
 -- what is known of the last one of these cards of a column
 pub record IsRow (row : Row) (cards : List ℕ) : Type 0 where
-  pub tells : Tells row.cards (cards ∷ [])
+  pub waiting : AreWaiting row.waiting cards
   pub beneath : AreBits row.beneath (λ c. ends_with c (last_of (front_of cards)))
 
 -- the rows of each number of each column's lowest cards, by their last one
