@@ -7,17 +7,17 @@ use Rattle.fc_frontier.specs.Queue.{Adds}
 use Rattle.fc_best_first.specs.declared.books.Mark.{Mark}
 use Rattle.fc_best_first.specs.declared.books.Opening.{Opening}
 use Rattle.fc_best_first.specs.declared.books.Offered.{Offered}
-use Rattle.fc_best_first.specs.declared.books.Offered.TheVariants.{Known, Lowered, Added, Full, PutOff}
+use Rattle.fc_best_first.specs.declared.books.Offered.TheVariants.{Known, Lowered, Added, Full, PutOff, Past}
 use Rattle.fc_best_first.specs.declared.strategies.Expansion.{Expansion}
 use Rattle.fc_best_first.specs.declared.strategies.Expansion.TheVariants as expansion
 use Rattle.fc_best_first.specs.declared.strategies.Strategy.{Strategy}
 use Rattle.fc_best_first.specs.Graph.{Task, Reached, IsLawful}
+use Rattle.fc_best_first.specs.Limits.{ReachesLimit}
 use Rattle.fc_best_first.specs.Store.{Store, Candidate, IsStored, NotesLast, Stores, opens_at, weighed}
 use Rattle.fc_best_first.specs.Turn.{opening_of}
 use Rattle.fc_best_first.specs.Kept.{AreNoted, Comes, IsKept, IsNeeded, IsOpenAt, IsOpenOrExpanded, f_of}
 use Rattle.fc_best_first.specs.Shown.{IsFloor}
-use Rattle.fc_best_first.proofs.KeptLemmas.{added_there, added_cases}
-use Rattle.fc_best_first.proofs.ClosedLemmas.{weighed_past}
+use Rattle.fc_best_first.proofs.KeptLemmas.{added_there, added_cases, open_under}
 
 -- what storing the first key leaves
 pub first_stored : {K : Type 0} (strategy : Strategy) (empty new : Store K) (offer : Candidate K) (o : Offered K)
@@ -27,6 +27,7 @@ pub first_stored : {K : Type 0} (strategy : Strategy) (empty new : Store K) (off
 first_stored strategy empty new offer Known none quiet unnoted some_room h = absurd h
 first_stored strategy empty new offer Lowered none quiet unnoted some_room h = absurd h
 first_stored strategy empty new offer (PutOff f) none quiet unnoted some_room h = absurd h
+first_stored strategy empty new offer Past none quiet unnoted some_room h = absurd h
 first_stored strategy empty new offer Added none quiet unnoted some_room (lt, stored, opened, noted) = (
   stored ∙ ap (λ es. es ++ (offer.key, offer.mark) ∷ []) none,
   subst (λ es. Adds [] new.waiting (opens_at (weighed strategy offer.mark) offer.opening, length es)) none
@@ -68,13 +69,11 @@ module _ {K : Type 0} (task : Task K) (s : Store K) (x : K) (e : Mark) (stored :
 
   module _ (lawful : IsLawful task.graph) (heavy : task.strategy.weight.parts ≤ task.strategy.weight.times) (start : task.graph.starts x e.cost)
       (alone : (y : K) (d : ℕ) → task.graph.starts y d → (y ≡ x) × (e.cost ≤ d)) where
-    -- no answer, weighed as a bound is, is below what the first key is open at: an empty table is closed inside it
-    pub begins_floor : IsFloor task.graph task.strategy.weight (f_of task x e)
-    begins_floor n wins = ⊎_elim
+    -- no answer is below the cost plus bound of the first key: an empty table is closed inside it
+    begins_least : (n : ℕ) → task.graph.wins n → e.cost + task.graph.bound x ≤ n
+    begins_least n wins = ⊎_elim
         (λ over. absurd (
-        let past : (d : ℕ) → e.cost ≤ d → suc n ≤ d + task.graph.bound x = λ d le.
-        (let own : f_of task x e ≤ f_of task x e = omega arith in
-        let h = weighed_past task.strategy.weight e.cost (task.graph.bound x) n (f_of task x e) heavy over own in omega (arith, h, le)) in
+        let past : (d : ℕ) → e.cost ≤ d → suc n ≤ d + task.graph.bound x = λ d le. omega (arith, over, le) in
         let le = lawful.closed (suc n) [] (record {
           reached = λ y d listed. absurd (omega (arith, listed.1));
           not_won = λ y d listed. absurd (omega (arith, listed.1));
@@ -83,7 +82,11 @@ module _ {K : Type 0} (task : Task K) (s : Store K) (x : K) (e : Mark) (stored :
         }) n wins in
         omega (arith, le)))
         (λ within. within)
-        (cases_lt (task.strategy.weight.times * n) (f_of task x e))
+        (cases_lt n (e.cost + task.graph.bound x))
+
+    -- so none, weighed as a bound is, is below what it is open at
+    pub begins_floor : IsFloor task.graph task.strategy.weight (f_of task x e)
+    begins_floor n wins = open_under task.strategy.weight e.cost (task.graph.bound x) n heavy (begins_least n wins)
 
     first_needed : (expansion : Expansion) → IsNeeded expansion task.graph task.strategy.weight x
     first_needed expansion.Full = inl (e.cost, start)
@@ -112,6 +115,12 @@ module _ {K : Type 0} (task : Task K) (s : Store K) (x : K) (e : Mark) (stored :
                 (λ none. absurd (omega (arith, none.1)))
                 (added_cases [] s.waiting (f_of task x e, 0) (h, i) opened there);
             noted = first_noted task.strategy.expansion notes;
+            under = first_each (λ i y m. (n : ℕ) → task.graph.wins n → ReachesLimit task.limit n → m.cost + task.graph.bound y ≤ n)
+                (λ n wins reach. begins_least n wins);
+            near = λ h i there. ⊎_elim
+                (λ same. λ n wins reach. subst (λ k. k ≤ task.strategy.weight.times * n) (ap (λ p. p.0) same) (begins_floor n wins))
+                (λ none. absurd (omega (arith, none.1)))
+                (added_cases [] s.waiting (f_of task x e, 0) (h, i) opened there);
           };
           settled = first_each (IsOpenOrExpanded task s) (inl (first_open task.strategy.expansion notes));
         }

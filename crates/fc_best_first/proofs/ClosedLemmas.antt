@@ -1,9 +1,9 @@
 -- Lemmas on what is open and what is expanded: when a pair is taken, and that the stored keys leave no answer below a floor.
-use Rattle.std.proofs.Common.{◌≡◌, ℕ, ◌+◌, ◌*◌, ◌<◌, ◌≤◌, ◌⊎◌, suc, zero, Some, List, [], ◌∷◌, length, map, refl, sym, ◌∙◌, ap, subst, inl, inr, ⊎_elim, arith}
+use Rattle.std.proofs.Common.{◌≡◌, ℕ, ◌+◌, ◌*◌, ◌<◌, ◌≤◌, ◌⊎◌, suc, zero, Option, Some, None, List, [], ◌∷◌, length, map, refl, sym, ◌∙◌, ap, subst, inl, inr, ⊎_elim, arith}
 use Rattle.std.specs.Prelude.{slice_get, Contains}
 use Rattle.std.proofs.lemmas.Bool.{cases_lt}
 use Rattle.std.proofs.lemmas.Nat.{mul-le}
-use Rattle.std.proofs.Math.Nat.{le_of_mul-le-mul_left}
+use Rattle.std.proofs.Math.Nat.{le_of_mul-le-mul_left, mul-le-mul_left}
 use Rattle.std.proofs.lemmas.Option.{none-some}
 use Rattle.std.proofs.lemmas.List.Elements.{Contains-append_right}
 use Rattle.fc_frontier.specs.Queue.{Adds, IsLeast}
@@ -12,10 +12,10 @@ use Rattle.fc_best_first.specs.declared.books.Opening.{Opening}
 use Rattle.fc_best_first.specs.declared.strategies.Expansion.{Expansion}
 use Rattle.fc_best_first.specs.declared.strategies.Expansion.TheVariants.{Full, Partial}
 use Rattle.fc_best_first.specs.Graph.{Graph, Task, Reached, IsLawful, IsClosedInside, Lists}
-use Rattle.fc_best_first.specs.Limits.{IsEven, Ratio, weigh}
+use Rattle.fc_best_first.specs.Limits.{IsEven, IsWithinLimit, Ratio, ReachesLimit, weigh}
 use Rattle.fc_best_first.specs.Store.{Store, IsStored, IsTaken, opens_at, weighed}
 use Rattle.fc_best_first.specs.Turn.{IsStale, TakesFloor}
-use Rattle.fc_best_first.specs.Kept.{AreNoted, HasAt, IsDone, IsExpanded, IsExpandedBelow, IsOpenAt, IsOpenLater, IsOpenOrExpanded, IsSound, IsKept, f_of}
+use Rattle.fc_best_first.specs.Kept.{AreNoted, HasAt, IsDone, IsExpanded, IsExpandedBelow, IsMet, IsOpenAt, IsOpenLater, IsOpenOrExpanded, IsSound, IsKept, f_of}
 use Rattle.fc_best_first.specs.Shown.{IsFloor}
 use Rattle.fc_best_first.proofs.KeptLemmas.{front_there, front_cases, added_stays, added_cases, least_below, pair_high}
 
@@ -42,6 +42,22 @@ even_past weight cost bound n some even le =
     let same : weight.times * bound ≡ weight.parts * bound = ap (λ w. w * bound) even in
     let all : weight.parts * n ≤ weight.parts * (cost + bound) = omega (arith, le, same) in
     le_of_mul-le-mul_left all some
+
+-- a number reaches the limit, or the next one doesn't pass it
+abbrev pub IsUpTo : Option ℕ → ℕ → Type 0
+IsUpTo None n = Unit {0}
+IsUpTo (Some limit) n = n ≤ limit
+
+pub limit_cases : (limit : Option ℕ) (n : ℕ) → ReachesLimit limit n ⊎ IsUpTo limit (suc n)
+limit_cases None n = inr tt
+limit_cases (Some limit) n = ⊎_elim (λ lt. inr (omega (arith, lt))) (λ le. inl le) (cases_lt n limit)
+
+-- a number that is no more than the limit, so many times over, is no more than what reaches it
+pub limit_within : (limit : Option ℕ) (times f n : ℕ) → IsWithinLimit limit times f → ReachesLimit limit n → f ≤ times * n
+limit_within None times f n within reach = absurd reach
+limit_within (Some limit) times f n within reach =
+    let all : times * limit ≤ times * n = mul-le-mul_left times reach in
+    omega (arith, all, within)
 
 -- where a key is open, if it is: by full expansion at its weighed cost plus bound, by partial expansion where it was opened last
 abbrev pub IsAt : {K : Type 0} → Expansion → Task K → Store K → ℕ → K → Mark → ℕ → Type 0
@@ -84,35 +100,74 @@ module _ {K : Type 0} where
   pub kept_has : (old new : Store K) (x : K) (d : ℕ) → new.stored ≡ old.stored → HasAt old x d → HasAt new x d
   kept_has old new x d kept (j, m, at, le) = (j, m, subst (λ es. slice_get es j ≡ Some (x, m)) (sym kept) at, le)
 
-  pub kept_expanded : (g : Graph K) (old new : Store K) (x : K) (d : ℕ) → new.stored ≡ old.stored → IsExpanded g old x d → IsExpanded g new x d
-  kept_expanded g old new x d kept h = (h.0, λ c y edge. kept_has old new y (d + c) kept (h.1 c y edge))
+  -- what is met stays so where what is stored does
+  pub stays_met : (limit : Option ℕ) (g : Graph K) (old new : Store K) (y : K) (d : ℕ) → (HasAt old y d → HasAt new y d)
+      → IsMet limit g old y d → IsMet limit g new y d
+  stays_met None g old new y d on has = on has
+  stays_met (Some limit) g old new y d on (inl has) = inl (on has)
+  stays_met (Some limit) g old new y d on (inr past) = inr past
 
-  pub kept_below : (g : Graph K) (weight : Ratio) (old new : Store K) (x : K) (d n : ℕ) → new.stored ≡ old.stored
-      → IsExpandedBelow g weight old x d n → IsExpandedBelow g weight new x d n
-  kept_below g weight old new x d n kept h =
-      (h.0, λ c y edge. ⊎_elim (λ has. inl (kept_has old new y (d + c) kept has)) (λ far. inr far) (h.1 c y edge))
+  -- and at a greater cost
+  pub more_met : (limit : Option ℕ) (g : Graph K) (s : Store K) (y : K) (d e : ℕ) → d ≤ e → IsMet limit g s y d → IsMet limit g s y e
+  more_met None g s y d e le (i, m, at, low) = (i, m, at, omega (arith, le, low))
+  more_met (Some limit) g s y d e le (inl (i, m, at, low)) = inl (i, m, at, omega (arith, le, low))
+  more_met (Some limit) g s y d e le (inr past) = inr (omega (arith, le, past))
+
+  pub has_met : (limit : Option ℕ) (g : Graph K) (s : Store K) (y : K) (d : ℕ) → HasAt s y d → IsMet limit g s y d
+  has_met None g s y d has = has
+  has_met (Some limit) g s y d has = inl has
+
+  pub past_met : (limit : Option ℕ) (g : Graph K) (s : Store K) (y : K) (d : ℕ) → ReachesLimit limit (d + g.bound y) → IsMet limit g s y d
+  past_met None g s y d past = absurd past
+  past_met (Some limit) g s y d past = inr past
+
+  met_covered : (limit : Option ℕ) (g : Graph K) (s : Store K) (y : K) (d n : ℕ) → IsUpTo limit n → IsMet limit g s y d
+      → HasAt s y d ⊎ (n ≤ d + g.bound y)
+  met_covered None g s y d n up has = inl has
+  met_covered (Some limit) g s y d n up (inl has) = inl has
+  met_covered (Some limit) g s y d n up (inr past) = inr (omega (arith, up, past))
+
+  pub kept_met : (limit : Option ℕ) (g : Graph K) (old new : Store K) (y : K) (d : ℕ) → new.stored ≡ old.stored
+      → IsMet limit g old y d → IsMet limit g new y d
+  kept_met limit g old new y d kept met = stays_met limit g old new y d (λ has. kept_has old new y d kept has) met
+
+  pub kept_expanded : (task : Task K) (old new : Store K) (x : K) (d : ℕ) → new.stored ≡ old.stored → IsExpanded task old x d
+      → IsExpanded task new x d
+  kept_expanded task old new x d kept h =
+      (h.0, λ c y edge. kept_met task.limit task.graph old new y (d + c) kept (h.1 c y edge))
+
+  pub kept_below : (task : Task K) (old new : Store K) (x : K) (d n : ℕ) → new.stored ≡ old.stored
+      → IsExpandedBelow task old x d n → IsExpandedBelow task new x d n
+  kept_below task old new x d n kept h = (
+    h.0,
+    λ c y edge. ⊎_elim (λ met. inl (kept_met task.limit task.graph old new y (d + c) kept met)) (λ far. inr far) (h.1 c y edge),
+  )
 
   pub kept_done : (expansion : Expansion) (task : Task K) (old new : Store K) (x : K) (d n : ℕ) → new.stored ≡ old.stored
       → IsDone expansion task old x d n → IsDone expansion task new x d n
-  kept_done Full task old new x d n kept h = kept_expanded task.graph old new x d kept h
-  kept_done Partial task old new x d n kept h = kept_below task.graph task.strategy.weight old new x d n kept h
+  kept_done Full task old new x d n kept h = kept_expanded task old new x d kept h
+  kept_done Partial task old new x d n kept h = kept_below task old new x d n kept h
 
   pub kept_back : (old new : Store K) (i : ℕ) (x : K) (m : Mark) → new.stored ≡ old.stored → IsStored new i x m → IsStored old i x m
   kept_back old new i x m kept at = subst (λ es. slice_get es i ≡ Some (x, m)) kept at
 
   -- what is expanded is done with below any number
-  expanded_done : (expansion : Expansion) (task : Task K) (s : Store K) (x : K) (d n : ℕ) → IsExpanded task.graph s x d
+  expanded_done : (expansion : Expansion) (task : Task K) (s : Store K) (x : K) (d n : ℕ) → IsExpanded task s x d
       → IsDone expansion task s x d n
   expanded_done Full task s x d n h = h
   expanded_done Partial task s x d n h = (h.0, λ c y edge. inl (h.1 c y edge))
 
+  pub expanded_covered : (task : Task K) (s : Store K) (x : K) (d n : ℕ) → IsUpTo task.limit n → IsExpanded task s x d
+      → IsCoveredBelow task.graph s x d n
+  expanded_covered task s x d n up h = (h.0, λ c y edge. met_covered task.limit task.graph s y (d + c) n up (h.1 c y edge))
+
   -- where a bound counts as often as a cost, what is done with below n, weighed, is covered below n
-  pub light_covered : (expansion : Expansion) (task : Task K) (s : Store K) (x : K) (d n : ℕ) → 1 ≤ task.strategy.weight.parts
-      → IsEven task.strategy.weight → IsDone expansion task s x d (task.strategy.weight.parts * n) → IsCoveredBelow task.graph s x d n
-  light_covered Full task s x d n some light h = (h.0, λ c y edge. inl (h.1 c y edge))
-  light_covered Partial task s x d n some light h = (
+  pub light_covered : (expansion : Expansion) (task : Task K) (s : Store K) (x : K) (d n : ℕ) → IsUpTo task.limit n
+      → 1 ≤ task.strategy.weight.parts → IsEven task.strategy.weight → IsDone expansion task s x d (task.strategy.weight.parts * n) → IsCoveredBelow task.graph s x d n
+  light_covered Full task s x d n up some light h = expanded_covered task s x d n up h
+  light_covered Partial task s x d n up some light h = (
     h.0,
-    λ c y edge. ⊎_elim (λ has. inl has) (λ far. inr (even_past task.strategy.weight (d + c) (task.graph.bound y) n some light far)) (h.1 c y edge),
+    λ c y edge. ⊎_elim (met_covered task.limit task.graph s y (d + c) n up) (λ far. inr (even_past task.strategy.weight (d + c) (task.graph.bound y) n some light far)) (h.1 c y edge),
   )
 
   -- what is done with below a number is done with below each lesser one
@@ -121,9 +176,6 @@ module _ {K : Type 0} where
   less_done Full task s x d n f le h = h
   less_done Partial task s x d n f le h =
       (h.0, λ c y edge. ⊎_elim (λ has. inl has) (λ far. inr (omega (arith, le, far))) (h.1 c y edge))
-
-  pub expanded_covered : (g : Graph K) (s : Store K) (x : K) (d n : ℕ) → IsExpanded g s x d → IsCoveredBelow g s x d n
-  expanded_covered g s x d n h = (h.0, λ c y edge. inl (h.1 c y edge))
 
   -- what is open later than the least f is done with below that
   later_done : (expansion : Expansion) (task : Task K) (s : Store K) (i : ℕ) (x : K) (m : Mark) (f j : ℕ)
@@ -161,7 +213,7 @@ module _ {K : Type 0} where
   kept_later Partial task old new p i x m kept noted taken other (h, is_open, below) = (
     h,
     kept_open Partial old new p i (weighed task.strategy m) h noted taken (other h is_open.1) is_open,
-    kept_below task.graph task.strategy.weight old new x m.cost h kept below,
+    kept_below task old new x m.cost h kept below,
   )
 
 module _ {K : Type 0} (task : Task K) where
@@ -181,6 +233,8 @@ module _ {K : Type 0} (task : Task K) where
     pairs = λ f i there. h.pairs f i (fewer (f, i) there);
     noted = noted_same task.strategy.expansion task.graph (record { stored = stored; waiting = old; openings = was })
         (record { stored = stored; waiting = new; openings = is }) refl same h.noted;
+    under = h.under;
+    near = λ f i there. h.near f i (fewer (f, i) there);
   }
 
   pub taken_sound : (old new : Store K) (f i : ℕ) → IsSound task old → new.stored ≡ old.stored → new.openings ≡ old.openings
@@ -213,7 +267,7 @@ module _ {K : Type 0} (task : Task K) where
   others_settled old new f i x m kept t j y l other at = elim (kept.settled j y l (kept_back old new j y l t.kept at)) [
     | inl is_open ↦ inl (kept_open task.strategy.expansion old new (f, i) j (weighed task.strategy l) (f_of task y l) t.noted t.taken
         (other (f_of task y l) (own_at task.strategy.expansion task old j y l is_open)) is_open)
-    | inr (inl done) ↦ inr (inl (kept_expanded task.graph old new y l.cost t.kept done))
+    | inr (inl done) ↦ inr (inl (kept_expanded task old new y l.cost t.kept done))
     | inr (inr later) ↦ inr (inr (kept_later task.strategy.expansion task old new (f, i) j y l t.kept t.noted t.taken other later))
   ]
 
@@ -263,12 +317,13 @@ module _ {K : Type 0} (task : Task K) where
   }
 
   -- what is done with below f is covered below the next number of one that, weighed as a bound is, is below f
-  done_covered : (expansion : Expansion) (s : Store K) (x : K) (d n f : ℕ) → task.strategy.weight.parts ≤ task.strategy.weight.times → task.strategy.weight.times * n < f
+  done_covered : (expansion : Expansion) (s : Store K) (x : K) (d n f : ℕ) → IsUpTo task.limit (suc n)
+      → task.strategy.weight.parts ≤ task.strategy.weight.times → task.strategy.weight.times * n < f
       → IsDone expansion task s x d f → IsCoveredBelow task.graph s x d (suc n)
-  done_covered Full s x d n f heavy over done = expanded_covered task.graph s x d (suc n) done
-  done_covered Partial s x d n f heavy over done = (
+  done_covered Full s x d n f up heavy over done = expanded_covered task s x d (suc n) up done
+  done_covered Partial s x d n f up heavy over done = (
     done.0,
-    λ c y edge. ⊎_elim (λ has. inl has)
+    λ c y edge. ⊎_elim (met_covered task.limit task.graph s y (d + c) (suc n) up)
         (λ far. inr (weighed_past task.strategy.weight (d + c) (task.graph.bound y) n f heavy over far)) (done.1 c y edge),
   )
 
@@ -278,19 +333,21 @@ module _ {K : Type 0} (task : Task K) where
     pub none_below : (s : Store K) (f : ℕ) → IsSound task s
         → ((i : ℕ) (x : K) (m : Mark) → IsStored s i x m → f_of task x m < f
         → IsDone task.strategy.expansion task s x m.cost f)
+        → ((n : ℕ) → task.graph.wins n → ReachesLimit task.limit n → f ≤ task.strategy.weight.times * n)
         → IsFloor task.graph task.strategy.weight f
-    none_below s f sound done n wins = ⊎_elim
+    none_below s f sound done near n wins = ⊎_elim (λ reach. near n wins reach) (λ up. ⊎_elim
         (λ over.
         let closed = closed_inside s (suc n) sound
-        (λ i x m at lt. done_covered task.strategy.expansion s x m.cost n f heavy over
+        (λ i x m at lt. done_covered task.strategy.expansion s x m.cost n f up heavy over
         (done i x m at (weighed_below task.strategy.weight m.cost (task.graph.bound x) n f heavy lt over))) in
         absurd (let le = lawful.closed (suc n) (rows s) closed n wins in omega (arith, le)))
         (λ within. within)
-        (cases_lt (task.strategy.weight.times * n) f)
+        (cases_lt (task.strategy.weight.times * n) f)) (limit_cases task.limit n)
 
     -- no answer, weighed as a bound is, is below the least f
-    pub least_floor : (s : Store K) (f i : ℕ) → IsKept task s → IsLeast (f, i) s.waiting → IsFloor task.graph task.strategy.weight f
-    least_floor s f i kept least = none_below s f kept.sound (below_least task s f i kept least)
+    pub least_floor : (s : Store K) (f i : ℕ) → IsKept task s → Contains s.waiting (f, i) → IsLeast (f, i) s.waiting
+        → IsFloor task.graph task.strategy.weight f
+    least_floor s f i kept there least = none_below s f kept.sound (below_least task s f i kept least) (kept.sound.near f i there)
 
     -- a floor that a turn leaves is one
     pub takes_floor : (s : Store K) (old new : ℕ) → IsKept task s → IsFloor task.graph task.strategy.weight old
@@ -298,5 +355,5 @@ module _ {K : Type 0} (task : Task K) where
     takes_floor s old new kept floor (inl none) = subst (IsFloor task.graph task.strategy.weight) (sym none.1) floor
     takes_floor s old new kept floor (inr (f, i, there, least, greatest)) = λ n wins.
         let before : old ≤ task.strategy.weight.times * n = floor n wins in
-        let taken : f ≤ task.strategy.weight.times * n = least_floor s f i kept least n wins in
+        let taken : f ≤ task.strategy.weight.times * n = least_floor s f i kept there least n wins in
         omega (arith, before, taken, greatest)

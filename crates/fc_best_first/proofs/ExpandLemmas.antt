@@ -1,22 +1,23 @@
 -- Lemmas on offering the children of a key that is taken: what is kept while they find their places.
-use Rattle.std.proofs.Common.{◌≡◌, ℕ, ◌+◌, ◌*◌, ◌<◌, ◌≤◌, ◌⊎◌, suc, List, [], ◌∷◌, length, refl, sym, ◌∙◌, ap, subst, inl, inr, ⊎_elim, arith}
+use Rattle.std.proofs.Common.{◌≡◌, ℕ, ◌+◌, ◌*◌, ◌<◌, ◌≤◌, ◌⊎◌, suc, Option, Some, None, List, [], ◌∷◌, length, refl, sym, ◌∙◌, ap, subst, inl, inr, ⊎_elim, arith}
 use Rattle.std.specs.Prelude.{Contains}
 use Rattle.std.proofs.lemmas.List.Elements.{Contains-append_right}
 use Rattle.fc_best_first.specs.declared.books.Mark.{Mark}
 use Rattle.fc_best_first.specs.declared.books.Opening.{Opening}
-use Rattle.fc_best_first.specs.declared.books.Offered.TheVariants.{Known, Lowered, Added}
+use Rattle.fc_best_first.specs.declared.books.Offered.TheVariants.{Known, Lowered, Added, Past}
 use Rattle.fc_best_first.specs.declared.spaces.Child.{Child}
 use Rattle.fc_best_first.specs.declared.strategies.Expansion.{Expansion}
 use Rattle.fc_best_first.specs.declared.strategies.Expansion.TheVariants.{Full, Partial}
 use Rattle.fc_best_first.specs.declared.turns.Placing.{Placing}
 use Rattle.fc_best_first.specs.declared.turns.Placing.TheVariants.{Whole, Later, NoRoom}
 use Rattle.fc_best_first.specs.Graph.{Reached, IsLawful, Task}
-use Rattle.fc_best_first.specs.Limits.{weigh}
+use Rattle.fc_best_first.specs.Limits.{IsBelowLimit, IsWithinLimit, ReachesLimit, weigh}
 use Rattle.fc_best_first.specs.Store.{Store, Candidate, IsStored, Admits, Offers, weighed}
 use Rattle.fc_best_first.specs.Turn.{Expands, IsPresent, candidate_of, opening_of, put_off, work_left}
-use Rattle.fc_best_first.specs.Kept.{AreNoted, HasAt, IsOpenOrExpanded, IsNeeded, Comes, IsSound, f_of}
+use Rattle.fc_best_first.specs.Kept.{AreNoted, HasAt, IsMet, IsOpenOrExpanded, IsNeeded, Comes, IsSound, f_of}
 use Rattle.fc_best_first.specs.Shown.{IsFloor, IsGivenUp}
 use Rattle.fc_best_first.proofs.KeptLemmas.{front_there, front_cases, stands_within, Notes, Puts, puts_lowered, puts_added, still_has, other_number, still_sound, still_settled}
+use Rattle.fc_best_first.proofs.ClosedLemmas.{has_met, past_met, stays_met}
 use Rattle.fc_best_first.proofs.TurnLemmas.{off_past, offers_room}
 use Rattle.fc_best_first.proofs.WorkLemmas.{lowered_work, added_work}
 
@@ -24,6 +25,20 @@ use Rattle.fc_best_first.proofs.WorkLemmas.{lowered_work, added_work}
 abbrev pub PutOffTo : {K : Type 0} → Placing K → ℕ → Type 0
 PutOffTo (Later later) f = later ≤ f
 PutOffTo other f = ⊥
+
+-- what children are put off until is no more than the limit so many times over, if there is one
+abbrev pub IsNearLimit : {K : Type 0} → Option ℕ → ℕ → Placing K → Type 0
+IsNearLimit limit times (Later later) = IsWithinLimit limit times later
+IsNearLimit limit times other = Unit {0}
+
+off_near : {K : Type 0} (limit : Option ℕ) (times later : ℕ) (others : Placing K) → IsWithinLimit limit times later
+    → IsNearLimit limit times (put_off later others)
+off_near None times later Whole near = tt
+off_near None times later (Later g) near = tt
+off_near None times later (NoRoom y) near = tt
+off_near (Some limit) times later Whole near = near
+off_near (Some limit) times later (Later g) near = omega (arith, near)
+off_near (Some limit) times later (NoRoom y) near = tt
 
 -- all children found their places, or some were put off past what was taken
 abbrev pub IsPast : {K : Type 0} → ℕ → Placing K → Type 0
@@ -46,6 +61,11 @@ off_on taken later Whole lt past = lt
 off_on taken later (Later g) lt past = omega (arith, lt, past)
 off_on taken later (NoRoom y) lt past = absurd past
 
+-- what is below the limit is no more than what reaches it
+below_under : (limit : Option ℕ) (cost n : ℕ) → IsBelowLimit limit cost → ReachesLimit limit n → cost ≤ n
+below_under None cost n below reach = absurd reach
+below_under (Some limit) cost n below reach = omega (arith, below, reach)
+
 -- a pair that is present stays so while other keys are put in
 still_present : {K : Type 0} (expansion : Expansion) (task : Task K) (old new : Store K) (opening : Opening) (i busy : ℕ) (x : K) (m : Mark)
     (f : ℕ) → Notes expansion old new i opening → AreNoted expansion task.graph old → (busy ≡ i → ⊥)
@@ -56,7 +76,7 @@ still_present Partial task old new opening i busy x m f notes noted ne (last, th
 
 module _ {K : Type 0} (task : Task K) where
   module _ (busy : ℕ) (xb : K) (mb : Mark) (taken : ℕ) (high : f_of task xb mb ≤ taken)
-      (floor : IsFloor task.graph task.strategy.weight taken) where
+      (floor : IsFloor task.graph task.strategy.weight taken) (heavy : task.strategy.weight.parts ≤ task.strategy.weight.times) where
     -- the mark of a child that would cost nothing
     abbrev origin : Mark
     origin = record { cost = mb.cost; parent = busy }
@@ -90,8 +110,9 @@ module _ {K : Type 0} (task : Task K) where
 
     puts_doing : (old new : Store K) (child : Child K) (i : ℕ) → IsChild child → Doing old → length new.stored ≤ task.strategy.budget
         → Puts task.strategy.expansion task.strategy.weight old new child.key (child_offer child).mark (opening_of task child.key) i
-        → mb.cost + child.cost ≤ 53 * i + 53 → IsNeeded task.strategy.expansion task.graph task.strategy.weight child.key → Doing new
-    puts_doing old new child i edge d room puts low needed =
+        → mb.cost + child.cost ≤ 53 * i + 53 → IsNeeded task.strategy.expansion task.graph task.strategy.weight child.key
+        → ((n : ℕ) → task.graph.wins n → ReachesLimit task.limit n → mb.cost + child.cost + task.graph.bound child.key ≤ n) → Doing new
+    puts_doing old new child i edge d room puts low needed under =
         let e : Mark = (child_offer child).mark in
         let reached = child_reached old child edge d in
         let self : mb.cost + child.cost ≤ mb.cost + child.cost = omega arith in
@@ -99,8 +120,8 @@ module _ {K : Type 0} (task : Task K) where
         let more : mb.cost ≤ e.cost = omega arith in
         let other = other_number task.strategy.expansion task.strategy.weight old new child.key e (opening_of task child.key) i puts busy xb mb d.stands more in
         record {
-          sound = still_sound task old new child.key e i puts d.sound room reached low comes needed;
-          settled = still_settled task old new child.key e i puts d.sound room reached low comes needed busy d.settled;
+          sound = still_sound task old new child.key e i puts d.sound room reached low comes needed heavy under;
+          settled = still_settled task old new child.key e i puts d.sound room reached low comes needed heavy under busy d.settled;
           stands = puts.on busy xb mb other d.stands;
           present = still_present task.strategy.expansion task old new (opening_of task child.key) i busy xb mb taken puts.notes
               d.sound.noted other d.present;
@@ -109,52 +130,62 @@ module _ {K : Type 0} (task : Task K) where
     -- a child that found its place
     abbrev Placed : Store K → Store K → Child K → Type 0
     Placed old new child = Doing new × ((x : K) (d : ℕ) → HasAt old x d → HasAt new x d)
-        × HasAt new child.key (mb.cost + child.cost) × (work_left task.strategy.budget new ≤ work_left task.strategy.budget old)
+        × IsMet task.limit task.graph new child.key (mb.cost + child.cost) × (work_left task.strategy.budget new ≤ work_left task.strategy.budget old)
 
     placed_known : (old new : Store K) (child : Child K) → Doing old
-        → Offers task.strategy taken old new (child_offer child) Known
+        → Offers task taken old new (child_offer child) Known
         → Placed old new child
     placed_known old new child d (i, was, at, le, same) =
         let still_left : work_left task.strategy.budget old ≤ work_left task.strategy.budget old = omega arith in
-        subst (λ s. Placed old s child) (sym same) (d, λ x c h. h, (i, was, at, le), still_left)
+        subst (λ s. Placed old s child) (sym same) (d, λ x c h. h, has_met task.limit task.graph old child.key (mb.cost + child.cost) (i, was, at, le), still_left)
 
     placed_lowered : (old new : Store K) (child : Child K) → IsChild child → Doing old
-        → Offers task.strategy taken old new (child_offer child) Lowered
+        → Offers task taken old new (child_offer child) Lowered
         → Placed old new child
     placed_lowered old new child edge d (i, was, at, lt, lowers) =
         let e : Mark = (child_offer child).mark in
         let p = puts_lowered task.strategy old new child.key e was (opening_of task child.key) i at lt lowers in
         let before = d.sound.low i child.key was at in
         let low : mb.cost + child.cost ≤ 53 * i + 53 = omega (arith, before, lt) in
-        let room = offers_room task.strategy taken old new (child_offer child) Lowered d.sound.room (i, was, at, lt, lowers) in
+        let room = offers_room task taken old new (child_offer child) Lowered d.sound.room (i, was, at, lt, lowers) in
         let self : mb.cost + child.cost ≤ mb.cost + child.cost = omega arith in (
-          puts_doing old new child i edge d room p low (d.sound.needed i child.key was at),
+          puts_doing old new child i edge d room p low (d.sound.needed i child.key was at)
+              (λ n wins reach. let le = d.sound.under i child.key was at n wins reach in omega (arith, le, lt)),
           still_has task.strategy.expansion task.strategy.weight old new child.key e (opening_of task child.key) i p,
-          (i, e, p.here, self),
+          has_met task.limit task.graph new child.key (mb.cost + child.cost) (i, e, p.here, self),
           lowered_work task.strategy old new i child.key was e (opening_of task child.key) at lt lowers,
         )
 
     placed_added : IsLawful task.graph → (old new : Store K) (child : Child K) → IsChild child → Doing old
-        → Offers task.strategy taken old new (child_offer child) Added
+        → Offers task taken old new (child_offer child) Added
         → Placed old new child
-    placed_added lawful old new child edge d (fresh, admits, stores) =
+    placed_added lawful old new child edge d (fresh, admits, short, stores) =
         let e : Mark = (child_offer child).mark in
         let p = puts_added task.strategy old new (child_offer child) fresh stores in
         let was = d.sound.low busy xb mb d.stands in
         let step = (lawful.edges xb child.cost child.key edge).1 in
         let lt = stands_within old busy xb mb d.stands in
         let low : mb.cost + child.cost ≤ 53 * length old.stored + 53 = omega (arith, was, step, lt) in
-        let room = offers_room task.strategy taken old new (child_offer child) Added d.sound.room (fresh, admits, stores) in
+        let room = offers_room task taken old new (child_offer child) Added d.sound.room (fresh, admits, short, stores) in
         let self : mb.cost + child.cost ≤ mb.cost + child.cost = omega arith in (
-          puts_doing old new child (length old.stored) edge d room p low (child_needed task.strategy.expansion old child edge d admits),
+          puts_doing old new child (length old.stored) edge d room p low (child_needed task.strategy.expansion old child edge d admits)
+              (λ n wins reach. below_under task.limit (mb.cost + child.cost + task.graph.bound child.key) n short reach),
           still_has task.strategy.expansion task.strategy.weight old new child.key e (opening_of task child.key) (length old.stored) p,
-          (length old.stored, e, p.here, self),
+          has_met task.limit task.graph new child.key (mb.cost + child.cost) (length old.stored, e, p.here, self),
           added_work task.strategy old new (child_offer child) stores low,
         )
 
-    -- a child is stored, or put off
+    placed_past : (old new : Store K) (child : Child K) → Doing old
+        → Offers task taken old new (child_offer child) Past
+        → Placed old new child
+    placed_past old new child d (fresh, past, same) =
+        let still_left : work_left task.strategy.budget old ≤ work_left task.strategy.budget old = omega arith in
+        subst (λ s. Placed old s child) (sym same)
+        (d, λ x c h. h, past_met task.limit task.graph old child.key (mb.cost + child.cost) past, still_left)
+
+    -- a child is met, or put off
     abbrev pub IsPlaced : Store K → Placing K → Child K → Type 0
-    IsPlaced s placing child = HasAt s child.key (mb.cost + child.cost)
+    IsPlaced s placing child = IsMet task.limit task.graph s child.key (mb.cost + child.cost)
         ⊎ PutOffTo placing (weigh task.strategy.weight (mb.cost + child.cost) (task.graph.bound child.key))
 
     -- after all children: each is stored or put off past what was taken, or one found no place
@@ -162,29 +193,33 @@ module _ {K : Type 0} (task : Task K) where
     Done children old new placing =
         (IsPast taken placing × Doing new × ((x : K) (d : ℕ) → HasAt old x d → HasAt new x d)
         × ((child : Child K) → Contains children child → IsPlaced new placing child)
-        × (work_left task.strategy.budget new ≤ work_left task.strategy.budget old))
+        × (work_left task.strategy.budget new ≤ work_left task.strategy.budget old)
+        × IsNearLimit task.limit task.strategy.weight.times placing)
         ⊎ ((y : K) × (placing ≡ NoRoom y) × IsGivenUp task new y busy)
 
     done_on : (child : Child K) (children : List (Child K)) (old mid new : Store K) (placing : Placing K)
         → Placed old mid child → Done children mid new placing → Done (child ∷ children) old new placing
     done_on child children old mid new placing placed (inr gave_up) = inr gave_up
-    done_on child children old mid new placing placed (inl (past, doing, stays, all, less)) =
+    done_on child children old mid new placing placed (inl (past, doing, stays, all, less, near)) =
         inl (
           past,
           doing,
           λ x d h. stays x d (placed.1 x d h),
           λ c there. ⊎_elim
-              (λ same. subst (IsPlaced new placing) same (inl (stays child.key (mb.cost + child.cost) placed.2)))
+              (λ same. subst (IsPlaced new placing) same (inl (stays_met task.limit task.graph mid new child.key (mb.cost + child.cost)
+              (λ has. stays child.key (mb.cost + child.cost) has) placed.2)))
               (λ later. all c later)
               (front_cases child c children there),
           let before = placed.3 in omega (arith, less, before),
+          near,
         )
 
     done_off : (child : Child K) (children : List (Child K)) (old new : Store K) (others : Placing K) (later : ℕ) → taken < later
         → later ≤ weigh task.strategy.weight (mb.cost + child.cost) (task.graph.bound child.key)
+        → IsWithinLimit task.limit task.strategy.weight.times later
         → Done children old new others → Done (child ∷ children) old new (put_off later others)
-    done_off child children old new others later lt le (inr (y, out, gave_up)) = inr (y, ap (put_off later) out, gave_up)
-    done_off child children old new others later lt le (inl (past, doing, stays, all, less)) =
+    done_off child children old new others later lt le within (inr (y, out, gave_up)) = inr (y, ap (put_off later) out, gave_up)
+    done_off child children old new others later lt le within (inl (past, doing, stays, all, less, near)) =
         inl (
           off_on taken later others lt past,
           doing,
@@ -194,6 +229,7 @@ module _ {K : Type 0} (task : Task K) where
               (λ behind. ⊎_elim (λ has. inl has) (λ off. inr (off_there later _ others off)) (all c behind))
               (front_cases child c children there),
           less,
+          off_near task.limit task.strategy.weight.times later others within,
         )
 
     pub expands_done : IsLawful task.graph → (children : List (Child K)) (old new : Store K) (placing : Placing K)
@@ -207,8 +243,9 @@ module _ {K : Type 0} (task : Task K) where
           λ x c h. subst (λ s. HasAt s x c) (sym same) h,
           λ child there. absurd (omega (arith, there.1)),
           omega (arith, left),
+          subst (IsNearLimit task.limit task.strategy.weight.times) (sym whole) tt,
         )
-    expands_done lawful (child ∷ children) old new placing edges d (inl ((fresh, admits, (is, no_room, same)), out)) =
+    expands_done lawful (child ∷ children) old new placing edges d (inl ((fresh, admits, short, (is, no_room, same)), out)) =
         let edge = edges child (front_there child children) in
         inr (
           child.key,
@@ -220,14 +257,15 @@ module _ {K : Type 0} (task : Task K) where
         let edge = edges child (front_there child children) in
         let placed : Placed old mid child = ⊎_elim
         (λ known. placed_known old mid child d known)
-        (λ other. ⊎_elim (λ lowered. placed_lowered old mid child edge d lowered) (λ added. placed_added lawful old mid child edge d added) other)
+        (λ other. ⊎_elim (λ lowered. placed_lowered old mid child edge d lowered)
+        (λ new_one. ⊎_elim (λ added. placed_added lawful old mid child edge d added) (λ past. placed_past old mid child d past) new_one) other)
         how in
         done_on child children old mid new placing placed
         (expands_done lawful children mid new placing
         (λ c there. edges c (Contains-append_right (child ∷ []) children c there)) placed.0 rest)
-    expands_done lawful (child ∷ children) old new placing edges d (inr (inr (later, (fresh, off, same), (others, rest, is)))) =
+    expands_done lawful (child ∷ children) old new placing edges d (inr (inr (later, (fresh, off, within, same), (others, rest, is)))) =
         subst (Done (child ∷ children) old new) (sym is)
         (done_off child children old new others later (off_past task.strategy.expansion taken _ later off).0
-        (off_past task.strategy.expansion taken _ later off).1
+        (off_past task.strategy.expansion taken _ later off).1 within
         (expands_done lawful children old new others
         (λ c there. edges c (Contains-append_right (child ∷ []) children c there)) d rest))

@@ -1,5 +1,5 @@
 -- Lemmas on the least cost plus bound of the keys that are open.
-use Rattle.std.proofs.Common.{◌≡◌, ℕ, ◌+◌, ◌-◌, ◌*◌, ◌<◌, ◌≤◌, ◌⊎◌, Option, Some, None, List, [], ◌∷◌, length, refl, sym, ◌∙◌, ap, subst, inl, inr, ⊎_elim, arith}
+use Rattle.std.proofs.Common.{◌≡◌, ℕ, ◌+◌, ◌-◌, ◌*◌, ◌<◌, ◌≤◌, ◌⊎◌, suc, Option, Some, None, List, [], ◌∷◌, length, refl, sym, ◌∙◌, ap, subst, inl, inr, ⊎_elim, arith}
 use Rattle.std.specs.Prelude.{◌≢◌, Contains, MatchOption, min, slice_get}
 use Rattle.std.specs.List.Sorted.{IsPermutation}
 use Rattle.std.proofs.lemmas.Bool.{cases_eq, cases_lt}
@@ -16,7 +16,7 @@ use Rattle.fc_best_first.specs.Kept.{AreNoted, IsExpanded, IsOpenAt, IsOpenLater
 use Rattle.fc_best_first.specs.Laws.{OpenFloorsHold}
 use Rattle.fc_best_first.specs.Shown.{IsLeastOpen, IsOpen, Waits}
 use Rattle.fc_best_first.proofs.KeptLemmas.{front_cases, front_there, same_entry, stands_within}
-use Rattle.fc_best_first.proofs.ClosedLemmas.{IsAt, closed_inside, expanded_covered}
+use Rattle.fc_best_first.proofs.ClosedLemmas.{IsAt, closed_inside, expanded_covered, limit_cases}
 
 -- what is told where nothing, or this, is
 pub none_told : (A : Type 0) (B : ℕ → Type 0) (told : Option ℕ) → ((b : ℕ) → told ≡ Some b → ⊥) → MatchOption told A B → A
@@ -202,7 +202,7 @@ module _ {K : Type 0} where
   below_expanded : (task : Task K) (s : Store K) (number : ℕ) (x : K) (mark : Mark) (floor : ℕ) → IsStored s number x mark
       → ((i : ℕ) (y : K) (m : Mark) → (i ≡ number → ⊥) → IsStored s i y m → IsOpenOrExpanded task s i y m)
       → IsLeastOpen task s mark.cost floor
-      → (i : ℕ) (y : K) (m : Mark) → IsStored s i y m → m.cost + task.graph.bound y < floor → IsExpanded task.graph s y m.cost
+      → (i : ℕ) (y : K) (m : Mark) → IsStored s i y m → m.cost + task.graph.bound y < floor → IsExpanded task s y m.cost
   below_expanded task s number x mark floor at settled least i y m there lt = ⊎_elim
       (λ same.
       let both = same_entry s number x y mark m at (subst (λ k. IsStored s k y m) same there) in
@@ -220,12 +220,20 @@ module _ {K : Type 0} where
 
   -- the least cost plus bound of the open keys is a floor: the keys below it are expanded, and no answer is below it
   pub open_floors : (g : Graph K) → OpenFloorsHold g
-  open_floors g lawful strategy s number x mark floor (sound, (y, m, there, won, done, settled)) at least =
-      let task : Task K = record { graph = g; strategy = strategy } in
+  open_floors g lawful strategy limit s number x mark floor (sound, (y, m, there, won, done, settled)) at least =
+      let task : Task K = record { graph = g; strategy = strategy; limit = limit } in
       let expanded = below_expanded task s number x mark floor at settled least in (
         expanded,
-        λ n wins. lawful.closed floor _
-            (closed_inside task s floor sound (λ i z l here lt. expanded_covered g s z l.cost floor (expanded i z l here lt))) n wins,
+        λ n wins. ⊎_elim
+            (λ reach. let le = sound.under number x mark at n wins reach in let most = least.within in omega (arith, le, most))
+            (λ up. ⊎_elim
+            (λ below. absurd (
+            let closed = closed_inside task s (suc n) sound
+            (λ i z l here lt. expanded_covered task s z l.cost (suc n) up (expanded i z l here (omega (arith, lt, below)))) in
+            let over = lawful.closed (suc n) _ closed n wins in omega (arith, over)))
+            (λ within. within)
+            (cases_lt n floor))
+            (limit_cases limit n),
       )
 
   -- a pair that waits is of a stored key

@@ -1,7 +1,8 @@
 -- Lemmas on what a search keeps: what a pair that is taken tells, and what stays when a key is put in.
-use Rattle.std.proofs.Common.{◌≡◌, ℕ, ◌+◌, ◌*◌, ◌<◌, ◌≤◌, ◌⊎◌, max, suc, zero, Some, List, [], ◌∷◌, length, refl, sym, ◌∙◌, ap, subst, inl, inr, ⊎_elim, arith}
+use Rattle.std.proofs.Common.{◌≡◌, ℕ, ◌+◌, ◌*◌, ◌<◌, ◌≤◌, ◌⊎◌, max, suc, zero, Option, Some, None, List, [], ◌∷◌, length, refl, sym, ◌∙◌, ap, subst, inl, inr, ⊎_elim, arith}
 use Rattle.std.specs.Prelude.{slice_get, Contains}
 use Rattle.std.proofs.lemmas.Bool.{cases_eq}
+use Rattle.std.proofs.lemmas.Nat.{mul-le}
 use Rattle.std.proofs.Math.Nat.{mul-le-mul_left}
 use Rattle.std.proofs.lemmas.Option.{slice_get_within, some_pair_parts}
 use Rattle.std.proofs.lemmas.List.{length_push}
@@ -16,11 +17,19 @@ use Rattle.fc_best_first.specs.declared.strategies.Expansion.{Expansion}
 use Rattle.fc_best_first.specs.declared.strategies.Expansion.TheVariants.{Full, Partial}
 use Rattle.fc_best_first.specs.declared.strategies.Strategy.{Strategy}
 use Rattle.fc_best_first.specs.Graph.{Graph, Task, Reached}
-use Rattle.fc_best_first.specs.Limits.{Ratio}
+use Rattle.fc_best_first.specs.Limits.{Ratio, ReachesLimit, weigh}
 use Rattle.fc_best_first.specs.Store.{Store, Candidate, IsStored, IsNew, Lowers, NotesAnew, NotesLast, Stores, opens_at, weighed}
 use Rattle.fc_best_first.specs.Turn.{TakesFloor, opening_of}
-use Rattle.fc_best_first.specs.Kept.{AreNoted, HasAt, IsExpanded, IsExpandedBelow, IsOpenAt, IsOpenLater, IsOpenOrExpanded, IsNeeded, Comes, IsSound, f_of}
+use Rattle.fc_best_first.specs.Kept.{AreNoted, HasAt, IsExpanded, IsExpandedBelow, IsMet, IsOpenAt, IsOpenLater, IsOpenOrExpanded, IsNeeded, Comes, IsSound, f_of}
 use Rattle.fc_best_first.proofs.StoreLemmas.{set_here, set_elsewhere, push_here, push_elsewhere, slot_here, slot_elsewhere, length-slot}
+
+-- a cost plus bound that is no more than an answer is no more, weighed
+pub open_under : (weight : Ratio) (cost bound n : ℕ) → weight.parts ≤ weight.times → cost + bound ≤ n
+    → weigh weight cost bound ≤ weight.times * n
+open_under weight cost bound n heavy le =
+    let all : weight.times * (cost + bound) ≤ weight.times * n = mul-le-mul_left weight.times le in
+    let part : weight.parts * cost ≤ weight.times * cost = mul-le weight.parts cost weight.times cost heavy (omega arith) in
+    omega (arith, all, part)
 
 -- pairs that are put in and taken out
 pub front_there : {X : Type 0} (p : X) (ps : List X) → Contains (p ∷ ps) p
@@ -183,11 +192,19 @@ module _ {K : Type 0} where
         let low : there.0.cost ≤ d = omega (arith, le, there.2) in
         (j, there.0, there.1, low)
 
-    still_expanded : (g : Graph K) (x : K) (d : ℕ) → IsExpanded g old x d → IsExpanded g new x d
-    still_expanded g x d h = (h.0, λ c z edge. still_has z (d + c) (h.1 c z edge))
+    still_met : (limit : Option ℕ) (g : Graph K) (z : K) (d : ℕ) → IsMet limit g old z d → IsMet limit g new z d
+    still_met None g z d has = still_has z d has
+    still_met (Some limit) g z d (inl has) = inl (still_has z d has)
+    still_met (Some limit) g z d (inr past) = inr past
 
-    still_below : (g : Graph K) (x : K) (d n : ℕ) → IsExpandedBelow g weight old x d n → IsExpandedBelow g weight new x d n
-    still_below g x d n h = (h.0, λ c z edge. ⊎_elim (λ has. inl (still_has z (d + c) has)) (λ far. inr far) (h.1 c z edge))
+    still_expanded : (task : Task K) (x : K) (d : ℕ) → IsExpanded task old x d → IsExpanded task new x d
+    still_expanded task x d h = (h.0, λ c z edge. still_met task.limit task.graph z (d + c) (h.1 c z edge))
+
+    still_below : (task : Task K) (x : K) (d n : ℕ) → IsExpandedBelow task old x d n → IsExpandedBelow task new x d n
+    still_below task x d n h = (
+      h.0,
+      λ c z edge. ⊎_elim (λ met. inl (still_met task.limit task.graph z (d + c) met)) (λ far. inr far) (h.1 c z edge),
+    )
 
     -- the key that is put in stood nowhere else
     pub own_number : (j : ℕ) (m : Mark) → IsStored old j y m
@@ -260,13 +277,15 @@ module _ {K : Type 0} where
   still_later Partial task old new y e opening i puts noted j x m ne (f, is_open, below) = (
     f,
     still_open Partial task.graph old new opening i j (weighed task.strategy m) (opens_at (weighed task.strategy e) opening, i) f puts.opened puts.notes noted ne is_open,
-    still_below Partial task.strategy.weight old new y e opening i puts task.graph x m.cost f below,
+    still_below Partial task.strategy.weight old new y e opening i puts task x m.cost f below,
   )
 
   module _ (task : Task K) (old new : Store K) (y : K) (e : Mark) (i : ℕ)
       (puts : Puts task.strategy.expansion task.strategy.weight old new y e (opening_of task y) i) (sound : IsSound task old)
       (room : length new.stored ≤ task.strategy.budget) (reached : Reached task.graph y e.cost) (low : e.cost ≤ 53 * i + 53)
-      (comes : Comes task.graph old i y e) (needed : IsNeeded task.strategy.expansion task.graph task.strategy.weight y) where
+      (comes : Comes task.graph old i y e) (needed : IsNeeded task.strategy.expansion task.graph task.strategy.weight y)
+      (heavy : task.strategy.weight.parts ≤ task.strategy.weight.times)
+      (under : (n : ℕ) → task.graph.wins n → ReachesLimit task.limit n → e.cost + task.graph.bound y ≤ n) where
     again : (j : ℕ) (x : K) (m : Mark) → IsStored old j x m → (n : Mark) × IsStored new j x n × (n.cost ≤ m.cost)
     again = still task.strategy.expansion task.strategy.weight old new y e (opening_of task y) i puts
 
@@ -325,6 +344,13 @@ module _ {K : Type 0} where
           (was.0, now.0, now.1, le))
           (added_cases old.waiting new.waiting (f_of task y e, i) (h, j) puts.opened there);
       noted = still_noted task.strategy.expansion task.strategy.weight task.graph old new y e (opening_of task y) i puts refl sound.noted;
+      under = each (λ j x m. (n : ℕ) → task.graph.wins n → ReachesLimit task.limit n → m.cost + task.graph.bound x ≤ n)
+          under sound.under;
+      near = λ h j there. ⊎_elim
+          (λ same. λ n wins reach. subst (λ k. k ≤ task.strategy.weight.times * n) (ap (λ p. p.0) same)
+          (open_under task.strategy.weight e.cost (task.graph.bound y) n heavy (under n wins reach)))
+          (λ before. sound.near h j before)
+          (added_cases old.waiting new.waiting (f_of task y e, i) (h, j) puts.opened there);
     }
 
     pub still_settled : (busy : ℕ)
@@ -340,7 +366,7 @@ module _ {K : Type 0} where
         (λ other. elim (settled j x m ne (puts.back j x m other at)) [
           | inl is_open ↦ inl (still_open task.strategy.expansion task.graph old new (opening_of task y) i j (weighed task.strategy m) (f_of task y e, i) (f_of task x m)
               puts.opened puts.notes sound.noted other is_open)
-          | inr (inl done) ↦ inr (inl (still_expanded task.strategy.expansion task.strategy.weight old new y e (opening_of task y) i puts task.graph x m.cost done))
+          | inr (inl done) ↦ inr (inl (still_expanded task.strategy.expansion task.strategy.weight old new y e (opening_of task y) i puts task x m.cost done))
           | inr (inr later) ↦ inr (inr (still_later task.strategy.expansion task old new y e (opening_of task y) i
               puts sound.noted j x m other later))
         ])

@@ -1,5 +1,5 @@
 -- Lemmas on offering one key.
-use Rattle.std.proofs.Common.{◌≡◌, ℕ, ◌+◌, ◌*◌, ◌<◌, ◌≤◌, Some, length, refl, sym, ◌∙◌, ap, arith}
+use Rattle.std.proofs.Common.{◌≡◌, ℕ, ◌+◌, ◌*◌, ◌<◌, ◌≤◌, Option, Some, None, length, sym, ◌∙◌, ap, arith}
 use Rattle.std.specs.Prelude.{slice_get}
 use Rattle.std.proofs.Math.Nat.{mul-le-mul_left}
 use Rattle.std.proofs.lemmas.Option.{none-some}
@@ -10,11 +10,12 @@ use Rattle.fc_best_first.specs.declared.books.Offered.TheVariants as offered
 use Rattle.fc_best_first.specs.declared.strategies.Expansion.{Expansion}
 use Rattle.fc_best_first.specs.declared.strategies.Expansion.TheVariants.{Full, Partial}
 use Rattle.fc_best_first.specs.declared.strategies.Strategy.{Strategy}
-use Rattle.fc_best_first.specs.Graph.{Graph}
+use Rattle.fc_best_first.specs.Graph.{Graph, Task}
 use Rattle.fc_best_first.specs.Kept.{AreNoted}
+use Rattle.fc_best_first.specs.Limits.{IsBelowLimit, IsWithinLimit, Ratio}
 use Rattle.fc_best_first.specs.Store.{Store, Candidate, IsNew, IsStored, Admits, Offers, Stores, opens_at, weighed}
 use Rattle.fc_best_first.specs.inner.Turn.{IsPutOffNear}
-use Rattle.fc_best_first.proofs.KeptLemmas.{stands_within}
+use Rattle.fc_best_first.proofs.KeptLemmas.{open_under, stands_within}
 
 -- a child of a key at a byte more is open near that key's weighed cost
 pub open_near : (parts cost child over : ℕ) → parts ≤ 10 → child ≤ cost + 255 → over ≤ 25500
@@ -23,16 +24,35 @@ open_near parts cost child over few near low =
     let all : parts * child ≤ parts * (cost + 255) = mul-le-mul_left parts near in
     omega (arith, all, few, low)
 
+-- what is put off by a bound that was counted in part is put off no further than its own f
+pub off_own : (weight : Ratio) (cost mark counted bound later : ℕ) → mark ≡ cost → counted ≤ bound
+    → later ≡ weight.parts * mark + weight.times * counted → later ≤ weight.parts * cost + weight.times * bound
+off_own weight cost mark counted bound later same le is =
+    let level : weight.parts * mark ≡ weight.parts * cost = ap (λ n. weight.parts * n) same in
+    let all : weight.times * counted ≤ weight.times * bound = mul-le-mul_left weight.times le in
+    omega (arith, level, all, is)
+
+-- and where its cost and that bound are below the limit, no further than that
+pub off_within : (limit : Option ℕ) (weight : Ratio) (mark counted later : ℕ) → weight.parts ≤ weight.times
+    → IsBelowLimit limit (mark + counted) → later ≡ weight.parts * mark + weight.times * counted
+    → IsWithinLimit limit weight.times later
+off_within None weight mark counted later heavy below is = tt
+off_within (Some limit) weight mark counted later heavy below is =
+    let le = open_under weight mark counted limit heavy (omega (arith, below)) in
+    omega (arith, le, is)
+
 module _ {K : Type 0} where
   -- what is stored is offered where it is admitted
-  pub stores_offers : (strategy : Strategy) (taken : ℕ) (old new : Store K) (offer : Candidate K) (o : Offered K) → IsNew old offer.key
-      → Admits strategy.expansion taken (opens_at (weighed strategy offer.mark) offer.opening) → Stores strategy old new offer o
-      → Offers strategy taken old new offer o
-  stores_offers strategy taken old new offer offered.Known fresh admits h = absurd h
-  stores_offers strategy taken old new offer offered.Lowered fresh admits h = absurd h
-  stores_offers strategy taken old new offer offered.Added fresh admits h = (fresh, admits, h)
-  stores_offers strategy taken old new offer (offered.Full y) fresh admits h = (fresh, admits, h)
-  stores_offers strategy taken old new offer (offered.PutOff f) fresh admits h = absurd h
+  pub stores_offers : (task : Task K) (taken : ℕ) (old new : Store K) (offer : Candidate K) (o : Offered K) → IsNew old offer.key
+      → Admits task.strategy.expansion taken (opens_at (weighed task.strategy offer.mark) offer.opening)
+      → IsBelowLimit task.limit (offer.mark.cost + offer.opening.bound) → Stores task.strategy old new offer o
+      → Offers task taken old new offer o
+  stores_offers task taken old new offer offered.Known fresh admits short h = absurd h
+  stores_offers task taken old new offer offered.Lowered fresh admits short h = absurd h
+  stores_offers task taken old new offer offered.Added fresh admits short h = (fresh, admits, short, h)
+  stores_offers task taken old new offer (offered.Full y) fresh admits short h = (fresh, admits, short, h)
+  stores_offers task taken old new offer (offered.PutOff f) fresh admits short h = absurd h
+  stores_offers task taken old new offer offered.Past fresh admits short h = absurd h
 
   -- and isn't put off
   pub stores_near : (strategy : Strategy) (old new : Store K) (offer : Candidate K) (o : Offered K) (cost : ℕ)
@@ -42,6 +62,7 @@ module _ {K : Type 0} where
   stores_near strategy old new offer offered.Added cost h = tt
   stores_near strategy old new offer (offered.Full y) cost h = tt
   stores_near strategy old new offer (offered.PutOff f) cost h = absurd h
+  stores_near strategy old new offer offered.Past cost h = tt
 
   -- of a stored key an opening is noted where expansion is partial
   pub noted_within : (expansion : Expansion) (g : Graph K) (s : Store K) (i : ℕ) (x : K) (m : Mark) → AreNoted expansion g s

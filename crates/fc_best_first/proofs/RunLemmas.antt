@@ -51,10 +51,11 @@ module _ {K : Type 0} (task : Task K) where
   running_stays (GaveUp y number) after old new t = t.1
   running_stays Stopped after old new t = t.1
 
--- a turn of a search that is still of the space and the strategy with which it began
+-- a turn of a search that is still of the space, the strategy and the limit with which it began
 pub turns_along : {K S : Type 0} (graph : S → Graph K) (now first : Progress S K) (before after : Status K) (old new : Store K)
-    (reply : Result Step SearchFault) → now.space ≡ first.space → now.strategy ≡ first.strategy
+    (reply : Result Step SearchFault) → now.space ≡ first.space → now.strategy ≡ first.strategy → now.limit ≡ first.limit
     → Turns (task_of graph now) before old new after reply → Turns (task_of graph first) before old new after reply
-turns_along graph now first before after old new reply e f t =
-    subst (λ s. Turns (record { graph = graph s; strategy = first.strategy }) before old new after reply) e
-    (subst (λ v. Turns (record { graph = graph now.space; strategy = v }) before old new after reply) f t)
+turns_along graph now first before after old new reply e f l t =
+    subst (λ s. Turns (record { graph = graph s; strategy = first.strategy; limit = first.limit }) before old new after reply) e
+    (subst (λ v. Turns (record { graph = graph now.space; strategy = v; limit = first.limit }) before old new after reply) f
+    (subst (λ n. Turns (record { graph = graph now.space; strategy = now.strategy; limit = n }) before old new after reply) l t))

@@ -20,12 +20,12 @@ use Rattle.fc_best_first.specs.Graph.{Task, IsLawful}
 use Rattle.fc_best_first.specs.Limits.{weigh}
 use Rattle.fc_best_first.specs.Store.{Store, IsStored, IsTaken, opens_at, weighed}
 use Rattle.fc_best_first.specs.Turn.{Advances, AreChildren, Closes, DropsTaken, ExpandsTaken, Expands, IsPresent, Reopens, work_left}
-use Rattle.fc_best_first.specs.Kept.{AreNoted, Comes, HasAt, IsExpanded, IsExpandedBelow, IsOpenLater, IsOpenOrExpanded, IsNeeded, IsSound, IsKept, f_of}
+use Rattle.fc_best_first.specs.Kept.{AreNoted, Comes, IsExpanded, IsExpandedBelow, IsMet, IsOpenLater, IsOpenOrExpanded, IsNeeded, IsSound, IsKept, f_of}
 use Rattle.fc_best_first.specs.Shown.{IsFloor, IsFound, IsExhausted, IsGivenUp, Holds, Shows}
-use Rattle.fc_best_first.proofs.KeptLemmas.{Notes, added_cases, added_there, anew_notes, same_entry, stands_within, still_open}
+use Rattle.fc_best_first.proofs.KeptLemmas.{Notes, added_cases, added_there, anew_notes, open_under, same_entry, stands_within, still_open}
 use Rattle.fc_best_first.proofs.WorkLemmas.{reopened_work, taken_work}
-use Rattle.fc_best_first.proofs.ClosedLemmas.{IsAt, closed_inside, below_least, expanded_covered, kept_back, kept_below, kept_done, kept_expanded, kept_has, least_floor, less_done, none_below, open_waits, others_settled, rows, stale_elsewhere, taken_high, taken_sound}
-use Rattle.fc_best_first.proofs.ExpandLemmas.{Done, IsPlaced, PutOffTo, expands_done}
+use Rattle.fc_best_first.proofs.ClosedLemmas.{IsAt, closed_inside, below_least, expanded_covered, kept_back, kept_below, kept_done, kept_expanded, kept_has, kept_met, least_floor, less_done, limit_cases, limit_within, more_met, none_below, open_waits, others_settled, rows, stale_elsewhere, taken_high, taken_sound}
+use Rattle.fc_best_first.proofs.ExpandLemmas.{Done, IsNearLimit, IsPlaced, PutOffTo, expands_done}
 
 -- a key of a list of keys is a stored one, or the one at the end
 key_cases : {K X : Type 0} (es : List (K × X)) (y : K) (i : ℕ) (x : K) → slice_get (keys_of es ++ y ∷ []) i ≡ Some x
@@ -55,7 +55,7 @@ module _ {K : Type 0} (task : Task K) (after new : Store K) (number : ℕ) (x : 
       anew_notes expansion.Partial after new number next (stands_within after number x mark at) (ap length reopens.6) reopens.8
 
   reopened_later : (expansion : Expansion) → AreNoted expansion task.graph after → IsStored after number x mark
-      → IsExpandedBelow task.graph task.strategy.weight new x mark.cost later
+      → IsExpandedBelow task new x mark.cost later
       → IsOpenLater expansion task new number x mark
   reopened_later expansion.Full noted at below = absurd (none_noted noted)
   reopened_later expansion.Partial noted at below = (
@@ -93,8 +93,9 @@ module _ {K : Type 0} (task : Task K) (after new : Store K) (number : ℕ) (x : 
       let level = ap (λ o. o.over) one in
       omega (arith, lt, at, level)
 
-  reopened_sound : IsSound task after → IsStored after number x mark → f_of task x mark ≤ later → IsSound task new
-  reopened_sound sound at high = record {
+  reopened_sound : IsSound task after → IsStored after number x mark → f_of task x mark ≤ later
+      → IsNearLimit {K = K} task.limit task.strategy.weight.times (Later later) → IsSound task new
+  reopened_sound sound at high near = record {
     room = (let size = ap length reopens.6 in let room = sound.room in omega (arith, size, room));
     once = λ i j y m n a b. sound.once i j y m n (kept_back after new i y m reopens.6 a) (kept_back after new j y n reopens.6 b);
     reached = λ i y m a. sound.reached i y m (kept_back after new i y m reopens.6 a);
@@ -115,6 +116,12 @@ module _ {K : Type 0} (task : Task K) (after new : Store K) (number : ℕ) (x : 
         (was.0, was.1, subst (λ es. slice_get es i ≡ Some (was.0, was.1)) (sym reopens.6) was.2, was.3))
         (added_cases after.waiting new.waiting (later, number) (h, i) reopens.7 there);
     noted = reopened_noted task.strategy.expansion sound.noted at;
+    under = λ i y m a. sound.under i y m (kept_back after new i y m reopens.6 a);
+    near = λ h i there. ⊎_elim
+        (λ same n wins reach. subst (λ k. k ≤ task.strategy.weight.times * n) (ap (λ p. p.0) same)
+        (limit_within task.limit task.strategy.weight.times later n near reach))
+        (λ before. sound.near h i before)
+        (added_cases after.waiting new.waiting (later, number) (h, i) reopens.7 there);
   }
 
   reopened_others : IsSound task after → IsStored after number x mark → (j : ℕ) (y : K) (l : Mark) → (j ≡ number → ⊥)
@@ -122,7 +129,7 @@ module _ {K : Type 0} (task : Task K) (after new : Store K) (number : ℕ) (x : 
   reopened_others sound at j y l ne h = elim h [
     | inl is_open ↦ inl (still_open task.strategy.expansion task.graph after new next number j (weighed task.strategy l) (later, number) (f_of task y l) reopens.7
         (reopened_notes task.strategy.expansion sound.noted at) sound.noted ne is_open)
-    | inr (inl done) ↦ inr (inl (kept_expanded task.graph after new y l.cost reopens.6 done))
+    | inr (inl done) ↦ inr (inl (kept_expanded task after new y l.cost reopens.6 done))
     | inr (inr is_open) ↦ inr (inr (by task.strategy.expansion sound.noted (reopened_notes task.strategy.expansion sound.noted at) is_open))
   ]
     where
@@ -133,7 +140,7 @@ module _ {K : Type 0} (task : Task K) (after new : Store K) (number : ℕ) (x : 
       by expansion.Partial noted notes (f, is_open, below) = (
         f,
         still_open expansion.Partial task.graph after new next number j (weighed task.strategy l) (later, number) f reopens.7 notes noted ne is_open,
-        kept_below task.graph task.strategy.weight after new y l.cost f reopens.6 below,
+        kept_below task after new y l.cost f reopens.6 below,
       )
 
 module _ {K : Type 0} (task : Task K) where
@@ -145,16 +152,16 @@ module _ {K : Type 0} (task : Task K) where
       high = taken_high task old mid f number x mark kept.sound taken
 
       floor : IsFloor task.graph task.strategy.weight f
-      floor = least_floor task lawful heavy old f number kept taken.least
+      floor = least_floor task lawful heavy old f number kept (added_there mid.waiting old.waiting (f, number) taken.taken) taken.least
 
       -- what is done once the children were offered
       abbrev Offered : Placing K → Type 0
-      Offered placing = Done task number x mark f high floor children mid after placing
+      Offered placing = Done task number x mark f high floor heavy children mid after placing
 
       offered : (placing : Placing K) → Expands task f (record { cost = mark.cost; parent = number }) children mid after placing
           → Offered placing
       offered placing expands =
-          expands_done task number x mark f high floor lawful children mid after placing (λ child there. (are.edges child there).0)
+          expands_done task number x mark f high floor heavy lawful children mid after placing (λ child there. (are.edges child there).0)
           (record {
             sound = taken_sound task old mid f number kept.sound taken.kept taken.noted taken.taken;
             settled = λ j y l ne at. others_settled task old mid f number x mark kept taken j y l (λ h is same e. ne e) at;
@@ -169,15 +176,15 @@ module _ {K : Type 0} (task : Task K) where
           kept_present expansion.Partial (last, there, at) = (last, ap (λ os. slice_get os number) taken.noted ∙ there, at)
 
       -- each edge's end is stored, or can wait until what the children were put off to
-      ends : (placing : Placing K) → ((child : Child K) → Contains children child → IsPlaced task number x mark f high floor after placing child)
+      ends : (placing : Placing K) → ((child : Child K) → Contains children child → IsPlaced task number x mark f high floor heavy after placing child)
           → (c : ℕ) (y : K) → task.graph.edge x c y
-          → HasAt after y (mark.cost + c) ⊎ ((h : ℕ) → placing ≡ Later h → h ≤ weigh task.strategy.weight (mark.cost + c) (task.graph.bound y))
+          → IsMet task.limit task.graph after y (mark.cost + c) ⊎ ((h : ℕ) → placing ≡ Later h → h ≤ weigh task.strategy.weight (mark.cost + c) (task.graph.bound y))
       ends placing all c y edge =
           let child = are.whole c y edge in
           ⊎_elim
-          (λ has. inl (
-          let low : has.1.cost ≤ mark.cost + c = (let a = has.3 in let b = child.3 in omega (arith, a, b)) in
-          (has.0, has.1, subst (λ v. IsStored after has.0 v has.1) child.2 has.2, low)))
+          (λ met. inl (subst (λ v. IsMet task.limit task.graph after v (mark.cost + c)) child.2
+          (more_met task.limit task.graph after child.0.key (mark.cost + child.0.cost) (mark.cost + c)
+          (let le = child.3 in omega (arith, le)) met)))
           (λ off. inr (λ h is. subst (λ v. h ≤ weigh task.strategy.weight (mark.cost + c) (task.graph.bound v)) child.2
           (let near : h ≤ weigh task.strategy.weight (mark.cost + child.0.cost) (task.graph.bound child.0.key) =
           subst (λ p. PutOffTo p (weigh task.strategy.weight (mark.cost + child.0.cost) (task.graph.bound child.0.key))) is off in
@@ -185,13 +192,13 @@ module _ {K : Type 0} (task : Task K) where
           (all child.0 child.1)
 
       closed_kept : (placing : Placing K) → Offered placing → Closes after new number (weighed task.strategy mark) placing None → IsKept task new
-      closed_kept Whole (inl (past, doing, stays, all, less)) (same, none) = subst (IsKept task) (sym same) (record {
+      closed_kept Whole (inl (past, doing, stays, all, less, near)) (same, none) = subst (IsKept task) (sym same) (record {
         sound = doing.sound;
         settled = λ j y l at. ⊎_elim
             (λ e.
             let both = same_entry after number y x l mark (subst (λ k. IsStored after k y l) e at) doing.stands in
-            inr (inl (subst (λ v. IsExpanded task.graph after v l.cost) (sym both.0)
-            (subst (λ m. IsExpanded task.graph after x m.cost) (sym both.1) (
+            inr (inl (subst (λ v. IsExpanded task after v l.cost) (sym both.0)
+            (subst (λ m. IsExpanded task after x m.cost) (sym both.1) (
               not_won,
               λ c z edge. ⊎_elim (λ has. has) (λ off. stored c z edge) (ends Whole all c z edge),
             )))))
@@ -199,19 +206,19 @@ module _ {K : Type 0} (task : Task K) where
             (cases_eq j number);
       })
         where
-          stored : (c : ℕ) (z : K) → task.graph.edge x c z → HasAt after z (mark.cost + c)
+          stored : (c : ℕ) (z : K) → task.graph.edge x c z → IsMet task.limit task.graph after z (mark.cost + c)
           stored c z edge =
               let child = are.whole c z edge in
               ⊎_elim
-              (λ has.
-              let low : has.1.cost ≤ mark.cost + c = (let a = has.3 in let b = child.3 in omega (arith, a, b)) in
-              (has.0, has.1, subst (λ v. IsStored after has.0 v has.1) child.2 has.2, low))
+              (λ met. subst (λ v. IsMet task.limit task.graph after v (mark.cost + c)) child.2
+              (more_met task.limit task.graph after child.0.key (mark.cost + child.0.cost) (mark.cost + c)
+              (let le = child.3 in omega (arith, le)) met))
               (λ off. absurd off)
               (all child.0 child.1)
       closed_kept Whole (inr (y, out, gave_up)) closes = absurd (cc)
-      closed_kept (Later later) (inl (past, doing, stays, all, less)) (reopens, none) =
+      closed_kept (Later later) (inl (past, doing, stays, all, less, near)) (reopens, none) =
           let up : f_of task x mark ≤ later = omega (arith, past, high) in record {
-            sound = reopened_sound task after new number x mark later reopens doing.sound doing.stands up;
+            sound = reopened_sound task after new number x mark later reopens doing.sound doing.stands up near;
             settled = λ j y l at.
                 let before = kept_back after new j y l reopens.6 at in
                 ⊎_elim
@@ -223,7 +230,7 @@ module _ {K : Type 0} (task : Task K) where
                 (reopened_later task after new number x mark later reopens task.strategy.expansion doing.sound.noted doing.stands (
                   not_won,
                   λ c z edge. ⊎_elim
-                      (λ has. inl (kept_has after new z (mark.cost + c) reopens.6 has))
+                      (λ met. inl (kept_met task.limit task.graph after new z (mark.cost + c) reopens.6 met))
                       (λ off. inr (off later refl))
                       (ends (Later later) all c z edge),
                 )))))))
@@ -237,7 +244,7 @@ module _ {K : Type 0} (task : Task K) where
           → IsGivenUp task new y number
       closed_given_up Whole y done (same, out) = absurd (none-some y (sym out))
       closed_given_up (Later later) y done (reopens, out) = absurd (none-some y (sym out))
-      closed_given_up (NoRoom z) y (inl (past, doing, stays, all, less)) closes = absurd past
+      closed_given_up (NoRoom z) y (inl (past, doing, stays, all, less, near)) closes = absurd past
       closed_given_up (NoRoom z) y (inr (u, is, gave_up)) (same, out) =
           let one : u ≡ y = cc in
           subst (λ s. IsGivenUp task s y number) (sym same) (subst (λ v. IsGivenUp task after v number) one gave_up)
@@ -251,10 +258,10 @@ module _ {K : Type 0} (task : Task K) where
         where
           by : (placing : Placing K) → Offered placing → Closes after new number (weighed task.strategy mark) placing None
               → work_left task.strategy.budget new ≤ work_left task.strategy.budget mid
-          by Whole (inl (past, doing, stays, all, less)) (same, none) =
+          by Whole (inl (past, doing, stays, all, less, near)) (same, none) =
               subst (λ s. work_left task.strategy.budget s ≤ work_left task.strategy.budget mid) (sym same) less
           by Whole (inr (y, out, gave_up)) closes = absurd (cc)
-          by (Later later) (inl (past, doing, stays, all, less)) (reopens, none) =
+          by (Later later) (inl (past, doing, stays, all, less, near)) (reopens, none) =
               let again = reopened_work task.strategy.budget after new number (weighed task.strategy mark) reopens.0 later reopens.2
               (reopened_rises task after new number x mark later reopens task.strategy.expansion f doing.sound.noted doing.present past) reopens in
               omega (arith, again, less)
@@ -351,11 +358,14 @@ module _ {K : Type 0} (task : Task K) where
         won,
         reached,
         lawful.answers x mark.cost reached won,
-        none_below task lawful heavy s (weighed task.strategy mark) sound done,
+        none_below task lawful heavy s (weighed task.strategy mark) sound done
+            (λ n wins reach. let le = open_under task.strategy.weight mark.cost (task.graph.bound x) n heavy (sound.under number x mark at n wins reach) in omega (arith, le)),
       )
-  holds_shows lawful heavy s CannotWin (sound, done) = λ n wins.
-      let over = lawful.closed (suc n) (rows s) (closed_inside task s (suc n) sound (λ i x m at lt. expanded_covered task.graph s x m.cost (suc n) (done i x m at))) n wins in
-      omega (arith, over)
+  holds_shows lawful heavy s CannotWin (sound, done) = λ n wins. ⊎_elim (λ reach. reach)
+      (λ up.
+      let closed = closed_inside task s (suc n) sound (λ i x m at lt. expanded_covered task s x m.cost (suc n) up (done i x m at)) in
+      absurd (let over = lawful.closed (suc n) (rows s) closed n wins in omega (arith, over)))
+      (limit_cases task.limit n)
   holds_shows lawful heavy s (GaveUp y number) (sound, full, fresh, needed, rest) =
       let keys : List K = keys_of s.stored ++ y ∷ [] in
       let many : length keys ≡ task.strategy.budget + 1 = (let room = sound.room in let l = length-keys_of s.stored in omega (arith, length_push (keys_of s.stored) y, room, l, full)) in (

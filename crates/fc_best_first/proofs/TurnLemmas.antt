@@ -7,13 +7,12 @@ use Rattle.std.proofs.lemmas.List.{length_push}
 use Rattle.indexmap.specs.Layout.{length-set_value_at}
 use Rattle.fc_best_first.specs.declared.books.Mark.{Mark}
 use Rattle.fc_best_first.specs.declared.books.Offered.{Offered}
-use Rattle.fc_best_first.specs.declared.books.Offered.TheVariants.{Known, Lowered, Added, Full, PutOff}
+use Rattle.fc_best_first.specs.declared.books.Offered.TheVariants.{Known, Lowered, Added, Full, PutOff, Past}
 use Rattle.fc_best_first.specs.declared.spaces.Child.{Child}
 use Rattle.fc_best_first.specs.declared.books.Opening.{Opening}
 use Rattle.fc_best_first.specs.declared.strategies.Expansion.{Expansion}
 use Rattle.fc_best_first.specs.declared.strategies.Expansion.TheVariants as expansion
 use Rattle.fc_best_first.specs.declared.strategies.Expansion.TheVariants.{Partial}
-use Rattle.fc_best_first.specs.declared.strategies.Strategy.{Strategy}
 use Rattle.fc_best_first.specs.declared.turns.Status.{Status}
 use Rattle.fc_best_first.specs.declared.turns.Status.TheVariants.{Running, Won, CannotWin, GaveUp, Stopped}
 use Rattle.fc_best_first.specs.declared.turns.Placing.{Placing}
@@ -64,37 +63,41 @@ off_past expansion.Partial taken f later off = (off.0, off.1, refl)
 
 module _ {K : Type 0} where
   -- no offer goes past the budget
-  pub offers_room : (strategy : Strategy) (taken : ℕ) (old new : Store K) (offer : Candidate K) (o : Offered K)
-      → length old.stored ≤ strategy.budget → Offers strategy taken old new offer o → length new.stored ≤ strategy.budget
-  offers_room strategy taken old new offer Known room (i, was, at, le, same) =
-      subst (λ s. length s.stored ≤ strategy.budget) (sym same) room
-  offers_room strategy taken old new offer Lowered room (i, was, at, lt, (stored, opened, noted)) =
+  pub offers_room : (task : Task K) (taken : ℕ) (old new : Store K) (offer : Candidate K) (o : Offered K)
+      → length old.stored ≤ task.strategy.budget → Offers task taken old new offer o → length new.stored ≤ task.strategy.budget
+  offers_room task taken old new offer Known room (i, was, at, le, same) =
+      subst (λ s. length s.stored ≤ task.strategy.budget) (sym same) room
+  offers_room task taken old new offer Lowered room (i, was, at, lt, (stored, opened, noted)) =
       let same : length new.stored ≡ length old.stored = ap length stored ∙ length-set_value_at old.stored i offer.mark in
       omega (arith, same, room)
-  offers_room strategy taken old new offer Added room (fresh, admits, (lt, stored, opened, noted)) =
+  offers_room task taken old new offer Added room (fresh, admits, short, (lt, stored, opened, noted)) =
       let more = ap length stored ∙ length_push old.stored (offer.key, offer.mark) in
       omega (arith, more, lt)
-  offers_room strategy taken old new offer (Full y) room (fresh, admits, (is, full, same)) =
-      subst (λ s. length s.stored ≤ strategy.budget) (sym same) room
-  offers_room strategy taken old new offer (PutOff later) room (fresh, off, same) =
-      subst (λ s. length s.stored ≤ strategy.budget) (sym same) room
+  offers_room task taken old new offer (Full y) room (fresh, admits, short, (is, full, same)) =
+      subst (λ s. length s.stored ≤ task.strategy.budget) (sym same) room
+  offers_room task taken old new offer (PutOff later) room (fresh, off, within, same) =
+      subst (λ s. length s.stored ≤ task.strategy.budget) (sym same) room
+  offers_room task taken old new offer Past room (fresh, past, same) =
+      subst (λ s. length s.stored ≤ task.strategy.budget) (sym same) room
 
   -- and each keeps what is noted
-  pub offers_noted : (strategy : Strategy) (g : Graph K) (taken : ℕ) (old new : Store K) (offer : Candidate K) (o : Offered K)
-      → offer.opening.bound ≡ g.bound offer.key → AreNoted strategy.expansion g old → Offers strategy taken old new offer o
-      → AreNoted strategy.expansion g new
-  offers_noted strategy g taken old new offer Known told noted (i, was, at, le, same) =
-      subst (AreNoted strategy.expansion g) (sym same) noted
-  offers_noted strategy g taken old new offer Lowered told noted (i, was, at, lt, lowers) =
-      still_noted strategy.expansion strategy.weight g old new offer.key offer.mark offer.opening i
-      (puts_lowered strategy old new offer.key offer.mark was offer.opening i at lt lowers) told noted
-  offers_noted strategy g taken old new offer Added told noted (fresh, admits, stores) =
-      still_noted strategy.expansion strategy.weight g old new offer.key offer.mark offer.opening (length old.stored)
-      (puts_added strategy old new offer fresh stores) told noted
-  offers_noted strategy g taken old new offer (Full y) told noted (fresh, admits, (is, full, same)) =
-      subst (AreNoted strategy.expansion g) (sym same) noted
-  offers_noted strategy g taken old new offer (PutOff later) told noted (fresh, off, same) =
-      subst (AreNoted strategy.expansion g) (sym same) noted
+  pub offers_noted : (task : Task K) (taken : ℕ) (old new : Store K) (offer : Candidate K) (o : Offered K)
+      → offer.opening.bound ≡ task.graph.bound offer.key → AreNoted task.strategy.expansion task.graph old → Offers task taken old new offer o
+      → AreNoted task.strategy.expansion task.graph new
+  offers_noted task taken old new offer Known told noted (i, was, at, le, same) =
+      subst (AreNoted task.strategy.expansion task.graph) (sym same) noted
+  offers_noted task taken old new offer Lowered told noted (i, was, at, lt, lowers) =
+      still_noted task.strategy.expansion task.strategy.weight task.graph old new offer.key offer.mark offer.opening i
+      (puts_lowered task.strategy old new offer.key offer.mark was offer.opening i at lt lowers) told noted
+  offers_noted task taken old new offer Added told noted (fresh, admits, short, stores) =
+      still_noted task.strategy.expansion task.strategy.weight task.graph old new offer.key offer.mark offer.opening (length old.stored)
+      (puts_added task.strategy old new offer fresh stores) told noted
+  offers_noted task taken old new offer (Full y) told noted (fresh, admits, short, (is, full, same)) =
+      subst (AreNoted task.strategy.expansion task.graph) (sym same) noted
+  offers_noted task taken old new offer (PutOff later) told noted (fresh, off, within, same) =
+      subst (AreNoted task.strategy.expansion task.graph) (sym same) noted
+  offers_noted task taken old new offer Past told noted (fresh, past, same) =
+      subst (AreNoted task.strategy.expansion task.graph) (sym same) noted
 
   -- a child as it is offered with a mark, and the mark that it has
   abbrev offered_with : Task K → Child K → Mark → Candidate K
@@ -106,65 +109,69 @@ module _ {K : Type 0} where
   -- a child that found its place, and the others after it
   pub expands_on : (task : Task K) (taken : ℕ) (origin : Mark) (child : Child K) (children : List (Child K)) (old mid new : Store K)
       (placing : Placing K) (mark : Mark) (o : Offered K) → mark ≡ mark_of origin child → ((y : K) → o ≡ Full y → ⊥) → ((f : ℕ) → o ≡ PutOff f → ⊥)
-      → Offers task.strategy taken old mid (offered_with task child mark) o
+      → Offers task taken old mid (offered_with task child mark) o
       → Expands task taken origin children mid new placing
       → Expands task taken origin (child ∷ children) old new placing
   expands_on task taken origin child children old mid new placing mark o e placed stays offers rest =
       inr (inl (mid, by o placed stays at_child, rest))
     where
-      at_child : Offers task.strategy taken old mid (candidate_of task origin child) o
-      at_child = subst (λ v. Offers task.strategy taken old mid (offered_with task child v) o) e offers
+      at_child : Offers task taken old mid (candidate_of task origin child) o
+      at_child = subst (λ v. Offers task taken old mid (offered_with task child v) o) e offers
 
       by : (p : Offered K) → ((y : K) → p ≡ Full y → ⊥) → ((f : ℕ) → p ≡ PutOff f → ⊥)
-          → Offers task.strategy taken old mid (candidate_of task origin child) p
-          → Offers task.strategy taken old mid (candidate_of task origin child) Known
-          ⊎ (Offers task.strategy taken old mid (candidate_of task origin child) Lowered
-          ⊎ Offers task.strategy taken old mid (candidate_of task origin child) Added)
+          → Offers task taken old mid (candidate_of task origin child) p
+          → Offers task taken old mid (candidate_of task origin child) Known
+          ⊎ (Offers task taken old mid (candidate_of task origin child) Lowered
+          ⊎ (Offers task taken old mid (candidate_of task origin child) Added
+          ⊎ Offers task taken old mid (candidate_of task origin child) Past))
       by Known q s h = inl h
       by Lowered q s h = inr (inl h)
-      by Added q s h = inr (inr h)
+      by Added q s h = inr (inr (inl h))
+      by Past q s h = inr (inr (inr h))
       by (Full y) q s h = absurd (q y refl)
       by (PutOff f) q s h = absurd (s f refl)
 
   -- a child that was put off, and the others after it
   pub expands_off : (task : Task K) (taken : ℕ) (origin : Mark) (child : Child K) (children : List (Child K)) (old mid new : Store K)
       (placing : Placing K) (mark : Mark) (f : ℕ) (o : Offered K) → mark ≡ mark_of origin child → o ≡ PutOff f
-      → Offers task.strategy taken old mid (offered_with task child mark) o
+      → Offers task taken old mid (offered_with task child mark) o
       → Expands task taken origin children mid new placing
       → Expands task taken origin (child ∷ children) old new (put_off f placing)
   expands_off task taken origin child children old mid new placing mark f o e is offers rest =
-      let here : Offers task.strategy taken old mid (candidate_of task origin child) (PutOff f) =
-      subst (λ v. Offers task.strategy taken old mid (offered_with task child v) (PutOff f)) e
-      (subst (Offers task.strategy taken old mid (offered_with task child mark)) is offers) in
+      let here : Offers task taken old mid (candidate_of task origin child) (PutOff f) =
+      subst (λ v. Offers task taken old mid (offered_with task child v) (PutOff f)) e
+      (subst (Offers task taken old mid (offered_with task child mark)) is offers) in
       inr (inr (
         f,
-        (here.0, here.1, refl),
-        (placing, subst (λ s. Expands task taken origin children s new placing) here.2 rest, refl),
+        (here.0, here.1, here.2, refl),
+        (placing, subst (λ s. Expands task taken origin children s new placing) here.3 rest, refl),
       ))
 
   -- a child that found no place, whatever others are after it
   pub expands_full : (task : Task K) (taken : ℕ) (origin : Mark) (child : Child K) (children : List (Child K)) (old new : Store K)
       (key : K) (mark : Mark) (o : Offered K) → mark ≡ mark_of origin child → o ≡ Full key
-      → Offers task.strategy taken old new (offered_with task child mark) o
+      → Offers task taken old new (offered_with task child mark) o
       → Expands task taken origin (child ∷ children) old new (NoRoom key)
   expands_full task taken origin child children old new key mark o e is offers =
-      let full : Offers task.strategy taken old new (candidate_of task origin child) (Full key) =
-      subst (λ v. Offers task.strategy taken old new (offered_with task child v) (Full key)) e
-      (subst (Offers task.strategy taken old new (offered_with task child mark)) is offers) in
-      inl ((full.0, full.1, (refl, full.2.1, full.2.2)), ap NoRoom full.2.0)
+      let full : Offers task taken old new (candidate_of task origin child) (Full key) =
+      subst (λ v. Offers task taken old new (offered_with task child v) (Full key)) e
+      (subst (Offers task taken old new (offered_with task child mark)) is offers) in
+      inl ((full.0, full.1, full.2, (refl, full.3.1, full.3.2)), ap NoRoom full.3.0)
 
   -- none that is stored is lost
-  offers_grow : (strategy : Strategy) (taken : ℕ) (old new : Store K) (offer : Candidate K) (o : Offered K)
-      → Offers strategy taken old new offer o → length old.stored ≤ length new.stored
-  offers_grow strategy taken old new offer Known (i, was, at, le, same) =
+  offers_grow : (task : Task K) (taken : ℕ) (old new : Store K) (offer : Candidate K) (o : Offered K)
+      → Offers task taken old new offer o → length old.stored ≤ length new.stored
+  offers_grow task taken old new offer Known (i, was, at, le, same) =
       let size = ap (λ (s : Store K). length s.stored) same in omega (arith, size)
-  offers_grow strategy taken old new offer Lowered (i, was, at, lt, (stored, opened, noted)) =
+  offers_grow task taken old new offer Lowered (i, was, at, lt, (stored, opened, noted)) =
       let size = ap length stored ∙ length-set_value_at old.stored i offer.mark in omega (arith, size)
-  offers_grow strategy taken old new offer Added (fresh, admits, (lt, stored, opened, noted)) =
+  offers_grow task taken old new offer Added (fresh, admits, short, (lt, stored, opened, noted)) =
       let more = ap length stored ∙ length_push old.stored (offer.key, offer.mark) in omega (arith, more)
-  offers_grow strategy taken old new offer (Full y) (fresh, admits, (is, full, same)) =
+  offers_grow task taken old new offer (Full y) (fresh, admits, short, (is, full, same)) =
       let size = ap (λ (s : Store K). length s.stored) same in omega (arith, size)
-  offers_grow strategy taken old new offer (PutOff later) (fresh, off, same) =
+  offers_grow task taken old new offer (PutOff later) (fresh, off, within, same) =
+      let size = ap (λ (s : Store K). length s.stored) same in omega (arith, size)
+  offers_grow task taken old new offer Past (fresh, past, same) =
       let size = ap (λ (s : Store K). length s.stored) same in omega (arith, size)
 
   pub expands_grow : (task : Task K) (taken : ℕ) (origin : Mark) (children : List (Child K)) (old new : Store K) (placing : Placing K)
@@ -172,13 +179,16 @@ module _ {K : Type 0} where
   expands_grow task taken origin [] old new placing (same, whole) =
       let size = ap (λ (s : Store K). length s.stored) same in omega (arith, size)
   expands_grow task taken origin (child ∷ children) old new placing (inl (full, out)) =
-      offers_grow task.strategy taken old new (candidate_of task origin child) (Full child.key) full
+      offers_grow task taken old new (candidate_of task origin child) (Full child.key) full
   expands_grow task taken origin (child ∷ children) old new placing (inr (inl (mid, how, rest))) =
       let first : length old.stored ≤ length mid.stored = ⊎_elim
-      (λ known. offers_grow task.strategy taken old mid (candidate_of task origin child) Known known)
+      (λ known. offers_grow task taken old mid (candidate_of task origin child) Known known)
       (λ other. ⊎_elim
-      (λ lowered. offers_grow task.strategy taken old mid (candidate_of task origin child) Lowered lowered)
-      (λ added. offers_grow task.strategy taken old mid (candidate_of task origin child) Added added)
+      (λ lowered. offers_grow task taken old mid (candidate_of task origin child) Lowered lowered)
+      (λ new_one. ⊎_elim
+      (λ added. offers_grow task taken old mid (candidate_of task origin child) Added added)
+      (λ past. offers_grow task taken old mid (candidate_of task origin child) Past past)
+      new_one)
       other)
       how in
       let then = expands_grow task taken origin children mid new placing rest in

@@ -1,5 +1,5 @@
 -- Questions that a search answers, each seen as a graph whose edges have costs.
-use Rattle.std.specs.Prelude.{◌≡◌, ℕ, ◌+◌, ◌<◌, ◌≤◌, ◌⊎◌, suc, zero, List, Contains}
+use Rattle.std.specs.Prelude.{◌≡◌, ℕ, ◌+◌, ◌<◌, ◌≤◌, ◌⊎◌, suc, zero, List, Option, Contains}
 use Rattle.fc_best_first.specs.declared.strategies.Strategy.{Strategy}
 use Rattle.fc_best_first.specs.declared.turns.TheConstants.{MOST_COST}
 
@@ -12,10 +12,12 @@ pub record Graph (K : Type 0) : Type 1 where
   pub won : K → Type 0
   pub wins : ℕ → Type 0
 
--- what a search is asked: a question, and how it is to be searched
+-- what a search is asked: a question, how it is to be searched, and the limit from which on answers aren't wanted, if there is
+-- one
 pub record Task (K : Type 0) : Type 1 where
   pub graph : Graph K
   pub strategy : Strategy
+  pub limit : Option ℕ
 
 module _ {K : Type 0} where
   -- so many edges lead to the key from a start, at this cost in all

@@ -1,12 +1,12 @@
 -- What a search keeps from turn to turn.
-use Rattle.std.specs.Prelude.{◌≡◌, ℕ, ◌+◌, ◌*◌, ◌≤◌, ◌⊎◌, [], length, slice_get, Some, Contains}
+use Rattle.std.specs.Prelude.{◌≡◌, ℕ, ◌+◌, ◌*◌, ◌≤◌, ◌⊎◌, [], length, slice_get, Option, Some, None, Contains}
 use Rattle.fc_best_first.specs.declared.books.Mark.{Mark}
 use Rattle.fc_best_first.specs.declared.books.Opening.{Opening}
 use Rattle.fc_best_first.specs.declared.strategies.Expansion.{Expansion}
 use Rattle.fc_best_first.specs.declared.strategies.Expansion.TheVariants.{Full, Partial}
 use Rattle.fc_best_first.specs.declared.turns.TheConstants.{MOST_COST}
 use Rattle.fc_best_first.specs.Graph.{Graph, Task, Reached}
-use Rattle.fc_best_first.specs.Limits.{Ratio, weigh}
+use Rattle.fc_best_first.specs.Limits.{Ratio, ReachesLimit, weigh}
 use Rattle.fc_best_first.specs.Store.{Store, IsStored, opens_at, weighed}
 
 module _ {K : Type 0} where
@@ -14,20 +14,27 @@ module _ {K : Type 0} where
   abbrev pub HasAt : Store K → K → ℕ → Type 0
   HasAt s y cost = (number : ℕ) × (mark : Mark) × IsStored s number y mark × (mark.cost ≤ cost)
 
-  -- the key isn't won, and the end of each of its edges is stored at no more than this cost and the edge's
-  abbrev pub IsExpanded : Graph K → Store K → K → ℕ → Type 0
-  IsExpanded g s x cost = (g.won x → ⊥) × ((c : ℕ) (y : K) → g.edge x c y → HasAt s y (cost + c))
+  -- the key is stored at no more than this cost; or, where there is a limit, this cost plus its bound reaches that
+  abbrev pub IsMet : Option ℕ → Graph K → Store K → K → ℕ → Type 0
+  IsMet None g s y cost = HasAt s y cost
+  IsMet (Some limit) g s y cost = HasAt s y cost ⊎ (limit ≤ cost + g.bound y)
 
-  -- the key isn't won, and the end of each of its edges is stored so, or its weighed cost plus bound is at least n
-  abbrev pub IsExpandedBelow : Graph K → Ratio → Store K → K → ℕ → ℕ → Type 0
-  IsExpandedBelow g weight s x cost n = (g.won x → ⊥)
-      × ((c : ℕ) (y : K) → g.edge x c y → HasAt s y (cost + c) ⊎ (n ≤ weigh weight (cost + c) (g.bound y)))
+  -- the key isn't won, and the end of each of its edges is met at this cost and the edge's
+  abbrev pub IsExpanded : Task K → Store K → K → ℕ → Type 0
+  IsExpanded task s x cost = (task.graph.won x → ⊥)
+      × ((c : ℕ) (y : K) → task.graph.edge x c y → IsMet task.limit task.graph s y (cost + c))
+
+  -- the key isn't won, and the end of each of its edges is met so, or its weighed cost plus bound is at least n
+  abbrev pub IsExpandedBelow : Task K → Store K → K → ℕ → ℕ → Type 0
+  IsExpandedBelow task s x cost n = (task.graph.won x → ⊥)
+      × ((c : ℕ) (y : K) → task.graph.edge x c y → IsMet task.limit task.graph s y (cost + c)
+      ⊎ (n ≤ weigh task.strategy.weight (cost + c) (task.graph.bound y)))
 
   -- what a search does with the keys below n: by full expansion they are expanded, by partial expansion they are expanded
   -- below n
   abbrev pub IsDone : Expansion → Task K → Store K → K → ℕ → ℕ → Type 0
-  IsDone Full task s x cost n = IsExpanded task.graph s x cost
-  IsDone Partial task s x cost n = IsExpandedBelow task.graph task.strategy.weight s x cost n
+  IsDone Full task s x cost n = IsExpanded task s x cost
+  IsDone Partial task s x cost n = IsExpandedBelow task s x cost n
 
   -- the weighed cost plus bound of a key with this mark
   abbrev pub f_of : Task K → K → Mark → ℕ
@@ -44,12 +51,12 @@ module _ {K : Type 0} where
   abbrev pub IsOpenLater : Expansion → Task K → Store K → ℕ → K → Mark → Type 0
   IsOpenLater Full task s number x mark = ⊥
   IsOpenLater Partial task s number x mark =
-      (f : ℕ) × IsOpenAt Partial s number (weighed task.strategy mark) f × IsExpandedBelow task.graph task.strategy.weight s x mark.cost f
+      (f : ℕ) × IsOpenAt Partial s number (weighed task.strategy mark) f × IsExpandedBelow task s x mark.cost f
 
   -- the key is open at its weighed cost plus bound, or expanded, or open later
   abbrev pub IsOpenOrExpanded : Task K → Store K → ℕ → K → Mark → Type 0
   IsOpenOrExpanded task s number x mark = IsOpenAt task.strategy.expansion s number (weighed task.strategy mark) (f_of task x mark)
-      ⊎ (IsExpanded task.graph s x mark.cost
+      ⊎ (IsExpanded task s x mark.cost
       ⊎ IsOpenLater task.strategy.expansion task s number x mark)
 
   -- no answer, weighed as a bound is, is below this cost plus the bound of the key, both weighed
@@ -88,6 +95,10 @@ module _ {K : Type 0} where
     pub pairs : (f i : ℕ) → Contains s.waiting (f, i)
         → (x : K) × (m : Mark) × IsStored s i x m × (f_of task x m ≤ f)
     pub noted : AreNoted task.strategy.expansion task.graph s
+    pub under : (i : ℕ) (x : K) (m : Mark) → IsStored s i x m → (n : ℕ) → task.graph.wins n
+        → ReachesLimit task.limit n → m.cost + task.graph.bound x ≤ n
+    pub near : (f i : ℕ) → Contains s.waiting (f, i) → (n : ℕ) → task.graph.wins n
+        → ReachesLimit task.limit n → f ≤ task.strategy.weight.times * n
 
   -- what holds between the turns of a running search
   pub record IsKept (task : Task K) (s : Store K) : Type 0 where

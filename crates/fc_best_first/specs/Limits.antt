@@ -1,5 +1,5 @@
 -- What limits a search: how often costs and bounds may count, and how many keys may be stored.
-use Rattle.std.specs.Prelude.{◌≡◌, ℕ, ◌+◌, ◌*◌, ◌≤◌}
+use Rattle.std.specs.Prelude.{◌≡◌, ℕ, ◌+◌, ◌*◌, ◌<◌, ◌≤◌, Option, Some, None}
 use Rattle.fc_best_first.specs.declared.limits.TheConstants.{MOST_BUDGET, MOST_WEIGHT, TENTHS}
 
 -- how a search weighs: a cost counts so many times as there are parts, and a bound so many times
@@ -21,6 +21,21 @@ pub record IsWeight (weight : Ratio) : Type 0 where
 -- a bound counts as often as a cost
 abbrev pub IsEven : Ratio → Type 0
 IsEven weight = weight.times ≡ weight.parts
+
+-- the number reaches the limit, if there is one
+abbrev pub ReachesLimit : Option ℕ → ℕ → Type 0
+ReachesLimit None n = ⊥
+ReachesLimit (Some limit) n = limit ≤ n
+
+-- the number is below the limit, if there is one
+abbrev pub IsBelowLimit : Option ℕ → ℕ → Type 0
+IsBelowLimit None n = Unit {0}
+IsBelowLimit (Some limit) n = n < limit
+
+-- the number is no more than the limit so many times over, if there is one
+abbrev pub IsWithinLimit : Option ℕ → ℕ → ℕ → Type 0
+IsWithinLimit None times n = Unit {0}
+IsWithinLimit (Some limit) times n = n ≤ times * limit
 
 -- so many keys may be stored
 pub record IsBudget (budget : ℕ) : Type 0 where

@@ -1,5 +1,5 @@
 -- A search as a whole: what it is of, where it stands, and what a turn does to it.
-use Rattle.std.specs.Prelude.{◌≡◌, ℕ, ◌⊎◌, List, suc, zero, [], ◌∷◌, Result, Ok, Err}
+use Rattle.std.specs.Prelude.{◌≡◌, ℕ, ◌⊎◌, List, suc, zero, [], ◌∷◌, Option, Result, Ok, Err}
 use Rattle.fc_frontier.specs.Queue.{Adds}
 use Rattle.fc_best_first.specs.declared.turns.Status.{Status}
 use Rattle.fc_best_first.specs.declared.turns.Status.TheVariants.{Running, Stopped}
@@ -13,11 +13,12 @@ use Rattle.fc_best_first.specs.Kept.{f_of}
 use Rattle.fc_best_first.specs.Store.{NotesLast, Store}
 use Rattle.fc_best_first.specs.Turn.{Advances, TakesFloor, opening_of}
 
--- a search: the space that it is of, its strategy, what it stores and has open, where it stands, and the greatest f that was
--- taken
+-- a search: the space that it is of, its strategy, its limit, what it stores and has open, where it stands, and the greatest f
+-- that was taken
 pub record Progress (S : Type 0) (K : Type 0) : Type 0 where
   pub space : S
   pub strategy : Strategy
+  pub limit : Option ℕ
   pub store : Store K
   pub status : Status K
   pub floor : ℕ
@@ -25,7 +26,7 @@ pub record Progress (S : Type 0) (K : Type 0) : Type 0 where
 module _ {S K : Type 0} where
   -- what a search is asked, its question by its space
   abbrev pub task_of : (S → Graph K) → Progress S K → Task K
-  task_of graph s = record { graph = graph s.space; strategy = s.strategy }
+  task_of graph s = record { graph = graph s.space; strategy = s.strategy; limit = s.limit }
 
 module _ {K : Type 0} where
   -- the key that starts is stored under 0, as its own parent, and open at its weighed cost plus bound

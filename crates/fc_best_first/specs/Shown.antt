@@ -6,7 +6,7 @@ use Rattle.fc_best_first.specs.declared.strategies.Expansion.TheVariants.{Full, 
 use Rattle.fc_best_first.specs.declared.turns.Status.{Status}
 use Rattle.fc_best_first.specs.declared.turns.Status.TheVariants.{Running, Won, CannotWin, GaveUp, Stopped}
 use Rattle.fc_best_first.specs.Graph.{Graph, Task, Reached}
-use Rattle.fc_best_first.specs.Limits.{Ratio}
+use Rattle.fc_best_first.specs.Limits.{Ratio, ReachesLimit}
 use Rattle.fc_best_first.specs.Store.{Store, IsStored, IsNew, weighed}
 use Rattle.fc_best_first.specs.Kept.{IsSound, IsKept, IsDone, IsExpanded, IsOpenAt, IsOpenOrExpanded, IsNeeded, f_of}
 
@@ -27,7 +27,7 @@ module _ {K : Type 0} where
   -- each stored key is expanded
   abbrev pub IsExhausted : Task K → Store K → Type 0
   IsExhausted task s = IsSound task s
-      × ((i : ℕ) (y : K) (m : Mark) → IsStored s i y m → IsExpanded task.graph s y m.cost)
+      × ((i : ℕ) (y : K) (m : Mark) → IsStored s i y m → IsExpanded task s y m.cost)
 
   -- as many keys as the budget are stored, and one more came by needed work from the key with this number
   abbrev pub IsGivenUp : Task K → Store K → K → ℕ → Type 0
@@ -51,12 +51,13 @@ module _ {K : Type 0} where
         → IsNeeded task.strategy.expansion task.graph task.strategy.weight x
 
   -- what a search shows by its status: the cost of the won key is an answer, and, weighed, no more than each answer is, weighed
-  -- as a bound is; there is no answer; or one key more than the budget came by needed work
+  -- as a bound is; there is no answer, or where there is a limit none that doesn't reach it; or one key more than the budget
+  -- came by needed work
   abbrev pub Shows : Task K → Store K → Status K → Type 0
   Shows task s Running = Unit {0}
   Shows task s (Won number) = (x : K) × (mark : Mark) × IsStored s number x mark × task.graph.won x × Reached task.graph x mark.cost
       × task.graph.wins mark.cost × ((n : ℕ) → task.graph.wins n → weighed task.strategy mark ≤ task.strategy.weight.times * n)
-  Shows task s CannotWin = (n : ℕ) → task.graph.wins n → ⊥
+  Shows task s CannotWin = (n : ℕ) → task.graph.wins n → ReachesLimit task.limit n
   Shows task s (GaveUp y number) = (keys : List K) × AreNeeded task (task.strategy.budget + 1) keys
   Shows task s Stopped = Unit {0}
 

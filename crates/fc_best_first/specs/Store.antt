@@ -5,10 +5,12 @@ use Rattle.fc_frontier.specs.Queue.{Adds, IsLeast}
 use Rattle.fc_best_first.specs.declared.books.Mark.{Mark}
 use Rattle.fc_best_first.specs.declared.books.Opening.{Opening}
 use Rattle.fc_best_first.specs.declared.books.Offered.{Offered}
-use Rattle.fc_best_first.specs.declared.books.Offered.TheVariants.{Known, Lowered, Added, Full, PutOff}
+use Rattle.fc_best_first.specs.declared.books.Offered.TheVariants.{Known, Lowered, Added, Full, PutOff, Past}
 use Rattle.fc_best_first.specs.declared.strategies.Expansion.{Expansion}
 use Rattle.fc_best_first.specs.declared.strategies.Expansion.TheVariants as expansion
 use Rattle.fc_best_first.specs.declared.strategies.Strategy.{Strategy}
+use Rattle.fc_best_first.specs.Graph.{Task}
+use Rattle.fc_best_first.specs.Limits.{IsBelowLimit, IsWithinLimit, ReachesLimit}
 
 -- stored keys in the order of their numbers, each with its mark, open pairs (f, number), and by partial expansion where
 -- each key was opened last
@@ -78,19 +80,24 @@ module _ {K : Type 0} where
       × NotesAnew strategy.expansion old.openings new.openings number opening
 
   -- what offering a key does, when a pair of this f was taken: one that is stored is left where it is stored at no more, and
-  -- else takes the new mark; a new one is stored, or put off
-  abbrev pub Offers : Strategy → ℕ → Store K → Store K → Candidate K → Offered K → Type 0
-  Offers strategy taken old new offer Known =
+  -- else takes the new mark; a new one is stored, or put off, but where its cost plus bound reaches the limit
+  abbrev pub Offers : Task K → ℕ → Store K → Store K → Candidate K → Offered K → Type 0
+  Offers task taken old new offer Known =
       (number : ℕ) × (was : Mark) × IsStored old number offer.key was × (was.cost ≤ offer.mark.cost) × (new ≡ old)
-  Offers strategy taken old new offer Lowered =
+  Offers task taken old new offer Lowered =
       (number : ℕ) × (was : Mark) × IsStored old number offer.key was × (offer.mark.cost < was.cost)
-      × Lowers strategy old new number offer.mark offer.opening
-  Offers strategy taken old new offer Added = IsNew old offer.key
-      × Admits strategy.expansion taken (opens_at (weighed strategy offer.mark) offer.opening) × Stores strategy old new offer Added
-  Offers strategy taken old new offer (Full y) = IsNew old offer.key
-      × Admits strategy.expansion taken (opens_at (weighed strategy offer.mark) offer.opening) × Stores strategy old new offer (Full y)
-  Offers strategy taken old new offer (PutOff later) = IsNew old offer.key
-      × PutsOff strategy.expansion taken (opens_at (weighed strategy offer.mark) offer.opening) later × (new ≡ old)
+      × Lowers task.strategy old new number offer.mark offer.opening
+  Offers task taken old new offer Added = IsNew old offer.key
+      × Admits task.strategy.expansion taken (opens_at (weighed task.strategy offer.mark) offer.opening)
+      × IsBelowLimit task.limit (offer.mark.cost + offer.opening.bound) × Stores task.strategy old new offer Added
+  Offers task taken old new offer (Full y) = IsNew old offer.key
+      × Admits task.strategy.expansion taken (opens_at (weighed task.strategy offer.mark) offer.opening)
+      × IsBelowLimit task.limit (offer.mark.cost + offer.opening.bound) × Stores task.strategy old new offer (Full y)
+  Offers task taken old new offer (PutOff later) = IsNew old offer.key
+      × PutsOff task.strategy.expansion taken (opens_at (weighed task.strategy offer.mark) offer.opening) later
+      × IsWithinLimit task.limit task.strategy.weight.times later × (new ≡ old)
+  Offers task taken old new offer Past = IsNew old offer.key
+      × ReachesLimit task.limit (offer.mark.cost + offer.opening.bound) × (new ≡ old)
 
   -- an open pair of least f is taken, whose key is stored with this mark
   pub record IsTaken (old : Store K) (new : Store K) (f : ℕ) (number : ℕ) (x : K) (mark : Mark) : Type 0 where

@@ -3,7 +3,7 @@ use Rattle.std.specs.Prelude.{◌≡◌, ◌≢◌, ℕ, ◌+◌, ◌-◌, ◌*�
 use Rattle.fc_frontier.specs.Queue.{Adds, IsLeast}
 use Rattle.fc_best_first.specs.declared.books.Mark.{Mark}
 use Rattle.fc_best_first.specs.declared.books.Opening.{Opening}
-use Rattle.fc_best_first.specs.declared.books.Offered.TheVariants.{Known, Lowered, Added, Full, PutOff}
+use Rattle.fc_best_first.specs.declared.books.Offered.TheVariants.{Known, Lowered, Added, Full, PutOff, Past}
 use Rattle.fc_best_first.specs.declared.spaces.Child.{Child}
 use Rattle.fc_best_first.specs.declared.strategies.Expansion.{Expansion}
 use Rattle.fc_best_first.specs.declared.strategies.Expansion.TheVariants as expansion
@@ -64,13 +64,14 @@ module _ {K : Type 0} (task : Task K) (taken : ℕ) where
   abbrev pub Expands : Mark → List (Child K) → Store K → Store K → Placing K → Type 0
   Expands origin [] old new placing = (new ≡ old) × (placing ≡ Whole)
   Expands origin (child ∷ children) old new placing =
-      (Offers task.strategy taken old new (candidate_of task origin child) (Full child.key) × (placing ≡ NoRoom child.key))
+      (Offers task taken old new (candidate_of task origin child) (Full child.key) × (placing ≡ NoRoom child.key))
       ⊎ (((mid : Store K)
-      × (Offers task.strategy taken old mid (candidate_of task origin child) Known
-      ⊎ (Offers task.strategy taken old mid (candidate_of task origin child) Lowered
-      ⊎ Offers task.strategy taken old mid (candidate_of task origin child) Added))
+      × (Offers task taken old mid (candidate_of task origin child) Known
+      ⊎ (Offers task taken old mid (candidate_of task origin child) Lowered
+      ⊎ (Offers task taken old mid (candidate_of task origin child) Added
+      ⊎ Offers task taken old mid (candidate_of task origin child) Past)))
       × Expands origin children mid new placing)
-      ⊎ ((later : ℕ) × Offers task.strategy taken old old (candidate_of task origin child) (PutOff later)
+      ⊎ ((later : ℕ) × Offers task taken old old (candidate_of task origin child) (PutOff later)
       × ((others : Placing K) × Expands origin children old new others × (placing ≡ put_off later others))))
 
 module _ {K : Type 0} where

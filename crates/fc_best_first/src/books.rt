@@ -62,7 +62,7 @@ pub struct Opening {
 }
 
 /// What became of a key that was offered: it was stored at no more, it was stored at more and its cost fell, it was
-/// added, there was no place for it, or it was put off until this f.
+/// added, there was no place for it, it was put off until this f, or its cost plus bound reaches the limit.
 #[derive(Drop)]
 pub enum Offered<K> {
     Known,
@@ -70,6 +70,7 @@ pub enum Offered<K> {
     Added,
     Full(K),
     PutOff(u32),
+    Past,
 }
 
 /// The keys that are stored, each with its mark, in the order of their numbers, the pairs that are open, and, by partial

@@ -1,4 +1,4 @@
-ghost use Rattle.std.specs.Prelude.{◌≡◌, ◌≢◌, ◌*◌, ℕ, ◌≤◌, MatchOption};
+ghost use Rattle.std.specs.Prelude.{◌≡◌, ◌≢◌, ◌*◌, ℕ, ◌≤◌, MatchOption, Option};
 ghost use Rattle.fc_best_first.specs.Graph.{Graph, Reached, Task};
 ghost use Rattle.fc_best_first.specs.Kept.{IsSound};
 ghost use Rattle.fc_best_first.specs.Shown.{IsLeastOpen};
@@ -43,8 +43,8 @@ pub(crate) fn least_open<K: ExactKey, F: Frontier + Drop, S: Space<K>>(
     strategy: &Strategy,
     most: u32,
 ) -> u32
-    requires sound { (strategy.now.budget ≤ MOST_BUDGET) × IsSound (record { graph = S.graph space.now; strategy = strategy.now }) book.now }
-    ensures value { IsLeastOpen (record { graph = S.graph space.now; strategy = strategy.now }) book.now most result }
+    requires sound { (strategy.now.budget ≤ MOST_BUDGET) × ((limit : Option ℕ) × IsSound (record { graph = S.graph space.now; strategy = strategy.now; limit = limit }) book.now) }
+    ensures value { (limit : Option ℕ) → IsLeastOpen (record { graph = S.graph space.now; strategy = strategy.now; limit = limit }) book.now most result }
 {
     let mut floor = most;
     for (f, number) in book.waiting() {

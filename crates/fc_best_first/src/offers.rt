@@ -1,8 +1,9 @@
 //! A child of a key that is taken, as it finds its place: it is known, stored, or put off.
 
-ghost use Rattle.std.specs.Prelude.{◌≡◌, ◌+◌, ◌*◌, ◌<◌, ◌≤◌, ◌↔◌, ℕ, List, length, IfOk, IfSome};
+ghost use Rattle.std.specs.Prelude.{◌≡◌, ◌+◌, ◌*◌, ◌<◌, ◌≤◌, ◌↔◌, ℕ, List, length, IfOk, IfSome, IsTrue};
 ghost use Rattle.fc_best_first.specs.Graph.{Graph, Reached, Task};
 ghost use Rattle.fc_best_first.specs.Kept.{AreNoted};
+ghost use Rattle.fc_best_first.specs.Limits.{IsBelowLimit, ReachesLimit};
 ghost use Rattle.fc_best_first.specs.Store.{IsNew, Offers, weighed};
 ghost use Rattle.fc_best_first.specs.Turn.{TellsBound, candidate_of};
 ghost use Rattle.fc_best_first.specs.inner.Turn.{IsPutOffNear};
@@ -28,12 +29,27 @@ impl Opening {
     }
 }
 
-/// What the children of a key are offered by: the f of the pair that was taken, and the mark of a child that would cost nothing,
-/// its cost and number.
+/// What the children of a key are offered by: the f of the pair that was taken, the mark of a child that would cost nothing,
+/// its cost and number, and the limit, if there is one.
 #[derive(Clone, Copy, Debug, PartialEq, Eq)]
 pub(crate) struct Taken {
     pub(crate) f: u32,
     pub(crate) origin: Mark,
+    pub(crate) limit: Option<u32>,
+}
+
+impl Taken {
+    // Whether a cost plus bound reaches the limit.
+    fn reaches_limit(&self, cost: u32, bound: u8) -> bool
+        requires room { cost ≤ 4294967040 }
+        ensures value { IsTrue result ↔ ReachesLimit self.now.limit (cost + bound) }
+        ensures below { (IsTrue result → ⊥) → IsBelowLimit self.now.limit (cost + bound) }
+    {
+        match self.limit {
+            Some(limit) => limit <= cost + u32::from(bound),
+            None => false,
+        }
+    }
 }
 
 // The bound of a key that was reached, which its space is asked for where it isn't told; the walk stands at the key.
@@ -67,8 +83,8 @@ fn most_within(weight: Weight, cost: u32, taken: u32) -> u8
 }
 
 // Stores a key that was reached and isn't stored, where it is open at no more than was taken; else it is put off, at no more
-// than its own f. Its bound is counted no further than that takes. At `Err` a growth was refused, and nothing is known of the
-// book.
+// than its own f. Neither is done where its cost plus bound reaches the limit. Its bound is counted no further than that takes.
+// At `Err` a growth was refused, and nothing is known of the book.
 fn store_or_put_off<K: ExactKey, F: Frontier + Drop, S: Space<K>>(
     space: &S,
     walk: &mut S::Walk,
@@ -84,7 +100,7 @@ fn store_or_put_off<K: ExactKey, F: Frontier + Drop, S: Space<K>>(
     requires new { IsNew book.old child.key }
     requires low { taken.now.origin.cost ≤ MOST_COST * MOST_BUDGET }
     requires partial { strategy.now.expansion ≡ Expansion.Partial }
-    ensures offers { IfOk result (Offers strategy.now taken.now.f book.old book.new (candidate_of (record { graph = S.graph space.now; strategy = strategy.now }) taken.now.origin child)) }
+    ensures offers { IfOk result (Offers (record { graph = S.graph space.now; strategy = strategy.now; limit = taken.now.limit }) taken.now.f book.old book.new (candidate_of (record { graph = S.graph space.now; strategy = strategy.now; limit = taken.now.limit }) taken.now.origin child)) }
     ensures near { IfOk result (IsPutOffNear (weighed strategy.now taken.now.origin)) }
     ensures owned { S.owns space.now walk.new }
     ensures rest { (children : List (Child K)) → S.rest walk.new children ↔ S.rest walk.old children }
@@ -99,6 +115,9 @@ fn store_or_put_off<K: ExactKey, F: Frontier + Drop, S: Space<K>>(
             space.bound_within(walk, &key, most)
         }
     };
+    if taken.reaches_limit(mark.cost, bound) {
+        return Ok(Offered::Past);
+    }
     let opening = Opening::new(strategy.weight, bound);
     let f = mark.opens_at(strategy.weight, opening);
     if f > taken.f {
@@ -125,7 +144,7 @@ pub(crate) fn offer<K: ExactKey, F: Frontier + Drop, S: Space<K>>(
     requires room { length book.old.stored ≤ strategy.now.budget }
     requires noted { AreNoted strategy.now.expansion (S.graph space.now) book.old }
     requires low { taken.now.origin.cost ≤ MOST_COST * MOST_BUDGET }
-    ensures offers { IfOk result (Offers strategy.now taken.now.f book.old book.new (candidate_of (record { graph = S.graph space.now; strategy = strategy.now }) taken.now.origin child)) }
+    ensures offers { IfOk result (Offers (record { graph = S.graph space.now; strategy = strategy.now; limit = taken.now.limit }) taken.now.f book.old book.new (candidate_of (record { graph = S.graph space.now; strategy = strategy.now; limit = taken.now.limit }) taken.now.origin child)) }
     ensures near { IfOk result (IsPutOffNear (weighed strategy.now taken.now.origin)) }
     ensures owned { S.owns space.now walk.new }
     ensures rest { (children : List (Child K)) → S.rest walk.new children ↔ S.rest walk.old children }
@@ -140,6 +159,9 @@ pub(crate) fn offer<K: ExactKey, F: Frontier + Drop, S: Space<K>>(
         }
         let Child { key, bound, .. } = child;
         let bound = bound_of(space, walk, &key, bound);
+        if taken.reaches_limit(mark.cost, bound) {
+            return Ok(Offered::Past);
+        }
         return book.add(strategy, key, mark, Opening::new(strategy.weight, bound));
     };
     if was.cost <= mark.cost {

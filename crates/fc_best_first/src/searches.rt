@@ -42,6 +42,9 @@ pub enum SearchFault {
     /// The search isn't done yet, so it has no answer; no turn says so.
     #[error("the search isn't done")]
     NotDone,
+    /// The search wants only answers below a limit, so what it shows is no answer by itself.
+    #[error("the search has a limit")]
+    Limited,
     /// No search has this number; only a batch says so.
     #[error("no such search")]
     NoSuch,
@@ -52,6 +55,7 @@ pub enum SearchFault {
 pub struct Search<K: ExactKey, F: Frontier + Drop, S: Space<K> + Drop> {
     space: S,
     strategy: Strategy,
+    limit: Option<u32>,
     book: Book<K, F>,
     walk: S::Walk,
     status: Status<K>,
@@ -65,10 +69,10 @@ impl<K: ExactKey, F: Frontier + Drop, S: Space<K> + Drop> Model for Search<K, F,
 
     ghost Value = { Progress S K };
 
-    ghost view = { λ s. record { space = s.space; strategy = s.strategy; store = s.book; status = s.status; floor = s.floor } };
+    ghost view = { λ s. record { space = s.space; strategy = s.strategy; limit = s.limit; store = s.book; status = s.status; floor = s.floor } };
 
     ghost invariant = { λ s. IsWeight s.strategy.weight × IsBudget s.strategy.budget
-        × Holds (record { graph = S.graph s.space; strategy = s.strategy }) s.book s.status
+        × Holds (record { graph = S.graph s.space; strategy = s.strategy; limit = s.limit }) s.book s.status
         × IsFloor (S.graph s.space) s.strategy.weight s.floor × S.owns s.space s.walk };
 }
 
@@ -81,6 +85,28 @@ impl<K: ExactKey, F: Frontier + Drop, S: Space<K> + Drop> Search<K, F, S> {
     pub fn new(alloc: Global, space: S, strategy: Strategy) -> Result<Self, Full>
         ensures space { IfOk result (λ search. search.space ≡ space) }
         ensures strategy { IfOk result (λ search. search.strategy ≡ strategy) }
+        ensures limit { IfOk result (λ search. search.limit ≡ None) }
+        ensures status { IfOk result (λ search. search.status ≡ Status.Running) }
+        ensures begins { IfOk result (λ search. Begins (task_of S.graph search) search.store) }
+        ensures floor { IfOk result (λ search. Adds [] search.store.waiting (search.floor, 0)) }
+    {
+        Search::below(alloc, space, strategy, None)
+    }
+
+    /// A search that has had no turn, and wants no answer that reaches the limit, if there is one: a key whose cost plus bound
+    /// does is never stored, but the one that starts. Where it ends with nothing open, no answer is below the limit.
+    ///
+    /// # Errors
+    /// A growth was refused.
+    pub fn below(
+        alloc: Global,
+        space: S,
+        strategy: Strategy,
+        limit: Option<u32>,
+    ) -> Result<Self, Full>
+        ensures space { IfOk result (λ search. search.space ≡ space) }
+        ensures strategy { IfOk result (λ search. search.strategy ≡ strategy) }
+        ensures limit { IfOk result (λ search. search.limit ≡ limit) }
         ensures status { IfOk result (λ search. search.status ≡ Status.Running) }
         ensures begins { IfOk result (λ search. Begins (task_of S.graph search) search.store) }
         ensures floor { IfOk result (λ search. Adds [] search.store.waiting (search.floor, 0)) }
@@ -100,6 +126,7 @@ impl<K: ExactKey, F: Frontier + Drop, S: Space<K> + Drop> Search<K, F, S> {
         Ok(Search {
             space,
             strategy,
+            limit,
             book,
             walk,
             status: Status::Running,
@@ -121,6 +148,13 @@ impl<K: ExactKey, F: Frontier + Drop, S: Space<K> + Drop> Search<K, F, S> {
         ensures budget { IsBudget self.now.strategy.budget }
     {
         self.strategy
+    }
+
+    /// The limit from which on answers aren't wanted, if there is one.
+    pub fn limit(&self) -> Option<u32>
+        ensures value { result ≡ self.now.limit }
+    {
+        self.limit
     }
 
     /// Where the search stands. What it holds by that is kept from turn to turn; what it shows follows from it.
@@ -177,6 +211,7 @@ impl<K: ExactKey, F: Frontier + Drop, S: Space<K> + Drop> Search<K, F, S> {
     pub fn turn(&mut self) -> Result<Step, SearchFault>
         ensures space { self.new.space ≡ self.old.space }
         ensures strategy { self.new.strategy ≡ self.old.strategy }
+        ensures limit { self.new.limit ≡ self.old.limit }
         ensures turns { Turns (task_of S.graph self.old) self.old.status self.old.store self.new.store self.new.status result }
         ensures floor { FloorAfter self.old.status self.old.store.waiting self.old.floor self.new.floor }
         ensures rises { self.old.floor ≤ self.new.floor }
@@ -192,6 +227,7 @@ impl<K: ExactKey, F: Frontier + Drop, S: Space<K> + Drop> Search<K, F, S> {
             &mut self.book,
             &mut self.walk,
             &self.strategy,
+            self.limit,
             &mut self.floor,
         ) {
             Ok(status) => {
@@ -216,6 +252,7 @@ impl<K: ExactKey, F: Frontier + Drop, S: Space<K> + Drop> Search<K, F, S> {
     pub fn run(&mut self) -> Result<(), SearchFault>
         ensures space { self.new.space ≡ self.old.space }
         ensures strategy { self.new.strategy ≡ self.old.strategy }
+        ensures limit { self.new.limit ≡ self.old.limit }
         ensures runs { Runs (task_of S.graph self.old) self.old.status self.old.store self.new.store self.new.status }
         ensures done { OnOk result (reply_of self.new.status ≡ Ok Step.Done) }
         ensures stopped { OnErr result (self.new.status ≡ Status.Stopped) }

@@ -21,8 +21,8 @@ pub const MOST_COST: u8 = 53;
 pub const MOST_OVER: u16 = 28_050;
 
 /// Where a search stands: it is running; the key with this number is won, and its cost is at most the weight times every
-/// answer; there is no answer; it gave up, having found no place for this key, which came from the key with this number;
-/// or memory stopped it.
+/// answer; there is no answer, or none that doesn't reach the limit; it gave up, having found no place for this key, which came
+/// from the key with this number; or memory stopped it.
 #[derive(Drop)]
 pub enum Status<K> {
     Running,
@@ -64,7 +64,7 @@ fn expand<K: ExactKey, F: Frontier + Drop, S: Space<K>>(
     requires low { taken.now.origin.cost ≤ MOST_COST * MOST_BUDGET }
     requires owned { S.owns space.now walk.old }
     requires reached { (children : List (Child K)) → S.rest walk.old children → AreReached (S.graph space.now) children }
-    ensures expands { IfOk result (λ placing. (children : List (Child K)) × S.rest walk.old children × Expands (record { graph = S.graph space.now; strategy = strategy.now }) taken.now.f taken.now.origin children book.old book.new placing) }
+    ensures expands { IfOk result (λ placing. (children : List (Child K)) × S.rest walk.old children × Expands (record { graph = S.graph space.now; strategy = strategy.now; limit = taken.now.limit }) taken.now.f taken.now.origin children book.old book.new placing) }
     ensures near { IfOk result (IsLaterNear strategy.now.expansion taken.now.f (weighed strategy.now taken.now.origin)) }
     ensures noted { IfOk result (λ placing. AreNoted strategy.now.expansion (S.graph space.now) book.new) }
     ensures owned { S.owns space.now walk.new }
@@ -143,11 +143,12 @@ pub(crate) fn advance<K: ExactKey, F: Frontier + Drop, S: Space<K>>(
     book: &mut Book<K, F>,
     walk: &mut S::Walk,
     strategy: &Strategy,
+    limit: Option<u32>,
     floor: &mut u32,
 ) -> Result<Status<K>, Full>
     requires owned { S.owns space.now walk.old }
-    requires kept { IsKept (record { graph = S.graph space.now; strategy = strategy.now }) book.old }
-    ensures takes { IfOk result (Advances (record { graph = S.graph space.now; strategy = strategy.now }) book.old book.new) }
+    requires kept { IsKept (record { graph = S.graph space.now; strategy = strategy.now; limit = limit }) book.old }
+    ensures takes { IfOk result (Advances (record { graph = S.graph space.now; strategy = strategy.now; limit = limit }) book.old book.new) }
     ensures floor { TakesFloor book.old.waiting floor.old floor.new }
     ensures owned { S.owns space.now walk.new }
 {
@@ -170,6 +171,6 @@ pub(crate) fn advance<K: ExactKey, F: Frontier + Drop, S: Space<K>>(
         cost: mark.cost,
         parent: number,
     };
-    let placing = expand(space, walk, book, strategy, &Taken { f, origin })?;
+    let placing = expand(space, walk, book, strategy, &Taken { f, origin, limit })?;
     close(book, number, cost, placing)
 }

@@ -1,5 +1,5 @@
 -- What a search that is done holds makes its verdict right, and its table backs it.
-use Rattle.std.proofs.Common.{◌≡◌, ℕ, zero, suc, ◌+◌, ◌*◌, ◌<◌, ◌≤◌, Bool, List, [], ◌∷◌, length, Some, None, refl, sym, ◌∙◌, ap, subst, arith, nat_lt}
+use Rattle.std.proofs.Common.{◌≡◌, ℕ, zero, suc, ◌+◌, ◌*◌, ◌<◌, ◌≤◌, Bool, List, [], ◌∷◌, length, Option, Some, None, refl, sym, ◌∙◌, ap, subst, arith, nat_lt}
 use Rattle.std.specs.Prelude.{All, Contains}
 use Rattle.std.specs.List.Sorted.{IsPermutation}
 use Rattle.std.proofs.lemmas.List.{length-map}
@@ -19,13 +19,13 @@ use Rattle.fc_tables.proofs.RowLemmas.{rows_inside, inside_all, costs_free}
 use Rattle.fc_best_first.specs.declared.books.Mark.{Mark}
 use Rattle.fc_best_first.specs.declared.turns.Status.TheVariants as status
 use Rattle.fc_best_first.specs.Kept.{IsSound}
-use Rattle.fc_best_first.specs.Limits.{IsEven, Ratio, weigh}
+use Rattle.fc_best_first.specs.Limits.{IsEven, Ratio, ReachesLimit, weigh}
 use Rattle.fc_best_first.specs.Shown.{IsFound, IsExhausted, IsLeastOpen, Shows}
 use Rattle.fc_best_first.specs.Store.{Store, IsStored}
 use Rattle.fc_best_first.proofs.KeptLemmas.{same_entry, stands_within}
 use Rattle.fc_best_first.proofs.FloorLemmas.{open_floors}
 use Rattle.fc_best_first.specs.Graph.{IsClosedInside}
-use Rattle.fc_best_first.proofs.ClosedLemmas.{IsCoveredBelow, closed_inside, expanded_covered, light_covered, rows as codes_of}
+use Rattle.fc_best_first.proofs.ClosedLemmas.{IsCoveredBelow, IsUpTo, closed_inside, expanded_covered, light_covered, rows as codes_of}
 use Rattle.fc_tables.specs.Table.{as_boards}
 use Rattle.fc_canonical.specs.Spelled.{IsKeyIn, spelled}
 use Rattle.fc_codes.specs.Spelled.{board_of_code}
@@ -48,6 +48,10 @@ use Rattle.fc_search.proofs.NeedLemmas.{needs_more, needs_reach}
 use Rattle.fc_search.proofs.RowLemmas.{boards_same, costs_in, key_in, stored_name, stored_once, stored_long}
 use Rattle.fc_bound.proofs.KindLemmas.{bounds_lower, guides_under}
 use Rattle.fc_tables.proofs.GreaterLemmas.{greater_close}
+
+-- where there is no limit, no number is past it
+up_to : {limit : Option ℕ} → limit ≡ None → (n : ℕ) → IsUpTo limit n
+up_to whole n = subst (λ l. IsUpTo l n) (sym whole) tt
 
 -- each move of a run from a position of the game has a text
 run_texts : (g : GameRules) (b c : Board) (ms : List Move) → IsPositionOf g b → Run g b ms c → All HasText ms
@@ -87,11 +91,11 @@ module _ (pr : Problem) (s : Store (List ℕ)) (names : IsNaming (by_codes pr.st
       (key_in pr.start pr.game at.1 (stored_name pr s names pp sound at.0 at.1 at.2 at.3))
 
   -- the table of a search that found no way to win shows that there is none
-  pub backed_whole : (table : Listing) → IsExhausted (task_of_problem pr) s → table.rule ≡ pr.method.rule → table.rule ≤ 2
+  pub backed_whole : pr.limit ≡ None → (table : Listing) → IsExhausted (task_of_problem pr) s → table.rule ≡ pr.method.rule → table.rule ≤ 2
       → length table.rows ≤ 4000000 → IsRising table.rows → IsPermutation (at_no_cost (costs_of pr.start s)) table.rows
       → IsBackedWhole pr.game pr.start table
-  backed_whole table (sound, done) ruled known few rising moved =
-      let closed = λ (n : ℕ). closed_inside (task_of_problem pr) s n sound (λ i x m at lt. expanded_covered (classes_of pr) s x m.cost n (done i x m at)) in
+  backed_whole whole table (sound, done) ruled known few rising moved =
+      let closed = λ (n : ℕ). closed_inside (task_of_problem pr) s n sound (λ i x m at lt. expanded_covered (task_of_problem pr) s x m.cost n (up_to whole n) (done i x m at)) in
       let back = IsPermutation-sym (at_no_cost (costs_of pr.start s)) table.rows moved in
       let all = inside_all (guide_of pr.method.bound) pr.game pr.method.rule pr.start (as_boards (costs_of pr.start s)) (λ n. keys_closed n sound (closed n)) in
       let free = λ (e : List ℕ × ℕ) (there : Contains table.rows e).
@@ -198,12 +202,12 @@ module _ (pr : Problem) (s : Store (List ℕ)) (names : IsNaming (by_codes pr.st
       }
 
   -- the table of a search that found a shortest list shows that none is shorter
-  pub backed_shortest : 1 ≤ pr.method.strategy.weight.parts → IsEven pr.method.strategy.weight → (number : ℕ) (ms : List Move) (table : Listing)
+  pub backed_shortest : pr.limit ≡ None → 1 ≤ pr.method.strategy.weight.parts → IsEven pr.method.strategy.weight → (number : ℕ) (ms : List Move) (table : Listing)
       → IsFound (task_of_problem pr) s number
       → (x : List ℕ) (mark : Mark) → IsStored s number x mark → length ms ≡ mark.cost → table.rule ≡ pr.method.rule → table.bound ≡ pr.method.bound → table.rule ≤ 2
       → length table.rows ≤ 4000000 → IsRising table.rows → IsPermutation (inside (guide_of pr.method.bound) (length ms) (costs_of pr.start s)) table.rows
       → IsBackedBelow pr.game pr.start (length ms) table
-  backed_shortest positive light number ms table found x mark at long ruled bounded known few rising moved =
+  backed_shortest whole positive light number ms table found x mark at long ruled bounded known few rising moved =
       let n = length ms in
       let w = found.1.0 in
       let wmark = found.1.1 in
@@ -220,18 +224,18 @@ module _ (pr : Problem) (s : Store (List ℕ)) (names : IsNaming (by_codes pr.st
           let one = same_entry s number x found.1.0 mark found.1.1 at found.1.2 in
           let cost : length ms ≡ found.1.1.cost = long ∙ ap (λ k. k.cost) one.1 in
           subst (IsCoveredBelow (classes_of pr) s y m.cost) (sym cost)
-          (light_covered pr.method.strategy.expansion (task_of_problem pr) s y m.cost found.1.1.cost positive light (found.1.4 i y m there lt))
+          (light_covered pr.method.strategy.expansion (task_of_problem pr) s y m.cost found.1.1.cost (up_to whole found.1.1.cost) positive light (found.1.4 i y m there lt))
 
   -- what a number is that is told as a floor: no list has fewer moves, and the stored classes below it are covered
-  pub floor_holds : (number : ℕ) (x : List ℕ) (mark : Mark) (floor : ℕ) → IsFound (task_of_problem pr) s number
+  pub floor_holds : pr.limit ≡ None → (number : ℕ) (x : List ℕ) (mark : Mark) (floor : ℕ) → IsFound (task_of_problem pr) s number
       → IsStored s number x mark → IsLeastOpen (task_of_problem pr) s mark.cost floor
       → ((i : ℕ) (y : List ℕ) (m : Mark) → IsStored s i y m → m.cost + guide_of pr.method.bound (board_of_code pr.start y) < floor
       → IsCoveredBelow (classes_of pr) s y m.cost floor)
       × ((others : List Move) → Wins pr.game pr.start others → floor ≤ length others)
-  floor_holds number x mark floor found at least =
-      let both = open_floors (classes_of pr) (lawful (by_codes pr.start) (guide_of pr.method.bound) pr.game pr.method.rule pr.start names (bounds_lower pr.method.bound).0 pp) pr.method.strategy s number x
+  floor_holds whole number x mark floor found at least =
+      let both = open_floors (classes_of pr) (lawful (by_codes pr.start) (guide_of pr.method.bound) pr.game pr.method.rule pr.start names (bounds_lower pr.method.bound).0 pp) pr.method.strategy pr.limit s number x
       mark floor found at least in (
-        λ i y m there lt. expanded_covered (classes_of pr) s y m.cost floor (both.0 i y m there lt),
+        λ i y m there lt. expanded_covered (task_of_problem pr) s y m.cost floor (up_to whole floor) (both.0 i y m there lt),
         λ others wins. both.1 (length others) (others, refl, wins),
       )
 
@@ -255,11 +259,11 @@ module _ (pr : Problem) (s : Store (List ℕ)) (names : IsNaming (by_codes pr.st
       (omega (arith, length-filter test (costs_of pr.start s), count_by-le-length test (costs_of pr.start s), stored_long pr.start s, room, few))
 
   -- the verdict of a search that found a shortest list
-  pub shortest_verdict : 1 ≤ pr.method.strategy.weight.parts → IsEven pr.method.strategy.weight → (number : ℕ) (ms : List Move) (b : Board) → pr.method.rule ≤ 2 → pr.method.strategy.budget ≤ 4000000
+  pub shortest_verdict : pr.limit ≡ None → 1 ≤ pr.method.strategy.weight.parts → IsEven pr.method.strategy.weight → (number : ℕ) (ms : List Move) (b : Board) → pr.method.rule ≤ 2 → pr.method.strategy.budget ≤ 4000000
       → IsFound (task_of_problem pr) s number
       → Shows (task_of_problem pr) s (status.Won number)
       → IsAtClass pr.game s pr.start number ms b → IsVerdict pr (Shortest ms)
-  shortest_verdict positive light number ms b known few (sound, found) shows walked =
+  shortest_verdict whole positive light number ms b known few (sound, found) shows walked =
       let won = won_length positive light number ms b shows walked in
       let low = sound.low number won.0 won.1 won.2 in
       let inside_store = stands_within s number won.0 won.1 won.2 in
@@ -268,7 +272,7 @@ module _ (pr : Problem) (s : Store (List ℕ)) (names : IsNaming (by_codes pr.st
       let cost = won.3 in
       let listed = inside_table (length ms) few sound in
       let table = listed.0 in
-      let backed = backed_shortest positive light number ms table (sound, found) won.0 won.1 won.2 won.3 listed.1 listed.2
+      let backed = backed_shortest whole positive light number ms table (sound, found) won.0 won.1 won.2 won.3 listed.1 listed.2
       (subst (λ r. r ≤ 2) (sym listed.1) known) listed.3 listed.4 listed.5 in record {
         right = record { wins = won.4; least = won.5 };
         earned = tt;
@@ -278,17 +282,17 @@ module _ (pr : Problem) (s : Store (List ℕ)) (names : IsNaming (by_codes pr.st
       }
 
   -- the verdict of a search by a greater weight that found a list, no longer than the won class costs
-  pub won_verdict : pr.method.strategy.weight.parts < pr.method.strategy.weight.times → (number : ℕ) (ms : List Move) (x : List ℕ) (mark : Mark) (floor : ℕ) → pr.method.rule ≤ 2 → pr.method.strategy.budget ≤ 4000000
+  pub won_verdict : pr.limit ≡ None → pr.method.strategy.weight.parts < pr.method.strategy.weight.times → (number : ℕ) (ms : List Move) (x : List ℕ) (mark : Mark) (floor : ℕ) → pr.method.rule ≤ 2 → pr.method.strategy.budget ≤ 4000000
       → IsFound (task_of_problem pr) s number → IsStored s number x mark
       → IsLeastOpen (task_of_problem pr) s mark.cost floor → length ms ≤ mark.cost → Wins pr.game pr.start ms
       → ((others : List Move) → Wins pr.game pr.start others
       → pr.method.strategy.weight.parts * mark.cost ≤ pr.method.strategy.weight.times * length others)
       → IsVerdict pr (Won ms floor)
-  won_verdict heavy number ms x mark floor known few found at opened le wins least =
+  won_verdict whole heavy number ms x mark floor known few found at opened le wins least =
       let low = found.0.low number x mark at in
       let inside_store = stands_within s number x mark at in
       let room = found.0.room in
-      let holds = floor_holds number x mark floor found at opened in
+      let holds = floor_holds whole number x mark floor found at opened in
       let listed = inside_table floor few found.0 in
       let table = listed.0 in
       let backed = backed_below floor table found.0 holds.0 listed.1 listed.2 (subst (λ r. r ≤ 2) (sym listed.1) known) listed.3 listed.4
@@ -306,17 +310,17 @@ module _ (pr : Problem) (s : Store (List ℕ)) (names : IsNaming (by_codes pr.st
       }
 
   -- the verdict of a search that found no way to win
-  pub cannot_win_verdict : pr.method.rule ≤ 2 → pr.method.strategy.budget ≤ 4000000 → IsExhausted (task_of_problem pr) s
+  pub cannot_win_verdict : pr.limit ≡ None → pr.method.rule ≤ 2 → pr.method.strategy.budget ≤ 4000000 → IsExhausted (task_of_problem pr) s
       → Shows (task_of_problem pr) s status.CannotWin → IsVerdict pr CannotWin
-  cannot_win_verdict known few (sound, done) none =
+  cannot_win_verdict whole known few (sound, done) none =
       let free : (List ℕ × ℕ) → List ℕ × ℕ = λ e. (e.0, 0) in
       let room = sound.room in
       let listed = as_table (at_no_cost (costs_of pr.start s)) (no_cost_once (costs_of pr.start s) (stored_once pr s names pp sound))
       (omega (arith, length-map (costs_of pr.start s) free, stored_long pr.start s, room, few)) in
       let table = listed.0 in
-      let backed = backed_whole table (sound, done) listed.1 (subst (λ r. r ≤ 2) (sym listed.1) known) listed.3 listed.4 listed.5 in
+      let backed = backed_whole whole table (sound, done) listed.1 (subst (λ r. r ≤ 2) (sym listed.1) known) listed.3 listed.4 listed.5 in
       record {
-        right = λ ms wins. none (length ms) (ms, refl, wins);
+        right = λ ms wins. subst (λ l. ReachesLimit l (length ms) → ⊥) (sym whole) (λ never. never) (none (length ms) (ms, refl, wins));
         earned = tt;
         written = tt;
         few = tt;

@@ -1,5 +1,5 @@
 -- A search of a position's classes as a whole: how it begins, runs and is answered.
-use Rattle.std.specs.Prelude.{◌≡◌, ℕ, ◌<◌, ◌≤◌, List, length}
+use Rattle.std.specs.Prelude.{◌≡◌, ℕ, ◌<◌, ◌≤◌, List, Option, None, Some, length}
 use Rattle.fc_position.specs.Board.{Board}
 use Rattle.fc_moves.specs.GameRules.{GameRules}
 use Rattle.fc_best_first.specs.declared.books.Mark.{Mark}
@@ -71,11 +71,12 @@ IsRefused budget fault.Budget = IsBudget budget → ⊥
 IsRefused budget fault.Memory = IsBudget budget
 IsRefused budget other = ⊥
 
--- why a search isn't answered: it is still running, it was stopped, or it is done and a growth was refused
-abbrev pub IsUnanswered : Status (List ℕ) → SearchFault → Type 0
-IsUnanswered Running told = told ≡ fault.NotDone
-IsUnanswered Stopped told = told ≡ fault.Stopped
-IsUnanswered done told = told ≡ fault.Memory
+-- why a search isn't answered: it has a limit; or it is still running, it was stopped, or it is done and a growth was refused
+abbrev pub IsUnanswered : Option ℕ → Status (List ℕ) → SearchFault → Type 0
+IsUnanswered (Some limit) status told = told ≡ fault.Limited
+IsUnanswered None Running told = told ≡ fault.NotDone
+IsUnanswered None Stopped told = told ≡ fault.Stopped
+IsUnanswered None done told = told ≡ fault.Memory
 
 -- a search of the problem that began ran on to this store and this status
 pub record HasRun (p : Problem) (last : Store (List ℕ)) (status : Status (List ℕ)) : Type 0 where

@@ -45,6 +45,7 @@ impl<F: Frontier + Drop, G: Game + Drop> Model for Search<F, G> {
         game = G.game s.search.space.rules.game;
         method = record { rule = s.search.space.rules.rule; bound = s.search.space.rules.kind; strategy = s.search.strategy };
         start = s.search.space.start;
+        limit = s.search.limit;
       };
       store = s.search.store;
       status = s.search.status;
@@ -136,13 +137,16 @@ impl<F: Frontier + Drop, G: Game + Drop> Search<F, G> {
     /// The answer of a search that is done. It never changes the search.
     ///
     /// # Errors
-    /// `Stopped` after a want of memory stopped the search; `NotDone` before it is done; `Memory` where a growth was
-    /// refused.
+    /// `Limited` where the search has a limit; else `Stopped` after a want of memory stopped the search; `NotDone` before it is
+    /// done; `Memory` where a growth was refused.
     pub fn answer(&self) -> Result<Answer, SearchFault>
         ensures answers { IfOk result (Answers self.now.problem) }
         ensures kind { IfOk result (λ answer. IsOfStatus self.now.problem self.now.store self.now.status answer.verdict) }
-        ensures fault { IfErr result (IsUnanswered self.now.status) }
+        ensures fault { IfErr result (IsUnanswered self.now.problem.limit self.now.status) }
     {
+        if self.search.limit().is_some() {
+            return Err(SearchFault::Limited);
+        }
         let answer = match self.search.status() {
             Status::Running => return Err(SearchFault::NotDone),
             Status::Stopped => return Err(SearchFault::Stopped),
@@ -166,9 +170,12 @@ impl<F: Frontier + Drop, G: Game + Drop> Search<F, G> {
     pub fn verdict(&self) -> Result<Verdict, SearchFault>
         ensures told { IfOk result (IsVerdict self.now.problem) }
         ensures kind { IfOk result (IsOfStatus self.now.problem self.now.store self.now.status) }
-        ensures fault { IfErr result (IsUnanswered self.now.status) }
+        ensures fault { IfErr result (IsUnanswered self.now.problem.limit self.now.status) }
     {
         self.known();
+        if self.search.limit().is_some() {
+            return Err(SearchFault::Limited);
+        }
         match self.search.status() {
             Status::Running => Err(SearchFault::NotDone),
             Status::Stopped => Err(SearchFault::Stopped),
@@ -217,6 +224,7 @@ impl<F: Frontier + Drop, G: Game + Drop> Search<F, G> {
         requires held { Holds (task_of_problem self.now.problem) self.now.store self.now.status }
         requires shown { Shows (task_of_problem self.now.problem) self.now.store self.now.status }
         requires done { self.now.status ≡ Status.Won number }
+        requires whole { self.now.problem.limit ≡ None }
         ensures shortest { IfOk result (λ moves. IsEven self.now.problem.method.strategy.weight
             → IsVerdict self.now.problem (Verdict.Shortest moves)
             × IsOfStatus self.now.problem self.now.store self.now.status (Verdict.Shortest moves)) }
@@ -244,6 +252,7 @@ impl<F: Frontier + Drop, G: Game + Drop> Search<F, G> {
         requires held { Holds (task_of_problem self.now.problem) self.now.store self.now.status }
         requires shown { Shows (task_of_problem self.now.problem) self.now.store self.now.status }
         requires done { self.now.status ≡ Status.Won number }
+        requires whole { self.now.problem.limit ≡ None }
         ensures told { IfOk result (IsVerdict self.now.problem) }
         ensures kind { IfOk result (IsOfStatus self.now.problem self.now.store self.now.status) }
     {
@@ -261,6 +270,7 @@ impl<F: Frontier + Drop, G: Game + Drop> Search<F, G> {
         requires held { Holds (task_of_problem self.now.problem) self.now.store self.now.status }
         requires shown { Shows (task_of_problem self.now.problem) self.now.store self.now.status }
         requires done { self.now.status ≡ Status.Won number }
+        requires whole { self.now.problem.limit ≡ None }
         ensures answers { IfOk result (Answers self.now.problem) }
         ensures kind { IfOk result (λ answer. IsOfStatus self.now.problem self.now.store self.now.status answer.verdict) }
     {
@@ -287,6 +297,7 @@ impl<F: Frontier + Drop, G: Game + Drop> Search<F, G> {
         requires held { Holds (task_of_problem self.now.problem) self.now.store self.now.status }
         requires shown { Shows (task_of_problem self.now.problem) self.now.store self.now.status }
         requires done { self.now.status ≡ Status.CannotWin }
+        requires whole { self.now.problem.limit ≡ None }
         ensures answers { IfOk result (Answers self.now.problem) }
         ensures kind { IfOk result (λ answer. IsOfStatus self.now.problem self.now.store self.now.status answer.verdict) }
     {

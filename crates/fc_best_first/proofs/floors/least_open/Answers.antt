@@ -8,67 +8,68 @@ use Rattle.fc_best_first.proofs.floors.least_open.Goals as goal
 use Rattle.fc_best_first.proofs.floors.least_open.Goals.{After-present_bound}
 
 pub loop-f-init : goal.loop-f-init
-loop-f-init g c =
-    let task : Task g.row.K.Denot = record { graph = g.S.Space.graph c.args.space.now; strategy = c.args.strategy.now } in
-    least_begins task c.args.book.now c.args.most c.into_iter-f-iterator.result
+loop-f-init g c limit =
+    let own : Task g.row.K.Denot = record { graph = g.S.Space.graph c.args.space.now; strategy = c.args.strategy.now; limit = limit } in
+    least_begins own c.args.book.now c.args.most c.into_iter-f-iterator.result
     (subst (λ ps. IsPermutation ps c.args.book.now.waiting) (sym c.into_iter-f-iterator.ensures.into_iter_gives)
     c.waiting-f-items.ensures.items)
 
 pub at-requires : goal.at-requires
 at-requires g c =
-    let task : Task g.row.K.Denot = record { graph = g.S.Space.graph c.args.space.now; strategy = c.args.strategy.now } in
+    let task : Task g.row.K.Denot = record { graph = g.S.Space.graph c.args.space.now; strategy = c.args.strategy.now; limit = c.requires.sound.1.0 } in
     record {
-      within = waiting_within task c.args.book.now c.in-Some.f c.in-Some.number c.requires.sound.1
+      within = waiting_within task c.args.book.now c.in-Some.f c.in-Some.number c.requires.sound.1.1
           (next_waits task c.args.book.now c.args.most c.loop-f.floor c.in-Some.f c.in-Some.number c.loop-f.f-iterator
-          c.next.new.self c.in-Some.ensures.steps c.loop-f.invariant);
+          c.next.new.self c.in-Some.ensures.steps (c.loop-f.invariant c.requires.sound.1.0));
     }
 
 pub overflow_sub-over : goal.overflow_sub-over
 overflow_sub-over g c =
-    let task : Task g.row.K.Denot = record { graph = g.S.Space.graph c.args.space.now; strategy = c.args.strategy.now } in
-    let high = waiting_high task c.args.book.now c.in-Some.f c.in-Some.number c.at.result.0.now c.at.result.1 c.requires.sound.1
+    let task : Task g.row.K.Denot = record { graph = g.S.Space.graph c.args.space.now; strategy = c.args.strategy.now; limit = c.requires.sound.1.0 } in
+    let high = waiting_high task c.args.book.now c.in-Some.f c.in-Some.number c.at.result.0.now c.at.result.1 c.requires.sound.1.1
     (next_waits task c.args.book.now c.args.most c.loop-f.floor c.in-Some.f c.in-Some.number c.loop-f.f-iterator
-    c.next.new.self c.in-Some.ensures.steps c.loop-f.invariant) c.at.ensures.stands in
+    c.next.new.self c.in-Some.ensures.steps (c.loop-f.invariant c.requires.sound.1.0)) c.at.ensures.stands in
     omega (arith, high)
 
 pub overflow_add-mark : goal.overflow_add-mark
 overflow_add-mark g c =
-    let task : Task g.row.K.Denot = record { graph = g.S.Space.graph c.args.space.now; strategy = c.args.strategy.now } in
-    let most = entry_low task c.args.book.now c.args.book.now c.in-Some.number c.at.result.0.now c.at.result.1 c.requires.sound.1
+    let task : Task g.row.K.Denot = record { graph = g.S.Space.graph c.args.space.now; strategy = c.args.strategy.now; limit = c.requires.sound.1.0 } in
+    let most = entry_low task c.args.book.now c.args.book.now c.in-Some.number c.at.result.0.now c.at.result.1 c.requires.sound.1.1
     c.requires.sound.0 refl c.at.ensures.stands in
     omega (arith, most)
 
 pub loop-f-preserved-in_default : goal.loop-f-preserved-in_default
-loop-f-preserved-in_default g c =
-    let task : Task g.row.K.Denot = record { graph = g.S.Space.graph c.args.space.now; strategy = c.args.strategy.now } in
-    let high = waiting_high task c.args.book.now c.in-Some.f c.in-Some.number c.at.result.0.now c.at.result.1 c.requires.sound.1
+loop-f-preserved-in_default g c limit =
+    let task : Task g.row.K.Denot = record { graph = g.S.Space.graph c.args.space.now; strategy = c.args.strategy.now; limit = c.requires.sound.1.0 } in
+    let own : Task g.row.K.Denot = record { graph = g.S.Space.graph c.args.space.now; strategy = c.args.strategy.now; limit = limit } in
+    let high = waiting_high task c.args.book.now c.in-Some.f c.in-Some.number c.at.result.0.now c.at.result.1 c.requires.sound.1.1
     (next_waits task c.args.book.now c.args.most c.loop-f.floor c.in-Some.f c.in-Some.number c.loop-f.f-iterator
-    c.next.new.self c.in-Some.ensures.steps c.loop-f.invariant) c.at.ensures.stands in
-    least_stale task c.args.book.now c.args.most c.loop-f.floor c.in-Some.f c.in-Some.number c.loop-f.f-iterator
-    c.next.new.self c.in-Some.ensures.steps c.loop-f.invariant c.at.result.0.now c.at.result.1 c.at.ensures.stands
+    c.next.new.self c.in-Some.ensures.steps (c.loop-f.invariant c.requires.sound.1.0)) c.at.ensures.stands in
+    least_stale own c.args.book.now c.args.most c.loop-f.floor c.in-Some.f c.in-Some.number c.loop-f.f-iterator
+    c.next.new.self c.in-Some.ensures.steps (c.loop-f.invariant limit) c.at.result.0.now c.at.result.1 c.at.ensures.stands
     (none_told _ _ c.present_bound.result c.in_default.not-Some
-    (present_at task.strategy.expansion task c.args.book.now c.in-Some.number c.at.result.0.now c.at.result.1 c.in-Some.f _
-    c.noted-noted.result c.present_bound.result c.requires.sound.1.noted c.at.ensures.stands high (ap (λ k. c.in-Some.f - k) c.weighed.ensures.value)
+    (present_at task.strategy.expansion own c.args.book.now c.in-Some.number c.at.result.0.now c.at.result.1 c.in-Some.f _
+    c.noted-noted.result c.present_bound.result c.requires.sound.1.1.noted c.at.ensures.stands high (ap (λ k. c.in-Some.f - k) c.weighed.ensures.value)
     c.noted-noted.ensures.value c.present_bound.ensures.present))
 
 pub loop-f-preserved : goal.loop-f-preserved
-loop-f-preserved g c =
-    let task : Task g.row.K.Denot = record { graph = g.S.Space.graph c.args.space.now; strategy = c.args.strategy.now } in
-    let high = waiting_high task c.args.book.now c.in-Some.f c.in-Some.number c.at.result.0.now c.at.result.1 c.requires.sound.1
+loop-f-preserved g c limit =
+    let task : Task g.row.K.Denot = record { graph = g.S.Space.graph c.args.space.now; strategy = c.args.strategy.now; limit = c.requires.sound.1.0 } in
+    let own : Task g.row.K.Denot = record { graph = g.S.Space.graph c.args.space.now; strategy = c.args.strategy.now; limit = limit } in
+    let high = waiting_high task c.args.book.now c.in-Some.f c.in-Some.number c.at.result.0.now c.at.result.1 c.requires.sound.1.1
     (next_waits task c.args.book.now c.args.most c.loop-f.floor c.in-Some.f c.in-Some.number c.loop-f.f-iterator
-    c.next.new.self c.in-Some.ensures.steps c.loop-f.invariant) c.at.ensures.stands in
+    c.next.new.self c.in-Some.ensures.steps (c.loop-f.invariant c.requires.sound.1.0)) c.at.ensures.stands in
     let both = some_told _ _ c.present_bound.result c.in-Some-present_bound.bound c.in-Some-present_bound.is
-    (present_at task.strategy.expansion task c.args.book.now c.in-Some.number c.at.result.0.now c.at.result.1 c.in-Some.f _
-    c.noted-noted.result c.present_bound.result c.requires.sound.1.noted c.at.ensures.stands high (ap (λ k. c.in-Some.f - k) c.weighed.ensures.value)
+    (present_at task.strategy.expansion own c.args.book.now c.in-Some.number c.at.result.0.now c.at.result.1 c.in-Some.f _
+    c.noted-noted.result c.present_bound.result c.requires.sound.1.1.noted c.at.ensures.stands high (ap (λ k. c.in-Some.f - k) c.weighed.ensures.value)
     c.noted-noted.ensures.value c.present_bound.ensures.present) in
-    least_counts task c.args.book.now c.args.most c.loop-f.floor c.in-Some.f c.in-Some.number c.loop-f.f-iterator
-    c.next.new.self c.in-Some.ensures.steps c.loop-f.invariant c.at.result.0.now c.at.result.1 c.at.ensures.stands c.min-floor.result
+    least_counts own c.args.book.now c.args.most c.loop-f.floor c.in-Some.f c.in-Some.number c.loop-f.f-iterator
+    c.next.new.self c.in-Some.ensures.steps (c.loop-f.invariant limit) c.at.result.0.now c.at.result.1 c.at.ensures.stands c.min-floor.result
     both.0 (c.min-floor.ensures ∙ ap (λ b. min c.loop-f.floor (c.at.result.1.cost + b)) (c.from.ensures ∙ both.1))
 
 pub returns : goal.returns
 returns g c =
-    let task : Task g.row.K.Denot = record { graph = g.S.Space.graph c.args.space.now; strategy = c.args.strategy.now } in
     record {
-      value = least_ends task c.args.book.now c.args.most c.loop-f.floor c.loop-f.f-iterator
-          c.in-None.ensures.steps.0 c.loop-f.invariant;
+      value = λ limit. least_ends (record { graph = g.S.Space.graph c.args.space.now; strategy = c.args.strategy.now; limit = limit }) c.args.book.now c.args.most c.loop-f.floor c.loop-f.f-iterator
+          c.in-None.ensures.steps.0 (c.loop-f.invariant limit);
     }

@@ -18,7 +18,7 @@ lower-requires-clause-noted g c = noted_within c.args.strategy.now.expansion (g.
 pub returns-clause-offers : goal.returns-clause-offers
 returns-clause-offers g c =
     let graph = g.S.Space.graph c.args.space.now in
-    let task : Task g.row.K.Denot = record { graph = graph; strategy = c.args.strategy.now } in
+    let task : Task g.row.K.Denot = record { graph = graph; strategy = c.args.strategy.now; limit = c.args.taken.now.limit } in
     let number = c.in-Some.number in
     let bound : c.match-noted.bound ≡ graph.bound c.args.child.key = elim c.match-noted.branch [
       | in-Some-noted w ↦ w.bound-is ∙ noted_bound c.args.strategy.now.expansion graph c.args.book.now number c.args.child.key c.in-Some.was

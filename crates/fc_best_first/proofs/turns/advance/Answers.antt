@@ -14,7 +14,7 @@ use Rattle.fc_best_first.proofs.turns.advance.Goals.{After-visit_present}
 
 pub at-requires : goal.at-requires
 at-requires g c =
-    let task : Task g.row.K.Denot = record { graph = g.S.Space.graph c.args.space.now; strategy = c.args.strategy.now } in
+    let task : Task g.row.K.Denot = record { graph = g.S.Space.graph c.args.space.now; strategy = c.args.strategy.now; limit = c.args.limit } in
     record {
       within = taken_within task c.args.book.now c.take.new.self c.in-Some.f
           c.in-Some.number c.requires.kept.sound c.in-Some.ensures.taken c.in-Some.ensures.kept;
@@ -26,7 +26,7 @@ returns-then-is_won-clause-floor g c = taken_floor c.args.book.now.waiting c.tak
 
 pub overflow_sub-over : goal.overflow_sub-over
 overflow_sub-over g c =
-    let task : Task g.row.K.Denot = record { graph = g.S.Space.graph c.args.space.now; strategy = c.args.strategy.now } in
+    let task : Task g.row.K.Denot = record { graph = g.S.Space.graph c.args.space.now; strategy = c.args.strategy.now; limit = c.args.limit } in
     let stands = kept_back c.args.book.now c.take.new.self c.in-Some.number c.at.result.0.now c.at.result.1 c.in-Some.ensures.kept c.at.ensures.stands in
     let high = pair_high task c.args.book.now c.in-Some.f c.in-Some.number c.take.new.self.waiting c.at.result.0.now c.at.result.1
     c.requires.kept.sound c.in-Some.ensures.taken stands in
@@ -34,7 +34,7 @@ overflow_sub-over g c =
 
 pub visit_present-requires-clause-reached : goal.visit_present-requires-clause-reached
 visit_present-requires-clause-reached g c =
-    entry_reached (record { graph = g.S.Space.graph c.args.space.now; strategy = c.args.strategy.now }) c.args.book.now c.take.new.self
+    entry_reached (record { graph = g.S.Space.graph c.args.space.now; strategy = c.args.strategy.now; limit = c.args.limit }) c.args.book.now c.take.new.self
     c.in-Some.number _ _ c.requires.kept.sound c.in-Some.ensures.kept c.at.ensures.stands
 
 -- the pair that is taken
@@ -50,7 +50,7 @@ taken g c = record {
 -- its weighed cost is no more than its f
 low : (g : _) (c : After-visit_present g) → weighed c.args.strategy.now c.at.result.1 ≤ c.in-Some.f
 low g c =
-    let task : Task g.row.K.Denot = record { graph = g.S.Space.graph c.args.space.now; strategy = c.args.strategy.now } in
+    let task : Task g.row.K.Denot = record { graph = g.S.Space.graph c.args.space.now; strategy = c.args.strategy.now; limit = c.args.limit } in
     let high = pair_high task c.args.book.now c.in-Some.f c.in-Some.number c.take.new.self.waiting c.at.result.0.now c.at.result.1
     c.requires.kept.sound c.in-Some.ensures.taken (taken g c).stands in
     omega (arith, high)
@@ -58,11 +58,11 @@ low g c =
 -- whether it is the present one of its key
 present : (g : _) (c : After-visit_present g)
     → (IsTrue c.visit_present.result → IsPresent c.args.strategy.now.expansion c.args.book.now c.in-Some.number (weighed c.args.strategy.now c.at.result.1)
-    (f_of (record { graph = g.S.Space.graph c.args.space.now; strategy = c.args.strategy.now }) c.at.result.0.now c.at.result.1) c.in-Some.f)
+    (f_of (record { graph = g.S.Space.graph c.args.space.now; strategy = c.args.strategy.now; limit = c.args.limit }) c.at.result.0.now c.at.result.1) c.in-Some.f)
     × ((IsTrue c.visit_present.result → ⊥) → IsStale c.args.strategy.now.expansion c.args.book.now c.in-Some.number (weighed c.args.strategy.now c.at.result.1)
-    (f_of (record { graph = g.S.Space.graph c.args.space.now; strategy = c.args.strategy.now }) c.at.result.0.now c.at.result.1) c.in-Some.f)
+    (f_of (record { graph = g.S.Space.graph c.args.space.now; strategy = c.args.strategy.now; limit = c.args.limit }) c.at.result.0.now c.at.result.1) c.in-Some.f)
 present g c =
-    let task : Task g.row.K.Denot = record { graph = g.S.Space.graph c.args.space.now; strategy = c.args.strategy.now } in
+    let task : Task g.row.K.Denot = record { graph = g.S.Space.graph c.args.space.now; strategy = c.args.strategy.now; limit = c.args.limit } in
     let le = low g c in
     taken_present c.args.strategy.now.expansion task c.args.book.now c.in-Some.number c.at.result.0.now c.at.result.1 c.in-Some.f
     (c.in-Some.f - c.weighed-cost.result) c.noted.result c.visit_present.result c.requires.kept.sound.noted (taken g c).stands le (omega (arith, le, c.weighed-cost.ensures.value))
@@ -92,7 +92,7 @@ returns-then-not-visit_present-clause-takes g c =
 
 pub expand-requires-clause-low : goal.expand-requires-clause-low
 expand-requires-clause-low g c =
-    entry_low (record { graph = g.S.Space.graph c.args.space.now; strategy = c.args.strategy.now }) c.args.book.now c.take.new.self c.in-Some.number _ _
+    entry_low (record { graph = g.S.Space.graph c.args.space.now; strategy = c.args.strategy.now; limit = c.args.limit }) c.args.book.now c.take.new.self c.in-Some.number _ _
     c.requires.kept.sound c.get.ensures.range.greatest c.in-Some.ensures.kept c.at.ensures.stands
 
 pub expand-requires-clause-noted : goal.expand-requires-clause-noted
@@ -102,7 +102,7 @@ expand-requires-clause-noted g c = noted_same c.args.strategy.now.expansion (g.S
 pub expand-requires-clause-reached : goal.expand-requires-clause-reached
 expand-requires-clause-reached g c = λ children rest.
     children_reached (g.S.Space.graph c.args.space.now) c.at.result.0.now children
-    (entry_reached (record { graph = g.S.Space.graph c.args.space.now; strategy = c.args.strategy.now }) c.args.book.now c.take.new.self
+    (entry_reached (record { graph = g.S.Space.graph c.args.space.now; strategy = c.args.strategy.now; limit = c.args.limit }) c.args.book.now c.take.new.self
     c.in-Some.number _ _ c.requires.kept.sound c.in-Some.ensures.kept c.at.ensures.stands)
     (c.if-not-visit_present.ensures.children refl children rest)
 
@@ -114,7 +114,7 @@ pub close-requires : goal.close-requires
 close-requires g c =
     let now = goal.at.close-requires g c in
     let expands = c.in_ok-placing.ensures.expands in
-    let grow = expands_grow (record { graph = g.S.Space.graph c.args.space.now; strategy = c.args.strategy.now }) c.in-Some.f _ expands.0
+    let grow = expands_grow (record { graph = g.S.Space.graph c.args.space.now; strategy = c.args.strategy.now; limit = c.args.limit }) c.in-Some.f _ expands.0
     c.take.new.self c.expand.new.book c.in_ok-placing.placing expands.2 in
     let lt = stands_within c.take.new.self c.in-Some.number c.at.result.0.now c.at.result.1 c.at.ensures.stands in
     record {
@@ -127,7 +127,7 @@ close-requires g c =
 pub returns-clause-takes : goal.returns-clause-takes
 returns-clause-takes g c =
     let now = goal.at.returns-clause-takes g c in
-    let task : Task g.row.K.Denot = record { graph = g.S.Space.graph c.args.space.now; strategy = c.args.strategy.now } in
+    let task : Task g.row.K.Denot = record { graph = g.S.Space.graph c.args.space.now; strategy = c.args.strategy.now; limit = c.args.limit } in
     let expands = c.in_ok-placing.ensures.expands in
     let works : (left_out : Option g.row.K.Denot) → Closes c.expand.new.book c.close.new.book c.in-Some.number (weighed c.args.strategy.now c.at.result.1) c.in_ok-placing.placing left_out
     → ExpandsTaken task c.args.book.now c.close.new.book c.in-Some.number left_out = λ left_out closes. (

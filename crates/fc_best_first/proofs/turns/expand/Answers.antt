@@ -36,7 +36,7 @@ offer-requires-clause-told g c =
 
 pub returns-in-Full-clause-expands : goal.returns-in-Full-clause-expands
 returns-in-Full-clause-expands g c =
-    let task : Task g.row.K.Denot = record { graph = g.S.Space.graph c.args.space.now; strategy = c.args.strategy.now } in
+    let task : Task g.row.K.Denot = record { graph = g.S.Space.graph c.args.space.now; strategy = c.args.strategy.now; limit = c.args.taken.now.limit } in
     let rest = c.in-Some.ensures.some in
     subst (λ (p : Placing g.row.K.Denot). (all : List (Child g.row.K.Denot)) × g.S.Space.rest c.args.walk.now all
     × Expands task c.args.taken.now.f c.args.taken.now.origin all c.args.book.now c.offer.new.book p) (put_off_room c.loop-child.later c.in-Full.key)
@@ -48,16 +48,16 @@ returns-in-Full-clause-expands g c =
 pub loop-child-preserved-in-PutOff : goal.loop-child-preserved-in-PutOff
 loop-child-preserved-in-PutOff g c =
     let graph = g.S.Space.graph c.args.space.now in
-    let task : Task g.row.K.Denot = record { graph = graph; strategy = c.args.strategy.now } in
-    let here = subst (Offers c.args.strategy.now c.args.taken.now.f c.loop-child.book c.offer.new.book _) c.in-PutOff.is c.in_ok-key.ensures.offers in
+    let task : Task g.row.K.Denot = record { graph = graph; strategy = c.args.strategy.now; limit = c.args.taken.now.limit } in
+    let here = subst (Offers (record { graph = g.S.Space.graph c.args.space.now; strategy = c.args.strategy.now; limit = c.args.taken.now.limit }) c.args.taken.now.f c.loop-child.book c.offer.new.book _) c.in-PutOff.is c.in_ok-key.ensures.offers in
     let past = off_past c.args.strategy.now.expansion c.args.taken.now.f _ c.in-PutOff.f here.1 in
     let near : c.in-PutOff.f ≤ weighed c.args.strategy.now c.args.taken.now.origin + 28050 =
     subst (λ (o : Offered g.row.K.Denot). IsPutOffNear (weighed c.args.strategy.now c.args.taken.now.origin) o) c.in-PutOff.is c.in_ok-key.ensures.near in
     record {
       owned = c.offer.ensures.owned;
-      room = offers_room c.args.strategy.now c.args.taken.now.f c.loop-child.book c.offer.new.book _ c.in_ok-key.field-0
+      room = offers_room (record { graph = g.S.Space.graph c.args.space.now; strategy = c.args.strategy.now; limit = c.args.taken.now.limit }) c.args.taken.now.f c.loop-child.book c.offer.new.book _ c.in_ok-key.field-0
           c.loop-child.invariant.room c.in_ok-key.ensures.offers;
-      noted = offers_noted c.args.strategy.now graph c.args.taken.now.f c.loop-child.book c.offer.new.book _ c.in_ok-key.field-0
+      noted = offers_noted (record { graph = graph; strategy = c.args.strategy.now; limit = c.args.taken.now.limit }) c.args.taken.now.f c.loop-child.book c.offer.new.book _ c.in_ok-key.field-0
           refl c.loop-child.invariant.noted c.in_ok-key.ensures.offers;
       near = near_least g.row.K.Denot c.args.strategy.now.expansion c.args.taken.now.f (weighed c.args.strategy.now c.args.taken.now.origin) c.loop-child.later c.in-PutOff.f c.least_of.result
           c.loop-child.invariant.near past.2 past.0 (omega (arith, near)) c.least_of.ensures.value;
@@ -77,12 +77,12 @@ loop-child-preserved-in-PutOff g c =
 pub loop-child-preserved : goal.loop-child-preserved
 loop-child-preserved g c =
     let graph = g.S.Space.graph c.args.space.now in
-    let task : Task g.row.K.Denot = record { graph = graph; strategy = c.args.strategy.now } in
+    let task : Task g.row.K.Denot = record { graph = graph; strategy = c.args.strategy.now; limit = c.args.taken.now.limit } in
     record {
       owned = c.offer.ensures.owned;
-      room = offers_room c.args.strategy.now c.args.taken.now.f c.loop-child.book c.offer.new.book _ c.in_ok-key.field-0
+      room = offers_room (record { graph = g.S.Space.graph c.args.space.now; strategy = c.args.strategy.now; limit = c.args.taken.now.limit }) c.args.taken.now.f c.loop-child.book c.offer.new.book _ c.in_ok-key.field-0
           c.loop-child.invariant.room c.in_ok-key.ensures.offers;
-      noted = offers_noted c.args.strategy.now graph c.args.taken.now.f c.loop-child.book c.offer.new.book _ c.in_ok-key.field-0
+      noted = offers_noted (record { graph = graph; strategy = c.args.strategy.now; limit = c.args.taken.now.limit }) c.args.taken.now.f c.loop-child.book c.offer.new.book _ c.in_ok-key.field-0
           refl c.loop-child.invariant.noted c.in_ok-key.ensures.offers;
       near = c.loop-child.invariant.near;
       reached = λ children rest child there.
@@ -98,7 +98,7 @@ loop-child-preserved g c =
 pub returns-in-Some-later-clause-expands : goal.returns-in-Some-later-clause-expands
 returns-in-Some-later-clause-expands g c =
     subst (λ (l : Option ℕ). (all : List (Child g.row.K.Denot)) × g.S.Space.rest c.args.walk.now all
-    × Expands (record { graph = g.S.Space.graph c.args.space.now; strategy = c.args.strategy.now }) c.args.taken.now.f c.args.taken.now.origin all
+    × Expands (record { graph = g.S.Space.graph c.args.space.now; strategy = c.args.strategy.now; limit = c.args.taken.now.limit }) c.args.taken.now.f c.args.taken.now.origin all
     c.args.book.now c.loop-child.book (put_off_first l Whole)) c.in-Some-later.is
     (c.loop-child.invariant.onward c.loop-child.book Whole [] c.in_default.ensures.next (refl, refl))
 
@@ -110,6 +110,6 @@ returns-in-Some-later-clause-near g c =
 pub returns-in-None-clause-expands : goal.returns-in-None-clause-expands
 returns-in-None-clause-expands g c =
     subst (λ (l : Option ℕ). (all : List (Child g.row.K.Denot)) × g.S.Space.rest c.args.walk.now all
-    × Expands (record { graph = g.S.Space.graph c.args.space.now; strategy = c.args.strategy.now }) c.args.taken.now.f c.args.taken.now.origin all
+    × Expands (record { graph = g.S.Space.graph c.args.space.now; strategy = c.args.strategy.now; limit = c.args.taken.now.limit }) c.args.taken.now.f c.args.taken.now.origin all
     c.args.book.now c.loop-child.book (put_off_first l Whole)) c.in-None.is
     (c.loop-child.invariant.onward c.loop-child.book Whole [] c.in_default.ensures.next (refl, refl))

@@ -18,9 +18,9 @@ invariant-loop-child g l = record {
   reached : (children : List (Child g.row.K.Denot)) → g.S.Space.rest l.walk children → AreReached (g.S.Space.graph l.space) children;
   onward : (new : Store g.row.K.Denot) (placing : Placing g.row.K.Denot) (children : List (Child g.row.K.Denot))
       → g.S.Space.rest l.walk children
-      → Expands (record { graph = g.S.Space.graph l.space; strategy = l.strategy }) l.taken.f l.taken.origin children l.book new placing
+      → Expands (record { graph = g.S.Space.graph l.space; strategy = l.strategy; limit = l.taken.limit }) l.taken.f l.taken.origin children l.book new placing
       → (all : List (Child g.row.K.Denot)) × g.S.Space.rest l.fn.walk all
-      × Expands (record { graph = g.S.Space.graph l.space; strategy = l.strategy }) l.taken.f l.taken.origin all l.initial.book new
+      × Expands (record { graph = g.S.Space.graph l.space; strategy = l.strategy; limit = l.taken.limit }) l.taken.f l.taken.origin all l.initial.book new
       (put_off_first l.later placing);
 }
 

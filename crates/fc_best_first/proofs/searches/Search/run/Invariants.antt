@@ -9,6 +9,7 @@ abbrev pub invariant-loop : goal.invariant-loop
 invariant-loop g l = record {
   space : l.self.space ≡ l.initial.self.space;
   strategy : l.self.strategy ≡ l.initial.self.strategy;
+  limit : l.self.limit ≡ l.initial.self.limit;
   status : l.self.status ≡ l.initial.self.status;
   onward : (new : Store g.row.K.Denot) (after : Status g.row.K.Denot)
       → Runs (task_of g.S.Space.graph l.initial.self) l.self.status l.self.store new after

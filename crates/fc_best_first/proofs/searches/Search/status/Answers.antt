@@ -11,6 +11,6 @@ returns-clause-holds g c =
 
 pub returns-clause-shows : goal.returns-clause-shows
 returns-clause-shows g c =
-    let task : Task g.row.K.Denot = record { graph = g.S.Space.graph c.self.inside.space; strategy = c.self.inside.strategy } in
+    let task : Task g.row.K.Denot = record { graph = g.S.Space.graph c.self.inside.space; strategy = c.self.inside.strategy; limit = c.self.inside.limit } in
     subst (λ p. Shows (task_of g.S.Space.graph p) p.store p.status) c.self.view_is
     (holds_shows task (g.met.S.Space.lawful c.self.inside.space) c.self.invariant.0.above c.self.inside.book c.self.inside.status c.self.invariant.2)

@@ -1,4 +1,4 @@
-use Rattle.std.proofs.Common.{◌≡◌, ◌<◌, Ok, ◌∙◌, ap, subst}
+use Rattle.std.proofs.Common.{◌≡◌, ◌<◌, Ok, ◌∙◌, ap, subst, sym}
 use Rattle.fc_best_first.specs.Graph.{Task}
 use Rattle.fc_best_first.specs.Shown.{Holds}
 use Rattle.fc_best_first.specs.Search.{Turns, reply_of, task_of}
@@ -11,7 +11,7 @@ use Rattle.fc_best_first.proofs.searches.Search.turn.Goals.{in-Running-status, i
 
 pub invariant_of-self : goal.invariant_of-self
 invariant_of-self g c =
-    let task : Task g.row.K.Denot = record { graph = g.S.Space.graph c.self.inside.space; strategy = c.self.inside.strategy } in
+    let task : Task g.row.K.Denot = record { graph = g.S.Space.graph c.self.inside.space; strategy = c.self.inside.strategy; limit = c.self.inside.limit } in
     let kept = subst (Holds task c.self.inside.book) c.in-Running.is c.self.invariant.2 in (
       c.self.invariant.0,
       c.self.invariant.1,
@@ -24,7 +24,7 @@ invariant_of-self g c =
 
 pub invariant_of-self-in-Err : goal.invariant_of-self-in-Err
 invariant_of-self-in-Err g c =
-    let task : Task g.row.K.Denot = record { graph = g.S.Space.graph c.self.inside.space; strategy = c.self.inside.strategy } in (
+    let task : Task g.row.K.Denot = record { graph = g.S.Space.graph c.self.inside.space; strategy = c.self.inside.strategy; limit = c.self.inside.limit } in (
       c.self.invariant.0,
       c.self.invariant.1,
       tt,
@@ -37,7 +37,7 @@ invariant_of-self-in-Err g c =
 
 pub returns-after-status-clause-falls : goal.returns-after-status-clause-falls
 returns-after-status-clause-falls g c =
-    let task : Task g.row.K.Denot = record { graph = g.S.Space.graph c.self.inside.space; strategy = c.self.inside.strategy } in
+    let task : Task g.row.K.Denot = record { graph = g.S.Space.graph c.self.inside.space; strategy = c.self.inside.strategy; limit = c.self.inside.limit } in
     elim c.match-status.branch [
       | in-Running-status w ↦ λ e. subst (λ p. work_left p.strategy.budget c.advance.new.book < work_left p.strategy.budget p.store) c.self.view_is
           (takes_less task (g.met.S.Space.lawful c.self.inside.space) c.self.invariant.0.above c.self.inside.book c.advance.new.book
@@ -51,9 +51,9 @@ returns-after-status-clause-turns g c =
     let old = c.self.inside.book in
     let new = c.advance.new.book in
     let after = c.in-Ok.status in
-    let task : Task g.row.K.Denot = record { graph = g.S.Space.graph c.self.inside.space; strategy = c.self.inside.strategy } in
+    let task : Task g.row.K.Denot = record { graph = g.S.Space.graph c.self.inside.space; strategy = c.self.inside.strategy; limit = c.self.inside.limit } in
     let replies : Ok c.match-status.step ≡ reply_of after = elim c.match-status.branch [
-      | in-Running-status w ↦ cc
+      | in-Running-status w ↦ ap Ok w.step-is ∙ sym (ap reply_of w.in-Running-status.is)
       | in_default-status w ↦ ap Ok w.step-is ∙ done_replies task after old new
           w.in_default-status.not-Running c.in-Ok.ensures.takes
     ] in

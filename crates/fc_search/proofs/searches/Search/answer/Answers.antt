@@ -38,6 +38,7 @@ returns-in-Ok-clause-answers g c =
             game = g.G.Game.game inner.space.rules.game;
             method = record { rule = inner.space.rules.rule; bound = inner.space.rules.kind; strategy = inner.strategy };
             start = inner.space.start;
+            limit = inner.limit;
           } in
           let shows = subst (Shows (task_of_problem own) inner.store)
           stands c.status.ensures.shows in

@@ -14,10 +14,10 @@ returns-clause-answers g c =
     let q = c.args.self.now.problem in
     let store = c.args.self.now.store in
     let made = c.in_ok-table.ensures in record {
-      told = cannot_win_verdict q store c.known.ensures.names c.known.ensures.fits c.known.ensures.rule c.known.ensures.budget.greatest
+      told = cannot_win_verdict q store c.known.ensures.names c.known.ensures.fits c.requires.whole c.known.ensures.rule c.known.ensures.budget.greatest
           (subst (Holds (task_of_problem q) store) c.requires.done c.requires.held)
           (subst (Shows (task_of_problem q) store) c.requires.done c.requires.shown);
-      backed = backed_whole q store c.known.ensures.names c.known.ensures.fits c.in_ok-table.table
+      backed = backed_whole q store c.known.ensures.names c.known.ensures.fits c.requires.whole c.in_ok-table.table
           (subst (Holds (task_of_problem q) store) c.requires.done c.requires.held) made.rule made.known made.few made.rising made.rows;
       searched = (made.rule, made.bound);
     }

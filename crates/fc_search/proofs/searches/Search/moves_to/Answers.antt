@@ -17,8 +17,8 @@ pub loop-next-init : goal.loop-next-init
 loop-next-init g c =
     let now = c.args.self.now in
     let sp = c.space-space.result.now in
-    let e : record { game = g.G.Game.game sp.rules.game; method = record { rule = sp.rules.rule; bound = sp.rules.kind; strategy = c.self.inside.search.strategy }; start = sp.start } ≡ now.problem =
-    ap (λ v. record { game = g.G.Game.game v.rules.game; method = record { rule = v.rules.rule; bound = v.rules.kind; strategy = c.self.inside.search.strategy }; start = v.start }) c.space-space.ensures.value
+    let e : record { game = g.G.Game.game sp.rules.game; method = record { rule = sp.rules.rule; bound = sp.rules.kind; strategy = c.self.inside.search.strategy }; start = sp.start; limit = c.self.inside.search.limit } ≡ now.problem =
+    ap (λ v. record { game = g.G.Game.game v.rules.game; method = record { rule = v.rules.rule; bound = v.rules.kind; strategy = c.self.inside.search.strategy }; start = v.start; limit = c.self.inside.search.limit }) c.space-space.ensures.value
     ∙ ap (λ s. s.problem) c.self.view_is in
     let pp = subst (λ v. IsPositionOf v.game v.start) e sp.fits in
     let by = subst (λ v. SettlesBy v.game v.method.rule v.start c.settle-settling.result.items c.settle-settling.new.position) e
@@ -78,8 +78,8 @@ pub follow-requires-clause-fits : goal.follow-requires-clause-fits
 follow-requires-clause-fits g c =
     let now = c.args.self.now in
     let sp = c.space-space.result.now in
-    let e : record { game = g.G.Game.game sp.rules.game; method = record { rule = sp.rules.rule; bound = sp.rules.kind; strategy = c.self.inside.search.strategy }; start = sp.start } ≡ now.problem =
-    ap (λ v. record { game = g.G.Game.game v.rules.game; method = record { rule = v.rules.rule; bound = v.rules.kind; strategy = c.self.inside.search.strategy }; start = v.start }) c.space-space.ensures.value
+    let e : record { game = g.G.Game.game sp.rules.game; method = record { rule = sp.rules.rule; bound = sp.rules.kind; strategy = c.self.inside.search.strategy }; start = sp.start; limit = c.self.inside.search.limit } ≡ now.problem =
+    ap (λ v. record { game = g.G.Game.game v.rules.game; method = record { rule = v.rules.rule; bound = v.rules.kind; strategy = c.self.inside.search.strategy }; start = v.start; limit = c.self.inside.search.limit }) c.space-space.ensures.value
     ∙ ap (λ s. s.problem) c.self.view_is in
     let run = subst (λ v. Run v.game v.start c.loop-next.made.items c.loop-next.position) (sym e)
     c.loop-next.invariant.0.3 in
@@ -89,8 +89,8 @@ pub follow-requires-clause-leads : goal.follow-requires-clause-leads
 follow-requires-clause-leads g c =
     let now = c.args.self.now in
     let sp = c.space-space.result.now in
-    let e : record { game = g.G.Game.game sp.rules.game; method = record { rule = sp.rules.rule; bound = sp.rules.kind; strategy = c.self.inside.search.strategy }; start = sp.start } ≡ now.problem =
-    ap (λ v. record { game = g.G.Game.game v.rules.game; method = record { rule = v.rules.rule; bound = v.rules.kind; strategy = c.self.inside.search.strategy }; start = v.start }) c.space-space.ensures.value
+    let e : record { game = g.G.Game.game sp.rules.game; method = record { rule = sp.rules.rule; bound = sp.rules.kind; strategy = c.self.inside.search.strategy }; start = sp.start; limit = c.self.inside.search.limit } ≡ now.problem =
+    ap (λ v. record { game = g.G.Game.game v.rules.game; method = record { rule = v.rules.rule; bound = v.rules.kind; strategy = c.self.inside.search.strategy }; start = v.start; limit = c.self.inside.search.limit }) c.space-space.ensures.value
     ∙ ap (λ s. s.problem) c.self.view_is in
     let pp = subst (λ v. IsPositionOf v.game v.start) e sp.fits in
     let at = c.loop-next.last in
@@ -112,8 +112,8 @@ pub loop-next-preserved : goal.loop-next-preserved
 loop-next-preserved g c =
     let now = c.args.self.now in
     let sp = c.space-space.result.now in
-    let e : record { game = g.G.Game.game sp.rules.game; method = record { rule = sp.rules.rule; bound = sp.rules.kind; strategy = c.self.inside.search.strategy }; start = sp.start } ≡ now.problem =
-    ap (λ v. record { game = g.G.Game.game v.rules.game; method = record { rule = v.rules.rule; bound = v.rules.kind; strategy = c.self.inside.search.strategy }; start = v.start }) c.space-space.ensures.value
+    let e : record { game = g.G.Game.game sp.rules.game; method = record { rule = sp.rules.rule; bound = sp.rules.kind; strategy = c.self.inside.search.strategy }; start = sp.start; limit = c.self.inside.search.limit } ≡ now.problem =
+    ap (λ v. record { game = g.G.Game.game v.rules.game; method = record { rule = v.rules.rule; bound = v.rules.kind; strategy = c.self.inside.search.strategy }; start = v.start; limit = c.self.inside.search.limit }) c.space-space.ensures.value
     ∙ ap (λ s. s.problem) c.self.view_is in
     let pp = subst (λ v. IsPositionOf v.game v.start) e sp.fits in
     let at = c.loop-next.last in

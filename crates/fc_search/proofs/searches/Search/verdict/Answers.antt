@@ -16,10 +16,12 @@ returns-in-CannotWin-clause-told g c =
       game = g.G.Game.game inner.space.rules.game;
       method = record { rule = inner.space.rules.rule; bound = inner.space.rules.kind; strategy = inner.strategy };
       start = inner.space.start;
+      limit = inner.limit;
     } in
+    let none : inner.limit ≡ None = sym c.limit.ensures.value ∙ c.if-is_some.none in
     let stands : inner.status ≡ status.CannotWin = sym c.status.ensures.value ∙ c.in-CannotWin.is in
     let told = cannot_win_verdict own inner.store
-    (codes_name own.game own.start (g.met.G.Game.sound inner.space.rules.game) inner.space.fits) inner.space.fits (subst (λ s. s.problem.method.rule ≤ 2) (sym c.self.view_is) c.known.ensures.rule) c.status.ensures.range.greatest
+    (codes_name own.game own.start (g.met.G.Game.sound inner.space.rules.game) inner.space.fits) inner.space.fits none (subst (λ s. s.problem.method.rule ≤ 2) (sym c.self.view_is) c.known.ensures.rule) c.status.ensures.range.greatest
     (subst (Holds (task_of_problem own) inner.store) stands c.status.ensures.holds)
     (subst (Shows (task_of_problem own) inner.store) stands c.status.ensures.shows) in
     subst (λ s. IsVerdict s.problem verdict.CannotWin)
@@ -32,6 +34,7 @@ returns-in-GaveUp-clause-told g c =
       game = g.G.Game.game inner.space.rules.game;
       method = record { rule = inner.space.rules.rule; bound = inner.space.rules.kind; strategy = inner.strategy };
       start = inner.space.start;
+      limit = inner.limit;
     } in
     let stands : inner.status ≡ status.GaveUp c.in-GaveUp.field-0 c.in-GaveUp.field-1 = sym c.status.ensures.value ∙ c.in-GaveUp.is in
     let told = gave_up_verdict own inner.store

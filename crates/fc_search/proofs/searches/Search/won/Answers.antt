@@ -28,7 +28,7 @@ returns-clause-answers g c =
     let won = subst (λ s. IsOfStatus q store s (verdict.Shortest moves)) c.requires.done shortest.1 in
     let made = c.in_ok-table-2.ensures in record {
       told = shortest.0;
-      backed = backed_shortest q store c.known.ensures.names c.known.ensures.fits range.least light c.args.number moves table
+      backed = backed_shortest q store c.known.ensures.names c.known.ensures.fits c.requires.whole range.least light c.args.number moves table
           (subst (Holds (task_of_problem q) store) c.requires.done c.requires.held) won.0 won.1 won.2 won.3 made.rule made.bound made.known
           made.few made.rising (subst (λ n. IsPermutation (inside (guide_of q.method.bound) n (costs_of q.start store)) table.rows) c.len.ensures.value made.rows);
       searched = (made.rule, made.bound);
@@ -47,7 +47,7 @@ returns-then-times-parts-clause-answers g c =
     let many = c.if-times-parts.true in
     let heavy : q.method.strategy.weight.parts < q.method.strategy.weight.times = omega (arith, parts, times, many) in
     let found = subst (Holds (task_of_problem q) store) c.requires.done c.requires.held in
-    let holds = floor_holds q store c.known.ensures.names c.known.ensures.fits c.args.number told.0 told.1 floor found told.2 told.3 in
+    let holds = floor_holds q store c.known.ensures.names c.known.ensures.fits c.requires.whole c.args.number told.0 told.1 floor found told.2 told.3 in
     let made = c.in_ok-table.ensures in record {
       told = (c.in_ok-moves.ensures.within heavy floor told).0;
       backed = backed_below q store c.known.ensures.names c.known.ensures.fits floor c.in_ok-table.table found.0 holds.0

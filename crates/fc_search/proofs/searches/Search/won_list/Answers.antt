@@ -16,7 +16,7 @@ returns-clause-shortest g c light =
     let shows = subst (Shows (task_of_problem q) store) c.requires.done c.requires.shown in
     let found = subst (Holds (task_of_problem q) store) c.requires.done c.requires.held in
     let won = won_length q store c.known.ensures.names c.known.ensures.fits c.known.ensures.weight.least light c.args.number moves there.0 shows there.1 in (
-      shortest_verdict q store c.known.ensures.names c.known.ensures.fits c.known.ensures.weight.least light c.args.number moves there.0
+      shortest_verdict q store c.known.ensures.names c.known.ensures.fits c.requires.whole c.known.ensures.weight.least light c.args.number moves there.0
           c.known.ensures.rule c.known.ensures.budget.greatest found shows there.1,
       subst (λ s. IsOfStatus q store s (verdict.Shortest moves)) (sym c.requires.done)
           (won.0, won.1, won.2, won.3, light),
@@ -34,7 +34,7 @@ returns-clause-within g c heavy floor told =
     let won = won_within q store c.known.ensures.names c.known.ensures.fits c.args.number moves there.0 shows there.1 in
     let one = same_entry store c.args.number told.0 won.0 mine won.1 told.2 won.2 in
     let own = subst (λ k. IsLeastOpen (task_of_problem q) store k.cost floor) one.1 told.3 in (
-      won_verdict q store c.known.ensures.names c.known.ensures.fits heavy c.args.number moves won.0 won.1 floor
+      won_verdict q store c.known.ensures.names c.known.ensures.fits c.requires.whole heavy c.args.number moves won.0 won.1 floor
           c.known.ensures.rule c.known.ensures.budget.greatest found won.2 own won.3 won.4 won.5,
       subst (λ s. IsOfStatus q store s (verdict.Won moves floor)) (sym c.requires.done)
           (won.0, won.1, won.2, won.3, heavy, own),

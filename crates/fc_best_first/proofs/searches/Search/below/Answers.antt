@@ -7,7 +7,7 @@ use Rattle.fc_best_first.specs.Shown.{IsFloor}
 use Rattle.fc_best_first.specs.Store.{NotesLast, opens_at, weighed}
 use Rattle.fc_best_first.specs.Turn.{opening_of}
 use Rattle.fc_best_first.proofs.BeginLemmas.{first_stored, begins_kept, begins_floor}
-use Rattle.fc_best_first.proofs.searches.Search.new.Goals as goal
+use Rattle.fc_best_first.proofs.searches.Search.below.Goals as goal
 
 abbrev opening_at : ℕ → ℕ → Opening
 opening_at times bound = record { over = times * bound; bound = bound }
@@ -18,7 +18,7 @@ bound_of-requires-clause-reached g c = (_, (0, c.in_ok-start.ensures.starts))
 pub invariant_of-result : goal.invariant_of-result
 invariant_of-result g c =
     let graph = g.S.Space.graph c.args.space in
-    let task : Task g.row.K.Denot = record { graph = graph; strategy = c.args.strategy } in
+    let task : Task g.row.K.Denot = record { graph = graph; strategy = c.args.strategy; limit = c.args.limit } in
     let key = c.in_ok-start.start.key in
     let mark : Mark = record { cost = c.from.result; parent = 0 } in
     let some_room : 1 ≤ c.args.strategy.budget = c.get.ensures.range.least in
