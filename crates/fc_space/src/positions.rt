@@ -79,7 +79,7 @@ impl<G: Game + Drop> Model for Children<G> {
     ghost use Rattle.fc_bound.specs.Kinds.{guide_of};
     ghost use Rattle.fc_space.specs.Children.{Left};
     ghost use Rattle.fc_space.specs.inner.Children.{AreAllowed};
-    ghost use Rattle.fc_space.specs.inner.Remembered.{TellBounds, bound_by_code};
+    ghost use Rattle.fc_space.specs.inner.Remembered.{AreUnder, bound_by_code};
     ghost use Rattle.fc_codes.specs.State.{IsCodeOf};
 
     ghost Value = { Left G };
@@ -88,7 +88,7 @@ impl<G: Game + Drop> Model for Children<G> {
 
     ghost invariant = { λ s. IsPositionOf (G.game s.rules.game) s.position × AreAllowed (G.game s.rules.game) s.position s.left.items
         × (s.bound ≡ guide_of s.rules.kind s.position) × NoneGoesHome s.rules.rule (G.game s.rules.game) s.position × IsCodeOf s.layout s.position s.code
-        × TellBounds (bound_by_code s.rules.kind s.layout) s.remembered };
+        × AreUnder (bound_by_code s.rules.kind s.layout) s.remembered };
 }
 
 impl<G: Game + Drop> Positions<G> {
@@ -367,12 +367,15 @@ impl<G: Game + Drop> Space<Code> for Positions<G> {
     }
 
     fn bound_within(&self, walk: &mut Children<G>, code: &Code, most: u8) -> u8 {
-        if let Some(bound) = walk.remembered.get(code, most) {
-            return bound;
+        if let Some(count) = walk.remembered.get(code, most) {
+            return count;
         }
-        let bound = self.count_within(walk, code, most);
-        walk.remembered.note(code, most, bound);
-        bound
+        let count = self.count_within(walk, code, most);
+        // Else the class is stored, with its bound, and isn't asked again.
+        if most < count {
+            walk.remembered.note(code, most, count);
+        }
+        count
     }
 
     fn visit(&self, code: &Code, walk: &mut Children<G>) -> u8 {

@@ -1,8 +1,8 @@
-//! Bounds that were counted, as far as a table of a fixed size remembers them: a class that was put off is met again, from the
-//! same class or from another, and what was counted of its bound then most often serves.
+//! What was counted of bounds, as far as a table of a fixed size remembers it: a class that was put off is met again, from the
+//! same class or from another, and most often its bound is past what is asked again.
 
-ghost use Rattle.std.specs.Prelude.{◌≡◌, ◌^◌, ◌<◌, ◌≤◌, ◌⊎◌, ℕ, List, [], length, Contains, IfOk, IfNone, IfSome};
-ghost use Rattle.fc_space.specs.inner.Remembered.{IsCount, TellBounds};
+ghost use Rattle.std.specs.Prelude.{◌≡◌, ◌^◌, ◌<◌, ◌≤◌, ℕ, List, [], length, IfOk, IfNone, IfSome};
+ghost use Rattle.fc_space.specs.inner.Remembered.{AreUnder};
 
 use fc_codes::Code;
 use fc_methods::{BoundKind, Expansion, Method};
@@ -10,12 +10,12 @@ use std::alloc::{AllocError, Global};
 use std::hash::{FoldHasher, Hash, Hasher};
 use std::marker::Model;
 
-// What was counted of the bound of the class with a code: a number that is no greater, and whether it is the bound.
+// What was counted of the bound of the class with a code, a number that is no greater, when it was counted no further than asked.
 #[derive(Clone, Copy)]
 pub(crate) struct Counted {
     code: Code,
-    bound: u8,
-    exact: bool,
+    most: u8,
+    count: u8,
 }
 
 // What was counted of bounds, each in the place that its code tells, which a later one of this place takes. A place where
@@ -34,8 +34,8 @@ impl Model for Remembered {
     ghost view = { λ s. s.places.items };
 }
 
-// How many bounds a walk remembers in a search by a method, a power of two: by partial expansion and the clearing bound, which
-// takes long to count and is asked of many classes again and again, about as many as half the classes that may be stored; else none.
+// How many places a walk's table has in a search by a method: by partial expansion and the clearing bound, which takes long to
+// count and is asked of many classes again and again, a power of two, about half as many as classes may be stored; else none.
 pub(crate) fn places(method: &Method) -> usize
     ensures most { result ≤ 2 ^ 17 }
 {
@@ -52,12 +52,12 @@ impl Remembered {
     // So many places, at which nothing is noted. Where there are none, nothing ever is, and no memory is taken.
     pub(crate) fn new(alloc: Global, places: usize) -> Result<Self, AllocError>
         ensures size { IfOk result (λ table. length table ≡ places) }
-        ensures tells { IfOk result (λ table. (bound : List ℕ → ℕ) → TellBounds bound table) }
+        ensures under { IfOk result (λ table. (bound : List ℕ → ℕ) → AreUnder bound table) }
     {
         let nothing = Counted {
             code: Code::all_home(),
-            bound: 0,
-            exact: false,
+            most: 0,
+            count: 0,
         };
         let places = vec![in alloc; nothing; places]?;
         Ok(Remembered { places })
@@ -75,17 +75,16 @@ impl Remembered {
         Some(hasher.finish() as usize & greatest)
     }
 
-    // What counting the bound of the class with this code, no further than asked, may give, where that is remembered.
+    // What counting the bound of the class with this code, no further than asked, gives, where it is past that and is remembered: the
+    // same as when it was counted no further than a number that isn't greater.
     #[inline]
     pub(crate) fn get(&self, code: &Code, most: u8) -> Option<u8>
-        ensures count { (bound : List ℕ → ℕ) → TellBounds bound self.now → IfSome result (IsCount (bound code.now) most) }
+        ensures past { IfSome result (λ count. most < count) }
+        ensures under { (bound : List ℕ → ℕ) → AreUnder bound self.now → IfSome result (λ count. count ≤ bound code.now) }
     {
         let counted = self.places[self.place(code)?];
-        if counted.code != *code {
-            return None;
-        }
-        if counted.exact || counted.bound > most {
-            Some(counted.bound)
+        if counted.code == *code && counted.most <= most && most < counted.count {
+            Some(counted.count)
         } else {
             None
         }
@@ -94,14 +93,14 @@ impl Remembered {
     // Notes what counting the bound of the class with this code, no further than asked, gave.
     #[inline]
     pub(crate) fn note(&mut self, code: &Code, most: u8, count: u8)
-        ensures tells { (bound : List ℕ → ℕ) → TellBounds bound self.old → IsCount (bound code.now) most count → TellBounds bound self.new }
+        ensures under { (bound : List ℕ → ℕ) → AreUnder bound self.old → count ≤ bound code.now → AreUnder bound self.new }
         ensures size { length self.new ≡ length self.old }
     {
         if let Some(place) = self.place(code) {
             self.places[place] = Counted {
                 code: *code,
-                bound: count,
-                exact: count <= most,
+                most,
+                count,
             };
         }
     }

@@ -35,7 +35,7 @@ invariant_of-result g c =
       c.guide-bound.ensures.value,
       subst (λ r. NoneGoesHome own.rules.rule r c.position-position.result) (sym c.copy.ensures.value) settled,
       subst (λ s. IsCodeOf s c.position-position.result x) start coded,
-      c.in_ok-remembered.ensures.tells (bound_by_code own.rules.kind c.copy-2.result),
+      c.in_ok-remembered.ensures.under (bound_by_code own.rules.kind c.copy-2.result),
     )
 
 pub returns-clause-owned : goal.returns-clause-owned
