@@ -1,5 +1,6 @@
 -- What was heard of a search that has ended, with an answer or without one.
-use Rattle.std.proofs.Common.{◌≡◌, ℕ, ◌≤◌, List, [], ◌∷◌, ◌++◌, length, refl, sym, inl, inr, ⊎_elim, subst}
+use Rattle.std.proofs.Common.{◌≡◌, ℕ, ◌≤◌, List, [], ◌∷◌, ◌++◌, length, Result, Ok, Err, refl, sym, inl, inr, ⊎_elim, subst}
+use Rattle.std.specs.Prelude.{IfOk, MatchResult}
 use Rattle.fc_moves.specs.declared.steps.Move.{Move}
 use Rattle.fc_moves.specs.Run.{Wins}
 use Rattle.fc_answers.specs.declared.answers.Verdict.{Verdict}
@@ -35,6 +36,13 @@ module _ (q : Problem) where
 
     pub ends_unanswered : IsHeardAtMost q heard
     ends_unanswered = inr on_part
+
+    -- whatever was told
+    pub ends_told : {V E : Type 0} (verdict_of : V → Verdict) (told : Result V E) → s.problem ≡ q
+        → IfOk told (λ v. IsOfStatus s.problem s.store s.status (verdict_of v))
+        → MatchResult told (λ v. IsHeardToEnd q heard (verdict_of v)) (λ refused. IsHeardAtMost q heard)
+    ends_told verdict_of (Ok v) asked kind = ends_heard (verdict_of v) asked kind
+    ends_told verdict_of (Err e) asked kind = ends_unanswered
 
   pub end_at_most : (heard : List Progress) (verdict : Verdict) → IsHeardToEnd q heard verdict → IsHeardAtMost q heard
   end_at_most heard verdict is = inr (record {

@@ -6,7 +6,7 @@ ghost use Rattle.fc_best_first.specs.Limits.{IsBudget};
 ghost use Rattle.fc_best_first.specs.Search.{reply_of};
 ghost use Rattle.fc_search.specs.declared.listeners.Progress.{Progress};
 ghost use Rattle.fc_search.specs.Problem.{problem_of, shortest_from};
-ghost use Rattle.fc_search.specs.Search.{Answers, IsOneOfThree, IsRefused, IsVerdict, IsRunToEnd, HasRun};
+ghost use Rattle.fc_search.specs.Search.{Answers, IsOfStatus, IsOneOfThree, IsRefused, IsVerdict, IsRunToEnd, HasRun};
 ghost use Rattle.fc_search.specs.Watch.{HearsAll, IsHeardAtMost, IsHeardToEnd};
 ghost use Rattle.fc_search.specs.inner.Watch.{IsHeardOn};
 
@@ -15,7 +15,7 @@ use crate::searches::{Search, shortest};
 use crate::watches::watch;
 use fc_answers::{Answer, Verdict};
 use fc_best_first::{SearchFault, Step};
-use fc_frontier::EitherFrontier;
+use fc_frontier::{EitherFrontier, Frontier};
 use fc_home::GREATEST_RULE;
 use fc_methods::{HomeRule, Question};
 use fc_moves::Game;
@@ -68,10 +68,7 @@ pub fn solve_by<G: Game + Drop, L: Listener>(
         × MatchResult result (λ answer. IsHeardToEnd (problem_of question.now position.now) heard answer.verdict)
         (λ refused. IsHeardAtMost (problem_of question.now position.now) heard) }
 {
-    match at_end(alloc, question, position, listener)?.answer() {
-        Ok(answer) => Ok(answer),
-        Err(_) => Err(AllocError),
-    }
+    solve_with::<EitherFrontier, G, L>(alloc, question, position, listener)
 }
 
 /// The verdict of such a search, as `solve_by` gives its answer, with no table made. It is heard as that of `solve_by` is.
@@ -91,19 +88,79 @@ pub fn decide_by<G: Game + Drop, L: Listener>(
         × MatchResult result (IsHeardToEnd (problem_of question.now position.now) heard)
         (λ refused. IsHeardAtMost (problem_of question.now position.now) heard) }
 {
-    match at_end(alloc, question, position, listener)?.verdict() {
+    decide_with::<EitherFrontier, G, L>(alloc, question, position, listener)
+}
+
+// The answer, as `solve_by` gives it, of a search with a queue of any kind: where a search is dropped, the prover looks at each
+// part of a queue of one kind.
+fn solve_with<F: Frontier + Drop, G: Game + Drop, L: Listener>(
+    alloc: Global,
+    question: &Question<G>,
+    position: &Position,
+    listener: &mut L,
+) -> Result<Answer, AllocError>
+    requires fits { Fits question.now.game.cells position.now }
+    ensures answers { IfOk result (Answers (problem_of question.now position.now)) }
+    ensures ran { IfOk result (λ answer. IsRunToEnd (problem_of question.now position.now) answer.verdict) }
+    ensures heard { (heard : List Progress) × HearsAll L.hears listener.old heard listener.new
+        × MatchResult result (λ answer. IsHeardToEnd (problem_of question.now position.now) heard answer.verdict)
+        (λ refused. IsHeardAtMost (problem_of question.now position.now) heard) }
+{
+    let search: Search<F, G> = at_end(alloc, question, position, listener)?;
+    answer_of(&search)
+}
+
+// The answer of a search that is done, which only a want of memory withholds.
+fn answer_of<F: Frontier + Drop, G: Game + Drop>(
+    search: &Search<F, G>,
+) -> Result<Answer, AllocError>
+    ensures answers { IfOk result (Answers search.now.problem) }
+    ensures kind { IfOk result (λ answer. IsOfStatus search.now.problem search.now.store search.now.status answer.verdict) }
+{
+    match search.answer() {
+        Ok(answer) => Ok(answer),
+        Err(_) => Err(AllocError),
+    }
+}
+
+// The verdict, as `decide_by` gives it, of such a search.
+fn decide_with<F: Frontier + Drop, G: Game + Drop, L: Listener>(
+    alloc: Global,
+    question: &Question<G>,
+    position: &Position,
+    listener: &mut L,
+) -> Result<Verdict, AllocError>
+    requires fits { Fits question.now.game.cells position.now }
+    ensures told { IfOk result (IsVerdict (problem_of question.now position.now)) }
+    ensures ran { IfOk result (IsRunToEnd (problem_of question.now position.now)) }
+    ensures heard { (heard : List Progress) × HearsAll L.hears listener.old heard listener.new
+        × MatchResult result (IsHeardToEnd (problem_of question.now position.now) heard)
+        (λ refused. IsHeardAtMost (problem_of question.now position.now) heard) }
+{
+    let search: Search<F, G> = at_end(alloc, question, position, listener)?;
+    verdict_of(&search)
+}
+
+// The verdict of such a search.
+fn verdict_of<F: Frontier + Drop, G: Game + Drop>(
+    search: &Search<F, G>,
+) -> Result<Verdict, AllocError>
+    ensures told { IfOk result (IsVerdict search.now.problem) }
+    ensures kind { IfOk result (IsOfStatus search.now.problem search.now.store search.now.status) }
+{
+    match search.verdict() {
         Ok(verdict) => Ok(verdict),
         Err(_) => Err(AllocError),
     }
 }
 
 // Such a search, which has run to its end.
-fn at_end<G: Game + Drop, L: Listener>(
+fn at_end<F: Frontier + Drop, G: Game + Drop, L: Listener>(
     alloc: Global,
     question: &Question<G>,
     position: &Position,
     listener: &mut L,
-) -> Result<Search<EitherFrontier, G>, AllocError>
+) -> Result<Search<F, G>, AllocError>
     requires fits { Fits question.now.game.cells position.now }
     ensures problem { IfOk result (λ search. search.problem ≡ problem_of question.now position.now) }
     ensures ran { IfOk result (λ search. HasRun (problem_of question.now position.now) search.store search.status) }
@@ -112,7 +169,7 @@ fn at_end<G: Game + Drop, L: Listener>(
         × MatchResult result (IsHeardOn (problem_of question.now position.now) heard)
         (λ refused. IsHeardAtMost (problem_of question.now position.now) heard) }
 {
-    let mut search: Search<EitherFrontier, G> = Search::new_by(alloc, question, position)?;
+    let mut search = Search::new_by(alloc, question, position)?;
     watch(&mut search, listener)?;
     Ok(search)
 }

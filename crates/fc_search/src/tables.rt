@@ -1,10 +1,10 @@
 //! The table that backs the answer of a search that is done.
 
-ghost use Rattle.std.specs.Prelude.{◌≡◌, ◌≤◌, length, IfOk};
+ghost use Rattle.std.specs.Prelude.{◌≡◌, ◌+◌, ◌<◌, ◌≤◌, ◌∷◌, ◌++◌, [], length, option_to_list, take, IfOk};
 ghost use Rattle.std.specs.List.Sorted.{IsPermutation};
 ghost use Rattle.fc_best_first.specs.Kept.{IsSound};
 ghost use Rattle.fc_bound.specs.Kinds.{guide_of};
-ghost use Rattle.fc_answers.specs.Table.{IsRising};
+ghost use Rattle.fc_answers.specs.Table.{IsRising, pairs_of};
 ghost use Rattle.fc_answers.specs.inner.Table.{at_no_cost, inside};
 ghost use Rattle.fc_search.specs.Problem.{task_of_problem};
 ghost use Rattle.fc_search.specs.inner.Stored.{costs_of};
@@ -30,20 +30,43 @@ impl<F: Frontier + Drop, G: Game + Drop> Search<F, G> {
         ensures rising { IfOk result (λ table. IsRising table.rows) }
     {
         self.known();
-        let space = self.search.space();
-        let kind = space.rules.kind;
+        let rows = self.rows_below(n)?;
+        let rules = &self.search.space().rules;
+        Ok(Table::sorted(rules.rule, rules.kind, rows))
+    }
+
+    // Their rows, in the order in which they were stored.
+    fn rows_below(&self, n: usize) -> Result<Vec<Row>, AllocError>
+        requires sound { IsSound (task_of_problem self.now.problem) self.now.store }
+        ensures rows { IfOk result (λ rows. pairs_of rows.items ≡ inside (guide_of self.now.problem.method.bound) n (costs_of self.now.problem.start self.now.store)) }
+    {
         let mut rows = Vec::new(self.alloc);
-        for number in 0..self.search.len() as u32 {
-            let (position, mark) = self.position_at(number);
-            let bound = kind.guide(&position);
-            if ((mark.cost + u32::from(bound)) as usize) < n {
-                rows.push(Row {
-                    key: key(&position),
-                    cost: mark.cost,
-                })?;
-            }
+        for number in 0..self.count() {
+            let Some(row) = self.row_below(number, n) else {
+                continue;
+            };
+            rows.push(row)?;
         }
-        Ok(Table::sorted(space.rules.rule, kind, rows))
+        Ok(rows)
+    }
+
+    // The row of the class with this number, where its cost and bound are below n.
+    fn row_below(&self, number: u32, n: usize) -> Option<Row>
+        requires sound { IsSound (task_of_problem self.now.problem) self.now.store }
+        requires within { number < length self.now.store.stored }
+        requires few { number < MOST_BUDGET }
+        ensures row { inside (guide_of self.now.problem.method.bound) n (take (number + 1) (costs_of self.now.problem.start self.now.store))
+            ≡ inside (guide_of self.now.problem.method.bound) n (take number (costs_of self.now.problem.start self.now.store)) ++ pairs_of (option_to_list result) }
+    {
+        let (position, mark) = self.position_at(number);
+        let bound = self.search.space().rules.kind.guide(&position);
+        if ((mark.cost + u32::from(bound)) as usize) < n {
+            return Some(Row {
+                key: key(&position),
+                cost: mark.cost,
+            });
+        }
+        None
     }
 
     // The stored classes, each at no cost.
@@ -57,15 +80,44 @@ impl<F: Frontier + Drop, G: Game + Drop> Search<F, G> {
         ensures rising { IfOk result (λ table. IsRising table.rows) }
     {
         self.known();
-        let space = self.search.space();
+        let rows = self.rows_of_all()?;
+        let rules = &self.search.space().rules;
+        Ok(Table::sorted(rules.rule, rules.kind, rows))
+    }
+
+    // Their rows, in the order in which they were stored.
+    fn rows_of_all(&self) -> Result<Vec<Row>, AllocError>
+        requires sound { IsSound (task_of_problem self.now.problem) self.now.store }
+        ensures rows { IfOk result (λ rows. pairs_of rows.items ≡ at_no_cost (costs_of self.now.problem.start self.now.store)) }
+    {
         let mut rows = Vec::new(self.alloc);
-        for number in 0..self.search.len() as u32 {
-            let (position, _mark) = self.position_at(number);
-            rows.push(Row {
-                key: key(&position),
-                cost: 0,
-            })?;
+        for number in 0..self.count() {
+            rows.push(self.free_row(number))?;
         }
-        Ok(Table::sorted(space.rules.rule, space.rules.kind, rows))
+        Ok(rows)
+    }
+
+    // The row of the class with this number, at no cost.
+    fn free_row(&self, number: u32) -> Row
+        requires sound { IsSound (task_of_problem self.now.problem) self.now.store }
+        requires within { number < length self.now.store.stored }
+        ensures row { at_no_cost (take (number + 1) (costs_of self.now.problem.start self.now.store))
+            ≡ at_no_cost (take number (costs_of self.now.problem.start self.now.store)) ++ pairs_of (result ∷ []) }
+    {
+        let (position, _mark) = self.position_at(number);
+        Row {
+            key: key(&position),
+            cost: 0,
+        }
+    }
+
+    // How many classes are stored, which is no more than may be.
+    fn count(&self) -> u32
+        requires sound { IsSound (task_of_problem self.now.problem) self.now.store }
+        ensures value { result ≡ length self.now.store.stored }
+        ensures few { result ≤ MOST_BUDGET }
+    {
+        self.known();
+        self.len() as u32
     }
 }

@@ -1,4 +1,4 @@
-use Rattle.std.proofs.Common.{◌≡◌, ap, sym, ◌∙◌, subst}
+use Rattle.std.proofs.Common.{ap, sym, ◌∙◌, subst}
 use Rattle.fc_codes.specs.Spelled.{board_of_code}
 use Rattle.fc_classes.specs.Namings.{IsCodeIn}
 use Rattle.fc_search.proofs.RowLemmas.{stored_name}

@@ -1,11 +1,21 @@
 use Rattle.std.proofs.Common.{sym, subst}
 use Rattle.fc_best_first.specs.Shown.{Holds, IsLeastOpen, Shows}
-use Rattle.fc_best_first.proofs.KeptLemmas.{same_entry}
+use Rattle.fc_best_first.proofs.KeptLemmas.{same_entry, stands_within}
 use Rattle.fc_answers.specs.declared.answers.Verdict.TheVariants as verdict
 use Rattle.fc_search.specs.Search.{IsOfStatus}
 use Rattle.fc_search.proofs.AnswerLemmas.{shortest_verdict, won_length, won_verdict, won_within}
 use Rattle.fc_search.specs.Problem.{task_of_problem}
 use Rattle.fc_search.proofs.searches.Search.won_list.Goals as goal
+
+pub moves_to-requires-clause-sound : goal.moves_to-requires-clause-sound
+moves_to-requires-clause-sound g c =
+    (subst (Holds (task_of_problem c.args.self.now.problem) c.args.self.now.store) c.requires.done c.requires.held).0
+
+pub moves_to-requires-clause-within : goal.moves_to-requires-clause-within
+moves_to-requires-clause-within g c =
+    let now = c.args.self.now in
+    let shows = subst (Shows (task_of_problem now.problem) now.store) c.requires.done c.requires.shown in
+    stands_within now.store c.args.number shows.0 shows.1 shows.2
 
 pub returns-clause-shortest : goal.returns-clause-shortest
 returns-clause-shortest g c light =

@@ -2,7 +2,7 @@ use Rattle.std.proofs.Common.{◌≡◌, take}
 use Rattle.fc_answers.specs.Table.{pairs_of}
 use Rattle.fc_answers.specs.inner.Table.{at_no_cost}
 use Rattle.fc_search.specs.inner.Stored.{costs_of}
-use Rattle.fc_search.proofs.searches.Search.table_of_all.Given as goal
+use Rattle.fc_search.proofs.searches.Search.rows_of_all.Given as goal
 
 -- the rows so far are the first stored keys, each at no cost
 abbrev pub invariant-loop-number : goal.invariant-loop-number

@@ -3,7 +3,7 @@ use Rattle.fc_bound.specs.Kinds.{guide_of}
 use Rattle.fc_answers.specs.Table.{pairs_of}
 use Rattle.fc_answers.specs.inner.Table.{inside}
 use Rattle.fc_search.specs.inner.Stored.{costs_of}
-use Rattle.fc_search.proofs.searches.Search.table_below.Given as goal
+use Rattle.fc_search.proofs.searches.Search.rows_below.Given as goal
 
 -- the rows so far are those of the first stored keys that are inside n
 abbrev pub invariant-loop-number : goal.invariant-loop-number
