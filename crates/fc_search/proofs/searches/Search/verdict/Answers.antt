@@ -1,4 +1,4 @@
-use Rattle.std.proofs.Common.{◌≡◌, ◌≤◌, ap, sym, ◌∙◌, subst}
+use Rattle.std.proofs.Common.{◌≡◌, ◌≤◌, None, rules, ap, sym, ◌∙◌, subst}
 use Rattle.fc_best_first.specs.Shown.{Holds, Shows}
 use Rattle.fc_best_first.specs.declared.strategies.Strategy.{Strategy}
 use Rattle.fc_best_first.specs.declared.turns.Status.TheVariants as status
@@ -18,7 +18,7 @@ returns-in-CannotWin-clause-told g c =
       start = inner.space.start;
       limit = inner.limit;
     } in
-    let none : inner.limit ≡ None = sym c.limit.ensures.value ∙ c.if-is_some.none in
+    let none : inner.limit ≡ None = search rules in
     let stands : inner.status ≡ status.CannotWin = sym c.status.ensures.value ∙ c.in-CannotWin.is in
     let told = cannot_win_verdict own inner.store
     (codes_name own.game own.start (g.met.G.Game.sound inner.space.rules.game) inner.space.fits) inner.space.fits none (subst (λ s. s.problem.method.rule ≤ 2) (sym c.self.view_is) c.known.ensures.rule) c.status.ensures.range.greatest
