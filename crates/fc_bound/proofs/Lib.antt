@@ -9,6 +9,7 @@ pub mod ClearingTied
 pub mod CountLemmas
 pub mod LeftLemmas
 pub mod LooseLemmas
+pub mod FareLemmas
 pub mod FillLemmas
 pub mod HeldLemmas
 pub mod KindLemmas
@@ -20,6 +21,7 @@ pub mod KnotFuel
 pub mod KnotLemmas
 pub mod KnotShed
 pub mod KnotSteps
+pub mod KnotTaken
 pub mod MovedLemmas
 pub mod OnesLemmas
 pub mod PairLemmas

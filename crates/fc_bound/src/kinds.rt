@@ -1,10 +1,12 @@
-ghost use Rattle.std.specs.Prelude.{◌≡◌, ◌≤◌};
+ghost use Rattle.std.specs.Prelude.{◌≡◌, ◌+◌, ◌≤◌, IfSome};
+ghost use Rattle.fc_position.specs.Board.{lifted};
 ghost use Rattle.fc_position.specs.Position.{IsPosition};
 ghost use Rattle.fc_bound.specs.Kinds.{guide_of, low_of};
 
-use crate::bounds::{GREATEST_BOUND, bound};
+use crate::bounds::{GREATEST_BOUND, bound, is_held_back};
 use crate::clearing::clearing_bound;
 use crate::knots::{knot_bound, knot_bound_within};
+use fc_cards::Place;
 use fc_position::Position;
 
 /// The lower bound that a search goes by and a table is closed by.
@@ -45,6 +47,48 @@ impl BoundKind {
             BoundKind::Plain => bound(position),
             BoundKind::Clearing => knot_bound_within(position, most),
         }
+    }
+
+    /// What the playable card of a place adds to the bound by which a search of this kind goes, where that is plain to see: the
+    /// position without the card has so much less. `None` where it would have to be counted.
+    pub fn fare(self, position: &Position, from: Place) -> Option<u8>
+        ensures fare { IfSome result (λ fare. guide_of self position.now ≡ fare + guide_of self (lifted position.now from)) }
+        ensures whole { IsPosition position.now }
+    {
+        let held = is_held_back(position, from);
+        match (self, from) {
+            (BoundKind::Clearing, Place::Column(_)) if held => Some(1),
+            (BoundKind::Clearing, Place::Cell(_)) => Some(0),
+            _ => None,
+        }
+    }
+
+    /// The bound by which a search of this kind goes of a position without the playable card of a place, by the bound with it,
+    /// where that is plain to see.
+    pub fn guide_without(self, position: &Position, from: Place, bound: u8) -> Option<u8>
+        requires bound { bound ≡ guide_of self position.now }
+        ensures value { IfSome result (λ less. less ≡ guide_of self (lifted position.now from)) }
+        ensures whole { IsPosition position.now }
+    {
+        let fare = self.fare(position, from)?;
+        Some(bound - fare)
+    }
+
+    /// The bound by which a search of this kind goes, counted no further than asked, as by [`BoundKind::guide_within`]; where the
+    /// bound without the playable card of a place is known, and what the card adds is plain to see, it isn't counted at all.
+    pub fn guide_with(self, position: &Position, to: Place, without: Option<u8>, most: u8) -> u8
+        requires without { IfSome without (λ less. less ≡ guide_of self (lifted position.now to)) }
+        ensures lower { result ≤ guide_of self position.now }
+        ensures exact { result ≤ most → result ≡ guide_of self position.now }
+        ensures greatest { result ≤ GREATEST_BOUND }
+        ensures whole { IsPosition position.now }
+    {
+        if let Some(less) = without {
+            if let Some(fare) = self.fare(position, to) {
+                return (less + fare).min(most.saturating_add(1));
+            }
+        }
+        self.guide_within(position, most)
     }
 
     /// The bound by which a table of this kind is closed, at most 104: the plain bound, or the clearing bound.

@@ -323,17 +323,19 @@ impl<G: Game + Drop> Children<G> {
         }
     }
 
-    // The bound of this kind of where a move leads that takes no card home, counted no further than is asked. The walk is as it
-    // was.
+    // The bound of this kind, the walk's, of where a move leads that takes no card home, counted no further than is asked. The
+    // walk is as it was.
     fn bound_after(&mut self, kind: BoundKind, m: Move, most: u8) -> u8
+        requires kind { kind ≡ self.old.kind }
         requires allowed { Allows (G.game self.old.game) self.old.position m }
         requires away { m.to ≢ Home }
         ensures under { (z : Board) → Step (G.game self.old.game) self.old.position m z → result ≤ guide_of kind z }
         ensures exact { (z : Board) → Step (G.game self.old.game) self.old.position m z → result ≤ most → result ≡ guide_of kind z }
         ensures same { self.new ≡ self.old }
     {
+        let without = kind.guide_without(&self.position, m.from, self.bound);
         apply(&self.rules.game, &mut self.position, m);
-        let bound = kind.guide_within(&self.position, most);
+        let bound = kind.guide_with(&self.position, m.to, without, most);
         self.position.shift(m.to, m.from);
         bound
     }
