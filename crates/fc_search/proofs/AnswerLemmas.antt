@@ -54,7 +54,7 @@ up_to : {limit : Option ℕ} → limit ≡ None → (n : ℕ) → IsUpTo limit n
 up_to whole n = subst (λ l. IsUpTo l n) (sym whole) tt
 
 -- each move of a run from a position of the game has a text
-run_texts : (g : GameRules) (b c : Board) (ms : List Move) → IsPositionOf g b → Run g b ms c → All HasText ms
+pub run_texts : (g : GameRules) (b c : Board) (ms : List Move) → IsPositionOf g b → Run g b ms c → All HasText ms
 run_texts g b c [] p run k d lt = absurd (omega (arith, lt))
 run_texts g b c (m ∷ ms) p (mid, step, rest) zero d lt = allowed_has_text g b m p.position (mid, step)
 run_texts g b c (m ∷ ms) p (mid, step, rest) (suc k) d lt =
@@ -225,6 +225,15 @@ module _ (pr : Problem) (s : Store (List ℕ)) (names : IsNaming (by_codes pr.st
           let cost : length ms ≡ found.1.1.cost = long ∙ ap (λ k. k.cost) one.1 in
           subst (IsCoveredBelow (classes_of pr) s y m.cost) (sym cost)
           (light_covered pr.method.strategy.expansion (task_of_problem pr) s y m.cost found.1.1.cost (up_to whole found.1.1.cost) positive light (found.1.4 i y m there lt))
+
+  -- no list has fewer moves than the least cost and bound of what is open, also where there is a limit
+  pub floor_under : (number : ℕ) (x : List ℕ) (mark : Mark) (floor : ℕ) → IsFound (task_of_problem pr) s number
+      → IsStored s number x mark → IsLeastOpen (task_of_problem pr) s mark.cost floor
+      → (others : List Move) → Wins pr.game pr.start others → floor ≤ length others
+  floor_under number x mark floor found at least others wins =
+      let both = open_floors (classes_of pr) (lawful (by_codes pr.start) (guide_of pr.method.bound) pr.game pr.method.rule pr.start names (bounds_lower pr.method.bound).0 pp) pr.method.strategy pr.limit s number x
+      mark floor found at least in
+      both.1 (length others) (others, refl, wins)
 
   -- what a number is that is told as a floor: no list has fewer moves, and the stored classes below it are covered
   pub floor_holds : pr.limit ≡ None → (number : ℕ) (x : List ℕ) (mark : Mark) (floor : ℕ) → IsFound (task_of_problem pr) s number

@@ -5,5 +5,6 @@ mod FloorLemmas
 pub mod HearLemmas
 mod NeedLemmas
 mod RowLemmas
+pub mod ShownLemmas
 pub mod TurnLemmas
 mod WalkLemmas

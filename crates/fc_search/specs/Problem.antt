@@ -17,9 +17,13 @@ pub record Problem : Type 0 where
   pub start : Board
   pub limit : Option ℕ
 
+-- the problem of a question, a start and perhaps a limit
+abbrev pub problem_below : Asked → Board → Option ℕ → Problem
+problem_below q b limit = record { game = q.game; method = q.method; start = b; limit = limit }
+
 -- the problem of a question and a start
 abbrev pub problem_of : Asked → Board → Problem
-problem_of q b = record { game = q.game; method = q.method; start = b; limit = None }
+problem_of q b = problem_below q b None
 
 -- the problem of a shortest list, searched by the plain bound under a home rule and within a budget
 abbrev pub shortest_from : GameRules → ℕ → Board → ℕ → Problem

@@ -19,6 +19,7 @@ pub use solving::{decide_by, solve, solve_by};
 mod listeners;
 mod progress;
 mod searches;
+mod shown;
 mod solving;
 mod tables;
 mod walks;

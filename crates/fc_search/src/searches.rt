@@ -1,4 +1,4 @@
-ghost use Rattle.std.specs.Prelude.{◌≡◌, ◌<◌, ◌≤◌, ◌⊎◌, ℕ, [], length, IfOk, IfErr, OnOk, OnErr};
+ghost use Rattle.std.specs.Prelude.{◌≡◌, ◌<◌, ◌≤◌, ◌⊎◌, ℕ, None, [], length, IfOk, IfErr, OnOk, OnErr};
 ghost use Rattle.fc_position.specs.Position.{Fits};
 ghost use Rattle.fc_moves.specs.GameRules.{IsPositionOf};
 ghost use Rattle.fc_frontier.specs.Queue.{Adds};
@@ -10,7 +10,7 @@ ghost use Rattle.fc_best_first.specs.Store.{IsStored};
 ghost use Rattle.fc_best_first.specs.Turn.{work_left};
 ghost use Rattle.fc_classes.specs.Namings.{IsNaming, by_codes};
 ghost use Rattle.fc_methods.specs.Method.{shortest_asked};
-ghost use Rattle.fc_search.specs.Problem.{problem_of, shortest_from, task_of_problem};
+ghost use Rattle.fc_search.specs.Problem.{problem_below, problem_of, shortest_from, task_of_problem};
 ghost use Rattle.fc_search.specs.Search.{Answers, IsVerdict, IsOfStatus, IsRefused, IsUnanswered};
 ghost use Rattle.fc_search.specs.inner.Search.{IsFloorOf, Spells};
 
@@ -97,9 +97,29 @@ impl<F: Frontier + Drop, G: Game + Drop> Search<F, G> {
         ensures begins { IfOk result (λ search. Begins (task_of_problem search.problem) search.store) }
         ensures floor { IfOk result (λ search. Adds [] search.store.waiting (search.floor, 0)) }
     {
+        Search::below(alloc, question, position, None)
+    }
+
+    /// A search of a question for a position that fits its game, which wants no list of so many moves as the limit, if there is
+    /// one: of the classes after the first it stores none whose cost and bound are so many. It has had no turn.
+    ///
+    /// # Errors
+    /// A growth was refused.
+    pub fn below(
+        alloc: Global,
+        question: &Question<G>,
+        position: &Position,
+        limit: Option<u32>,
+    ) -> Result<Self, AllocError>
+        requires fits { Fits question.now.game.cells position.now }
+        ensures problem { IfOk result (λ search. search.problem ≡ problem_below question.now position.now limit) }
+        ensures status { IfOk result (λ search. search.status ≡ Status.Running) }
+        ensures begins { IfOk result (λ search. Begins (task_of_problem search.problem) search.store) }
+        ensures floor { IfOk result (λ search. Adds [] search.store.waiting (search.floor, 0)) }
+    {
         let Method { strategy, .. } = question.method();
         let space = Positions::new(question.game().copy(), question.method(), position.copy());
-        match best_first::Search::new(alloc, space, strategy) {
+        match best_first::Search::below(alloc, space, strategy, limit) {
             Ok(search) => Ok(Search { alloc, search }),
             Err(_) => Err(AllocError),
         }
