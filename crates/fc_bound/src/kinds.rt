@@ -49,9 +49,9 @@ impl BoundKind {
         }
     }
 
-    /// What the playable card of a place adds to the bound by which a search of this kind goes, where that is plain to see: the
-    /// position without the card has so much less. `None` where it would have to be counted.
-    pub fn fare(self, position: &Position, from: Place) -> Option<u8>
+    // What the playable card of a place adds to the bound by which a search of this kind goes, where that is plain to see: the
+    // position without the card has so much less. `None` where it would have to be counted.
+    fn fare(self, position: &Position, from: Place) -> Option<u8>
         ensures fare { IfSome result (λ fare. guide_of self position.now ≡ fare + guide_of self (lifted position.now from)) }
         ensures whole { IsPosition position.now }
     {
