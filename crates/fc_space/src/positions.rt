@@ -203,8 +203,7 @@ fn settled<G: Game + Drop>(
     }
 }
 
-// The class of the position with this code to which a card that was moved from this place led, where no card goes home by
-// the rule after it: only the card that lay below it can.
+// The class to which a card moved from this place led, where none goes home after it: only the card that lay below it can.
 fn settled_already<G: Game + Drop>(
     rules: &ClassRules<G>,
     position: &Position,
