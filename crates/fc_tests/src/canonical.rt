@@ -58,37 +58,32 @@ fn check_key(rt: &impl Abort, text: &str, bytes: &[u8]) {
     assert!(rt; key(&board(rt, text)).as_slice() == bytes, "{text}");
 }
 
+// Boards, and the keys of their classes.
+static KEYS: [(&str, &[u8]); 6] = [
+    (TWO_KINGS, FOUR_CARDS_KEY),
+    (
+        "Foundations: H-J C-K D-K S-J\n:\nQH KS\n:\nQS KH\n",
+        FOUR_CARDS_KEY,
+    ),
+    (
+        "Foundations: H-J C-K D-K S-J\nQH KS\nQS KH\n",
+        FOUR_CARDS_KEY,
+    ),
+    (
+        "Foundations: H-J C-K D-K S-J\n:\nQS KH\n:\n:\n:\nQH KS\n",
+        FOUR_CARDS_KEY,
+    ),
+    (LOCKED, LOCKED_KEY),
+    (
+        "Foundations: H-7 C-7 D-7 S-7\nFreecells: KH KS KC KD\n\
+        TS QS JS\n8D 9D\nTC QC JC\n8C 9C\n8S 9S\nTH QH JH\n8H 9H\nTD QD JD\n",
+        LOCKED_KEY,
+    ),
+];
+
 #[test]
 fn writes_keys(rt: HostRuntime) {
-    let turned = "\
-        Foundations: H-7 C-7 D-7 S-7\n\
-        Freecells: KH KS KC KD\n\
-        TS QS JS\n\
-        8D 9D\n\
-        TC QC JC\n\
-        8C 9C\n\
-        8S 9S\n\
-        TH QH JH\n\
-        8H 9H\n\
-        TD QD JD\n";
-    let keys = [
-        (TWO_KINGS, FOUR_CARDS_KEY),
-        (
-            "Foundations: H-J C-K D-K S-J\n:\nQH KS\n:\nQS KH\n",
-            FOUR_CARDS_KEY,
-        ),
-        (
-            "Foundations: H-J C-K D-K S-J\nQH KS\nQS KH\n",
-            FOUR_CARDS_KEY,
-        ),
-        (
-            "Foundations: H-J C-K D-K S-J\n:\nQS KH\n:\n:\n:\nQH KS\n",
-            FOUR_CARDS_KEY,
-        ),
-        (LOCKED, LOCKED_KEY),
-        (turned, LOCKED_KEY),
-    ];
-    for (text, bytes) in keys {
+    for (text, bytes) in KEYS {
         check_key(&rt, text, bytes);
     }
 }
@@ -198,14 +193,21 @@ fn check_changed(rt: &impl Abort, place: usize, byte: u8, extent: Option<usize>)
 
 #[test]
 fn refuses_what_is_no_key(rt: HostRuntime) {
-    check_changed(&rt, 3, 0x0E, Some(20));
-    check_changed(&rt, 4, 0x33, Some(20));
-    check_changed(&rt, 5, 0x34, Some(20));
-    check_changed(&rt, 9, 0x2F, Some(20));
-    check_changed(&rt, 10, 0x34, Some(20));
-    check_changed(&rt, 2, 0x0A, Some(20));
-    check_changed(&rt, 19, 1, None);
+    for (place, byte, extent) in CHANGES {
+        check_changed(&rt, place, byte, extent);
+    }
 }
+
+// The place of a byte of that key, another byte, and the extent that the lengths tell then.
+static CHANGES: [(usize, u8, Option<usize>); 7] = [
+    (3, 0x0E, Some(20)),
+    (4, 0x33, Some(20)),
+    (5, 0x34, Some(20)),
+    (9, 0x2F, Some(20)),
+    (10, 0x34, Some(20)),
+    (2, 0x0A, Some(20)),
+    (19, 1, None),
+];
 
 // The key of a board of which so many cells hold a card.
 fn check_cells(rt: &impl Abort, text: &str, full: u8) {
@@ -238,26 +240,28 @@ fn tells_keys_by_their_cells(rt: HostRuntime) {
     }
 }
 
+// Bytes that are no key.
+static NO_KEYS: [&[u8]; 10] = [
+    // Two cells exchanged, and two behind an empty one; in order they are a key.
+    b"\x0D\x0D\x0D\x0B\x33\x2F\xFF\xFF\0\0\0\0\0\0\0\0",
+    b"\x0D\x0D\x0D\x0B\xFF\x2F\x33\xFF\0\0\0\0\0\0\0\0",
+    // Two columns exchanged, and two behind an empty one.
+    b"\x0D\x0D\x0D\x0B\xFF\xFF\xFF\xFF\x01\x33\x01\x2F\0\0\0\0\0\0",
+    b"\x0D\x0D\x0D\x0B\xFF\xFF\xFF\xFF\0\x01\x2F\x01\x33\0\0\0\0\0",
+    // A card in a cell that stands in a column too, and one that is home too.
+    b"\x0D\x0D\x0D\x0B\x33\xFF\xFF\xFF\x02\x2F\x33\0\0\0\0\0\0\0",
+    b"\x0D\x0D\x0D\x0B\x2F\x33\xFF\xFF\x01\0\0\0\0\0\0\0\0",
+    // A card that is nowhere.
+    b"\x0D\x0D\x0D\x0B\x33\xFF\xFF\xFF\0\0\0\0\0\0\0\0",
+    // Numbers of no card in place of a card's: one above the last, the highest, and 64 more than the card's.
+    b"\x0D\x0D\x0D\x0B\x2F\x34\xFF\xFF\0\0\0\0\0\0\0\0",
+    b"\x0D\x0D\x0D\x0B\x2F\xFE\xFF\xFF\0\0\0\0\0\0\0\0",
+    b"\x0D\x0D\x0D\x0B\xFF\xFF\xFF\xFF\x02\x2F\x73\0\0\0\0\0\0\0",
+];
+
 #[test]
 fn refuses_parts_of_keys_out_of_place(rt: HostRuntime) {
-    let cases: [&[u8]; 10] = [
-        // Two cells exchanged, and two behind an empty one; in order they are a key.
-        b"\x0D\x0D\x0D\x0B\x33\x2F\xFF\xFF\0\0\0\0\0\0\0\0",
-        b"\x0D\x0D\x0D\x0B\xFF\x2F\x33\xFF\0\0\0\0\0\0\0\0",
-        // Two columns exchanged, and two behind an empty one.
-        b"\x0D\x0D\x0D\x0B\xFF\xFF\xFF\xFF\x01\x33\x01\x2F\0\0\0\0\0\0",
-        b"\x0D\x0D\x0D\x0B\xFF\xFF\xFF\xFF\0\x01\x2F\x01\x33\0\0\0\0\0",
-        // A card in a cell that stands in a column too, and one that is home too.
-        b"\x0D\x0D\x0D\x0B\x33\xFF\xFF\xFF\x02\x2F\x33\0\0\0\0\0\0\0",
-        b"\x0D\x0D\x0D\x0B\x2F\x33\xFF\xFF\x01\0\0\0\0\0\0\0\0",
-        // A card that is nowhere.
-        b"\x0D\x0D\x0D\x0B\x33\xFF\xFF\xFF\0\0\0\0\0\0\0\0",
-        // Numbers of no card in place of a card's: one above the last, the highest, and 64 more than the card's.
-        b"\x0D\x0D\x0D\x0B\x2F\x34\xFF\xFF\0\0\0\0\0\0\0\0",
-        b"\x0D\x0D\x0D\x0B\x2F\xFE\xFF\xFF\0\0\0\0\0\0\0\0",
-        b"\x0D\x0D\x0D\x0B\xFF\xFF\xFF\xFF\x02\x2F\x73\0\0\0\0\0\0\0",
-    ];
-    for bytes in cases {
+    for bytes in NO_KEYS {
         check_no_key(&rt, bytes);
     }
     check_read(&rt, SPADES_IN_CELLS_KEY, SPADES_IN_CELLS_KEY);

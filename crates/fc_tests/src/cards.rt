@@ -30,23 +30,25 @@ fn check_text(rt: &impl Abort, text: &[u8], index: Option<u8>) {
     assert!(rt; Card::read(text).map(|card| card.index()) == index);
 }
 
+// Texts, and the numbers of the cards that they spell.
+static TEXTS: [(&[u8], Option<u8>); 12] = [
+    (b"AC", Some(0)),
+    (b"KS", Some(51)),
+    (b"TH", Some(38)),
+    (b"10h", Some(38)),
+    (b"tH", Some(38)),
+    (b"jd", Some(41)),
+    (b"1H", None),
+    (b"10", None),
+    (b"H", None),
+    (b"", None),
+    (b"JDX", None),
+    (b" JD", None),
+];
+
 #[test]
 fn reads_texts(rt: HostRuntime) {
-    let texts: [(&[u8], Option<u8>); 12] = [
-        (b"AC", Some(0)),
-        (b"KS", Some(51)),
-        (b"TH", Some(38)),
-        (b"10h", Some(38)),
-        (b"tH", Some(38)),
-        (b"jd", Some(41)),
-        (b"1H", None),
-        (b"10", None),
-        (b"H", None),
-        (b"", None),
-        (b"JDX", None),
-        (b" JD", None),
-    ];
-    for (text, index) in texts {
+    for (text, index) in TEXTS {
         check_text(&rt, text, index);
     }
     for index in 0..52 {

@@ -81,9 +81,29 @@ fn code_after<G: Game>(rt: &impl Abort, game: &G, text: &str, list: &[u8]) -> Co
     code
 }
 
-// Two lists of moves lead to one code, or to two.
-fn check_codes(rt: &impl Abort, text: &str, list: &[u8], other: &[u8], are_same: bool) {
+// A board, two lists of moves from it, and whether they lead to one code.
+struct Row(&'static str, &'static [u8], &'static [u8], bool);
+
+static LISTS: [Row; 10] = [
+    // In which cells, and in which order, cards stand is all one.
+    Row(DEAL_ONE, b"1a 2b", b"2c 1a", true),
+    Row(DEAL_ONE, b"1a 2b", b"1a 3b", false),
+    Row(DEAL_ONE, b"1a", b"", false),
+    // A card that comes back to where it stood.
+    Row(WITH_CELLS, b"3b b3", b"", true),
+    Row(WITH_CELLS, b"2b b5", b"", true),
+    Row(WITH_CELLS, b"21", b"", true),
+    // And one that goes elsewhere.
+    Row(WITH_CELLS, b"a2", b"", false),
+    Row(WITH_CELLS, b"3b b1", b"", false),
+    Row(WITH_CELLS, b"3b b1", b"3b b8", true),
+    Row(WITH_CELLS, b"ah", b"", false),
+];
+
+// The row's two lists lead to one code, or to two.
+fn check_codes(rt: &impl Abort, row: &Row) {
     let game = free_cell(rt, 4);
+    let Row(text, list, other, are_same) = *row;
     let code = code_after(rt, &game, text, list);
     let second = code_after(rt, &game, text, other);
     let is_same = code == second;
@@ -92,19 +112,9 @@ fn check_codes(rt: &impl Abort, text: &str, list: &[u8], other: &[u8], are_same:
 
 #[test]
 fn tells_classes(rt: HostRuntime) {
-    // in which cells, and in which order, cards stand is all one
-    check_codes(&rt, DEAL_ONE, b"1a 2b", b"2c 1a", true);
-    check_codes(&rt, DEAL_ONE, b"1a 2b", b"1a 3b", false);
-    check_codes(&rt, DEAL_ONE, b"1a", b"", false);
-    // a card that comes back to where it stood
-    check_codes(&rt, WITH_CELLS, b"3b b3", b"", true);
-    check_codes(&rt, WITH_CELLS, b"2b b5", b"", true);
-    check_codes(&rt, WITH_CELLS, b"21", b"", true);
-    // and one that goes elsewhere
-    check_codes(&rt, WITH_CELLS, b"a2", b"", false);
-    check_codes(&rt, WITH_CELLS, b"3b b1", b"", false);
-    check_codes(&rt, WITH_CELLS, b"3b b1", b"3b b8", true);
-    check_codes(&rt, WITH_CELLS, b"ah", b"", false);
+    for row in &LISTS {
+        check_codes(&rt, row);
+    }
 }
 
 #[test]

@@ -78,14 +78,21 @@ fn check_write<K: Sink>(
     assert!(rt; sink.failed() == answer.is_err());
 }
 
+// Pieces that are written one after the other into four bytes, and the answers.
+static PIECES: [(&[u8], Result<usize, Failed>); 5] = [
+    (b"abc", Ok(3)),
+    (b"def", Ok(1)),
+    (b"", Ok(0)),
+    (b"e", Err(Failed)),
+    (b"", Err(Failed)),
+];
+
 #[test]
 fn fills_an_array(rt: HostRuntime) {
     let mut array = ToArray::<4>::new();
-    check_write(&rt, &mut array, b"abc", Ok(3));
-    check_write(&rt, &mut array, b"def", Ok(1));
-    check_write(&rt, &mut array, b"", Ok(0));
-    check_write(&rt, &mut array, b"e", Err(Failed));
-    check_write(&rt, &mut array, b"", Err(Failed));
+    for (piece, answer) in PIECES {
+        check_write(&rt, &mut array, piece, answer);
+    }
     assert!(rt; array.held() == b"abcd".as_slice());
 }
 
@@ -126,12 +133,19 @@ fn check_left(rt: &impl Abort, text: &[u8], count: usize, left: &[u8]) {
     assert!(rt; source.left() == left);
 }
 
+// Texts, how many bytes of each are read, and what is left.
+static TEXTS: [(&[u8], usize, &[u8]); 4] = [
+    (b"", 0, b""),
+    (b"abc", 3, b""),
+    (b"abcd", 4, b""),
+    (b"abcdef", 4, b"ef"),
+];
+
 #[test]
 fn tells_whether_all_came(rt: HostRuntime) {
-    check_left(&rt, b"", 0, b"");
-    check_left(&rt, b"abc", 3, b"");
-    check_left(&rt, b"abcd", 4, b"");
-    check_left(&rt, b"abcdef", 4, b"ef");
+    for (text, count, left) in TEXTS {
+        check_left(&rt, text, count, left);
+    }
     let mut source = FromSlice::new(b"abc");
     assert!(rt; source.read(&mut []) == Ok(0));
     assert!(rt; source.left() == b"abc".as_slice());
@@ -161,14 +175,21 @@ fn reads_into_memory(rt: HostRuntime) {
     for (number, byte) in text.iter_mut().enumerate() {
         *byte = (number % 251) as u8;
     }
-    check_limit(&rt, rt.alloc(), &text, 10_001, true, 0);
-    check_limit(&rt, rt.alloc(), &text, 10_000, true, 0);
-    check_limit(&rt, rt.alloc(), &text, 9_999, false, 0);
-    check_limit(&rt, rt.alloc(), &text, 8_192, false, 1_807);
-    check_limit(&rt, rt.alloc(), &text, 8_191, false, 1_808);
-    check_limit(&rt, rt.alloc(), &text, 0, false, 9_999);
+    for (limit, is_whole, left) in LIMITS {
+        check_limit(&rt, rt.alloc(), &text, limit, is_whole, left);
+    }
     check_limit(&rt, rt.alloc(), b"", 0, true, 0);
 }
+
+// At most how many bytes of 10,000 are read, whether that is all, and how many are left.
+static LIMITS: [(usize, bool, usize); 6] = [
+    (10_001, true, 0),
+    (10_000, true, 0),
+    (9_999, false, 0),
+    (8_192, false, 1_807),
+    (8_191, false, 1_808),
+    (0, false, 9_999),
+];
 
 // Reading from a source into memory ends by this fault.
 fn check_fault<S: Source>(
@@ -222,19 +243,25 @@ fn reads_a_reader(rt: HostRuntime) {
 }
 
 #[test]
-fn writes_a_writer(rt: HostRuntime) {
+fn writes_a_whole_piece(rt: HostRuntime) {
     let mut bytes = Vec::new(rt.alloc());
     let mut whole = ToWriter::new(&mut bytes);
     assert!(rt; write_all(&mut whole, b"abc") == Ok(()));
     assert!(rt; !whole.failed());
     assert!(rt; bytes.as_slice() == b"abc".as_slice());
+}
 
+#[test]
+fn writes_into_short_room(rt: HostRuntime) {
     let mut room = [0; 2];
     let mut short = ToWriter::new(room.as_mut_slice());
     check_write(&rt, &mut short, b"abc", Ok(2));
     check_write(&rt, &mut short, b"", Ok(0));
     check_write(&rt, &mut short, b"c", Err(Failed));
+}
 
+#[test]
+fn writes_until_a_writer_fails(rt: HostRuntime) {
     let mut hiccup = ToWriter::new(Hiccup { calls: 0 });
     check_write(&rt, &mut hiccup, b"abc", Ok(1));
     check_write(&rt, &mut hiccup, b"bc", Err(Failed));

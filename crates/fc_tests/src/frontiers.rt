@@ -124,20 +124,18 @@ fn of_equal_f_the_newest_comes_first(rt: HostRuntime) {
     newest_comes_first::<EitherFrontier>(&rt, rt.alloc());
 }
 
+// Nothing stands in a queue.
+fn check_empty<F: Frontier + Drop>(rt: &impl Abort, mut queue: F) {
+    assert!(rt; queue.len() == 0);
+    assert!(rt; queue.pop_least() == None);
+}
+
 #[test]
 fn a_new_queue_is_empty(rt: HostRuntime) {
-    let mut list = ListFrontier::new(rt.alloc());
-    assert!(rt; list.len() == 0);
-    assert!(rt; list.pop_least() == None);
-    let mut buckets = BucketFrontier::new(rt.alloc());
-    assert!(rt; buckets.len() == 0);
-    assert!(rt; buckets.pop_least() == None);
-    let mut ties = TieFrontier::new(rt.alloc());
-    assert!(rt; ties.len() == 0);
-    assert!(rt; ties.pop_least() == None);
-    let mut either = EitherFrontier::with_ties(rt.alloc());
-    assert!(rt; either.len() == 0);
-    assert!(rt; either.pop_least() == None);
+    check_empty(&rt, ListFrontier::new(rt.alloc()));
+    check_empty(&rt, BucketFrontier::new(rt.alloc()));
+    check_empty(&rt, TieFrontier::new(rt.alloc()));
+    check_empty(&rt, EitherFrontier::with_ties(rt.alloc()));
 }
 
 // Pairs with ties: the greatest f and the greatest tie among them, one pair twice, and f of 1,024 and more.

@@ -84,13 +84,16 @@ fn finds_forced_cards(rt: HostRuntime) {
     check_free(&rt, &suits, &position, b"9S", true);
 }
 
+// Cards of that board, and whether they are free.
+static FREE: [(&[u8], bool); 3] = [(b"KS", true), (b"QH", true), (b"KH", false)];
+
 #[test]
 fn settles_free_cards(rt: HostRuntime) {
     let game = free_cell(&rt, 4);
     let mut position = board(&rt, QUEEN_BELOW_KING);
-    check_free(&rt, &game, &position, b"KS", true);
-    check_free(&rt, &game, &position, b"QH", true);
-    check_free(&rt, &game, &position, b"KH", false);
+    for (text, is_free) in FREE {
+        check_free(&rt, &game, &position, text, is_free);
+    }
     check_settles(&rt, &game, &mut position, 1, b"");
     check_settles(&rt, &game, &mut position, 2, b"1h 1h ah");
     assert!(rt; position.is_won());
@@ -126,25 +129,33 @@ fn settles_the_least_card_first(rt: HostRuntime) {
 }
 
 // Whether the card of a place of a board goes home by a rule.
-fn check_goes<G: Game>(rt: &impl Abort, game: &G, text: &str, rule: u8, place: Place, goes: bool)
-    requires { rule ≤ 2 }
-{
-    assert!(rt;
-        goes_home_from(game, &board(rt, text), HomeRule::new(rule).unwrap(), place) == goes
-    );
+fn check_goes<G: Game>(rt: &impl Abort, game: &G, text: &str, rule: u8, place: Place, goes: bool) {
+    let rule = HomeRule::new(rule).expect(rt, "a home rule");
+    assert!(rt; goes_home_from(game, &board(rt, text), rule, place) == goes);
 }
+
+// Boards of FreeCell with four cells, a rule, a place, and whether its card goes home.
+static PLACES: [(&str, u8, Place, bool); 8] = [
+    (ONE_COLUMN, 0, Place::Column(0), false),
+    (ONE_COLUMN, 1, Place::Column(0), true),
+    (ONE_COLUMN, 1, Place::Column(1), false),
+    (ONE_COLUMN, 1, Place::Home, false),
+    (THIRTY_MOVES, 1, Place::Column(0), false),
+    (QUEEN_BELOW_KING, 1, Place::Column(0), false),
+    (QUEEN_BELOW_KING, 2, Place::Column(0), true),
+    (JACK_LEFT, 2, Place::Column(0), false),
+];
 
 #[test]
 fn tells_what_goes_home_from_a_place(rt: HostRuntime) {
     let game = free_cell(&rt, 4);
-    let first = Place::Column(0);
-    check_goes(&rt, &game, ONE_COLUMN, 0, first, false);
-    check_goes(&rt, &game, ONE_COLUMN, 1, first, true);
-    check_goes(&rt, &game, ONE_COLUMN, 1, Place::Column(1), false);
-    check_goes(&rt, &game, ONE_COLUMN, 1, Place::Home, false);
-    check_goes(&rt, &game, THIRTY_MOVES, 1, first, false);
-    check_goes(&rt, &game, QUEEN_BELOW_KING, 1, first, false);
-    check_goes(&rt, &game, QUEEN_BELOW_KING, 2, first, true);
-    check_goes(&rt, &game, JACK_LEFT, 2, first, false);
-    check_goes(&rt, &bakers_game(&rt, 4), THIRTY_MOVES, 1, first, true);
+    for (text, rule, place, goes) in PLACES {
+        check_goes(&rt, &game, text, rule, place, goes);
+    }
+}
+
+#[test]
+fn tells_what_goes_home_in_another_game(rt: HostRuntime) {
+    let game = bakers_game(&rt, 4);
+    check_goes(&rt, &game, THIRTY_MOVES, 1, Place::Column(0), true);
 }

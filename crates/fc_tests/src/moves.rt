@@ -43,21 +43,33 @@ fn lists_moves(rt: HostRuntime) {
     assert!(rt; position.is_won());
 }
 
+// How many cells there are, and the moves of three spades then.
+static FEWER: [(u8, &[u8]); 3] = [
+    (0, b"13 14 15 16 17 18 23 24 25 26 27 28"),
+    (1, b"13 14 15 16 17 18 1a 23 24 25 26 27 28 2a"),
+    (3, b"13 14 15 16 17 18 1a 1b 1c 23 24 25 26 27 28 2a 2b 2c"),
+];
+
 #[test]
-fn lists_moves_of_other_games(rt: HostRuntime) {
+fn lists_moves_with_fewer_cells(rt: HostRuntime) {
     let spades = board(&rt, THREE_SPADES);
-    let cells: [(u8, &[u8]); 3] = [
-        (0, b"13 14 15 16 17 18 23 24 25 26 27 28"),
-        (1, b"13 14 15 16 17 18 1a 23 24 25 26 27 28 2a"),
-        (3, b"13 14 15 16 17 18 1a 1b 1c 23 24 25 26 27 28 2a 2b 2c"),
-    ];
-    for (count, text) in cells {
+    for (count, text) in FEWER {
         check_moves(&rt, &free_cell(&rt, count), &spades, text);
     }
+}
+
+#[test]
+fn lists_moves_of_kings(rt: HostRuntime) {
+    let spades = board(&rt, THREE_SPADES);
     let kings = Kings::new(free_cell(&rt, 0));
     check_moves(&rt, &kings, &spades, b"23 24 25 26 27 28");
     let kings = Kings::new(free_cell(&rt, 1));
     check_moves(&rt, &kings, &spades, b"1a 23 24 25 26 27 28 2a");
+}
+
+#[test]
+fn lists_moves_of_other_games(rt: HostRuntime) {
+    let spades = board(&rt, THREE_SPADES);
     let suits = b"12 13 14 15 16 17 18 23 24 25 26 27 28";
     check_moves(&rt, &bakers_game(&rt, 0), &spades, suits);
     let any =
@@ -82,16 +94,26 @@ fn tells_games(rt: HostRuntime) {
     assert!(rt; FreeCell::new(5) == None);
     assert!(rt; BakersGame::new(5) == None);
     let game = free_cell(&rt, 4);
-    let suits = bakers_game(&rt, 3);
     check_game(&rt, &game.copy(), (0, 4, true, true), b"QC QS");
+    let suits = bakers_game(&rt, 3);
     check_game(&rt, &suits.copy(), (1, 3, false, true), b"QH");
-    check_game(&rt, &Kings::new(game), (2, 4, true, false), b"QC QS");
-    let kings = Kings::new(suits);
-    check_game(&rt, &kings.copy(), (3, 3, false, false), b"QH");
     check_game(&rt, &AnySuit.copy(), (200, 4, true, true), b"QC QD QH QS");
-    let one: EitherGame<FreeCell, BakersGame> = EitherGame::One(game);
+}
+
+#[test]
+fn tells_games_of_kings(rt: HostRuntime) {
+    let game = Kings::new(free_cell(&rt, 4));
+    check_game(&rt, &game, (2, 4, true, false), b"QC QS");
+    let suits = Kings::new(bakers_game(&rt, 3));
+    check_game(&rt, &suits.copy(), (3, 3, false, false), b"QH");
+}
+
+#[test]
+fn tells_either_game(rt: HostRuntime) {
+    let one: EitherGame<FreeCell, BakersGame> = EitherGame::One(free_cell(&rt, 4));
     check_game(&rt, &one.copy(), (0, 4, true, true), b"QC QS");
-    let other: EitherGame<AnySuit, Kings<BakersGame>> = EitherGame::Other(kings);
+    let suits = Kings::new(bakers_game(&rt, 3));
+    let other: EitherGame<AnySuit, Kings<BakersGame>> = EitherGame::Other(suits);
     check_game(&rt, &other.copy(), (3, 3, false, false), b"QH");
 }
 

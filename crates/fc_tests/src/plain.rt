@@ -14,53 +14,55 @@ fn check_plain(rt: &impl Abort, text: &[u8], plain: &[u8]) {
     assert!(rt; read.bytes() == plain);
 }
 
+// Texts, and the plain ones for which they stand.
+static COPIED: [(&[u8], &[u8]); 22] = [
+    (b"", b""),
+    (b": 4C 2C\n:\n", b": 4C 2C\n:\n"),
+    // The mark of byte order counts at the beginning alone.
+    (b"\xEF\xBB\xBFKC", b"KC"),
+    (b"KC\xEF\xBB\xBF", b"KC\xEF\xBB\xBF"),
+    (b"\xEF\xBB\xBF1: KC", b": KC"),
+    // Symbols of suits, black and white, with the selectors of their shapes.
+    (
+        b"A\xE2\x99\xA3 2\xE2\x99\xA6 3\xE2\x99\xA5 4\xE2\x99\xA0",
+        b"AC 2D 3H 4S",
+    ),
+    (
+        b"A\xE2\x99\xA7 2\xE2\x99\xA2 3\xE2\x99\xA1 4\xE2\x99\xA4",
+        b"AC 2D 3H 4S",
+    ),
+    (
+        b"10\xE2\x99\xA5\xEF\xB8\x8F J\xE2\x99\xA0\xEF\xB8\x8E",
+        b"10H JS",
+    ),
+    (b"K\xEF\xB8\x8F", b"K\xEF\xB8\x8F"),
+    (b"K\xE2\x99\xA8", b"K\xE2\x99\xA8"),
+    (b"K\xE2\x99", b"K\xE2\x99"),
+    // No-break spaces.
+    (b"KC\xC2\xA0QD\xC2\xA1", b"KC QD\xC2\xA1"),
+    // Numbers of columns, each where it heads the column line of its number.
+    (b"1: KC\n2:QD\n 3: JC", b": KC\n:QD\n : JC"),
+    (b"2: KC\n1: QD\n3: JC", b"2: KC\n1: QD\n: JC"),
+    (b"KC\n1: QD\n3: JC", b"KC\n1: QD\n: JC"),
+    (b"FC: 1: KC\n1: 2: QD", b"FC: 1: KC\n: 2: QD"),
+    (
+        b"1: KC\nFounds: H-A\n2: QD\n fc: JC\n\t3: JD\n",
+        b": KC\nFounds: H-A\n: QD\n fc: JC\n\t: JD\n",
+    ),
+    (b"1 : KC\n10: QD", b"1 : KC\n10: QD"),
+    (
+        b"1:\n2:\n3:\n4:\n5:\n6:\n7:\n8:\n9:\n",
+        b":\n:\n:\n:\n:\n:\n:\n:\n9:\n",
+    ),
+    // A blank line is a column's.
+    (b"\n1: KS\n2: QS\n", b"\n1: KS\n2: QS\n"),
+    (b"\r\n1: KC\r\n3: QC\r\n", b"\r\n1: KC\r\n: QC\r\n"),
+    (b"1: KC\r\n2:\r\n", b": KC\r\n:\r\n"),
+];
+
 #[test]
 fn what_is_copied_is_made_plain(rt: HostRuntime) {
-    let rows: [(&[u8], &[u8]); 22] = [
-        (b"", b""),
-        (b": 4C 2C\n:\n", b": 4C 2C\n:\n"),
-        // The mark of byte order counts at the beginning alone.
-        (b"\xEF\xBB\xBFKC", b"KC"),
-        (b"KC\xEF\xBB\xBF", b"KC\xEF\xBB\xBF"),
-        (b"\xEF\xBB\xBF1: KC", b": KC"),
-        // Symbols of suits, black and white, with the selectors of their shapes.
-        (
-            b"A\xE2\x99\xA3 2\xE2\x99\xA6 3\xE2\x99\xA5 4\xE2\x99\xA0",
-            b"AC 2D 3H 4S",
-        ),
-        (
-            b"A\xE2\x99\xA7 2\xE2\x99\xA2 3\xE2\x99\xA1 4\xE2\x99\xA4",
-            b"AC 2D 3H 4S",
-        ),
-        (
-            b"10\xE2\x99\xA5\xEF\xB8\x8F J\xE2\x99\xA0\xEF\xB8\x8E",
-            b"10H JS",
-        ),
-        (b"K\xEF\xB8\x8F", b"K\xEF\xB8\x8F"),
-        (b"K\xE2\x99\xA8", b"K\xE2\x99\xA8"),
-        (b"K\xE2\x99", b"K\xE2\x99"),
-        // No-break spaces.
-        (b"KC\xC2\xA0QD\xC2\xA1", b"KC QD\xC2\xA1"),
-        // Numbers of columns, each where it heads the column line of its number.
-        (b"1: KC\n2:QD\n 3: JC", b": KC\n:QD\n : JC"),
-        (b"2: KC\n1: QD\n3: JC", b"2: KC\n1: QD\n: JC"),
-        (b"KC\n1: QD\n3: JC", b"KC\n1: QD\n: JC"),
-        (b"FC: 1: KC\n1: 2: QD", b"FC: 1: KC\n: 2: QD"),
-        (
-            b"1: KC\nFounds: H-A\n2: QD\n fc: JC\n\t3: JD\n",
-            b": KC\nFounds: H-A\n: QD\n fc: JC\n\t: JD\n",
-        ),
-        (b"1 : KC\n10: QD", b"1 : KC\n10: QD"),
-        (
-            b"1:\n2:\n3:\n4:\n5:\n6:\n7:\n8:\n9:\n",
-            b":\n:\n:\n:\n:\n:\n:\n:\n9:\n",
-        ),
-        // A blank line is a column's.
-        (b"\n1: KS\n2: QS\n", b"\n1: KS\n2: QS\n"),
-        (b"\r\n1: KC\r\n3: QC\r\n", b"\r\n1: KC\r\n: QC\r\n"),
-        (b"1: KC\r\n2:\r\n", b": KC\r\n:\r\n"),
-    ];
-    for (text, plain) in rows.as_slice() {
+    for (text, plain) in COPIED.as_slice() {
         check_plain(&rt, *text, *plain);
     }
 }
@@ -80,38 +82,40 @@ fn a_text_that_cannot_be_read_is_none(rt: HostRuntime) {
     assert!(&rt; PlainText::read(&mut source).err() == Some(ReadFault::Failed));
 }
 
+// Texts, and the counts that they spell.
+static COUNTS: [(&str, Option<u32>); 27] = [
+    ("0", Some(0)),
+    ("7", Some(7)),
+    ("100000", Some(100_000)),
+    ("100_000", Some(100_000)),
+    ("4_", Some(4)),
+    ("007", Some(7)),
+    ("100k", Some(100_000)),
+    ("100K", Some(100_000)),
+    ("4M", Some(4_000_000)),
+    ("4m", Some(4_000_000)),
+    ("1e6", Some(1_000_000)),
+    ("12E1_0", Some(4_294_967_295)),
+    ("1e0", Some(1)),
+    ("0e99999999999", Some(0)),
+    ("4294967295", Some(4_294_967_295)),
+    ("4294967296", Some(4_294_967_295)),
+    ("99999999999999999999", Some(4_294_967_295)),
+    ("5000M", Some(4_294_967_295)),
+    ("", None),
+    ("_4", None),
+    ("k", None),
+    ("4kk", None),
+    ("4 M", None),
+    ("-1", None),
+    ("1.5M", None),
+    ("1e", None),
+    ("many", None),
+];
+
 #[test]
 fn counts_are_read(rt: HostRuntime) {
-    let rows: [(&str, Option<u32>); 27] = [
-        ("0", Some(0)),
-        ("7", Some(7)),
-        ("100000", Some(100_000)),
-        ("100_000", Some(100_000)),
-        ("4_", Some(4)),
-        ("007", Some(7)),
-        ("100k", Some(100_000)),
-        ("100K", Some(100_000)),
-        ("4M", Some(4_000_000)),
-        ("4m", Some(4_000_000)),
-        ("1e6", Some(1_000_000)),
-        ("12E1_0", Some(4_294_967_295)),
-        ("1e0", Some(1)),
-        ("0e99999999999", Some(0)),
-        ("4294967295", Some(4_294_967_295)),
-        ("4294967296", Some(4_294_967_295)),
-        ("99999999999999999999", Some(4_294_967_295)),
-        ("5000M", Some(4_294_967_295)),
-        ("", None),
-        ("_4", None),
-        ("k", None),
-        ("4kk", None),
-        ("4 M", None),
-        ("-1", None),
-        ("1.5M", None),
-        ("1e", None),
-        ("many", None),
-    ];
-    for (text, count) in rows.as_slice() {
+    for (text, count) in COUNTS.as_slice() {
         assert!(&rt; read_count(text.as_bytes()) == *count, "{text}");
     }
 }

@@ -54,41 +54,55 @@ fn check_replay<G: Game>(
     assert!(rt; sink.held() == boards.as_bytes(), "{boards}");
 }
 
-// The same for the board of two kings and four cells.
-fn check_two_kings(rt: &impl Abort, text: &[u8], answer: Result<u32, ReplayFault>, boards: &str)
-    requires short { length text.now ≤ 1048576 }
-{
+// The same for the row's text on the board of two kings and four cells.
+fn check_two_kings(rt: &impl Abort, row: &Row) {
+    let Row(text, answer, boards) = *row;
+    assert!(rt; text.len() < 100, "a long text");
     check_replay(rt, &free_cell(rt, 4), TWO_KINGS, text, (answer, boards));
 }
 
-#[test]
-fn replays_to_the_first_move_that_is_not_allowed(rt: HostRuntime) {
-    let third = Err(ReplayFault::NotAllowed(3));
-    check_two_kings(&rt, b"1a 1h 1h", third, TWO_BOARDS);
-    check_two_kings(&rt, b"1a 1h", Ok(2), TWO_BOARDS);
-    check_two_kings(&rt, b"1a 1h 1h 9h 2h", third, TWO_BOARDS);
-}
+// A text of moves, the answer to it, and the boards that are written.
+struct Row(&'static [u8], Result<u32, ReplayFault>, &'static str);
+
+static STOPPED: [Row; 8] = [
+    // At the first move that isn't allowed.
+    Row(b"1a 1h 1h", Err(ReplayFault::NotAllowed(3)), TWO_BOARDS),
+    Row(b"1a 1h", Ok(2), TWO_BOARDS),
+    Row(
+        b"1a 1h 1h 9h 2h",
+        Err(ReplayFault::NotAllowed(3)),
+        TWO_BOARDS,
+    ),
+    // At the first token that is no move.
+    Row(b"9h", Err(ReplayFault::BadMove(1)), ""),
+    Row(b"1a 1h h1 2h", Err(ReplayFault::BadMove(3)), TWO_BOARDS),
+    Row(b"1a 1h 2hh", Err(ReplayFault::BadMove(3)), TWO_BOARDS),
+    Row(b"1a 1h 2", Err(ReplayFault::BadMove(3)), TWO_BOARDS),
+    Row(b"1a,1h", Err(ReplayFault::BadMove(1)), ""),
+];
+
+static CAPITALS_AND_GAPS: [Row; 7] = [
+    Row(b"1A 1H", Ok(2), TWO_BOARDS),
+    Row(b"1A\r\n1H\r\n", Ok(2), TWO_BOARDS),
+    Row(b"\t1a\t \t1H", Ok(2), TWO_BOARDS),
+    Row(b"\n\n 1a\r1h\r", Ok(2), TWO_BOARDS),
+    Row(b"1A\n1h\n\n", Ok(2), TWO_BOARDS),
+    Row(b"", Ok(0), ""),
+    Row(b" \t\r\n", Ok(0), ""),
+];
 
 #[test]
-fn replays_to_the_first_token_that_is_no_move(rt: HostRuntime) {
-    let first = Err(ReplayFault::BadMove(1));
-    let third = Err(ReplayFault::BadMove(3));
-    check_two_kings(&rt, b"9h", first, "");
-    check_two_kings(&rt, b"1a 1h h1 2h", third, TWO_BOARDS);
-    check_two_kings(&rt, b"1a 1h 2hh", third, TWO_BOARDS);
-    check_two_kings(&rt, b"1a 1h 2", third, TWO_BOARDS);
-    check_two_kings(&rt, b"1a,1h", first, "");
+fn replays_to_the_first_stop(rt: HostRuntime) {
+    for row in &STOPPED {
+        check_two_kings(&rt, row);
+    }
 }
 
 #[test]
 fn reads_capitals_and_other_gaps(rt: HostRuntime) {
-    check_two_kings(&rt, b"1A 1H", Ok(2), TWO_BOARDS);
-    check_two_kings(&rt, b"1A\r\n1H\r\n", Ok(2), TWO_BOARDS);
-    check_two_kings(&rt, b"\t1a\t \t1H", Ok(2), TWO_BOARDS);
-    check_two_kings(&rt, b"\n\n 1a\r1h\r", Ok(2), TWO_BOARDS);
-    check_two_kings(&rt, b"1A\n1h\n\n", Ok(2), TWO_BOARDS);
-    check_two_kings(&rt, b"", Ok(0), "");
-    check_two_kings(&rt, b" \t\r\n", Ok(0), "");
+    for row in &CAPITALS_AND_GAPS {
+        check_two_kings(&rt, row);
+    }
 }
 
 #[test]
@@ -118,11 +132,10 @@ fn check_failed(
     text: &[u8],
     answer: Result<u32, ReplayFault>,
     held: &[u8],
-)
-    requires short { length text.now ≤ 1048576 }
-{
+) {
     let game = free_cell(rt, 4);
     let position = board_for(rt, &game, TWO_KINGS);
+    assert!(rt; text.len() < 100, "a long text");
     assert!(rt; replay(&game, &position, text, sink) == answer);
     assert!(rt; sink.failed() && sink.device.held() == held);
 }
@@ -135,16 +148,20 @@ fn check_failing(rt: &impl Abort, calls: u32) {
         .get(..calls as usize)
         .expect(rt, "a front");
     let mut sink = Failing::new(ToArray::<256>::new(), calls);
-    let write = Err(ReplayFault::Write);
-    check_failed(rt, &mut sink, b"1a 1h", write, held);
-    check_failed(rt, &mut sink, b"1a 1h", write, held);
-    check_failed(rt, &mut sink, b"1a", write, held);
-    let bad = Err(ReplayFault::BadMove(1));
-    check_failed(rt, &mut sink, b"9h", bad, held);
-    let refused = Err(ReplayFault::NotAllowed(1));
-    check_failed(rt, &mut sink, b"11 1a", refused, held);
-    check_failed(rt, &mut sink, b"", Ok(0), held);
+    for (text, answer) in FAILED {
+        check_failed(rt, &mut sink, text, answer, held);
+    }
 }
+
+// Texts that are replayed one after the other into a sink that fails at the first one, and the answers.
+static FAILED: [(&[u8], Result<u32, ReplayFault>); 6] = [
+    (b"1a 1h", Err(ReplayFault::Write)),
+    (b"1a 1h", Err(ReplayFault::Write)),
+    (b"1a", Err(ReplayFault::Write)),
+    (b"9h", Err(ReplayFault::BadMove(1))),
+    (b"11 1a", Err(ReplayFault::NotAllowed(1))),
+    (b"", Ok(0)),
+];
 
 #[test]
 fn fails_with_its_sink(rt: HostRuntime) {

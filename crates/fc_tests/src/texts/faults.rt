@@ -45,47 +45,56 @@ fn check_end(rt: &impl Abort, end: &[u8], fault: BoardFault) {
     check_fault(rt, then(rt, end).as_slice(), fault);
 }
 
+// Bytes that end deal 1, and the least card that stands twice then.
+static REPEATED_AT_THE_END: [(&[u8], &[u8]); 3] = [
+    (b" JD", b"JD"),
+    (b" TC\nFC: 10C", b"TC"),
+    (b" TC JD AC", b"AC"),
+];
+
 #[test]
 fn names_the_fault_of_a_deal(rt: HostRuntime) {
     assert!(rt; read_board(then(&rt, b" TC\n").as_slice(), 4).is_ok());
     check_end(&rt, b" TC\nAC", BoardFault::TooManyColumns(9));
-    check_end(&rt, b" JD", repeated(&rt, b"JD"));
     check_end(&rt, b"", missing(&rt, b"TC"));
-    check_end(&rt, b" TC\nFC: 10C", repeated(&rt, b"TC"));
     check_end(&rt, b" TC KX", BoardFault::BadCard(8));
-    check_end(&rt, b" TC JD AC", repeated(&rt, b"AC"));
+    for (end, card) in REPEATED_AT_THE_END {
+        check_end(&rt, end, repeated(&rt, card));
+    }
 }
+
+// Texts, and what is wrong with each.
+const FAULTY: [(&[u8], BoardFault); 22] = [
+    (b"KC\nKX\n", BoardFault::BadCard(2)),
+    (b"\r\n\n: 1C", BoardFault::BadCard(3)),
+    (b": : KC", BoardFault::BadCard(1)),
+    (b"KC -\n", BoardFault::BadCard(1)),
+    (b"TS -", BoardFault::BadCard(1)),
+    (b"FC:- 1S", BoardFault::BadCard(1)),
+    (b"FC: - x\nKX", BoardFault::BadCard(1)),
+    (b"FC: - - - - - x", BoardFault::BadCard(1)),
+    (b"FC:\nfc: x", BoardFault::BadCard(2)),
+    (b"\n\n\n\n\n\n\n\nKX", BoardFault::BadCard(9)),
+    (b"Foundations: H-Z", BoardFault::BadFoundation(1)),
+    (b"Found: H-2 h-3\nKX", BoardFault::BadFoundation(1)),
+    (b"Found: H-0 h-0", BoardFault::BadFoundation(1)),
+    (b"Found:H-Q h-2", BoardFault::BadFoundation(1)),
+    (b"Found:H-14", BoardFault::BadFoundation(1)),
+    (b"Found:\nDeck: H2", BoardFault::BadFoundation(2)),
+    (b"Freecells: - - - - -\n", BoardFault::TooManyCells(1)),
+    (b"fc:\nFC: - - - - -\n", BoardFault::TooManyCells(2)),
+    (b"\n\n\n\n\n\n\n\n\n2C\nKX", BoardFault::TooManyColumns(10)),
+    (b"FC: -\nFC: -\n", BoardFault::RepeatedLine(2)),
+    (
+        b"Found: H-2\nAC\nDeck: H-3\nKX",
+        BoardFault::RepeatedLine(3),
+    ),
+    (b"Deck:\nDeck:", BoardFault::RepeatedLine(2)),
+];
 
 #[test]
 fn names_the_first_faulty_line(rt: HostRuntime) {
-    let texts: [(&[u8], BoardFault); 22] = [
-        (b"KC\nKX\n", BoardFault::BadCard(2)),
-        (b"\r\n\n: 1C", BoardFault::BadCard(3)),
-        (b": : KC", BoardFault::BadCard(1)),
-        (b"KC -\n", BoardFault::BadCard(1)),
-        (b"TS -", BoardFault::BadCard(1)),
-        (b"FC:- 1S", BoardFault::BadCard(1)),
-        (b"FC: - x\nKX", BoardFault::BadCard(1)),
-        (b"FC: - - - - - x", BoardFault::BadCard(1)),
-        (b"FC:\nfc: x", BoardFault::BadCard(2)),
-        (b"\n\n\n\n\n\n\n\nKX", BoardFault::BadCard(9)),
-        (b"Foundations: H-Z", BoardFault::BadFoundation(1)),
-        (b"Found: H-2 h-3\nKX", BoardFault::BadFoundation(1)),
-        (b"Found: H-0 h-0", BoardFault::BadFoundation(1)),
-        (b"Found:H-Q h-2", BoardFault::BadFoundation(1)),
-        (b"Found:H-14", BoardFault::BadFoundation(1)),
-        (b"Found:\nDeck: H2", BoardFault::BadFoundation(2)),
-        (b"Freecells: - - - - -\n", BoardFault::TooManyCells(1)),
-        (b"fc:\nFC: - - - - -\n", BoardFault::TooManyCells(2)),
-        (b"\n\n\n\n\n\n\n\n\n2C\nKX", BoardFault::TooManyColumns(10)),
-        (b"FC: -\nFC: -\n", BoardFault::RepeatedLine(2)),
-        (
-            b"Found: H-2\nAC\nDeck: H-3\nKX",
-            BoardFault::RepeatedLine(3),
-        ),
-        (b"Deck:\nDeck:", BoardFault::RepeatedLine(2)),
-    ];
-    for (text, fault) in texts {
+    for (text, fault) in FAULTY {
         check_fault(&rt, text, fault);
     }
 }
@@ -99,15 +108,29 @@ fn allows_the_games_cells_alone(rt: HostRuntime) {
     }
 }
 
+// Texts, and the least card that stands twice.
+static REPEATED: [(&[u8], &[u8]); 4] = [
+    (b"AC\nAC", b"AC"),
+    (b"KS 3H KS 3H\n", b"3H"),
+    (b"Deck: D-2\nKS KS 2D", b"2D"),
+    (b"FC: KS\nKS", b"KS"),
+];
+
+// Texts, and the least card that is missing.
+static MISSING: [(&[u8], &[u8]); 3] = [
+    (b"", b"AC"),
+    (b"Deck: C-K D-K H-K S-J", b"QS"),
+    (b"Deck: C-K D-K H-K", b"AS"),
+];
+
 #[test]
 fn names_the_least_card(rt: HostRuntime) {
-    check_fault(&rt, b"", missing(&rt, b"AC"));
-    check_fault(&rt, b"AC\nAC", repeated(&rt, b"AC"));
-    check_fault(&rt, b"KS 3H KS 3H\n", repeated(&rt, b"3H"));
-    check_fault(&rt, b"Deck: D-2\nKS KS 2D", repeated(&rt, b"2D"));
-    check_fault(&rt, b"FC: KS\nKS", repeated(&rt, b"KS"));
-    check_fault(&rt, b"Deck: C-K D-K H-K S-J", missing(&rt, b"QS"));
-    check_fault(&rt, b"Deck: C-K D-K H-K", missing(&rt, b"AS"));
+    for (text, least) in REPEATED {
+        check_fault(&rt, text, repeated(&rt, least));
+    }
+    for (text, least) in MISSING {
+        check_fault(&rt, text, missing(&rt, least));
+    }
 }
 
 // At most 4,096 bytes are read, whatever they are.
@@ -148,22 +171,24 @@ fn check_told(rt: &impl Abort, fault: BoardFault, told: &str) {
     assert!(rt; text.as_str() == told);
 }
 
-#[test]
-fn tells_each_fault(rt: HostRuntime) {
-    check_told(&rt, BoardFault::TooLong, "too long");
-    check_told(&rt, BoardFault::BadCard(2), "line 2: not a card");
-    check_told(
-        &rt,
-        BoardFault::BadFoundation(1),
-        "line 1: not a foundation",
-    );
-    check_told(&rt, BoardFault::TooManyCells(10), "line 10: too many cells");
-    check_told(
-        &rt,
+// Faults, and their texts.
+const TOLD: [(BoardFault, &str); 6] = [
+    (BoardFault::TooLong, "too long"),
+    (BoardFault::BadCard(2), "line 2: not a card"),
+    (BoardFault::BadFoundation(1), "line 1: not a foundation"),
+    (BoardFault::TooManyCells(10), "line 10: too many cells"),
+    (
         BoardFault::TooManyColumns(4096),
         "line 4096: too many columns",
-    );
-    check_told(&rt, BoardFault::RepeatedLine(3), "line 3: repeated");
+    ),
+    (BoardFault::RepeatedLine(3), "line 3: repeated"),
+];
+
+#[test]
+fn tells_each_fault(rt: HostRuntime) {
+    for (fault, told) in TOLD {
+        check_told(&rt, fault, told);
+    }
     check_told(&rt, repeated(&rt, b"JD"), "card JD stands twice");
     check_told(&rt, missing(&rt, b"10c"), "card TC is missing");
 }

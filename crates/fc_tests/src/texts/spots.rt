@@ -30,27 +30,29 @@ fn check_fault_at(rt: &impl Abort, text: &[u8], cells: u8, wanted: Option<(usize
     );
 }
 
+// Texts, the cells of the game, and the line, the place and the token of the fault.
+static SPOTS: [(&[u8], u8, Option<(usize, usize, &[u8])>); 16] = [
+    (b"KC\nQC KX 1D\n", 4, Some((2, 2, b"KX"))),
+    (b"\r\n\n: 1C\r\n", 4, Some((3, 1, b"1C"))),
+    (b": : KC", 4, Some((1, 1, b":"))),
+    (b"KC -\n", 4, Some((1, 2, b"-"))),
+    (b"Freecells: - * x y", 4, Some((1, 3, b"x"))),
+    (b"FC:- 1S", 4, Some((1, 2, b"1S"))),
+    (b"Foundations: C-2 H-Z", 4, Some((1, 2, b"H-Z"))),
+    (b"KC\nFound: H-2 C-0 h-3 D-X", 4, Some((2, 3, b"h-3"))),
+    (b"FC: - - - - KC -", 4, Some((1, 5, b"KC"))),
+    (b"FC: - -", 1, Some((1, 2, b"-"))),
+    (b"FC: KC", 0, Some((1, 1, b"KC"))),
+    (b"\n\n\n\n\n\n\n\n\n2C 3C\nKX", 4, Some((10, 1, b"2C"))),
+    (b"FC: -\nFC: -", 4, None),
+    (b"KC KC", 4, None),
+    (b"KC", 4, None),
+    (b"", 4, None),
+];
+
 #[test]
 fn faults_lie_at_tokens(rt: HostRuntime) {
-    let rows: [(&[u8], u8, Option<(usize, usize, &[u8])>); 16] = [
-        (b"KC\nQC KX 1D\n", 4, Some((2, 2, b"KX"))),
-        (b"\r\n\n: 1C\r\n", 4, Some((3, 1, b"1C"))),
-        (b": : KC", 4, Some((1, 1, b":"))),
-        (b"KC -\n", 4, Some((1, 2, b"-"))),
-        (b"Freecells: - * x y", 4, Some((1, 3, b"x"))),
-        (b"FC:- 1S", 4, Some((1, 2, b"1S"))),
-        (b"Foundations: C-2 H-Z", 4, Some((1, 2, b"H-Z"))),
-        (b"KC\nFound: H-2 C-0 h-3 D-X", 4, Some((2, 3, b"h-3"))),
-        (b"FC: - - - - KC -", 4, Some((1, 5, b"KC"))),
-        (b"FC: - -", 1, Some((1, 2, b"-"))),
-        (b"FC: KC", 0, Some((1, 1, b"KC"))),
-        (b"\n\n\n\n\n\n\n\n\n2C 3C\nKX", 4, Some((10, 1, b"2C"))),
-        (b"FC: -\nFC: -", 4, None),
-        (b"KC KC", 4, None),
-        (b"KC", 4, None),
-        (b"", 4, None),
-    ];
-    for (text, cells, wanted) in rows.as_slice() {
+    for (text, cells, wanted) in SPOTS.as_slice() {
         check_fault_at(&rt, *text, *cells, *wanted);
     }
 }
