@@ -3,7 +3,7 @@
 use crate::given::{board, free_cell, sure};
 use fc_answers::Outcome;
 use fc_batch::Batch;
-use fc_frontier::BucketFrontier;
+use fc_frontier::{BucketFrontier, Frontier};
 use fc_moves::FreeCell;
 use fc_search::{Search, SearchFault, Step, Verdict};
 use fc_tests::boards::{LOCKED, QUEEN_UNDER_KING, THREE_KINGS, TWO_KINGS};
@@ -20,14 +20,22 @@ pub(crate) static OUTCOMES: [Outcome; 4] = [
 ];
 
 // A search of a board under the first home rule, with a budget of 100.
-fn search_of(rt: &impl Abort, alloc: Global, text: &str) -> Search<BucketFrontier, FreeCell> {
+fn search_of<F: Frontier + Drop>(
+    rt: &impl Abort,
+    alloc: Global,
+    text: &str,
+) -> Search<F, FreeCell> {
     let game = free_cell(rt, 4);
     let start = board(rt, &game, text);
     sure(rt, Search::new(alloc, &game, 1, &start, 100))
 }
 
 // A batch of searches of boards, by their places in the list.
-fn batch_of(rt: &impl Abort, alloc: Global, boards: &[&str]) -> Batch<BucketFrontier, FreeCell> {
+fn batch_of<F: Frontier + Drop>(
+    rt: &impl Abort,
+    alloc: Global,
+    boards: &[&str],
+) -> Batch<F, FreeCell> {
     let mut batch = Batch::new(alloc);
     for i in 0..boards.len() {
         let number = sure(rt, batch.add(search_of(rt, alloc, boards[i])));
@@ -47,9 +55,9 @@ pub(crate) fn tells(verdict: &Verdict, told: Outcome) -> bool {
 }
 
 // The search with this number is done, and its answer and its verdict tell this.
-fn check_told(
+fn check_told<F: Frontier + Drop>(
     rt: &impl Abort,
-    batch: &Batch<BucketFrontier, FreeCell>,
+    batch: &Batch<F, FreeCell>,
     number: usize,
     told: Outcome,
 ) {
@@ -62,7 +70,7 @@ fn check_told(
 }
 
 // Nothing is told of the search with this number, which isn't done.
-fn check_untold(rt: &impl Abort, batch: &Batch<BucketFrontier, FreeCell>, number: usize) {
+fn check_untold<F: Frontier + Drop>(rt: &impl Abort, batch: &Batch<F, FreeCell>, number: usize) {
     let search = batch.get(number).expect(rt, "a search");
     let fault = search.answer().err();
     assert!(rt; fault == Some(SearchFault::NotDone), "an answer");
@@ -108,7 +116,7 @@ static TURNS: [Turn; 7] = [
 ];
 
 // Turns for the numbers of the list, again and again, until none of their searches runs.
-fn run_by(rt: &impl Abort, batch: &mut Batch<BucketFrontier, FreeCell>, list: &[usize]) {
+fn run_by<F: Frontier + Drop>(rt: &impl Abort, batch: &mut Batch<F, FreeCell>, list: &[usize]) {
     for _ in 0..1000u32 {
         if batch.turns(list) == 0 {
             return;
@@ -117,38 +125,53 @@ fn run_by(rt: &impl Abort, batch: &mut Batch<BucketFrontier, FreeCell>, list: &[
     assert!(rt; false, "searches that don't end");
 }
 
-#[test]
-fn searches_take_turns(rt: HostRuntime) {
-    let mut batch = batch_of(&rt, rt.alloc(), &BOARDS[..3]);
+// The searches with the numbers below this one are done, each with its own outcome.
+fn check_outcomes<F: Frontier + Drop>(rt: &impl Abort, batch: &Batch<F, FreeCell>, end: usize) {
+    for (number, told) in OUTCOMES.iter().enumerate().take(end) {
+        check_told(rt, batch, number, *told);
+    }
+}
+
+// Turns for one search of three at a time, and their replies.
+fn take_turns<F: Frontier + Drop>(rt: &impl Abort, alloc: Global) {
+    let mut batch: Batch<F, FreeCell> = batch_of(rt, alloc, &BOARDS[..3]);
     for number in 0..3 {
-        check_untold(&rt, &batch, number);
+        check_untold(rt, &batch, number);
     }
     for turn in TURNS.as_slice() {
         let reply = batch.turn(turn.number);
         assert!(rt; reply == turn.reply, "a turn");
     }
-    run_by(&rt, &mut batch, &[1]);
-    for number in 0..3 {
-        check_told(&rt, &batch, number, OUTCOMES[number]);
-    }
+    run_by(rt, &mut batch, &[1]);
+    check_outcomes(rt, &batch, 3);
     assert!(rt; batch.turn(2) == Ok(Step::Done), "one more");
-    check_told(&rt, &batch, 2, Outcome::CannotWin);
+    check_told(rt, &batch, 2, Outcome::CannotWin);
 }
 
 #[test]
-fn numbers_are_given_once(rt: HostRuntime) {
-    let mut batch = batch_of(&rt, rt.alloc(), &BOARDS[..3]);
+fn searches_take_turns(rt: HostRuntime) {
+    take_turns::<BucketFrontier>(&rt, rt.alloc());
+}
+
+// A search is taken out, and one more put in.
+fn take_and_add<F: Frontier + Drop>(rt: &impl Abort, alloc: Global) {
+    let mut batch: Batch<F, FreeCell> = batch_of(rt, alloc, &BOARDS[..3]);
     assert!(rt; batch.take(0).is_some(), "the first search");
     assert!(rt; batch.turn(0) == Err(SearchFault::NoSuch), "its turn");
     assert!(rt; batch.take(0).is_none(), "once more");
-    let number = sure(&rt, batch.add(search_of(&rt, rt.alloc(), LOCKED)));
+    let number = sure(rt, batch.add(search_of(rt, alloc, LOCKED)));
     assert!(rt; number == 3, "the next number");
     assert!(rt; batch.get(0).is_none(), "no search");
 }
 
 #[test]
-fn replies_are_counted(rt: HostRuntime) {
-    let mut batch = batch_of(&rt, rt.alloc(), &BOARDS[..3]);
+fn numbers_are_given_once(rt: HostRuntime) {
+    take_and_add::<BucketFrontier>(&rt, rt.alloc());
+}
+
+// Turns for many numbers, and how many of them replied `Running`.
+fn count_replies<F: Frontier + Drop>(rt: &impl Abort, alloc: Global) {
+    let mut batch: Batch<F, FreeCell> = batch_of(rt, alloc, &BOARDS[..3]);
     assert!(rt;
         batch.turns(&[2, 2, 0, 1, 7, 0, 1]) == 4,
         "turns that replied Running"
@@ -156,17 +179,20 @@ fn replies_are_counted(rt: HostRuntime) {
     assert!(rt; batch.turns(&[]) == 0, "no turn");
 }
 
+#[test]
+fn replies_are_counted(rt: HostRuntime) {
+    count_replies::<BucketFrontier>(&rt, rt.alloc());
+}
+
 // By these turns each search ends with its own outcome.
-fn check_order(rt: &impl Abort, alloc: Global, list: &[usize]) {
-    let mut batch = batch_of(rt, alloc, BOARDS.as_slice());
+fn check_order<F: Frontier + Drop>(rt: &impl Abort, alloc: Global, list: &[usize]) {
+    let mut batch: Batch<F, FreeCell> = batch_of(rt, alloc, BOARDS.as_slice());
     run_by(rt, &mut batch, list);
-    for number in 0..4 {
-        check_told(rt, &batch, number, OUTCOMES[number]);
-    }
+    check_outcomes(rt, &batch, 4);
 }
 
 #[test]
 fn the_order_of_turns_changes_nothing(rt: HostRuntime) {
-    check_order(&rt, rt.alloc(), &[0, 1, 2, 3]);
-    check_order(&rt, rt.alloc(), &[3, 3, 1, 0, 2, 3]);
+    check_order::<BucketFrontier>(&rt, rt.alloc(), &[0, 1, 2, 3]);
+    check_order::<BucketFrontier>(&rt, rt.alloc(), &[3, 3, 1, 0, 2, 3]);
 }

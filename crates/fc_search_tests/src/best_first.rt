@@ -396,10 +396,10 @@ fn sums_of_a_greater_f_are_put_off(rt: HostRuntime) {
 }
 
 // Whether a search that may store so many sums runs; `None` where that is no budget.
-fn runs(rt: &impl Abort, alloc: Global, sums: u32) -> Option<bool> {
+fn runs<F: Frontier + Drop>(rt: &impl Abort, alloc: Global, sums: u32) -> Option<bool> {
     let most = Budget::new(sums)?;
     let space = Sums { goal: 1 };
-    let search: Search<Sum, ListFrontier, Sums> = sure(
+    let search: Search<Sum, F, Sums> = sure(
         rt,
         Search::new(alloc, space, Strategy::full(Weight::ONE, most)),
     );
@@ -408,9 +408,9 @@ fn runs(rt: &impl Abort, alloc: Global, sums: u32) -> Option<bool> {
 
 #[test]
 fn a_budget_is_one_to_four_million(rt: HostRuntime) {
-    assert!(rt; runs(&rt, rt.alloc(), 0).is_none());
-    assert!(rt; runs(&rt, rt.alloc(), 4_000_000) == Some(true));
-    assert!(rt; runs(&rt, rt.alloc(), 4_000_001).is_none());
+    assert!(rt; runs::<ListFrontier>(&rt, rt.alloc(), 0).is_none());
+    assert!(rt; runs::<ListFrontier>(&rt, rt.alloc(), 4_000_000) == Some(true));
+    assert!(rt; runs::<ListFrontier>(&rt, rt.alloc(), 4_000_001).is_none());
 }
 
 // Adds a sum to a book that doesn't store it; what became of it.

@@ -3,7 +3,7 @@
 use crate::given::{bakers_game, board, budget, free_cell, home_rule, sure};
 use crate::shown::{Shown, check_table, check_wins, shows};
 use fc_cards::Place;
-use fc_frontier::ListFrontier;
+use fc_frontier::{Frontier, ListFrontier};
 use fc_moves::{FreeCell, Game, Kings};
 use fc_position::Position;
 use fc_search::{
@@ -339,16 +339,27 @@ static GREATEST: [Row; 1] = [Row {
     shown: Shown::Nothing,
 }];
 
+// Why a search by this queue can't begin with a budget.
+fn fault_of<F: Frontier + Drop>(
+    rt: &impl Abort,
+    alloc: Global,
+    budget: u32,
+) -> Option<SearchFault> {
+    let game = free_cell(rt, 4);
+    let start = board(rt, &game, QUEEN_UNDER_KING);
+    let search: Result<Search<F, FreeCell>, SearchFault> = Search::new(
+        alloc, &game, 1, &start, budget,
+    );
+    search.err()
+}
+
 // A budget is out of range.
 fn check_budget(rt: &impl Abort, alloc: Global, budget: u32) {
     let game = free_cell(rt, 4);
     let start = board(rt, &game, QUEEN_UNDER_KING);
     let fault = solve(alloc, &game, 1, &start, budget).err();
     assert!(rt; fault == Some(SearchFault::Budget), "a budget of {budget}");
-    let search: Result<Search<ListFrontier, FreeCell>, SearchFault> = Search::new(
-        alloc, &game, 1, &start, budget,
-    );
-    let fault = search.err();
+    let fault = fault_of::<ListFrontier>(rt, alloc, budget);
     assert!(rt; fault == Some(SearchFault::Budget), "a budget of {budget}");
 }
 

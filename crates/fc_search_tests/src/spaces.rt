@@ -5,7 +5,6 @@ use fc_best_first::{Search, Status, Strategy};
 use fc_codes::{Code, Layout};
 use fc_frontier::{BucketFrontier, Frontier, ListFrontier};
 use fc_moves::{FreeCell, Game, Kings};
-use fc_position::Position;
 use fc_search::{Method, Positions, Weight};
 use fc_tests::boards::{
     ALL_HOME, CLASSES_495, FREE_KING, LOCKED, ONE_COLUMN, QUEEN_UNDER_KING, Rules, THIRTY_MOVES,
@@ -305,20 +304,23 @@ fn a_board_of_495_classes(rt: HostRuntime) {
 }
 
 // A search knows its question and the position in which it has begun, whose code is stored at no cost.
-fn check_start(
-    rt: &impl Abort,
-    search: &Search<Code, ListFrontier, Positions<FreeCell>>,
-    start: &Position,
-) {
+fn check_start<F: Frontier + Drop>(rt: &impl Abort, alloc: Global) {
+    let start = board(rt, &free_cell(rt, 4), TWO_KINGS);
+    let search: Search<Code, F, Positions<FreeCell>> = begun(
+        rt,
+        alloc,
+        free_cell(rt, 4),
+        1,
+        TWO_KINGS,
+        7,
+    );
     let space = search.space();
-    assert!(rt; space.start.equals(start) && space.rules.rule.get() == 1);
+    assert!(rt; space.start.equals(&start) && space.rules.rule.get() == 1);
     let (code, mark) = search.entry(0).expect(rt, "the start");
-    assert!(rt; *code == Layout::new(start).start_code() && mark.cost == 0);
+    assert!(rt; *code == Layout::new(&start).start_code() && mark.cost == 0);
 }
 
 #[test]
 fn a_search_knows_its_question(rt: HostRuntime) {
-    let start = board(&rt, &free_cell(&rt, 4), TWO_KINGS);
-    let search = begun(&rt, rt.alloc(), free_cell(&rt, 4), 1, TWO_KINGS, 7);
-    check_start(&rt, &search, &start);
+    check_start::<ListFrontier>(&rt, rt.alloc());
 }
