@@ -46,10 +46,10 @@ fn finds_below(
     rt: &impl Abort,
     alloc: Global,
     method: Method,
-    row: (&str, Option<u32>),
+    text: &str,
+    shortest: Option<u32>,
     limit: Option<u32>,
 ) {
-    let (text, shortest) = row;
     let game = free_cell(rt, 4);
     let start = board(rt, &game, text);
     let question = Question::new(&game, method);
@@ -79,10 +79,10 @@ fn lists_below_a_limit_are_found(rt: HostRuntime) {
     for bound in [BoundKind::Plain, BoundKind::Clearing] {
         let full = method(&rt, 1, 10, bound, 10_000);
         let partial = expanded(full, Expansion::Partial);
-        for row in BOARDS.iter() {
-            for limit in LIMITS.iter() {
-                finds_below(&rt, rt.alloc(), full, *row, *limit);
-                finds_below(&rt, rt.alloc(), partial, *row, *limit);
+        for (text, shortest) in BOARDS {
+            for limit in LIMITS {
+                finds_below(&rt, rt.alloc(), full, text, shortest, limit);
+                finds_below(&rt, rt.alloc(), partial, text, shortest, limit);
             }
         }
     }
