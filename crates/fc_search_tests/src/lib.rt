@@ -8,8 +8,6 @@ mod batch_runs;
 #[cfg(test)]
 mod batches;
 #[cfg(test)]
-mod below;
-#[cfg(test)]
 mod best_first;
 #[cfg(test)]
 mod bounds;
