@@ -251,7 +251,7 @@ module _ {K : Type 0} (task : Task K) where
           child.key,
           out,
           subst (λ s. IsGivenUp task s child.key busy) (sym same)
-              (d.sound, no_room, fresh, child_needed task.strategy.expansion old child edge d admits, (xb, mb, child.cost, d.stands, edge)),
+              (d.sound, no_room, fresh, child_needed task.strategy.expansion old child edge d admits, (xb, mb, child.cost, d.stands, edge), d.settled),
         )
     expands_done lawful (child ∷ children) old new placing edges d (inr (inl (mid, how, rest))) =
         let edge = edges child (front_there child children) in

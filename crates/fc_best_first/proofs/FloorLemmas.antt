@@ -14,7 +14,7 @@ use Rattle.fc_best_first.specs.Graph.{Graph, Task}
 use Rattle.fc_best_first.specs.Store.{Store, IsStored, weighed}
 use Rattle.fc_best_first.specs.Kept.{AreNoted, IsExpanded, IsOpenAt, IsOpenLater, IsOpenOrExpanded, IsSound, f_of}
 use Rattle.fc_best_first.specs.Laws.{OpenFloorsHold}
-use Rattle.fc_best_first.specs.Shown.{IsLeastOpen, IsOpen, Waits}
+use Rattle.fc_best_first.specs.Shown.{AreSettledBut, IsLeastOpen, IsOpen, Waits}
 use Rattle.fc_best_first.proofs.KeptLemmas.{front_cases, front_there, same_entry, stands_within}
 use Rattle.fc_best_first.proofs.ClosedLemmas.{IsAt, closed_inside, expanded_covered, limit_cases}
 
@@ -199,15 +199,15 @@ module _ {K : Type 0} (task : Task K) (s : Store K) (most : ℕ) where
 
 module _ {K : Type 0} where
   -- what is expanded where every pair that is open tells no less
-  below_expanded : (task : Task K) (s : Store K) (number : ℕ) (x : K) (mark : Mark) (floor : ℕ) → IsStored s number x mark
-      → ((i : ℕ) (y : K) (m : Mark) → (i ≡ number → ⊥) → IsStored s i y m → IsOpenOrExpanded task s i y m)
-      → IsLeastOpen task s mark.cost floor
+  below_expanded : (task : Task K) (s : Store K) (number : ℕ) (x : K) (mark : Mark) (most floor : ℕ) → IsStored s number x mark
+      → AreSettledBut task s number → most ≤ mark.cost + task.graph.bound x → IsLeastOpen task s most floor
       → (i : ℕ) (y : K) (m : Mark) → IsStored s i y m → m.cost + task.graph.bound y < floor → IsExpanded task s y m.cost
-  below_expanded task s number x mark floor at settled least i y m there lt = ⊎_elim
+  below_expanded task s number x mark most floor at settled within least i y m there lt = ⊎_elim
       (λ same.
       let both = same_entry s number x y mark m at (subst (λ k. IsStored s k y m) same there) in
       let cost = ap (λ n. n.cost) both.1 in
-      absurd (omega (arith, cost, lt, least.within)))
+      let bound = ap task.graph.bound both.0 in
+      absurd (omega (arith, cost, bound, lt, within, least.within)))
       (λ other. elim (settled i y m other there) [
         | inl is_open ↦ absurd (too_low (own_waits task.strategy.expansion task s i y m is_open))
         | inr (inl done) ↦ done
@@ -220,12 +220,12 @@ module _ {K : Type 0} where
 
   -- the least cost plus bound of the open keys is a floor: the keys below it are expanded, and no answer is below it
   pub open_floors : (g : Graph K) → OpenFloorsHold g
-  open_floors g lawful strategy limit s number x mark floor (sound, (y, m, there, won, done, settled)) at least =
+  open_floors g lawful strategy limit s number x mark most floor sound settled at within least =
       let task : Task K = record { graph = g; strategy = strategy; limit = limit } in
-      let expanded = below_expanded task s number x mark floor at settled least in (
+      let expanded = below_expanded task s number x mark most floor at settled within least in (
         expanded,
         λ n wins. ⊎_elim
-            (λ reach. let le = sound.under number x mark at n wins reach in let most = least.within in omega (arith, le, most))
+            (λ reach. let le = sound.under number x mark at n wins reach in let low = least.within in omega (arith, le, low, within))
             (λ up. ⊎_elim
             (λ below. absurd (
             let closed = closed_inside task s (suc n) sound

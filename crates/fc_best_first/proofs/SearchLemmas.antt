@@ -366,7 +366,7 @@ module _ {K : Type 0} (task : Task K) where
       let closed = closed_inside task s (suc n) sound (λ i x m at lt. expanded_covered task s x m.cost (suc n) up (done i x m at)) in
       absurd (let over = lawful.closed (suc n) (rows s) closed n wins in omega (arith, over)))
       (limit_cases task.limit n)
-  holds_shows lawful heavy s (GaveUp y number) (sound, full, fresh, needed, rest) =
+  holds_shows lawful heavy s (GaveUp y number) (sound, full, fresh, needed, came, others) =
       let keys : List K = keys_of s.stored ++ y ∷ [] in
       let many : length keys ≡ task.strategy.budget + 1 = (let room = sound.room in let l = length-keys_of s.stored in omega (arith, length_push (keys_of s.stored) y, room, l, full)) in (
         keys,

@@ -15,6 +15,10 @@ module _ {K : Type 0} where
   abbrev pub IsFloor : Graph K → Ratio → ℕ → Type 0
   IsFloor g weight floor = (n : ℕ) → g.wins n → floor ≤ weight.times * n
 
+  -- each stored key but the one with this number is open or expanded
+  abbrev pub AreSettledBut : Task K → Store K → ℕ → Type 0
+  AreSettledBut task s number = (i : ℕ) (y : K) (m : Mark) → (i ≡ number → ⊥) → IsStored s i y m → IsOpenOrExpanded task s i y m
+
   -- a won key is stored under this number, each key whose weighed cost plus bound is below its weighed cost is done with below
   -- that, and each other key is open or expanded
   abbrev pub IsFound : Task K → Store K → ℕ → Type 0
@@ -22,18 +26,19 @@ module _ {K : Type 0} where
       × ((x : K) × (mark : Mark) × IsStored s number x mark × task.graph.won x
       × ((i : ℕ) (y : K) (m : Mark) → IsStored s i y m → f_of task y m < weighed task.strategy mark
       → IsDone task.strategy.expansion task s y m.cost (weighed task.strategy mark))
-      × ((i : ℕ) (y : K) (m : Mark) → (i ≡ number → ⊥) → IsStored s i y m → IsOpenOrExpanded task s i y m))
+      × AreSettledBut task s number)
 
   -- each stored key is expanded
   abbrev pub IsExhausted : Task K → Store K → Type 0
   IsExhausted task s = IsSound task s
       × ((i : ℕ) (y : K) (m : Mark) → IsStored s i y m → IsExpanded task s y m.cost)
 
-  -- as many keys as the budget are stored, and one more came by needed work from the key with this number
+  -- as many keys as the budget are stored, one more came by needed work from the key with this number, and each other key is
+  -- open or expanded
   abbrev pub IsGivenUp : Task K → Store K → K → ℕ → Type 0
   IsGivenUp task s y number = IsSound task s × (task.strategy.budget ≤ length s.stored) × IsNew s y
       × IsNeeded task.strategy.expansion task.graph task.strategy.weight y
-      × ((x : K) × (mark : Mark) × (c : ℕ) × IsStored s number x mark × task.graph.edge x c y)
+      × ((x : K) × (mark : Mark) × (c : ℕ) × IsStored s number x mark × task.graph.edge x c y) × AreSettledBut task s number
 
   -- what a search holds by its status
   abbrev pub Holds : Task K → Store K → Status K → Type 0

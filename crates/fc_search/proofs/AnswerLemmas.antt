@@ -20,7 +20,7 @@ use Rattle.fc_best_first.specs.declared.books.Mark.{Mark}
 use Rattle.fc_best_first.specs.declared.turns.Status.TheVariants as status
 use Rattle.fc_best_first.specs.Kept.{IsSound}
 use Rattle.fc_best_first.specs.Limits.{IsEven, Ratio, ReachesLimit, weigh}
-use Rattle.fc_best_first.specs.Shown.{IsFound, IsExhausted, IsLeastOpen, Shows}
+use Rattle.fc_best_first.specs.Shown.{AreSettledBut, IsFound, IsExhausted, IsLeastOpen, Shows}
 use Rattle.fc_best_first.specs.Store.{Store, IsStored}
 use Rattle.fc_best_first.proofs.KeptLemmas.{same_entry, stands_within}
 use Rattle.fc_best_first.proofs.FloorLemmas.{open_floors}
@@ -42,6 +42,7 @@ use Rattle.fc_answers.specs.Table.{Listing, HaveKeysOnce, IsRising}
 use Rattle.fc_answers.specs.inner.Table.{at_no_cost, inside}
 use Rattle.fc_answers.proofs.OrderLemmas.{in_order}
 use Rattle.fc_answers.proofs.RowLemmas.{free_listed, freely_listed, inside_listed, inside_once, listed_inside, no_cost_once}
+use Rattle.fc_search.specs.Shown.{capped}
 use Rattle.fc_search.specs.inner.Stored.{costs_of}
 use Rattle.fc_search.specs.inner.Walk.{IsAtClass}
 use Rattle.fc_search.proofs.NeedLemmas.{needs_more, needs_reach}
@@ -52,6 +53,15 @@ use Rattle.fc_tables.proofs.GreaterLemmas.{greater_close}
 -- where there is no limit, no number is past it
 up_to : {limit : Option ℕ} → limit ≡ None → (n : ℕ) → IsUpTo limit n
 up_to whole n = subst (λ l. IsUpTo l n) (sym whole) tt
+
+-- the limit, where there is one, is no less than what is capped by it, and that is no more than it was
+pub capped_most : (limit : Option ℕ) (n : ℕ) → capped limit n ≤ n
+capped_most None n = omega arith
+capped_most (Some limit) n = omega arith
+
+pub capped_up : (limit : Option ℕ) (n floor : ℕ) → floor ≤ capped limit n → IsUpTo limit floor
+capped_up None n floor le = tt
+capped_up (Some limit) n floor le = omega (arith, le)
 
 -- each move of a run from a position of the game has a text
 pub run_texts : (g : GameRules) (b c : Board) (ms : List Move) → IsPositionOf g b → Run g b ms c → All HasText ms
@@ -226,13 +236,29 @@ module _ (pr : Problem) (s : Store (List ℕ)) (names : IsNaming (by_codes pr.st
           subst (IsCoveredBelow (classes_of pr) s y m.cost) (sym cost)
           (light_covered pr.method.strategy.expansion (task_of_problem pr) s y m.cost found.1.1.cost (up_to whole found.1.1.cost) positive light (found.1.4 i y m there lt))
 
+  -- what is shown where each stored class but one is open or expanded, also where there is a limit: the stored classes below that
+  -- are covered, and no list has fewer moves
+  pub floor_but_holds : (number : ℕ) (x : List ℕ) (mark : Mark) (floor : ℕ) → IsSound (task_of_problem pr) s
+      → AreSettledBut (task_of_problem pr) s number → IsStored s number x mark
+      → IsLeastOpen (task_of_problem pr) s (capped pr.limit (mark.cost + guide_of pr.method.bound (board_of_code pr.start x))) floor
+      → ((i : ℕ) (y : List ℕ) (m : Mark) → IsStored s i y m → m.cost + guide_of pr.method.bound (board_of_code pr.start y) < floor
+      → IsCoveredBelow (classes_of pr) s y m.cost floor)
+      × ((others : List Move) → Wins pr.game pr.start others → floor ≤ length others)
+  floor_but_holds number x mark floor sound settled at least =
+      let most = mark.cost + guide_of pr.method.bound (board_of_code pr.start x) in
+      let both = open_floors (classes_of pr) (lawful (by_codes pr.start) (guide_of pr.method.bound) pr.game pr.method.rule pr.start names (bounds_lower pr.method.bound).0 pp)
+      pr.method.strategy pr.limit s number x mark (capped pr.limit most) floor sound settled at (capped_most pr.limit most) least in (
+        λ i y m there lt. expanded_covered (task_of_problem pr) s y m.cost floor (capped_up pr.limit most floor least.within) (both.0 i y m there lt),
+        λ others wins. both.1 (length others) (others, refl, wins),
+      )
+
   -- no list has fewer moves than the least cost and bound of what is open, also where there is a limit
   pub floor_under : (number : ℕ) (x : List ℕ) (mark : Mark) (floor : ℕ) → IsFound (task_of_problem pr) s number
       → IsStored s number x mark → IsLeastOpen (task_of_problem pr) s mark.cost floor
       → (others : List Move) → Wins pr.game pr.start others → floor ≤ length others
   floor_under number x mark floor found at least others wins =
       let both = open_floors (classes_of pr) (lawful (by_codes pr.start) (guide_of pr.method.bound) pr.game pr.method.rule pr.start names (bounds_lower pr.method.bound).0 pp) pr.method.strategy pr.limit s number x
-      mark floor found at least in
+      mark mark.cost floor found.0 found.1.5 at (omega arith) least in
       both.1 (length others) (others, refl, wins)
 
   -- what a number is that is told as a floor: no list has fewer moves, and the stored classes below it are covered
@@ -243,7 +269,7 @@ module _ (pr : Problem) (s : Store (List ℕ)) (names : IsNaming (by_codes pr.st
       × ((others : List Move) → Wins pr.game pr.start others → floor ≤ length others)
   floor_holds whole number x mark floor found at least =
       let both = open_floors (classes_of pr) (lawful (by_codes pr.start) (guide_of pr.method.bound) pr.game pr.method.rule pr.start names (bounds_lower pr.method.bound).0 pp) pr.method.strategy pr.limit s number x
-      mark floor found at least in (
+      mark mark.cost floor found.0 found.1.5 at (omega arith) least in (
         λ i y m there lt. expanded_covered (task_of_problem pr) s y m.cost floor (up_to whole floor) (both.0 i y m there lt),
         λ others wins. both.1 (length others) (others, refl, wins),
       )

@@ -1,27 +1,43 @@
 -- What a search that is done has found and shown.
-use Rattle.std.proofs.Common.{◌≡◌, ℕ, ◌≤◌, Option, Some, None, List, length, refl, sym, subst, arith}
+use Rattle.std.proofs.Common.{◌≡◌, ℕ, ◌≤◌, Option, Some, None, Ok, List, length, refl, sym, subst, arith}
+use Rattle.std.specs.List.Sorted.{IsPermutation}
+use Rattle.std.proofs.lemmas.Option.{same_Some}
 use Rattle.std.specs.Prelude.{MatchOption}
 use Rattle.std.proofs.Math.Nat.{mul-le-mul_left}
 use Rattle.fc_position.specs.Board.{Board}
 use Rattle.fc_moves.specs.declared.steps.Move.{Move}
 use Rattle.fc_moves.specs.GameRules.{IsPositionOf}
-use Rattle.fc_moves.specs.Run.{CannotWin, Wins}
+use Rattle.fc_moves.specs.Run.{CannotWin, ReachesMore, Wins}
+use Rattle.fc_answers.specs.Answer.{IsBackedBelow, IsBackedWhole}
+use Rattle.fc_answers.specs.Table.{IsRising, Listing}
+use Rattle.fc_answers.specs.inner.Table.{at_no_cost, inside}
+use Rattle.fc_best_first.specs.declared.searches.Step.TheVariants.{Done}
+use Rattle.fc_best_first.specs.declared.turns.Status.{Status}
 use Rattle.fc_best_first.specs.declared.turns.Status.TheVariants as status
 use Rattle.fc_best_first.specs.Limits.{ReachesLimit}
-use Rattle.fc_best_first.specs.Shown.{Shows}
+use Rattle.fc_best_first.specs.Kept.{IsSound}
+use Rattle.fc_best_first.specs.Search.{reply_of}
+use Rattle.fc_best_first.specs.Shown.{AreSettledBut, Holds, Shows}
 use Rattle.fc_best_first.specs.Store.{Store}
+use Rattle.fc_best_first.proofs.ClosedLemmas.{IsUpTo, expanded_covered}
+use Rattle.fc_best_first.proofs.KeptLemmas.{stands_within}
+use Rattle.fc_bound.specs.Kinds.{guide_of}
 use Rattle.fc_classes.specs.Namings.{IsNaming, by_codes}
+use Rattle.fc_search.specs.Need.{NeedsMore}
 use Rattle.fc_search.specs.Problem.{Problem, task_of_problem}
 use Rattle.fc_search.specs.Search.{State}
-use Rattle.fc_search.specs.Shown.{HasFound, HasFoundBy}
+use Rattle.fc_search.specs.Shown.{HasFound, HasFoundBy, HasShownBy, IsFloorBut}
+use Rattle.fc_search.specs.inner.Stored.{costs_of}
 use Rattle.fc_search.specs.inner.Walk.{IsAtClass}
-use Rattle.fc_search.proofs.AnswerLemmas.{run_texts, won_within}
+use Rattle.fc_search.proofs.NeedLemmas.{needs_more, needs_reach}
+use Rattle.fc_search.proofs.AnswerLemmas.{backed_below, backed_whole, floor_but_holds, run_texts, won_within}
 
 -- the list that leads to the won class is one that the search has found
 pub found_there : (s : State) (number : ℕ) (ms : List Move) (b : Board) → IsNaming (by_codes s.problem.start) s.problem.game s.problem.start
-    → IsPositionOf s.problem.game s.problem.start → s.status ≡ status.Won number → Shows (task_of_problem s.problem) s.store (status.Won number)
+    → IsPositionOf s.problem.game s.problem.start → s.problem.method.strategy.budget ≤ 4000000 → s.status ≡ status.Won number
+    → Holds (task_of_problem s.problem) s.store (status.Won number) → Shows (task_of_problem s.problem) s.store (status.Won number)
     → IsAtClass s.problem.game s.store s.problem.start number ms b → HasFound s (Some ms)
-found_there s number ms b names fits stands shows walked =
+found_there s number ms b names fits most stands held shows walked =
     let won = won_within s.problem s.store names fits number ms b shows walked in
     subst (λ v. HasFoundBy s v (Some ms)) (sym stands)
     (record {
@@ -33,10 +49,81 @@ found_there s number ms b names fits stands shows walked =
       least = λ others w.
           let more = mul-le-mul_left s.problem.method.strategy.weight.parts won.3 in let far = won.5 others w in omega (arith, more, far);
       written = run_texts s.problem.game s.problem.start b ms fits walked.3;
+      short =
+          let low = held.0.low number won.0 won.1 won.2 in
+          let inside_store = stands_within s.store number won.0 won.1 won.2 in
+          let room = held.0.room in
+          let cost = won.3 in omega (arith, low, inside_store, room, most, cost);
     })
+
+-- a search that gave up needed more classes than its budget, and reached more positions
+pub gave_up_told : (s : State) (y : List ℕ) (number told : ℕ) → IsNaming (by_codes s.problem.start) s.problem.game s.problem.start
+    → IsPositionOf s.problem.game s.problem.start → Shows (task_of_problem s.problem) s.store (status.GaveUp y number)
+    → told ≡ s.problem.method.strategy.budget
+    → (told ≡ s.problem.method.strategy.budget) × NeedsMore s.problem × ReachesMore s.problem.game s.problem.start told
+gave_up_told s y number told names fits (keys, are) same =
+    let more = needs_more s.problem keys names fits are in
+    (same, more, subst (ReachesMore s.problem.game s.problem.start) (sym same) (needs_reach s.problem more))
 
 -- where no list that is wanted wins, none is below the limit, or none wins
 pub none_below : (pr : Problem) (s : Store (List ℕ)) (limit : Option ℕ) → pr.limit ≡ limit → Shows (task_of_problem pr) s status.CannotWin
     → MatchOption limit (CannotWin pr.game pr.start) (λ floor. (moves : List Move) → Wins pr.game pr.start moves → floor ≤ length moves)
 none_below pr s None same none = λ moves wins. subst (λ l. ReachesLimit l (length moves)) same (none (length moves) (moves, refl, wins))
 none_below pr s (Some floor) same none = λ moves wins. subst (λ l. ReachesLimit l (length moves)) same (none (length moves) (moves, refl, wins))
+
+-- what some number is that is told as another
+some_same : (n floor : ℕ) → Some n ≡ Some floor → floor ≡ n
+some_same n floor e = sym (same_Some n floor e)
+
+module _ (s : State) (names : IsNaming (by_codes s.problem.start) s.problem.game s.problem.start) (fits : IsPositionOf s.problem.game s.problem.start) where
+  -- no list has fewer moves than what is told where each stored class but one is open or expanded
+  pub floor_told : (number floor : ℕ) → IsSound (task_of_problem s.problem) s.store → AreSettledBut (task_of_problem s.problem) s.store number
+      → IsFloorBut s number floor → (others : List Move) → Wins s.problem.game s.problem.start others → floor ≤ length others
+  floor_told number floor sound settled told =
+      (floor_but_holds s.problem s.store names fits number told.0 told.1 floor sound settled told.2 told.3).1
+
+  -- a table of the search: of its rule and bound, in order, of these rows
+  pub record IsTableWith (table : Listing) (all : List (List ℕ × ℕ)) : Type 0 where
+    pub rule : table.rule ≡ s.problem.method.rule
+    pub bound : table.bound ≡ s.problem.method.bound
+    pub known : table.rule ≤ 2
+    pub few : length table.rows ≤ 4000000
+    pub rising : IsRising table.rows
+    pub rows : IsPermutation all table.rows
+
+  -- the table of the stored classes below what is told so shows it
+  below_told : (number n : ℕ) (table : Listing) → IsSound (task_of_problem s.problem) s.store → AreSettledBut (task_of_problem s.problem) s.store number
+      → IsFloorBut s number n → IsTableWith table (inside (guide_of s.problem.method.bound) n (costs_of s.problem.start s.store))
+      → IsBackedBelow s.problem.game s.problem.start n table
+  below_told number n table sound settled told made =
+      backed_below s.problem s.store names fits n table sound
+      (floor_but_holds s.problem s.store names fits number told.0 told.1 n sound settled told.2 told.3).0
+      made.rule made.bound made.known made.few made.rising made.rows
+
+  -- the table of a search that is done, below the number that it has shown, shows that
+  pub number_backed : (status : Status (List ℕ)) (n : ℕ) (table : Listing) → reply_of status ≡ Ok Done
+      → Holds (task_of_problem s.problem) s.store status → HasShownBy s status (Some n)
+      → IsTableWith table (inside (guide_of s.problem.method.bound) n (costs_of s.problem.start s.store))
+      → IsBackedBelow s.problem.game s.problem.start n table
+  number_backed status.Running n table done held told made = absurd (cc)
+  number_backed status.Stopped n table done held told made = absurd (cc)
+  number_backed (status.Won number) n table done held (floor, is, told) made =
+      below_told number n table held.0 held.1.5 (subst (IsFloorBut s number) (some_same n floor is) told) made
+  number_backed (status.GaveUp y number) n table done held (floor, is, told) made =
+      below_told number n table held.0 held.5 (subst (IsFloorBut s number) (some_same n floor is) told) made
+  number_backed status.CannotWin n table done held told made =
+      let self : n ≤ n = omega arith in
+      backed_below s.problem s.store names fits n table held.0
+      (λ i y m there lt. expanded_covered (task_of_problem s.problem) s.store y m.cost n (subst (λ l. IsUpTo l n) told self) (held.1 i y m there))
+      made.rule made.bound made.known made.few made.rising made.rows
+
+  -- and that of one that has shown that none wins
+  pub none_backed : (status : Status (List ℕ)) (table : Listing) → reply_of status ≡ Ok Done
+      → Holds (task_of_problem s.problem) s.store status → HasShownBy s status None
+      → IsTableWith table (at_no_cost (costs_of s.problem.start s.store)) → IsBackedWhole s.problem.game s.problem.start table
+  none_backed status.Running table done held told made = absurd (cc)
+  none_backed status.Stopped table done held told made = absurd (cc)
+  none_backed (status.Won number) table done held (floor, is, told) made = absurd (cc)
+  none_backed (status.GaveUp y number) table done held (floor, is, told) made = absurd (cc)
+  none_backed status.CannotWin table done held told made =
+      backed_whole s.problem s.store names fits (sym told) table held made.rule made.known made.few made.rising made.rows

@@ -1,13 +1,17 @@
 //! What a search has found and shown by where it stands, also below a limit.
 
-ghost use Rattle.std.specs.Prelude.{◌≤◌, List, length, IfOk, MatchOption};
+ghost use Rattle.std.specs.Prelude.{◌≡◌, ◌<◌, ◌≤◌, ◌↔◌, ℕ, List, length, IfNone, IfOk, IfSome, IsSome, MatchOption};
 ghost use Rattle.fc_moves.specs.declared.steps.Move.{Move};
-ghost use Rattle.fc_moves.specs.Run.{CannotWin, Wins};
-ghost use Rattle.fc_search.specs.Shown.{HasFound, HasShown};
+ghost use Rattle.fc_moves.specs.Run.{CannotWin, ReachesMore, Wins};
+ghost use Rattle.fc_best_first.specs.Kept.{IsSound};
+ghost use Rattle.fc_best_first.specs.Search.{reply_of};
+ghost use Rattle.fc_search.specs.Need.{NeedsMore};
+ghost use Rattle.fc_search.specs.Problem.{task_of_problem};
+ghost use Rattle.fc_search.specs.Shown.{capped, BacksShown, HasFound, HasShown, IsFloorBut};
 
 use crate::searches::Search;
-use fc_answers::MoveList;
-use fc_best_first::Status;
+use fc_answers::{MoveList, Table};
+use fc_best_first::{Status, Step};
 use fc_frontier::Frontier;
 use fc_moves::Game;
 use std::alloc::AllocError;
@@ -37,8 +41,79 @@ impl<F: Frontier + Drop, G: Game + Drop> Search<F, G> {
         self.known();
         match self.search.status() {
             Status::CannotWin => self.search.limit(),
-            Status::Won(number) => Some(self.floor_of(*number)),
+            Status::Won(number) => Some(self.floor_but(*number)),
+            Status::GaveUp(_, number) => Some(self.floor_but(*number)),
             _ => Some(self.at_least()),
+        }
+    }
+
+    /// How many classes the search may store, where it gave up: then more positions than that can be reached.
+    pub fn given_up(&self) -> Option<u32>
+        ensures earned { IfSome result (λ told. (told ≡ self.now.problem.method.strategy.budget) × NeedsMore self.now.problem
+            × ReachesMore self.now.problem.game self.now.problem.start told) }
+        ensures none { IfNone result ((y : List ℕ) (number : ℕ) → self.now.status ≡ Status.GaveUp y number → ⊥) }
+    {
+        self.known();
+        match self.search.status() {
+            Status::GaveUp(_, _) => Some(self.budget()),
+            _ => None,
+        }
+    }
+
+    /// The table that shows what `shown` told of a search that is done, and `None` of another one.
+    ///
+    /// # Errors
+    /// A growth was refused.
+    pub fn table(&self, shown: Option<u32>) -> Result<Option<Table>, AllocError>
+        requires shown { HasShown self.now shown }
+        ensures backs { IfOk result (λ table. IfSome table (BacksShown self.now.problem shown)) }
+        ensures searched { IfOk result (λ table. IfSome table (λ t. (t.rule ≡ self.now.problem.method.rule) × (t.bound ≡ self.now.problem.method.bound))) }
+        ensures done { IfOk result (λ table. IsSome table ↔ (reply_of self.now.status ≡ Ok Step.Done)) }
+    {
+        self.known();
+        match self.search.status() {
+            Status::Running => Ok(None),
+            Status::Stopped => Ok(None),
+            _ => Ok(Some(self.table_of(shown)?)),
+        }
+    }
+
+    // The table of a search that is done.
+    fn table_of(&self, shown: Option<u32>) -> Result<Table, AllocError>
+        requires shown { HasShown self.now shown }
+        requires done { reply_of self.now.status ≡ Ok Step.Done }
+        ensures backs { IfOk result (BacksShown self.now.problem shown) }
+        ensures searched { IfOk result (λ t. (t.rule ≡ self.now.problem.method.rule) × (t.bound ≡ self.now.problem.method.bound)) }
+    {
+        self.known();
+        let _ = self.search.status();
+        let table = match shown {
+            Some(floor) => self.table_below(floor as usize)?,
+            None => self.table_of_all()?,
+        };
+        Ok(table)
+    }
+
+    // The least cost and bound of what is open and of the class with this number, and no more than the limit.
+    fn floor_but(&self, number: u32) -> u32
+        requires sound { IsSound (task_of_problem self.now.problem) self.now.store }
+        requires within { number < length self.now.store.stored }
+        ensures value { IsFloorBut self.now number result }
+    {
+        self.known();
+        let (position, mark) = self.position_at(number);
+        let bound = self.search.space().rules.kind.guide(&position);
+        let most = mark.cost + u32::from(bound);
+        self.search.least_open(self.capped(most))
+    }
+
+    // The number, but the limit where there is one that is lower.
+    fn capped(&self, most: u32) -> u32
+        ensures value { result ≡ capped self.now.problem.limit most }
+    {
+        match self.search.limit() {
+            Some(limit) => most.min(limit),
+            None => most,
         }
     }
 }

@@ -1,10 +1,18 @@
 use Rattle.std.proofs.Common.{◌≡◌, ◌∙◌, ap, subst, sym}
 use Rattle.fc_best_first.specs.Shown.{Holds, Shows}
 use Rattle.fc_best_first.specs.declared.turns.Status.TheVariants as status
+use Rattle.fc_best_first.proofs.KeptLemmas.{stands_within}
 use Rattle.fc_search.specs.Problem.{task_of_problem}
-use Rattle.fc_search.proofs.AnswerLemmas.{floor_under}
-use Rattle.fc_search.proofs.ShownLemmas.{none_below}
+use Rattle.fc_search.proofs.ShownLemmas.{floor_told, none_below}
 use Rattle.fc_search.proofs.searches.Search.shown.Goals as goal
+
+pub floor_but-requires-in-GaveUp-clause-within : goal.floor_but-requires-in-GaveUp-clause-within
+floor_but-requires-in-GaveUp-clause-within g c =
+    let now = c.args.self.now in
+    let stands : now.status ≡ status.GaveUp c.in-GaveUp.field-0 c.in-GaveUp.number = sym (ap (λ s. s.status) c.self.view_is) ∙ sym c.status.ensures.value ∙ c.in-GaveUp.is in
+    let held = subst (Holds (task_of_problem now.problem) now.store) stands
+    (subst (λ s. Holds (task_of_problem s.problem) s.store s.status) c.self.view_is c.status.ensures.holds) in
+    stands_within now.store c.in-GaveUp.number held.4.0 held.4.1 held.4.3
 
 pub returns-in-CannotWin-clause-floor : goal.returns-in-CannotWin-clause-floor
 returns-in-CannotWin-clause-floor g c =
@@ -17,8 +25,15 @@ returns-in-CannotWin-clause-floor g c =
 pub returns-in-Won-clause-floor : goal.returns-in-Won-clause-floor
 returns-in-Won-clause-floor g c =
     let now = c.args.self.now in
-    let told = c.floor_of.ensures.value in
     let stands : now.status ≡ status.Won c.in-Won.number = sym (ap (λ s. s.status) c.self.view_is) ∙ sym c.status.ensures.value ∙ c.in-Won.is in
-    let holds = subst (λ s. Holds (task_of_problem s.problem) s.store s.status) c.self.view_is c.status.ensures.holds in
-    floor_under now.problem now.store c.known.ensures.names c.known.ensures.fits c.in-Won.number told.0 told.1 c.floor_of.result
-    (subst (Holds (task_of_problem now.problem) now.store) stands holds) told.2 told.3
+    let held = subst (Holds (task_of_problem now.problem) now.store) stands
+    (subst (λ s. Holds (task_of_problem s.problem) s.store s.status) c.self.view_is c.status.ensures.holds) in
+    floor_told now c.known.ensures.names c.known.ensures.fits c.in-Won.number c.floor_but.result held.0 held.1.5 c.floor_but.ensures.value
+
+pub returns-in-GaveUp-clause-floor : goal.returns-in-GaveUp-clause-floor
+returns-in-GaveUp-clause-floor g c =
+    let now = c.args.self.now in
+    let stands : now.status ≡ status.GaveUp c.in-GaveUp.field-0 c.in-GaveUp.number = sym (ap (λ s. s.status) c.self.view_is) ∙ sym c.status.ensures.value ∙ c.in-GaveUp.is in
+    let held = subst (Holds (task_of_problem now.problem) now.store) stands
+    (subst (λ s. Holds (task_of_problem s.problem) s.store s.status) c.self.view_is c.status.ensures.holds) in
+    floor_told now c.known.ensures.names c.known.ensures.fits c.in-GaveUp.number c.floor_but-in-GaveUp.result held.0 held.5 c.floor_but-in-GaveUp.ensures.value

@@ -1,0 +1,8 @@
+//! The best answer that a moment's work gives of a position: searches by falling weights, each with what is left of one budget and
+//! told how long the best list so far is; the last, by weight 1, raises the floor.
+#![tactic(auto)]
+
+
+
+mod attempts;
+
