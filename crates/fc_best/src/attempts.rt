@@ -1,11 +1,18 @@
 //! One search of several.
 
+ghost use Rattle.fc_position.specs.Board.{Board};
 ghost use Rattle.fc_position.specs.Position.{Fits};
-ghost use Rattle.std.specs.Prelude.{◌≡◌, IfOk, IsSome, IsTrue};
+ghost use Rattle.std.specs.Prelude.{◌≡◌, ℕ, Option, None, IfOk, IfSome, IsSome, IsTrue};
+ghost use Rattle.fc_best_first.specs.Search.{reply_of};
+ghost use Rattle.fc_methods.specs.Method.{Asked};
+ghost use Rattle.fc_search.specs.Problem.{problem_below};
+ghost use Rattle.fc_search.specs.Search.{HasRun};
+ghost use Rattle.fc_search.specs.Shown.{BacksShown, HasShown};
 ghost use Rattle.fc_best.specs.inner.Attempt.{IsAttempt};
 
 use fc_answers::{MoveList, Table};
-use fc_frontier::EitherFrontier;
+use fc_best_first::Step;
+use fc_frontier::{EitherFrontier, Frontier};
 use fc_methods::Question;
 use fc_moves::Game;
 use fc_position::Position;
@@ -21,42 +28,133 @@ pub(crate) struct Attempt {
     pub(crate) shown: Option<u32>,
     // The table that shows it, where it was made.
     pub(crate) table: Option<Table>,
+    // Whether nothing more is to be searched.
+    pub(crate) is_settled: bool,
     // How many classes it stored.
     pub(crate) stored: u32,
     // Its budget, where it gave up.
     pub(crate) given_up: Option<u32>,
 }
 
-// Searches a question for a list of fewer moves than the limit, if there is one. A table is made of the last search, and of one that
-// left nothing open.
-pub(crate) fn search_below<G: Game + Drop>(
+impl Attempt {
+    // Searches a question for a list of fewer moves than the limit, if there is one. After the last search the question is settled,
+    // and after one that left nothing open, or whose list is as short as any can be; then a table is made, if it is wanted.
+    pub(crate) fn below<G: Game + Drop>(
+        alloc: Global,
+        question: &Question<G>,
+        position: &Position,
+        limit: Option<u32>,
+        is_last: bool,
+        has_table: bool,
+    ) -> Result<Self, AllocError>
+        requires fits { Fits question.now.game.cells position.now }
+        ensures right { IfOk result (IsAttempt question.now position.now limit) }
+        ensures last { IsTrue is_last → IfOk result (λ attempt. IsTrue attempt.is_settled) }
+        ensures tabled { IsTrue has_table → IfOk result (λ attempt. IsTrue attempt.is_settled → IsSome attempt.table) }
+    {
+        below_with::<EitherFrontier, G>(alloc, question, position, limit, is_last, has_table)
+    }
+}
+
+// The same by a queue of any kind: where a search is dropped, the prover looks at each part of a queue of one kind.
+fn below_with<F: Frontier + Drop, G: Game + Drop>(
     alloc: Global,
     question: &Question<G>,
     position: &Position,
     limit: Option<u32>,
     is_last: bool,
+    has_table: bool,
 ) -> Result<Attempt, AllocError>
     requires fits { Fits question.now.game.cells position.now }
-    ensures attempt { IfOk result (IsAttempt question.now position.now) }
-    ensures table { IsTrue is_last → IfOk result (λ attempt. IsSome attempt.table) }
+    ensures right { IfOk result (IsAttempt question.now position.now limit) }
+    ensures last { IsTrue is_last → IfOk result (λ attempt. IsTrue attempt.is_settled) }
+    ensures tabled { IsTrue has_table → IfOk result (λ attempt. IsTrue attempt.is_settled → IsSome attempt.table) }
 {
-    let mut search: Search<EitherFrontier, G> = Search::below(alloc, question, position, limit)?;
-    if search.run().is_err() {
-        return Err(AllocError);
+    let search: Search<F, G> = run_below(alloc, question, position, limit)?;
+    attempt_of(&search, is_last, has_table)
+}
+
+// A search of a question below a limit, if there is one, which ran to its end.
+fn run_below<F: Frontier + Drop, G: Game + Drop>(
+    alloc: Global,
+    question: &Question<G>,
+    position: &Position,
+    limit: Option<u32>,
+) -> Result<Search<F, G>, AllocError>
+    requires fits { Fits question.now.game.cells position.now }
+    ensures problem { IfOk result (λ search. search.problem ≡ problem_below question.now position.now limit) }
+    ensures ran { IfOk result (λ search. HasRun (problem_below question.now position.now limit) search.store search.status) }
+    ensures done { IfOk result (λ search. reply_of search.status ≡ Ok Step.Done) }
+{
+    let mut search = Search::below(alloc, question, position, limit)?;
+    match search.run() {
+        Ok(()) => Ok(search),
+        Err(_) => Err(AllocError),
     }
+}
+
+// What a search that ran to its end has found and shown.
+fn attempt_of<F: Frontier + Drop, G: Game + Drop>(
+    search: &Search<F, G>,
+    is_last: bool,
+    has_table: bool,
+) -> Result<Attempt, AllocError>
+    requires done { reply_of search.now.status ≡ Ok Step.Done }
+    ensures right { (q : Asked) (b : Board) (limit : Option ℕ) → search.now.problem ≡ problem_below q b limit
+        → HasRun (problem_below q b limit) search.now.store search.now.status → IfOk result (IsAttempt q b limit) }
+    ensures last { IsTrue is_last → IfOk result (λ attempt. IsTrue attempt.is_settled) }
+    ensures tabled { IsTrue has_table → IfOk result (λ attempt. IsTrue attempt.is_settled → IsSome attempt.table) }
+{
     let list = search.found()?;
     let shown = search.shown();
     let given_up = search.given_up();
-    let table = if is_last || list.is_none() && given_up.is_none() {
-        search.table(shown)?
-    } else {
-        None
-    };
+    let is_settled = settles(&list, shown, given_up, is_last);
+    let table = table_of(search, shown, is_settled && has_table)?;
     Ok(Attempt {
         list,
         shown,
         table,
-        stored: search.len() as u32,
+        is_settled,
+        stored: search.stored(),
         given_up,
     })
+}
+
+// The table of a search that is done, which shows what it has shown, if it is wanted.
+fn table_of<F: Frontier + Drop, G: Game + Drop>(
+    search: &Search<F, G>,
+    shown: Option<u32>,
+    has_table: bool,
+) -> Result<Option<Table>, AllocError>
+    requires done { reply_of search.now.status ≡ Ok Step.Done }
+    requires shown { HasShown search.now shown }
+    ensures backs { IfOk result (λ table. IfSome table (BacksShown search.now.problem shown)) }
+    ensures searched { IfOk result (λ table. IfSome table (λ t. (t.rule ≡ search.now.problem.method.rule) × (t.bound ≡ search.now.problem.method.bound))) }
+    ensures made { IsTrue has_table → IfOk result IsSome }
+{
+    if has_table {
+        search.table(shown)
+    } else {
+        Ok(None)
+    }
+}
+
+// Whether a search that found and showed this settles its question, as the last one does.
+fn settles(
+    list: &Option<MoveList>,
+    shown: Option<u32>,
+    given_up: Option<u32>,
+    is_last: bool,
+) -> bool
+    ensures last { IsTrue is_last → IsTrue result }
+    ensures all { list.now ≡ None → given_up ≡ None → IsTrue result }
+{
+    if is_last {
+        return true;
+    }
+    match (list, shown) {
+        (Some(list), Some(floor)) => list.len() <= floor as usize,
+        (Some(_), None) => true,
+        (None, _) => given_up.is_none(),
+    }
 }

@@ -2,7 +2,8 @@
 //! told how long the best list so far is; the last, by weight 1, raises the floor.
 #![tactic(auto)]
 
-
+pub use schedule::best;
 
 mod attempts;
-
+mod schedule;
+mod standings;

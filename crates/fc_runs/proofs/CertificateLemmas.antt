@@ -7,8 +7,13 @@ use Rattle.fc_answers.specs.declared.answers.Answer.{Answer}
 use Rattle.fc_answers.specs.declared.answers.Verdict.{Verdict}
 use Rattle.fc_answers.specs.declared.answers.Verdict.TheVariants.{Shortest, Won, CannotWin, GaveUp}
 use Rattle.fc_answers.specs.Table.{Listing}
-use Rattle.fc_search.specs.Problem.{Problem}
-use Rattle.fc_search.specs.Search.{Answers}
+use Rattle.fc_search.specs.Problem.{Problem, problem_of}
+use Rattle.fc_best.specs.Best.{IsBestAnswer, IsBestVerdict}
+use Rattle.fc_methods.specs.Method.{Asked}
+use Rattle.fc_position.specs.Board.{Board}
+use Rattle.fc_answers.specs.Answer.{IsBacked}
+use Rattle.fc_runs.specs.inner.Certificates.{IsCertifiable, TellsWins}
+use Rattle.fc_search.specs.Search.{Answers, IsVerdict}
 use Rattle.fc_cert.specs.declared.claims.Claim.{Claim}
 use Rattle.fc_cert.specs.declared.claims.Claim.TheVariants as claim
 use Rattle.fc_cert.specs.Claim.{IsWrittenWith, written_form}
@@ -17,11 +22,41 @@ use Rattle.fc_cert.proofs.CertifiedLemmas.{backed_certified, backed_spelled}
 use Rattle.fc_cert.specs.declared.faults.CertFault.TheVariants.{Write}
 use Rattle.fc_cert.specs.Writing.{SinkState, WritesAnswer}
 use Rattle.fc_board_runs.specs.Devices.{Device}
-use Rattle.fc_search.specs.Search.{IsRunToEnd}
 use Rattle.fc_board_runs.specs.declared.faults.Output.TheVariants.{Answer as of_answer, Cert as of_certificate}
 use Rattle.fc_board_runs.specs.declared.faults.ProgramFault.TheVariants.{Write as unwritten}
 use Rattle.fc_answer_text.specs.AnswerText.{answer_text, status_of}
-use Rattle.fc_runs.specs.Solving.{IsAnswered, IsCertificateOf, IsCertified, IsCutShort, IsUnanswered, TakesCertificate}
+use Rattle.fc_runs.specs.Solving.{IsAnsweredBy, IsCertificateOf, IsCertified, IsCutShort, IsUnansweredBy, TakesCertificate}
+
+-- what a search answers can be certified
+wins_told : (p : Problem) (verdict : Verdict) → IsVerdict p verdict → TellsWins p.game p.start verdict
+wins_told p (Shortest moves) told = told.right.wins
+wins_told p (Won moves floor) told = told.right.wins
+wins_told p CannotWin told = tt
+wins_told p (GaveUp told) is = tt
+
+pub answer_certifiable : (p : Problem) (answered : Answer) → Answers p answered → IsCertifiable p answered
+answer_certifiable p answered answers = record {
+  wins = wins_told p answered.verdict answers.told;
+  written = answers.told.written;
+  backed = answers.backed;
+  searched = answers.searched;
+}
+
+-- and so can a best answer
+best_wins : (q : Asked) (b : Board) (verdict : Verdict) → IsBestVerdict q b verdict → TellsWins q.game b verdict
+best_wins q b (Shortest moves) told = told.right.wins
+best_wins q b (Won moves floor) told = told.right.0
+best_wins q b CannotWin told = tt
+best_wins q b (GaveUp told) is = tt
+
+pub best_certifiable : (q : Asked) (b : Board) (answered : Answer) → IsBestAnswer q b answered → IsBacked q.game b answered
+    → IsCertifiable (problem_of q b) answered
+best_certifiable q b answered best backed = record {
+  wins = best_wins q b answered.verdict best.told;
+  written = best.told.written;
+  backed = backed;
+  searched = best.tabled;
+}
 
 -- the form is the one of the bound that was searched by
 form_by : (kind bound : BoundKind) (c : Content) → c.head.form ≡ written_form bound c.head.kind → bound ≡ kind
@@ -29,16 +64,16 @@ form_by : (kind bound : BoundKind) (c : Content) → c.head.form ≡ written_for
 form_by kind bound c form same = form ∙ ap (λ x. written_form x c.head.kind) same
 
 pub certifies : (p : Problem) (verdict : Verdict) (table : Listing) (c : Content) → IsGame p.game → IsPositionOf p.game p.start
-    → Answers p (record { verdict = verdict; table = Some table }) → IsWrittenWith p.game table verdict c → IsCertificateOf p verdict (bytes_of c)
+    → IsCertifiable p (record { verdict = verdict; table = Some table }) → IsWrittenWith p.game table verdict c → IsCertificateOf p verdict (bytes_of c)
 certifies p (Shortest moves) table c game position answers same =
     let answered : Answer = record { verdict = Shortest moves; table = Some table } in
     let said : Claim = claim.Shortest (length moves) in
     record {
       claim = said;
       claimed = refl;
-      proves = backed_certified p.game p.start answered c said game position answers.backed answers.told.right.wins answers.told.written same refl;
+      proves = backed_certified p.game p.start answered c said game position answers.backed answers.wins answers.written same refl;
       content = c;
-      spelled = backed_spelled p.game p.start answered c said game position answers.backed answers.told.right.wins answers.told.written same refl;
+      spelled = backed_spelled p.game p.start answered c said game position answers.backed answers.wins answers.written same refl;
       form = form_by p.method.bound table.bound c (ap (λ x. x.head.form) same ∙ ap (λ x. written_form table.bound x.head.kind) (sym same)) answers.searched.1;
       ruled = ap (λ x. x.head.rule) same ∙ answers.searched.0;
       bound = ap (λ x. x.head.bound) same ∙ answers.searched.1;
@@ -50,9 +85,9 @@ certifies p (Won moves floor) table c game position answers same =
     record {
       claim = said;
       claimed = refl;
-      proves = backed_certified p.game p.start answered c said game position answers.backed answers.told.right.wins answers.told.written same refl;
+      proves = backed_certified p.game p.start answered c said game position answers.backed answers.wins answers.written same refl;
       content = c;
-      spelled = backed_spelled p.game p.start answered c said game position answers.backed answers.told.right.wins answers.told.written same refl;
+      spelled = backed_spelled p.game p.start answered c said game position answers.backed answers.wins answers.written same refl;
       form = form_by p.method.bound table.bound c (ap (λ x. x.head.form) same ∙ ap (λ x. written_form table.bound x.head.kind) (sym same)) answers.searched.1;
       ruled = ap (λ x. x.head.rule) same ∙ answers.searched.0;
       bound = ap (λ x. x.head.bound) same ∙ answers.searched.1;
@@ -63,9 +98,9 @@ certifies p CannotWin table c game position answers same =
     record {
       claim = claim.CannotWin;
       claimed = refl;
-      proves = backed_certified p.game p.start answered c claim.CannotWin game position answers.backed tt answers.told.written same refl;
+      proves = backed_certified p.game p.start answered c claim.CannotWin game position answers.backed tt answers.written same refl;
       content = c;
-      spelled = backed_spelled p.game p.start answered c claim.CannotWin game position answers.backed tt answers.told.written same refl;
+      spelled = backed_spelled p.game p.start answered c claim.CannotWin game position answers.backed tt answers.written same refl;
       form = form_by p.method.bound table.bound c (ap (λ x. x.head.form) same ∙ ap (λ x. written_form table.bound x.head.kind) (sym same)) answers.searched.1;
       ruled = ap (λ x. x.head.rule) same ∙ answers.searched.0;
       bound = ap (λ x. x.head.bound) same ∙ answers.searched.1;
@@ -91,7 +126,7 @@ certified_so p (GaveUp told) table c sink same taken = absurd same
 
 -- the sink took the certificate of an answer, whole
 whole_of : (p : Problem) (verdict : Verdict) (table : Option Listing) (old new : SinkState) (done : Unit {0}) → IsGame p.game
-    → IsPositionOf p.game p.start → Answers p (record { verdict = verdict; table = table })
+    → IsPositionOf p.game p.start → IsCertifiable p (record { verdict = verdict; table = table })
     → WritesAnswer p.game (record { verdict = verdict; table = table }) old new (Ok done)
     → IsCertified p verdict (device_of old new)
 whole_of p verdict (Some table) old new done game position answers (c, same, whole) =
@@ -102,14 +137,14 @@ whole_of p verdict (Some table) old new done game position answers (c, same, who
 whole_of p verdict None old new done game position answers (c, same, whole) = absurd same
 
 pub written_whole : (p : Problem) (answered : Answer) (old new : SinkState) (done : Unit {0}) → IsGame p.game
-    → IsPositionOf p.game p.start → Answers p answered → WritesAnswer p.game answered old new (Ok done)
+    → IsPositionOf p.game p.start → IsCertifiable p answered → WritesAnswer p.game answered old new (Ok done)
     → IsCertified p answered.verdict (device_of old new)
 written_whole p answered old new done game position answers writes =
     whole_of p answered.verdict answered.table old new done game position answers writes
 
 -- the sink failed while it was given the certificate of an answer
 short_of : (p : Problem) (verdict : Verdict) (table : Option Listing) (old new : SinkState) → IsGame p.game
-    → IsPositionOf p.game p.start → Answers p (record { verdict = verdict; table = table })
+    → IsPositionOf p.game p.start → IsCertifiable p (record { verdict = verdict; table = table })
     → WritesAnswer p.game (record { verdict = verdict; table = table }) old new (Err Write)
     → IsCutShort p verdict (device_of old new)
 short_of p verdict (Some table) old new game position answers (c, same, short) = (
@@ -119,41 +154,41 @@ short_of p verdict (Some table) old new game position answers (c, same, short) =
 short_of p verdict None old new game position answers (c, same, short) = absurd same
 
 pub written_short : (p : Problem) (answered : Answer) (old new : SinkState) → IsGame p.game
-    → IsPositionOf p.game p.start → Answers p answered → WritesAnswer p.game answered old new (Err Write)
+    → IsPositionOf p.game p.start → IsCertifiable p answered → WritesAnswer p.game answered old new (Err Write)
     → IsCutShort p answered.verdict (device_of old new)
 written_short p answered old new game position answers writes =
     short_of p answered.verdict answered.table old new game position answers writes
 
--- a certificate that is cut short leaves the board unanswered
-pub uncertified : (p : Problem) (answered : Answer) (cert sink : Device) → Answers p answered
-    → IsRunToEnd p answered.verdict → IsCutShort p answered.verdict cert → sink.new ≡ sink.old
-    → IsUnanswered p (Some cert) sink (unwritten of_certificate)
-uncertified p answered cert sink answers ran cut same =
-    (answered.verdict, record { right = answers.told; ran = ran }, (cert, refl, cut), same)
+module _ (is_decided : Verdict → Type 0) where
+  -- a certificate that is cut short leaves the board unanswered
+  pub uncertified : (p : Problem) (answered : Answer) (cert sink : Device) → is_decided answered.verdict
+      → IsCutShort p answered.verdict cert → sink.new ≡ sink.old
+      → IsUnansweredBy is_decided p (Some cert) sink (unwritten of_certificate)
+  uncertified p answered cert sink decided cut same = (answered.verdict, decided, (cert, refl, cut), same)
 
--- an answer whose text was written after its certificate
-pub told_whole : (p : Problem) (answered : Answer) (cert sink : Device) (text : List ℕ) (status : ℕ)
-    → Answers p answered → IsRunToEnd p answered.verdict → IsCertified p answered.verdict cert
-    → text ≡ answer_text answered.verdict → TakesBytes sink.old sink.new text → (IsTrue sink.failed → ⊥)
-    → status ≡ status_of answered.verdict → IsAnswered p (Some cert) sink status
-told_whole p answered cert sink text status answers ran certified same taken sound told = record {
-  verdict = answered.verdict;
-  decided = record { right = answers.told; ran = ran };
-  certified = certified;
-  written = subst (TakesBytes sink.old sink.new) same taken;
-  sound = sound;
-  told = told;
-}
+  -- an answer whose text was written after its certificate
+  pub told_whole : (p : Problem) (answered : Answer) (cert sink : Device) (text : List ℕ) (status : ℕ)
+      → is_decided answered.verdict → IsCertified p answered.verdict cert
+      → text ≡ answer_text answered.verdict → TakesBytes sink.old sink.new text → (IsTrue sink.failed → ⊥)
+      → status ≡ status_of answered.verdict → IsAnsweredBy is_decided p (Some cert) sink status
+  told_whole p answered cert sink text status is certified same taken sound told = record {
+    verdict = answered.verdict;
+    decided = is;
+    certified = certified;
+    written = subst (TakesBytes sink.old sink.new) same taken;
+    sound = sound;
+    told = told;
+  }
 
--- and one whose text was cut short
-pub told_short : (p : Problem) (answered : Answer) (cert sink : Device) (text : List ℕ)
-    → Answers p answered → IsRunToEnd p answered.verdict → IsCertified p answered.verdict cert
-    → text ≡ answer_text answered.verdict → TakesFront sink.old sink.new text → IsTrue sink.failed
-    → IsUnanswered p (Some cert) sink (unwritten of_answer)
-told_short p answered cert sink text answers ran certified same front failed = (
-  answered.verdict,
-  record { right = answers.told; ran = ran },
-  certified,
-  subst (TakesFront sink.old sink.new) same front,
-  failed,
-)
+  -- and one whose text was cut short
+  pub told_short : (p : Problem) (answered : Answer) (cert sink : Device) (text : List ℕ)
+      → is_decided answered.verdict → IsCertified p answered.verdict cert
+      → text ≡ answer_text answered.verdict → TakesFront sink.old sink.new text → IsTrue sink.failed
+      → IsUnansweredBy is_decided p (Some cert) sink (unwritten of_answer)
+  told_short p answered cert sink text is certified same front failed = (
+    answered.verdict,
+    is,
+    certified,
+    subst (TakesFront sink.old sink.new) same front,
+    failed,
+  )

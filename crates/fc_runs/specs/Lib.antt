@@ -1,4 +1,5 @@
 pub mod Batches
+pub mod Besting
 pub mod Checking
 pub mod Solving
 pub mod Tabling

@@ -71,30 +71,38 @@ abbrev pub IsCutShort : Problem → Verdict → Device → Type 0
 IsCutShort p verdict sink =
     ((bytes : List ℕ) × IsCertificateOf p verdict bytes × TakesFront sink.old sink.new bytes) × IsTrue sink.failed
 
--- a board was answered: a verdict was decided, the sink of certificates, where there is one, took its certificate, and the
+-- a board was answered: a verdict was decided so, the sink of certificates, where there is one, took its certificate, and the
 -- sink of answers its text, and the status is told
-pub record IsAnswered (p : Problem) (cert : Option Device) (sink : Device) (status : ℕ) : Type 0 where
+pub record IsAnsweredBy (is_decided : Verdict → Type 0) (p : Problem) (cert : Option Device) (sink : Device) (status : ℕ) : Type 0 where
   pub verdict : Verdict
-  pub decided : IsDecided p verdict
+  pub decided : is_decided verdict
   pub certified : IfSome cert (IsCertified p verdict)
   pub written : TakesBytes sink.old sink.new (answer_text verdict)
   pub sound : IsTrue sink.failed → ⊥
   pub told : status ≡ status_of verdict
 
+-- a board was answered by the verdict of a search that ran to its end
+abbrev pub IsAnswered : Problem → Option Device → Device → ℕ → Type 0
+IsAnswered p cert sink status = IsAnsweredBy (IsDecided p) p cert sink status
+
 -- nothing was written, of a certificate or of an answer
 abbrev pub NothingIsWritten : Option Device → Device → Type 0
 NothingIsWritten cert sink = IfSome cert IsUntouched × IsUntouched sink
 
--- why a board wasn't answered, each fault only where those before it have no cause: a growth was refused, and nothing is
--- written; the certificate couldn't be written, and nothing of the answer is; or the answer couldn't be, and its certificate
--- stands
-abbrev pub IsUnanswered : Problem → Option Device → Device → ProgramFault → Type 0
-IsUnanswered p cert sink Memory = NothingIsWritten cert sink
-IsUnanswered p cert sink (Write of_certificate) = (verdict : Verdict) × IsDecided p verdict
+-- why a board wasn't answered by a verdict that is decided so, each fault only where those before it have no cause: a growth was
+-- refused, and nothing is written; the certificate couldn't be written, and nothing of the answer is; or the answer couldn't be,
+-- and its certificate stands
+abbrev pub IsUnansweredBy : (Verdict → Type 0) → Problem → Option Device → Device → ProgramFault → Type 0
+IsUnansweredBy is_decided p cert sink Memory = NothingIsWritten cert sink
+IsUnansweredBy is_decided p cert sink (Write of_certificate) = (verdict : Verdict) × is_decided verdict
     × ((lent : Device) × (cert ≡ Some lent) × IsCutShort p verdict lent) × IsUntouched sink
-IsUnanswered p cert sink (Write of_answer) = (verdict : Verdict) × IsDecided p verdict
+IsUnansweredBy is_decided p cert sink (Write of_answer) = (verdict : Verdict) × is_decided verdict
     × IfSome cert (IsCertified p verdict) × TakesFront sink.old sink.new (answer_text verdict) × IsTrue sink.failed
-IsUnanswered p cert sink other = ⊥
+IsUnansweredBy is_decided p cert sink other = ⊥
+
+-- why a board wasn't answered by the verdict of a search
+abbrev pub IsUnanswered : Problem → Option Device → Device → ProgramFault → Type 0
+IsUnanswered p cert sink fault = IsUnansweredBy (IsDecided p) p cert sink fault
 
 -- a board was answered, and this is what was heard of the very search whose verdict was written
 abbrev pub IsHeardAnswered : Problem → Device → List Progress → Type 0

@@ -9,9 +9,9 @@ ghost use Rattle.fc_methods.specs.Method.{shortest_asked};
 ghost use Rattle.fc_answers.specs.Verdict.{CanBeWritten};
 ghost use Rattle.fc_search.specs.declared.listeners.Progress.{Progress};
 ghost use Rattle.fc_search.specs.Problem.{Problem, problem_of};
-ghost use Rattle.fc_search.specs.Search.{Answers};
 ghost use Rattle.fc_search.specs.Watch.{HearsAll, IsHeardAtMost};
 ghost use Rattle.fc_board_runs.specs.Devices.{IsHandedBack, change, lent};
+ghost use Rattle.fc_runs.specs.inner.Certificates.{IsCertifiable};
 ghost use Rattle.fc_runs.specs.Solving.{IsAnswered, IsCertified, IsCutShort, IsHeardAnswered, IsSolved, IsSolveFault, IsUnanswered};
 
 use fc_answer_text::{verdict_status, verdict_text};
@@ -162,15 +162,15 @@ fn certify<G: Game + Drop, K: Sink, C: Sink, L: Listener>(
 }
 
 // Writes the certificate of an answer, if it has one.
-fn write_certificate<G: Game, C: Sink>(
+pub(crate) fn write_certificate<G: Game, C: Sink>(
     game: &G,
     answer: &Answer,
     cert: &mut C,
 ) -> Result<(), Failed>
     requires written { CanBeWritten answer.now.verdict }
-    ensures certified { (p : Problem) → p.game ≡ G.game game.now → IsPositionOf p.game p.start → Answers p answer.now
+    ensures certified { (p : Problem) → p.game ≡ G.game game.now → IsPositionOf p.game p.start → IsCertifiable p answer.now
         → OnOk result (IsCertified p answer.now.verdict (change C.held C.has_failed cert.old cert.new)) }
-    ensures cut { (p : Problem) → p.game ≡ G.game game.now → IsPositionOf p.game p.start → Answers p answer.now
+    ensures cut { (p : Problem) → p.game ≡ G.game game.now → IsPositionOf p.game p.start → IsCertifiable p answer.now
         → OnErr result (IsCutShort p answer.now.verdict (change C.held C.has_failed cert.old cert.new)) }
 {
     match write_answer(game, answer, cert) {

@@ -51,6 +51,7 @@ impl<F: Frontier + Drop, G: Game + Drop> Search<F, G> {
     pub fn given_up(&self) -> Option<u32>
         ensures earned { IfSome result (λ told. (told ≡ self.now.problem.method.strategy.budget) × NeedsMore self.now.problem
             × ReachesMore self.now.problem.game self.now.problem.start told) }
+        ensures status { IfSome result (λ told. (y : List ℕ) × (number : ℕ) × (self.now.status ≡ Status.GaveUp y number)) }
         ensures none { IfNone result ((y : List ℕ) (number : ℕ) → self.now.status ≡ Status.GaveUp y number → ⊥) }
     {
         self.known();
@@ -58,6 +59,17 @@ impl<F: Frontier + Drop, G: Game + Drop> Search<F, G> {
             Status::GaveUp(_, _) => Some(self.budget()),
             _ => None,
         }
+    }
+
+    /// How many classes a search that is done has stored, no more than its budget.
+    pub fn stored(&self) -> u32
+        requires done { reply_of self.now.status ≡ Ok Step.Done }
+        ensures size { result ≡ length self.now.store.stored }
+        ensures most { result ≤ self.now.problem.method.strategy.budget }
+    {
+        self.known();
+        let _ = self.search.status();
+        self.len() as u32
     }
 
     /// The table that shows what `shown` told of a search that is done, and `None` of another one.

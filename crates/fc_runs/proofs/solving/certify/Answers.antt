@@ -1,7 +1,8 @@
 use Rattle.std.proofs.Common.{◌∙◌, refl, sym, rules, IsTrue}
 use Rattle.fc_search.specs.Problem.{problem_of}
 use Rattle.fc_board_runs.specs.Devices.{Device}
-use Rattle.fc_runs.proofs.CertificateLemmas.{uncertified, told_whole, told_short}
+use Rattle.fc_runs.proofs.CertificateLemmas.{answer_certifiable, uncertified, told_whole, told_short}
+use Rattle.fc_runs.specs.Solving.{IsDecided}
 use Rattle.fc_runs.proofs.solving.certify.Goals as goal
 
 pub returns-in_default-clause-fault : goal.returns-in_default-clause-fault
@@ -10,8 +11,8 @@ returns-in_default-clause-fault g c =
     let cert : Device = record { old = g.C.Sink.held c.args.cert.now; new = g.C.Sink.held c.write_certificate.new.cert; failed = g.C.Sink.has_failed c.write_certificate.new.cert } in
     let sink : Device = record { old = g.K.Sink.held c.args.out.now; new = g.K.Sink.held c.args.out.now; failed = g.K.Sink.has_failed c.args.out.now } in
     let answered = c.in_ok-answer.ensures in
-    uncertified p c.in_ok-answer.answer cert sink answered.answers answered.ran
-    (c.in_default.ensures.cut p (sym c.game.ensures.value) c.requires.position answered.answers) refl
+    uncertified (IsDecided p) p c.in_ok-answer.answer cert sink (record { right = answered.answers.told; ran = answered.ran })
+    (c.in_default.ensures.cut p (sym c.game.ensures.value) c.requires.position (answer_certifiable p c.in_ok-answer.answer answered.answers)) refl
 
 pub returns-in-Ok-write_all-clause-answered : goal.returns-in-Ok-write_all-clause-answered
 returns-in-Ok-write_all-clause-answered g c =
@@ -20,8 +21,8 @@ returns-in-Ok-write_all-clause-answered g c =
     let sink : Device = record { old = g.K.Sink.held c.args.out.now; new = g.K.Sink.held c.write_all.new.sink; failed = g.K.Sink.has_failed c.write_all.new.sink } in
     let sound : IsTrue sink.failed → ⊥ = search rules in
     let answered = c.in_ok-answer.ensures in
-    told_whole p c.in_ok-answer.answer cert sink c.as_slice.result.now c.verdict_status.result answered.answers answered.ran
-    (c.in-Ok.ensures.certified p (sym c.game.ensures.value) c.requires.position answered.answers)
+    told_whole (IsDecided p) p c.in_ok-answer.answer cert sink c.as_slice.result.now c.verdict_status.result (record { right = answered.answers.told; ran = answered.ran })
+    (c.in-Ok.ensures.certified p (sym c.game.ensures.value) c.requires.position (answer_certifiable p c.in_ok-answer.answer answered.answers))
     (c.as_slice.ensures.value ∙ c.in_ok-text.ensures.text) c.in-Ok-write_all.ensures.whole sound c.verdict_status.ensures.value
 
 pub returns-clause-fault : goal.returns-clause-fault
@@ -31,6 +32,6 @@ returns-clause-fault g c =
     let sink : Device = record { old = g.K.Sink.held c.args.out.now; new = g.K.Sink.held c.write_all.new.sink; failed = g.K.Sink.has_failed c.write_all.new.sink } in
     let failed : IsTrue sink.failed = search rules in
     let answered = c.in_ok-answer.ensures in
-    told_short p c.in_ok-answer.answer cert sink c.as_slice.result.now answered.answers answered.ran
-    (c.in-Ok.ensures.certified p (sym c.game.ensures.value) c.requires.position answered.answers)
+    told_short (IsDecided p) p c.in_ok-answer.answer cert sink c.as_slice.result.now (record { right = answered.answers.told; ran = answered.ran })
+    (c.in-Ok.ensures.certified p (sym c.game.ensures.value) c.requires.position (answer_certifiable p c.in_ok-answer.answer answered.answers))
     (c.as_slice.ensures.value ∙ c.in_ok-text.ensures.text) c.write_all.ensures.front failed

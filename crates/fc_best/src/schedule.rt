@@ -1,0 +1,52 @@
+//! The searches for the best answer, one after the other.
+
+ghost use Rattle.fc_position.specs.Position.{Fits};
+ghost use Rattle.std.specs.Prelude.{IfOk, IsTrue};
+ghost use Rattle.fc_answers.specs.Answer.{IsBacked};
+ghost use Rattle.fc_best.specs.Best.{IsBestAnswer};
+
+use crate::standings::Standing;
+use fc_answers::Answer;
+use fc_methods::{Question, Weight};
+use fc_moves::Game;
+use fc_position::Position;
+use std::alloc::{AllocError, Global};
+
+// How many tenths as much as a cost a bound counts: falling, so that a list is found soon and the next search looks for a shorter
+// one.
+const FIRST_TENTHS: u8 = 20;
+
+const SECOND_TENTHS: u8 = 15;
+
+const THIRD_TENTHS: u8 = 13;
+
+/// The best answer for a position that fits the question's game: a list that wins and a number of moves that no list that wins is
+/// below, a shortest list where they meet, that none wins, or, where no list was found, that the searches gave up. They go by the
+/// question's home rule, bound and expansion and by falling weights, whatever its own weight is: each with what the ones before
+/// left of the budget, a fifth of which is left for the last one, by weight 1; each looks for a list shorter than the best so far.
+/// Only where it is wanted a table is made, which backs the answer.
+///
+/// # Errors
+/// A growth was refused.
+pub fn best<G: Game + Drop>(
+    alloc: Global,
+    question: &Question<G>,
+    position: &Position,
+    has_table: bool,
+) -> Result<Answer, AllocError>
+    requires fits { Fits question.now.game.cells position.now }
+    ensures best { IfOk result (IsBestAnswer question.now position.now) }
+    ensures backed { IsTrue has_table → IfOk result (IsBacked question.now.game position.now) }
+{
+    let standing = Standing::new(question.method().strategy.budget, has_table);
+    let standing = standing.weighed(alloc, question, position, tenths(FIRST_TENTHS))?;
+    let standing = standing.weighed(alloc, question, position, tenths(SECOND_TENTHS))?;
+    let standing = standing.weighed(alloc, question, position, tenths(THIRD_TENTHS))?;
+    let standing = standing.last(alloc, question, position)?;
+    Ok(standing.into_answer())
+}
+
+// The weight of so many tenths, by which a search goes for a list before the last one.
+fn tenths(tenths: u8) -> Weight {
+    Weight::of_tenths(tenths).unwrap_or(Weight::ONE)
+}

@@ -1,0 +1,267 @@
+//! What the searches so far have found and shown.
+
+ghost use Rattle.fc_position.specs.Board.{Board};
+ghost use Rattle.fc_position.specs.Position.{Fits};
+ghost use Rattle.std.specs.Prelude.{◌≡◌, ◌+◌, ◌<◌, ◌≤◌, ℕ, None, IfOk, IfSome, IsSome, IsTrue, length};
+ghost use Rattle.fc_answers.specs.Answer.{IsBacked};
+ghost use Rattle.fc_answers.specs.declared.answers.TheConstants.{MOST_MOVES};
+ghost use Rattle.fc_best_first.specs.Limits.{Ratio};
+ghost use Rattle.fc_methods.specs.Method.{Asked};
+ghost use Rattle.fc_best.specs.Best.{IsBestAnswer};
+ghost use Rattle.fc_best.specs.inner.Attempt.{IsAttempt};
+ghost use Rattle.fc_best.specs.inner.Standing.{end_of, greater, limit_of, newest, with_share, Stands};
+
+use crate::attempts::Attempt;
+use fc_answers::{Answer, MoveList, Table, Verdict};
+use fc_methods::{Budget, Method, Question, Strategy, Weight};
+use fc_moves::Game;
+use fc_position::Position;
+use std::alloc::{AllocError, Global};
+
+// A fifth of a budget, and at least one class, is left for the last search.
+const LAST_SHARE: u32 = 5;
+
+// What a search that settled a question showed.
+#[derive(Drop)]
+pub(crate) struct Shown {
+    // A number of moves that no list that wins is below; `None` where none wins.
+    pub(crate) floor: Option<u32>,
+    // The table that shows it, where it was made.
+    pub(crate) table: Option<Table>,
+}
+
+// What the searches so far have found and shown, within one budget.
+#[derive(Drop)]
+pub(crate) struct Standing {
+    // The shortest list that they found.
+    pub(crate) list: Option<MoveList>,
+    // What the one that settled the question showed.
+    pub(crate) shown: Option<Shown>,
+    // How many classes may still be stored.
+    pub(crate) left: u32,
+    // The greatest budget with which one gave up.
+    pub(crate) given_up: Option<u32>,
+    // Whether a table is to be made of what settles the question.
+    pub(crate) has_table: bool,
+}
+
+impl Standing {
+    // Before the first search.
+    pub(crate) fn new(budget: Budget, has_table: bool) -> Self
+        ensures stands { (q : Asked) (b : Board) → q.method.strategy.budget ≡ budget → Stands q b result }
+        ensures left { 1 ≤ result.left }
+        ensures has_table { result.has_table ≡ has_table }
+    {
+        Standing {
+            list: None,
+            shown: None,
+            left: budget.get(),
+            given_up: None,
+            has_table,
+        }
+    }
+
+    // After a search by this weight, unless the question is settled or all that is left is for the last search.
+    pub(crate) fn weighed<G: Game + Drop>(
+        self,
+        alloc: Global,
+        question: &Question<G>,
+        position: &Position,
+        weight: Weight,
+    ) -> Result<Self, AllocError>
+        requires fits { Fits question.now.game.cells position.now }
+        requires stands { Stands question.now position.now self }
+        requires left { 1 ≤ self.left }
+        ensures stands { IfOk result (Stands question.now position.now) }
+        ensures left { IfOk result (λ standing. 1 ≤ standing.left) }
+        ensures has_table { IfOk result (λ standing. standing.has_table ≡ self.has_table) }
+    {
+        let share = self.share(question.method().strategy.budget);
+        if self.shown.is_some() {
+            return Ok(self);
+        }
+        let Some(budget) = Budget::new(share) else {
+            return Ok(self);
+        };
+        let asked = asked_with(question, weight, budget);
+        let attempt = Attempt::below(alloc, &asked, position, self.limit(), false, self.has_table)?;
+        Ok(self.after(attempt))
+    }
+
+    // After the last search, by weight 1 with all that is left, unless the question is settled.
+    pub(crate) fn last<G: Game + Drop>(
+        self,
+        alloc: Global,
+        question: &Question<G>,
+        position: &Position,
+    ) -> Result<Self, AllocError>
+        requires fits { Fits question.now.game.cells position.now }
+        requires stands { Stands question.now position.now self }
+        requires left { 1 ≤ self.left }
+        ensures stands { IfOk result (Stands question.now position.now) }
+        ensures shown { IfOk result (λ standing. IsSome standing.shown) }
+        ensures has_table { IfOk result (λ standing. standing.has_table ≡ self.has_table) }
+    {
+        if self.shown.is_some() {
+            return Ok(self);
+        }
+        let _ = question.method().strategy.budget.get();
+        let budget = Budget::new(self.left).unwrap();
+        let asked = asked_with(question, Weight::ONE, budget);
+        let attempt = Attempt::below(alloc, &asked, position, self.limit(), true, self.has_table)?;
+        Ok(self.after(attempt))
+    }
+
+    // How many classes a search that isn't the last may store.
+    fn share(&self, budget: Budget) -> u32
+        ensures most { 1 ≤ self.now.left → result + 1 ≤ self.now.left }
+    {
+        let last = (budget.get() / LAST_SHARE).max(1);
+        self.left.saturating_sub(last)
+    }
+
+    // The number of moves from which on lists aren't wanted any more.
+    fn limit(&self) -> Option<u32>
+        requires few { IfSome self.now.list (λ moves. length moves ≤ MOST_MOVES) }
+        ensures value { result ≡ limit_of self.now.list }
+    {
+        match &self.list {
+            Some(list) => Some(list.len() as u32),
+            None => None,
+        }
+    }
+
+    // After a search by a weight and a share of what was left, which found and showed this.
+    fn after(self, attempt: Attempt) -> Self
+        requires open { self.shown ≡ None }
+        requires room { attempt.stored ≤ self.left }
+        requires tabled { IsTrue self.has_table → IsTrue attempt.is_settled → IsSome attempt.table }
+        ensures stands { (q : Asked) (b : Board) (weight : Ratio) (share : ℕ) → Stands q b self → share ≤ self.left
+            → IsAttempt (with_share q weight share) b (limit_of self.list) attempt → Stands q b result }
+        ensures left { result.left + attempt.stored ≡ self.left }
+        ensures shown { IsTrue attempt.is_settled → IsSome result.shown }
+        ensures has_table { result.has_table ≡ self.has_table }
+    {
+        let Standing {
+            list: best,
+            left,
+            given_up: most,
+            has_table,
+            ..
+        } = self;
+        let Attempt {
+            list,
+            shown,
+            table,
+            is_settled,
+            stored,
+            given_up,
+        } = attempt;
+        Standing {
+            list: newest(list, best),
+            shown: end_of(is_settled, shown, table),
+            left: left - stored,
+            given_up: greater(most, given_up),
+            has_table,
+        }
+    }
+
+    // The answer, once the question is settled.
+    pub(crate) fn into_answer(self) -> Answer
+        requires shown { IsSome self.shown }
+        ensures best { (q : Asked) (b : Board) → Stands q b self → IsBestAnswer q b result }
+        ensures backed { (q : Asked) (b : Board) → Stands q b self → IsTrue self.has_table → IsBacked q.game b result }
+    {
+        let Standing {
+            list,
+            shown,
+            given_up,
+            ..
+        } = self;
+        let Shown { floor, table } = shown.unwrap();
+        let Some(floor) = floor else {
+            return Answer {
+                verdict: Verdict::CannotWin,
+                table,
+            };
+        };
+        match list {
+            Some(list) => Answer {
+                verdict: told(list, floor),
+                table,
+            },
+            None => Answer {
+                verdict: Verdict::GaveUp(given_up.unwrap_or(0)),
+                table: None,
+            },
+        }
+    }
+}
+
+// What is told of a list that wins, where none that wins is below the floor.
+fn told(list: MoveList, floor: u32) -> Verdict
+    ensures short { length list ≤ floor → result ≡ Verdict.Shortest list }
+    ensures long { floor < length list → result ≡ Verdict.Won list floor }
+{
+    if list.len() <= floor as usize {
+        Verdict::Shortest(list)
+    } else {
+        Verdict::Won { moves: list, floor }
+    }
+}
+
+// The new list, or the old one where there is no new one.
+fn newest(new: Option<MoveList>, old: Option<MoveList>) -> Option<MoveList>
+    ensures value { result ≡ newest new old }
+{
+    match new {
+        Some(list) => Some(list),
+        None => old,
+    }
+}
+
+// What settled the question, if it is settled.
+fn end_of(is_settled: bool, floor: Option<u32>, table: Option<Table>) -> Option<Shown>
+    ensures value { result ≡ end_of is_settled floor table }
+{
+    if is_settled {
+        Some(Shown { floor, table })
+    } else {
+        None
+    }
+}
+
+// The greater of two budgets that were given up with, each of which may be missing.
+fn greater(one: Option<u32>, other: Option<u32>) -> Option<u32>
+    ensures value { result ≡ greater one other }
+{
+    match (one, other) {
+        (Some(one), Some(other)) => Some(one.max(other)),
+        (Some(one), None) => Some(one),
+        (None, other) => other,
+    }
+}
+
+// The question with another weight, and with a share of its budget.
+fn asked_with<G: Game + Drop>(question: &Question<G>, weight: Weight, share: Budget) -> Question<G>
+    ensures value { result ≡ with_share question.now weight share }
+{
+    let Method {
+        rule,
+        bound,
+        strategy,
+    } = question.method();
+    let strategy = Strategy {
+        weight,
+        expansion: strategy.expansion,
+        budget: share,
+    };
+    Question::new(
+        question.game(),
+        Method {
+            rule,
+            bound,
+            strategy,
+        },
+    )
+}
