@@ -1,0 +1,18 @@
+use Rattle.std.proofs.Common.{refl, sym}
+use Rattle.fc_best.specs.Best.{IsBestVerdict}
+use Rattle.fc_search.specs.Problem.{problem_of}
+use Rattle.fc_board_runs.specs.Devices.{Device}
+use Rattle.fc_runs.proofs.CertificateLemmas.{best_certifiable, uncertified}
+use Rattle.fc_runs.proofs.besting.certify_best.Goals as goal
+
+pub returns-in_default-clause-fault : goal.returns-in_default-clause-fault
+returns-in_default-clause-fault g c =
+    let q = c.args.question.now in
+    let b = c.args.start.now in
+    let p = problem_of q b in
+    let cert : Device = record { old = g.C.Sink.held c.args.cert.now; new = g.C.Sink.held c.write_certificate.new.cert; failed = g.C.Sink.has_failed c.write_certificate.new.cert } in
+    let sink : Device = record { old = g.K.Sink.held c.args.out.now; new = g.K.Sink.held c.args.out.now; failed = g.K.Sink.has_failed c.args.out.now } in
+    let answered = c.in_ok-answer.ensures in
+    let certifiable = best_certifiable q b c.in_ok-answer.answer answered.best (answered.backed refl) in
+    uncertified (IsBestVerdict q b) p c.in_ok-answer.answer cert sink answered.best.told
+    (c.in_default.ensures.cut p (sym c.game.ensures.value) c.requires.position certifiable) refl
