@@ -1,5 +1,5 @@
 -- What a board alone on the command line means.
-use Rattle.std.specs.Prelude.{◌≡◌, ℕ, ◌≤◌, ◌&&◌, Bool, cond, nat_eq, List, [], ◌∷◌, ◌++◌, take, drop, codes, All}
+use Rattle.std.specs.Prelude.{◌≡◌, ℕ, ◌≤◌, ◌&&◌, ◌||◌, Bool, cond, nat_eq, List, [], ◌∷◌, ◌++◌, take, drop, codes, All}
 use Rattle.std.specs.List.{list_any, starts_with}
 
 -- a word is the option of this name, whatever is told of it
@@ -18,9 +18,17 @@ put word words = take 1 words ++ word ∷ drop 1 words
 abbrev pub with_option : List ℕ → List ℕ → List (List ℕ) → List (List ℕ)
 with_option name value words = cond (has_option name words) words (put (codes "--" ++ name ++ codes "=" ++ value) words)
 
--- the words that stand for those of a board alone: it is solved, within twice the fewest moves, by the clearing bound
+-- an option that says how to search stands among the words
+abbrev pub tells_search : List (List ℕ) → Bool
+tells_search words = has_option (codes "within") words || (has_option (codes "bound") words || has_option (codes "expand") words)
+
+-- the words that solve a board: where they don't tell these, within twice the fewest moves, by the clearing bound
+abbrev pub solving : List (List ℕ) → List (List ℕ)
+solving words = put (codes "solve") (with_option (codes "bound") (codes "clearing") (with_option (codes "within") (codes "2") words))
+
+-- the words that stand for those of a board alone: it is solved where they say how to search, and else its best answer is asked for
 abbrev pub meant : List (List ℕ) → List (List ℕ)
-meant words = put (codes "solve") (with_option (codes "bound") (codes "clearing") (with_option (codes "within") (codes "2") words))
+meant words = cond (tells_search words) (solving words) (put (codes "best") words)
 
 -- digits alone, at least one
 abbrev pub IsNumber : List ℕ → Type 0

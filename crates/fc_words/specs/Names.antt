@@ -7,7 +7,7 @@ use Rattle.fc_best_first.specs.declared.strategies.Expansion.TheVariants.{Full, 
 use Rattle.fc_words.specs.declared.games.GameName.{GameName}
 use Rattle.fc_words.specs.declared.games.GameName.TheVariants.{FreeCell, Bakers}
 use Rattle.fc_words.specs.declared.tasks.Task.{Task}
-use Rattle.fc_words.specs.declared.tasks.Task.TheVariants.{Deal, Show, Solve, Check, Replay, Batch}
+use Rattle.fc_words.specs.declared.tasks.Task.TheVariants.{Deal, Show, Best, Solve, Check, Replay, Batch}
 
 -- the name of a game
 abbrev pub game_name : GameName → List ℕ
@@ -33,6 +33,7 @@ usual_expansion Clearing = Partial
 abbrev pub task_name : Task → List ℕ
 task_name Deal = codes "deal"
 task_name Show = codes "show"
+task_name Best = codes "best"
 task_name Solve = codes "solve"
 task_name Check = codes "check"
 task_name Replay = codes "replay"

@@ -3,7 +3,7 @@ use Rattle.std.specs.Prelude.{◌≡◌, ◌≤◌, ◌⊎◌, ℕ, List, codes}
 use Rattle.fc_words.specs.Names.{task_name}
 use Rattle.fc_words.specs.declared.tasks.Task.{Task}
 use Rattle.fc_words.specs.declared.commands.Command.{Command}
-use Rattle.fc_words.specs.declared.commands.Command.TheVariants.{Deal, Show, Solve, Check, Replay, Batch}
+use Rattle.fc_words.specs.declared.commands.Command.TheVariants.{Deal, Show, Best, Solve, Check, Replay, Batch}
 use Rattle.fc_words.specs.declared.commands.BoardWord.TheVariants.{Input}
 use Rattle.fc_words.specs.declared.commands.MovesWord.TheVariants as moves
 use Rattle.fc_words.specs.declared.commands.ReplayWords.{ReplayWords}
@@ -17,6 +17,7 @@ HasOneInput words = words.board ≡ Input → words.moves ≡ moves.Input → �
 abbrev pub IsSound : Command → Type 0
 IsSound (Deal _) = Unit
 IsSound (Show words) = words.game.cells ≤ MOST_CELLS
+IsSound (Best words) = words.game.cells ≤ MOST_CELLS
 IsSound (Solve words) = words.game.cells ≤ MOST_CELLS
 IsSound (Check words) = words.game.cells ≤ MOST_CELLS
 IsSound (Replay words) = (words.game.cells ≤ MOST_CELLS) × HasOneInput words

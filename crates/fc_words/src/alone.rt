@@ -1,9 +1,9 @@
 ghost use Rattle.std.specs.Prelude.{◌≡◌, ◌↔◌, ◌++◌, IsTrue, IfOk, map, codes, string_bytes};
-ghost use Rattle.fc_words.specs.Alone.{IsNumber, has_option, is_option, meant, put, with_option};
+ghost use Rattle.fc_words.specs.Alone.{IsNumber, has_option, is_option, meant, put, solving, tells_search, with_option};
 ghost use Rattle.fc_words.specs.Sound.{IsSubcommand};
 
 use crate::bounds::bound_name;
-use crate::options::{BOUND, WITHIN};
+use crate::options::{BOUND, EXPAND, WITHIN};
 use crate::tasks::Task;
 use fc_methods::BoundKind;
 use std::alloc::{AllocError, Global};
@@ -22,14 +22,36 @@ pub fn is_number(word: &str) -> bool
     !word.is_empty() && word.bytes().all(|byte| byte.is_ascii_digit())
 }
 
-/// Puts the words before a board that it means alone, behind the program's name: it is solved, within twice the fewest moves
-/// and by the clearing bound where the words don't say how.
+/// Puts the words before a board that it means alone, behind the program's name: its best answer is asked for, or, where the
+/// words have an option that says how to search, it is solved, within twice the fewest moves and by the clearing bound where
+/// they don't tell these.
 ///
 /// # Errors
 /// Want of memory; some of the words may have been put there.
-#[tactic(auto, using(crate::proofs::AloneLemmas::all_meant))]
-pub fn mean_solving(alloc: Global, words: &mut Vec<String>) -> Result<(), AllocError>
+#[tactic(auto, using(crate::proofs::AloneLemmas::best_meant, crate::proofs::AloneLemmas::solving_meant))]
+pub fn mean_board(alloc: Global, words: &mut Vec<String>) -> Result<(), AllocError>
     ensures meant { IfOk result (λ _. map (λ s. string_bytes s) words.new.items ≡ meant (map (λ s. string_bytes s) words.old.items)) }
+{
+    if tells_search(words.as_slice()) {
+        return mean_solving(alloc, words);
+    }
+    put_first(words, String::from_str(alloc, Task::Best.name())?)?;
+    Ok(())
+}
+
+// Whether the words have an option that says how to search.
+fn tells_search(words: &[String]) -> bool
+    ensures value { result ≡ tells_search (map (λ s. string_bytes s) words.now) }
+{
+    has_option(words, WITHIN.name)
+        || has_option(words, BOUND.name)
+        || has_option(words, EXPAND.name)
+}
+
+// Puts the words before a board that solve it, as the other words say, and by what is meant where they don't say.
+#[tactic(auto, using(crate::proofs::AloneLemmas::all_meant))]
+fn mean_solving(alloc: Global, words: &mut Vec<String>) -> Result<(), AllocError>
+    ensures solving { IfOk result (λ _. map (λ s. string_bytes s) words.new.items ≡ solving (map (λ s. string_bytes s) words.old.items)) }
 {
     mean_option(alloc, words, WITHIN.name, "2")?;
     mean_option(alloc, words, BOUND.name, bound_name(BoundKind::Clearing))?;

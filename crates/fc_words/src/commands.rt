@@ -1,6 +1,7 @@
 ghost use Rattle.std.specs.Prelude.{◌≡◌, ◌↔◌, IsSome, IfSome};
 ghost use Rattle.fc_methods.specs.declared.methods.Method.{Method};
 ghost use Rattle.fc_best_first.specs.Limits.{IsBudget};
+ghost use Rattle.fc_words.specs.Best.{best_method};
 
 use crate::games::GameName;
 use fc_methods::{BoundKind, Budget, Expansion, HomeRule, Method, Strategy, Weight};
@@ -12,6 +13,8 @@ pub enum Command<'a> {
     Deal(DealWords),
     /// A board is drawn.
     Show(ShowWords<'a>),
+    /// The best answer of a board is asked for.
+    Best(BestWords<'a>),
     /// A board is solved.
     Solve(SolveWords<'a>),
     /// A certificate is checked.
@@ -86,6 +89,44 @@ impl SearchWords {
     }
 }
 
+/// How the best answer of a position is to be searched for.
+#[derive(Clone, Copy)]
+pub struct BestSearchWords {
+    /// Which cards go home at once.
+    pub rule: HomeRule,
+    /// How many classes of positions may be stored, as it was told: it may be none, or more than a budget can be.
+    pub budget: u32,
+}
+
+impl BestSearchWords {
+    /// The method that is asked for: a shortest list is sought, by the clearing bound and partial expansion; `None` where the
+    /// budget is outside 1 to 4,000,000.
+    pub fn method(&self) -> Option<Method>
+        ensures range { IsSome result ↔ IsBudget self.now.budget }
+        ensures value { IfSome result (λ method. method ≡ best_method self.now.rule self.now.budget) }
+    {
+        let BestSearchWords { rule, budget } = *self;
+        Some(Method {
+            rule,
+            bound: BoundKind::Clearing,
+            strategy: Strategy {
+                weight: Weight::ONE,
+                expansion: Expansion::Partial,
+                budget: Budget::new(budget)?,
+            },
+        })
+    }
+}
+
+/// How each deal of a batch is to be searched.
+#[derive(Clone, Copy)]
+pub enum BatchSearch {
+    /// By these words, as `solve` does.
+    By(SearchWords),
+    /// For its best answer, as `best` does.
+    Best(BestSearchWords),
+}
+
 /// The words of `deal`.
 #[derive(Clone, Copy)]
 pub struct DealWords {
@@ -100,6 +141,22 @@ pub struct ShowWords<'a> {
     pub board: BoardWord<'a>,
     /// Whether the board's text is printed, and no drawing.
     pub is_plain: bool,
+}
+
+/// The words of `best`.
+#[derive(Clone, Copy)]
+pub struct BestWords<'a> {
+    pub game: GameWords,
+    pub board: BoardWord<'a>,
+    pub search: BestSearchWords,
+    /// The file that takes the certificate, if one is asked for.
+    pub cert: Option<&'a str>,
+    /// Whether the board is drawn after each move.
+    pub has_boards: bool,
+    /// Whether a line of numbers ends the search.
+    pub has_stats: bool,
+    /// Whether nothing is said of how far the search is.
+    pub is_quiet: bool,
 }
 
 /// The words of `solve`.
@@ -147,7 +204,7 @@ pub struct BatchWords {
     pub from: u32,
     /// The number of the last one, which may be less than the first's.
     pub to: u32,
-    pub search: SearchWords,
+    pub search: BatchSearch,
     /// Whether a table is printed, with numbers of each search.
     pub is_table: bool,
 }

@@ -4,7 +4,7 @@
 ghost use Rattle.std.specs.Prelude.{◌≤◌, IfSome};
 
 use crate::bounds::{BOUND_NAMES, bound_of_name};
-use crate::commands::{BoardWord, GameWords, MovesWord, SearchWords};
+use crate::commands::{BestSearchWords, BoardWord, GameWords, MovesWord, SearchWords};
 use crate::expansions::{EXPANSION_NAMES, expansion_of_name, usual_expansion};
 use crate::faults::WordsFault;
 use crate::games::GameName;
@@ -34,6 +34,8 @@ pub(crate) enum Kind {
     },
     /// A flag.
     Flag,
+    /// A flag in place of the options that say how to search.
+    FlagInPlaceOfSearch,
     /// An option with the number of a deal, in place of the word of this name.
     DealInPlaceOf(&'static str),
     /// The number of a deal, which must stand there.
@@ -187,6 +189,15 @@ pub(crate) fn search(words: &ArgMatches<'_>) -> Result<SearchWords, WordsFault> 
         expansion,
         budget,
     })
+}
+
+/// How the words ask to search for the best answer.
+pub(crate) fn best_search(words: &ArgMatches<'_>) -> Result<BestSearchWords, WordsFault> {
+    let budget = budget(words)?;
+    let Some(rule) = rule(words) else {
+        return Err(WordsFault::Missing);
+    };
+    Ok(BestSearchWords { rule, budget })
 }
 
 const BOARD: &str = "BOARD";

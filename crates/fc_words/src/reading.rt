@@ -3,7 +3,7 @@ ghost use Rattle.fc_words.specs.Sound.{IsSound};
 
 use crate::commands::Command;
 use crate::faults::WordsFault;
-use crate::subcommands::{batch, check, deal, replay, show, solve};
+use crate::subcommands::{batch, best, check, deal, replay, show, solve};
 use crate::table;
 use crate::tasks::Task;
 use clap::ArgMatches;
@@ -42,6 +42,10 @@ fn read_task<'a>(task: Task, words: &ArgMatches<'a>) -> Result<Command<'a>, Word
         Task::Show => match show(words) {
             Some(words) => Ok(Command::Show(words)),
             None => Err(WordsFault::Missing),
+        },
+        Task::Best => match best(words) {
+            Ok(words) => Ok(Command::Best(words)),
+            Err(fault) => Err(fault),
         },
         Task::Solve => match solve(words) {
             Ok(words) => Ok(Command::Solve(words)),

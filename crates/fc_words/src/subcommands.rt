@@ -5,12 +5,13 @@ ghost use Rattle.fc_words.specs.Sound.{HasOneInput};
 ghost use Rattle.fc_words.specs.declared.options.TheConstants.{MOST_CELLS};
 
 use crate::commands::{
-    BatchWords, BoardWord, CheckWords, DealWords, MovesWord, ReplayWords, ShowWords, SolveWords,
+    BatchSearch, BatchWords, BestWords, BoardWord, CheckWords, DealWords, MovesWord, ReplayWords,
+    ShowWords, SolveWords,
 };
 use crate::faults::WordsFault;
 use crate::options::{
     BOUND, BUDGET, CELLS, DEAL, EXPAND, GAME, KINGS, Kind, MOVES, NEEDED_BOARD, OPTIONAL_BOARD,
-    RULE, WITHIN, Word, game, moves, needed_board, optional_board, search,
+    RULE, WITHIN, Word, best_search, game, moves, needed_board, optional_board, search,
 };
 use crate::tasks::Task;
 use clap::ArgMatches;
@@ -28,6 +29,7 @@ pub(crate) fn subcommand_of(task: Task) -> &'static Subcommand {
     match task {
         Task::Deal => &DEALING,
         Task::Show => &SHOWING,
+        Task::Best => &BEST_SOLVING,
         Task::Solve => &SOLVING,
         Task::Check => &CHECKING,
         Task::Replay => &REPLAYING,
@@ -76,6 +78,62 @@ pub(crate) fn show<'a>(words: &ArgMatches<'a>) -> Option<ShowWords<'a>>
         game: game(words)?,
         board: optional_board(words),
         is_plain: words.get_flag(PLAIN.name),
+    })
+}
+
+// `best [--budget B] [--cert FILE] [--boards] [--stats] [--quiet] [GAME] [--rule R] [--deal N] [BOARD]`.
+static BEST_SOLVING: Subcommand = Subcommand {
+    about: "Prints the best solution that a moment's work gives, and how near the shortest it is",
+    after_help: "The answer is one of four, with the moves of a solution below it:
+  shortest N         a solution of N moves; none has fewer
+  won N, at least L  a solution of N moves; none has fewer than L
+  can't be won       there is no solution
+  gave up B          no answer within a budget of B positions
+`--budget max` takes longer, and is surer.
+
+Moves are two letters, from where to where: columns 1 to 8, cells a to d, home h. Each takes
+one card. `show` draws the board as it is read.
+
+Status: 0 a solution, 1 can't be won, 2 gave up, 3 something asked or read isn't right,
+4 want of memory, 5 reading or writing failed.
+
+Examples:
+  fc_solve best 617
+  fc_solve 617       the same",
+    words: &[
+        BUDGET,
+        CERT_OPTION,
+        BOARDS,
+        STATS,
+        QUIET,
+        GAME,
+        KINGS,
+        CELLS,
+        RULE,
+        DEAL,
+        OPTIONAL_BOARD,
+    ],
+};
+
+/// What `best` asks for.
+pub(crate) fn best<'a>(words: &ArgMatches<'a>) -> Result<BestWords<'a>, WordsFault>
+    ensures cells { IfOk result (λ best. best.game.cells ≤ MOST_CELLS) }
+{
+    let search = match best_search(words) {
+        Ok(search) => search,
+        Err(fault) => return Err(fault),
+    };
+    let Some(game) = game(words) else {
+        return Err(WordsFault::Missing);
+    };
+    Ok(BestWords {
+        game,
+        board: optional_board(words),
+        search,
+        cert: words.get_str(CERT_OPTION.name),
+        has_boards: words.get_flag(BOARDS.name),
+        has_stats: words.get_flag(STATS.name),
+        is_quiet: words.get_flag(QUIET.name),
     })
 }
 
@@ -231,7 +289,7 @@ pub(crate) fn replay<'a>(words: &ArgMatches<'a>) -> Result<ReplayWords<'a>, Word
     })
 }
 
-// `batch FROM TO [--table] [--budget B] [--within W] [--bound NAME] [--expand NAME] [GAME] [--rule R]`.
+// `batch FROM TO [--table] [--budget B] [--best | [--within W] [--bound NAME] [--expand NAME]] [GAME] [--rule R]`.
 static BATCHING: Subcommand = Subcommand {
     about: "Solves up to 32 numbered deals side by side, and prints a line for each, without moves",
     after_help: "Status: the greatest of the lines': 0 a solution, 1 can't be won, 2 gave up, 4 want of memory;
@@ -239,7 +297,7 @@ and 3 for what was asked and isn't right, 5 where writing failed.
 
 Example: fc_solve batch 11982 11982",
     words: &[
-        FROM, TO, TABLE, BUDGET, WITHIN, BOUND, EXPAND, GAME, KINGS, CELLS, RULE,
+        FROM, TO, TABLE, BUDGET, BEST, WITHIN, BOUND, EXPAND, GAME, KINGS, CELLS, RULE,
     ],
 };
 
@@ -261,11 +319,26 @@ const TABLE: Word = Word {
     help: "Prints a table parted by tabs, with numbers of each search",
 };
 
+const BEST: Word = Word {
+    name: "best",
+    kind: Kind::FlagInPlaceOfSearch,
+    help: "The best answer that the budget gives of each deal, as by `best`",
+};
+
+// How the words of `batch` ask to search.
+fn batch_search(words: &ArgMatches<'_>) -> Result<BatchSearch, WordsFault> {
+    if words.get_flag(BEST.name) {
+        Ok(BatchSearch::Best(best_search(words)?))
+    } else {
+        Ok(BatchSearch::By(search(words)?))
+    }
+}
+
 /// What `batch` asks for.
 pub(crate) fn batch(words: &ArgMatches<'_>) -> Result<BatchWords, WordsFault>
     ensures cells { IfOk result (λ batch. batch.game.cells ≤ MOST_CELLS) }
 {
-    let search = search(words)?;
+    let search = batch_search(words)?;
     let (Some(from), Some(to), Some(game)) = (
         words.get_one::<u32>(FROM.name),
         words.get_one::<u32>(TO.name),

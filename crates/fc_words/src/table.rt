@@ -1,6 +1,6 @@
 //! The command line as clap reads it.
 
-use crate::options::{Kind, Word};
+use crate::options::{BOUND, EXPAND, Kind, WITHIN, Word};
 use crate::subcommands::{Subcommand, subcommand_of};
 use crate::tasks::Task;
 use clap::{Arg, ArgAction, Command, value_parser};
@@ -13,10 +13,11 @@ pub(crate) fn command<'a>(alloc: Global) -> Result<Command<'a>, AllocError> {
         .version("0.1.0")
         .about("Solves FreeCell in the fewest moves, or proves that a board can't be won.")
         .after_help(
-            "A number or a file alone is solved within twice the fewest moves, by the clearing bound.
+            "A number or a file alone is answered as by `best`; with --within, --bound or --expand as by
+`solve`, within twice the fewest moves and by the clearing bound where these aren't told.
 
 Examples:
-  fc_solve 617        a solution of deal 617, quickly
+  fc_solve 617        the best solution of deal 617 that a moment gives
   fc_solve show 617   the board of deal 617
   fc_solve solve 941  a shortest solution of deal 941",
         )
@@ -64,7 +65,12 @@ fn arg_of<'a>(alloc: Global, word: &'static Word) -> Result<Arg<'a>, AllocError>
             .value_parser(names)
             .hide_possible_values(true),
         Kind::Text { value, default } => with_value(arg, word.name, value, default),
-        Kind::Flag => arg.long(word.name).action(ArgAction::SetTrue),
+        Kind::Flag => flag(arg, word.name),
+        Kind::FlagInPlaceOfSearch => flag(arg, word.name).conflicts_with_all(&[
+            WITHIN.name,
+            BOUND.name,
+            EXPAND.name,
+        ])?,
         Kind::DealInPlaceOf(board) => with_value(arg, word.name, "N", None)
             .value_parser(value_parser!(u32))
             .conflicts_with(board)?,
@@ -72,6 +78,11 @@ fn arg_of<'a>(alloc: Global, word: &'static Word) -> Result<Arg<'a>, AllocError>
         Kind::Needed => arg.required(true),
         Kind::Optional => arg,
     })
+}
+
+// The argument as a flag.
+fn flag<'a>(arg: Arg<'a>, name: &'a str) -> Arg<'a> {
+    arg.long(name).action(ArgAction::SetTrue)
 }
 
 // The argument as an option with a value, which help calls by this name, and perhaps a default.

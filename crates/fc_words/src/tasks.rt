@@ -11,6 +11,8 @@ pub enum Task {
     Deal,
     /// Draws a board.
     Show,
+    /// Tells the best that a moment's work gives of a board.
+    Best,
     /// Solves a board.
     Solve,
     /// Checks a certificate.
@@ -23,12 +25,15 @@ pub enum Task {
 
 impl Task {
     /// Each subcommand's name, in the order of the tasks.
-    pub const NAMES: [&'static str; 6] = ["deal", "show", "solve", "check", "replay", "batch"];
+    pub const NAMES: [&'static str; 7] = [
+        "deal", "show", "best", "solve", "check", "replay", "batch",
+    ];
 
     /// The tasks, in the order of help.
-    pub const ALL: [Task; 6] = [
+    pub const ALL: [Task; 7] = [
         Task::Deal,
         Task::Show,
+        Task::Best,
         Task::Solve,
         Task::Check,
         Task::Replay,
