@@ -14,13 +14,14 @@ _fc_solve() {
     --cert) ;;
     *)
       case ${COMP_WORDS[1]} in
-        "$word") words="deal show solve check replay batch help --help --version" ;;
+        "$word") words="deal show best solve check replay batch help --help --version" ;;
         show) words="--plain --deal $game --help" ;;
+        best) words="--cert --deal --boards --stats --quiet --budget --rule $game --help" ;;
         solve) words="--cert --deal --boards --stats --quiet $search $game --help" ;;
-        batch) words="--table $search $game --help" ;;
+        batch) words="--table --best $search $game --help" ;;
         replay) words="--numbered --sequences $game --help" ;;
         check) words="$game --help" ;;
-        help) words="deal show solve check replay batch" ;;
+        help) words="deal show best solve check replay batch" ;;
       esac
       ;;
   esac
