@@ -1,5 +1,5 @@
 //! The best answer that a moment's work gives of a position: searches by falling weights, each with what is left of one budget and
-//! told how long the best list so far is; the last, by weight 1, raises the floor.
+//! told how long the best list so far is; the last raises the floor.
 #![tactic(auto)]
 
 pub use schedule::best;

@@ -3,32 +3,45 @@
 use crate::endings::{Ending, of_run};
 use crate::games::InGame;
 use fc_io::ToWriter;
-use fc_methods::Question;
+use fc_methods::{Method, Question};
 use fc_moves::Game;
-use fc_runs::{run_batch, run_batch_by, run_table};
-use fc_words::BatchWords;
+use fc_runs::{run_batch, run_batch_by, run_best_batch, run_table};
+use fc_words::{BatchSearch, BatchWords};
 
 impl InGame for BatchWords {
     fn perform<G: Game + Drop>(&self, rt: &HostRuntime, game: &G) -> Result<u8, Ending> {
-        let (from, to, search) = (self.from, self.to, &self.search);
+        let (from, to) = (self.from, self.to);
         let (alloc, mut out) = (rt.alloc(), ToWriter::new(rt.stdout()));
-        let Some(method) = search.method() else {
+        let Some(method) = method_of(&self.search) else {
             // (a fault of the numbers is told before the budget's)
-            return of_run(run_batch(
-                alloc,
-                game,
-                search.rule.get(),
-                from,
-                to,
-                search.budget,
-                &mut out,
-            ));
+            let (rule, budget) = limits_of(&self.search);
+            return of_run(run_batch(alloc, game, rule, from, to, budget, &mut out));
         };
         let question = Question::new(game, method);
-        of_run(if self.is_table {
-            run_table(alloc, &question, from, to, &mut out)
-        } else {
-            run_batch_by(alloc, &question, from, to, &mut out)
+        of_run(match self.search {
+            BatchSearch::By(_) if self.is_table => {
+                run_table(alloc, &question, from, to, &mut out)
+            }
+            BatchSearch::By(_) => run_batch_by(alloc, &question, from, to, &mut out),
+            BatchSearch::Best(_) => run_best_batch(alloc, &question, from, to, &mut out),
         })
+    }
+}
+
+// How each deal is searched; `None` where the budget is none.
+fn method_of(search: &BatchSearch) -> Option<Method> {
+    match search {
+        BatchSearch::By(words) => words.method(),
+        BatchSearch::Best(words) => words.method(),
+    }
+}
+
+// The home rule and the budget, as they were told.
+fn limits_of(search: &BatchSearch) -> (u8, u32)
+    ensures rule { result.0 ≤ 2 }
+{
+    match search {
+        BatchSearch::By(words) => (words.rule.get(), words.budget),
+        BatchSearch::Best(words) => (words.rule.get(), words.budget),
     }
 }

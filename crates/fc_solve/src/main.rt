@@ -2,6 +2,7 @@
 #![tactic(auto)]
 
 mod batching;
+mod besting;
 mod boards;
 mod checking;
 mod dealing;
@@ -21,7 +22,7 @@ ghost use Rattle.fc_words.specs.Sound.{IsSound};
 
 use endings::{Ending, tell};
 use fc_runs::ProgramFault;
-use fc_words::{Command, WordsFault, is_number, is_subcommand, mean_solving, read};
+use fc_words::{Command, WordsFault, is_number, is_subcommand, mean_board, read};
 use games::in_game;
 use std::process::ExitCode;
 use std::{env, fs, io};
@@ -53,7 +54,7 @@ fn follow_words(rt: &HostRuntime) -> Result<u8, Ending> {
         .get(1)
         .is_some_and(|word| names_board(rt, word.as_str()))
     {
-        mean_solving(alloc, &mut words)?;
+        mean_board(alloc, &mut words)?;
     }
     match read(alloc, words.as_slice()) {
         Ok(command) => follow(rt, &command),
@@ -98,6 +99,7 @@ fn follow(rt: &HostRuntime, command: &Command<'_>) -> Result<u8, Ending>
     match command {
         Command::Deal(words) => dealing::deal(rt, words),
         Command::Show(words) => in_game(rt, &words.game, words),
+        Command::Best(words) => in_game(rt, &words.game, words),
         Command::Solve(words) => in_game(rt, &words.game, words),
         Command::Check(words) => in_game(rt, &words.game, words),
         Command::Replay(words) => in_game(rt, &words.game, words),

@@ -8,7 +8,7 @@ use fc_methods::Question;
 use fc_moves::Game;
 use fc_position::Position;
 use fc_replay::{Page, replay_as};
-use fc_runs::{LONGEST_MOVES, Output, ProgramFault, run_solve_by};
+use fc_runs::{LONGEST_MOVES, Output, ProgramFault, run_best, run_solve_by};
 use std::fs::File;
 use std::io::IsTerminal;
 
@@ -25,7 +25,35 @@ pub fn solve_in_pages<G: Game + Drop>(
     let mut answer = ToArray::<LONGEST_ANSWER>::new();
     let status = run_solve_by(rt.alloc(), question, start, &mut answer, cert, teller)?;
     teller.clear();
-    let (told, moves) = split_answer(answer.held());
+    tell_in_pages(rt, question.game(), start, answer.held())?;
+    Ok(status)
+}
+
+/// Answers a board as well as its budget lets, and shows the board after each move of the answer, if it has moves.
+pub fn best_in_pages<G: Game + Drop>(
+    rt: &HostRuntime,
+    question: &Question<G>,
+    start: &Position,
+    cert: Option<&mut ToWriter<File>>,
+) -> Result<u8, ProgramFault>
+    requires position { IsPositionOf question.now.game start.now }
+{
+    let mut answer = ToArray::<LONGEST_ANSWER>::new();
+    let status = run_best(rt.alloc(), question, start, &mut answer, cert)?;
+    tell_in_pages(rt, question.game(), start, answer.held())?;
+    Ok(status)
+}
+
+// Writes the first line of an answer, and then the board after each of its moves.
+fn tell_in_pages<G: Game>(
+    rt: &HostRuntime,
+    game: &G,
+    start: &Position,
+    answer: &[u8],
+) -> Result<(), ProgramFault>
+    requires fits { Fits (G.game game.now).cells start.now }
+{
+    let (told, moves) = split_answer(answer);
     let mut out = ToWriter::new(rt.stdout());
     let Ok(()) = write_all(&mut out, told) else {
         return Err(ProgramFault::Write(Output::Answer));
@@ -35,8 +63,7 @@ pub fn solve_in_pages<G: Game + Drop>(
     } else {
         Page::Drawn
     };
-    show_moves(question.game(), start, moves, page, &mut out)?;
-    Ok(status)
+    show_moves(game, start, moves, page, &mut out)
 }
 
 // Shows the board after each move of an answer. No memory is asked for, so none can be wanted behind an answer's first line.

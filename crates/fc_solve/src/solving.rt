@@ -71,11 +71,15 @@ fn search_from<G: Game + Drop>(
     of_run(ran)
 }
 
-// Says on standard error what to try after giving up. Where this can't be written, the answer stands all the same.
+// Says on standard error what to try after giving up, if there is anything.
 fn advise(rt: &HostRuntime, method: Method, deal: Option<u32>) {
-    let Some(advice) = advice_for(method) else {
-        return;
-    };
+    if let Some(advice) = advice_for(method) {
+        tell_advice(rt, advice, deal);
+    }
+}
+
+/// Says on standard error that a search gave up, and what to try. Where this can't be written, the answer stands all the same.
+pub fn tell_advice(rt: &HostRuntime, advice: &str, deal: Option<u32>) {
     let _told = match deal {
         Some(number) => eprintln!(rt; "fc_solve: deal {number}: gave up: try {advice}"),
         None => eprintln!(rt; "fc_solve: gave up: try {advice}"),

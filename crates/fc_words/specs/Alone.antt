@@ -18,17 +18,18 @@ put word words = take 1 words ++ word ∷ drop 1 words
 abbrev pub with_option : List ℕ → List ℕ → List (List ℕ) → List (List ℕ)
 with_option name value words = cond (has_option name words) words (put (codes "--" ++ name ++ codes "=" ++ value) words)
 
--- an option that says how to search stands among the words
-abbrev pub tells_search : List (List ℕ) → Bool
-tells_search words = has_option (codes "within") words || (has_option (codes "bound") words || has_option (codes "expand") words)
+-- an option that only `solve` has stands among the words
+abbrev pub asks_to_solve : List (List ℕ) → Bool
+asks_to_solve words = has_option (codes "within") words || (has_option (codes "bound") words
+    || (has_option (codes "expand") words || has_option (codes "stats") words))
 
 -- the words that solve a board: where they don't tell these, within twice the fewest moves, by the clearing bound
 abbrev pub solving : List (List ℕ) → List (List ℕ)
 solving words = put (codes "solve") (with_option (codes "bound") (codes "clearing") (with_option (codes "within") (codes "2") words))
 
--- the words that stand for those of a board alone: it is solved where they say how to search, and else its best answer is asked for
+-- the words that stand for those of a board alone: it is solved where they have such an option, and else its best answer is asked for
 abbrev pub meant : List (List ℕ) → List (List ℕ)
-meant words = cond (tells_search words) (solving words) (put (codes "best") words)
+meant words = cond (asks_to_solve words) (solving words) (put (codes "best") words)
 
 -- digits alone, at least one
 abbrev pub IsNumber : List ℕ → Type 0

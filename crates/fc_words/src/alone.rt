@@ -1,9 +1,10 @@
 ghost use Rattle.std.specs.Prelude.{◌≡◌, ◌↔◌, ◌++◌, IsTrue, IfOk, map, codes, string_bytes};
-ghost use Rattle.fc_words.specs.Alone.{IsNumber, has_option, is_option, meant, put, solving, tells_search, with_option};
+ghost use Rattle.fc_words.specs.Alone.{IsNumber, has_option, is_option, meant, put, solving, asks_to_solve, with_option};
 ghost use Rattle.fc_words.specs.Sound.{IsSubcommand};
 
 use crate::bounds::bound_name;
 use crate::options::{BOUND, EXPAND, WITHIN};
+use crate::subcommands::STATS;
 use crate::tasks::Task;
 use fc_methods::BoundKind;
 use std::alloc::{AllocError, Global};
@@ -23,8 +24,8 @@ pub fn is_number(word: &str) -> bool
 }
 
 /// Puts the words before a board that it means alone, behind the program's name: its best answer is asked for, or, where the
-/// words have an option that says how to search, it is solved, within twice the fewest moves and by the clearing bound where
-/// they don't tell these.
+/// words have an option that only `solve` has, it is solved, within twice the fewest moves and by the clearing bound where they
+/// don't tell these.
 ///
 /// # Errors
 /// Want of memory; some of the words may have been put there.
@@ -32,20 +33,21 @@ pub fn is_number(word: &str) -> bool
 pub fn mean_board(alloc: Global, words: &mut Vec<String>) -> Result<(), AllocError>
     ensures meant { IfOk result (λ _. map (λ s. string_bytes s) words.new.items ≡ meant (map (λ s. string_bytes s) words.old.items)) }
 {
-    if tells_search(words.as_slice()) {
+    if asks_to_solve(words.as_slice()) {
         return mean_solving(alloc, words);
     }
     put_first(words, String::from_str(alloc, Task::Best.name())?)?;
     Ok(())
 }
 
-// Whether the words have an option that says how to search.
-fn tells_search(words: &[String]) -> bool
-    ensures value { result ≡ tells_search (map (λ s. string_bytes s) words.now) }
+// Whether the words have an option that only `solve` has.
+fn asks_to_solve(words: &[String]) -> bool
+    ensures value { result ≡ asks_to_solve (map (λ s. string_bytes s) words.now) }
 {
     has_option(words, WITHIN.name)
         || has_option(words, BOUND.name)
         || has_option(words, EXPAND.name)
+        || has_option(words, STATS.name)
 }
 
 // Puts the words before a board that solve it, as the other words say, and by what is meant where they don't say.

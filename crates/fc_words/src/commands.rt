@@ -153,9 +153,7 @@ pub struct BestWords<'a> {
     pub cert: Option<&'a str>,
     /// Whether the board is drawn after each move.
     pub has_boards: bool,
-    /// Whether a line of numbers ends the search.
-    pub has_stats: bool,
-    /// Whether nothing is said of how far the search is.
+    /// Whether nothing is said on a terminal but the answer.
     pub is_quiet: bool,
 }
 

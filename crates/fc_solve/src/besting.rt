@@ -1,0 +1,57 @@
+//! `best`: a board is answered as well as a budget lets.
+ghost use Rattle.fc_moves.specs.GameRules.{IsPositionOf};
+
+use crate::boards::{create, find_board, read_start};
+use crate::endings::{Ending, of_run};
+use crate::games::InGame;
+use crate::pages::best_in_pages;
+use crate::solving::tell_advice;
+use fc_io::ToWriter;
+use fc_methods::Question;
+use fc_moves::Game;
+use fc_position::Position;
+use fc_runs::{ProgramFault, run_best};
+use fc_words::BestWords;
+use std::fs::File;
+use std::io::IsTerminal;
+
+impl InGame for BestWords<'_> {
+    fn perform<G: Game + Drop>(&self, rt: &HostRuntime, game: &G) -> Result<u8, Ending> {
+        let source = find_board(rt, &self.board)?;
+        let deal = source.deal();
+        let cert = match self.cert {
+            Some(path) => Some(ToWriter::new(create(rt, path)?)),
+            None => None,
+        };
+        // (before anything is read)
+        let Some(method) = self.search.method() else {
+            return Err(Ending::Fault(ProgramFault::Budget));
+        };
+        let start = read_start(rt, source, game.cells())?;
+        let status = answer_from(rt, self, &Question::new(game, method), &start, cert)?;
+        if status == 2 && !self.is_quiet && rt.stderr().is_terminal() {
+            tell_advice(rt, "a greater --budget", deal);
+        }
+        Ok(status)
+    }
+}
+
+// Searches, and writes the best answer.
+fn answer_from<G: Game + Drop>(
+    rt: &HostRuntime,
+    words: &BestWords<'_>,
+    question: &Question<G>,
+    start: &Position,
+    cert: Option<ToWriter<File>>,
+) -> Result<u8, Ending>
+    requires position { IsPositionOf question.now.game start.now }
+{
+    let mut cert = cert;
+    let ran = if words.has_boards {
+        best_in_pages(rt, question, start, cert.as_mut())
+    } else {
+        let mut out = ToWriter::new(rt.stdout());
+        run_best(rt.alloc(), question, start, &mut out, cert.as_mut())
+    };
+    of_run(ran)
+}
