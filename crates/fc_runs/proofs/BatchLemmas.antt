@@ -24,7 +24,7 @@ use Rattle.fc_batch.specs.Batch.{Batch, HasTurn, HasTurns, OthersStay, TurnFor, 
 use Rattle.fc_batch.proofs.BatchLemmas.{stays_self}
 use Rattle.fc_batch.proofs.LawLemmas.{turn_alone}
 use Rattle.fc_board_runs.specs.Devices.{Device}
-use Rattle.fc_runs.specs.Batches.{AreCutShort, AreLines, AreTold, IsRightOf, greatest_status}
+use Rattle.fc_runs.specs.Batches.{AreCutShort, AreLines, AreTold, greatest_status}
 use Rattle.fc_answer_text.specs.AnswerText.{Line, line_text, told_status}
 use Rattle.fc_runs.specs.inner.Batches.{HaveEnded, HoldsDeals, IsSearchOf}
 
@@ -116,12 +116,12 @@ last_line (y ∷ lines) line P all last (suc i) x at =
     last_line lines line (λ j z. P (suc j) z) (λ j z there. all (suc j) z there) last i x at
 
 -- one more line that is right
-pub one_more_line : (q : Asked) (from deal : ℕ) (lines : List Line) (told : Option Outcome) → AreLines q from lines
-    → deal ≡ from + length lines → IsRightOf q deal told
-    → AreLines q from (lines ++ record { deal = deal; told = told } ∷ [])
-one_more_line q from deal lines told right next here = record {
+pub one_more_line : (is_right : ℕ → Option Outcome → Type 0) (from deal : ℕ) (lines : List Line) (told : Option Outcome) → AreLines is_right from lines
+    → deal ≡ from + length lines → is_right deal told
+    → AreLines is_right from (lines ++ record { deal = deal; told = told } ∷ [])
+one_more_line is_right from deal lines told right next here = record {
   rising = last_line lines (record { deal = deal; told = told }) (λ i line. line.deal ≡ from + i) right.rising next;
-  right = last_line lines (record { deal = deal; told = told }) (λ i line. IsRightOf q line.deal line.told) right.right here;
+  right = last_line lines (record { deal = deal; told = told }) (λ i line. is_right line.deal line.told) right.right here;
 }
 
 max_assoc : (a b c : ℕ) → max (max a b) c ≡ max a (max b c)
@@ -140,9 +140,9 @@ greatest_more (first ∷ lines) line =
     ∙ sym (max_assoc (told_status first.told) (greatest_status lines) (told_status line.told))
 
 -- so many lines were written, and this is the greatest of their statuses
-pub record AreWritten (q : Asked) (from count : ℕ) (old new : Option (List ℕ)) (status : ℕ) : Type 0 where
+pub record AreWritten (is_right : ℕ → Option Outcome → Type 0) (from count : ℕ) (old new : Option (List ℕ)) (status : ℕ) : Type 0 where
   pub lines : List Line
-  pub right : AreLines q from lines
+  pub right : AreLines is_right from lines
   pub whole : length lines ≡ count
   pub written : TakesBytes old new (flat_map line_text lines)
   pub greatest : status ≡ greatest_status lines
@@ -151,16 +151,16 @@ pub record AreWritten (q : Asked) (from count : ℕ) (old new : Option (List ℕ
 text_more : (lines : List Line) (line : Line) → flat_map line_text lines ++ line_text line ≡ flat_map line_text (lines ++ line ∷ [])
 text_more lines line = flat_map_more line_text [] lines line
 
-pub one_more_written : (q : Asked) (from count : ℕ) (old mid new : Option (List ℕ)) (status : ℕ) (told : Option Outcome)
-    (text : List ℕ) (next : ℕ) → AreWritten q from count old mid status → IsRightOf q (from + count) told
+pub one_more_written : (is_right : ℕ → Option Outcome → Type 0) (from count : ℕ) (old mid new : Option (List ℕ)) (status : ℕ) (told : Option Outcome)
+    (text : List ℕ) (next : ℕ) → AreWritten is_right from count old mid status → is_right (from + count) told
     → text ≡ line_text (record { deal = from + count; told = told }) → TakesBytes mid new text → next ≡ max status (told_status told)
-    → AreWritten q from (count + 1) old new next
-one_more_written q from count old mid new status told text next so_far here same taken greater =
+    → AreWritten is_right from (count + 1) old new next
+one_more_written is_right from count old mid new status told text next so_far here same taken greater =
     let line : Line = record { deal = from + count; told = told } in
     let whole = so_far.whole in
     record {
       lines = so_far.lines ++ line ∷ [];
-      right = one_more_line q from (from + count) so_far.lines told so_far.right (omega (arith, whole)) here;
+      right = one_more_line is_right from (from + count) so_far.lines told so_far.right (omega (arith, whole)) here;
       whole = omega (arith, whole, length-append so_far.lines (line ∷ []));
       written = subst (TakesBytes old new) (text_more so_far.lines line)
           (TakesBytes-both old mid new (flat_map line_text so_far.lines) (line_text line) so_far.written (subst (TakesBytes mid new) same taken));
@@ -168,16 +168,16 @@ one_more_written q from count old mid new status told text next so_far here same
     }
 
 -- and one whose text was cut short
-pub cut_short : (q : Asked) (from count most : ℕ) (mid : Option (List ℕ)) (sink : Device) (status : ℕ) (told : Option Outcome)
-    (text : List ℕ) → AreWritten q from count sink.old mid status → IsRightOf q (from + count) told
+pub cut_short : (is_right : ℕ → Option Outcome → Type 0) (from count most : ℕ) (mid : Option (List ℕ)) (sink : Device) (status : ℕ) (told : Option Outcome)
+    (text : List ℕ) → AreWritten is_right from count sink.old mid status → is_right (from + count) told
     → text ≡ line_text (record { deal = from + count; told = told }) → TakesFront mid sink.new text → count < most → IsTrue sink.failed
-    → AreCutShort q from most sink
-cut_short q from count most mid sink status told text so_far here same front within failed =
+    → AreCutShort is_right from most sink
+cut_short is_right from count most mid sink status told text so_far here same front within failed =
     let line : Line = record { deal = from + count; told = told } in
     let whole = so_far.whole in
     record {
       lines = so_far.lines ++ line ∷ [];
-      right = one_more_line q from (from + count) so_far.lines told so_far.right (omega (arith, whole)) here;
+      right = one_more_line is_right from (from + count) so_far.lines told so_far.right (omega (arith, whole)) here;
       some = omega (arith, whole, within, length-append so_far.lines (line ∷ []));
       front = subst (TakesFront sink.old sink.new) (text_more so_far.lines line)
           (takes_then_front sink.old mid sink.new (flat_map line_text so_far.lines) (line_text line) so_far.written (subst (TakesFront mid sink.new) same front));
@@ -185,9 +185,9 @@ cut_short q from count most mid sink status told text so_far here same front wit
     }
 
 -- all lines are written to a sink that hasn't failed
-pub all_told : (q : Asked) (from count : ℕ) (sink : Device) (status : ℕ)
-    → AreWritten q from count sink.old sink.new status → (IsTrue sink.failed → ⊥) → AreTold q from count sink status
-all_told q from count sink status all sound = record {
+pub all_told : (is_right : ℕ → Option Outcome → Type 0) (from count : ℕ) (sink : Device) (status : ℕ)
+    → AreWritten is_right from count sink.old sink.new status → (IsTrue sink.failed → ⊥) → AreTold is_right from count sink status
+all_told is_right from count sink status all sound = record {
   lines = all.lines;
   right = all.right;
   whole = all.whole;

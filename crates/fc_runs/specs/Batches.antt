@@ -43,10 +43,10 @@ abbrev pub IsRightOf : Asked → ℕ → Option Outcome → Type 0
 IsRightOf q deal (Some told) = IsToldOf q deal told
 IsRightOf q deal None = IsWanting q deal
 
--- lines that are right, one a deal, rising from this one
-pub record AreLines (q : Asked) (from : ℕ) (lines : List Line) : Type 0 where
+-- lines that are right so, one a deal, rising from this one
+pub record AreLines (is_right : ℕ → Option Outcome → Type 0) (from : ℕ) (lines : List Line) : Type 0 where
   pub rising : (i : ℕ) (line : Line) → slice_get lines i ≡ Some line → line.deal ≡ from + i
-  pub right : (i : ℕ) (line : Line) → slice_get lines i ≡ Some line → IsRightOf q line.deal line.told
+  pub right : (i : ℕ) (line : Line) → slice_get lines i ≡ Some line → is_right line.deal line.told
 
 -- the deals from the one number to the other are at least one and at most 32
 pub record IsRange (from to : ℕ) : Type 0 where
@@ -59,10 +59,10 @@ pub record AreDeals (from to : ℕ) : Type 0 where
   pub last : IsDealNumber to
   pub range : IsRange from to
 
--- so many deals were told: the sink took a line for each, and the status is the greatest of theirs
-pub record AreTold (q : Asked) (from count : ℕ) (sink : Device) (status : ℕ) : Type 0 where
+-- so many deals were told: the sink took a line for each, which is right so, and the status is the greatest of theirs
+pub record AreTold (is_right : ℕ → Option Outcome → Type 0) (from count : ℕ) (sink : Device) (status : ℕ) : Type 0 where
   pub lines : List Line
-  pub right : AreLines q from lines
+  pub right : AreLines is_right from lines
   pub whole : length lines ≡ count
   pub written : TakesBytes sink.old sink.new (flat_map line_text lines)
   pub sound : IsTrue sink.failed → ⊥
@@ -78,12 +78,12 @@ pub record IsBatched (q : Asked) (from to : ℕ) (sink : Device) (status : ℕ) 
   pub count : ℕ
   pub asked : IsAsked from to count
   pub budgeted : IsBudget q.method.strategy.budget
-  pub told : AreTold q from count sink status
+  pub told : AreTold (IsRightOf q) from count sink status
 
--- the sink failed while it was given the lines of at most so many deals
-pub record AreCutShort (q : Asked) (from count : ℕ) (sink : Device) : Type 0 where
+-- the sink failed while it was given the lines of at most so many deals, which are right so
+pub record AreCutShort (is_right : ℕ → Option Outcome → Type 0) (from count : ℕ) (sink : Device) : Type 0 where
   pub lines : List Line
-  pub right : AreLines q from lines
+  pub right : AreLines is_right from lines
   pub some : length lines ≤ count
   pub front : TakesFront sink.old sink.new (flat_map line_text lines)
   pub failed : IsTrue sink.failed
@@ -102,5 +102,5 @@ abbrev pub IsBatchFault : Asked → ℕ → ℕ → Device → ProgramFault → 
 IsBatchFault q from to sink Budget = AreDeals from to × (IsBudget q.method.strategy.budget → ⊥) × IsUntouched sink
 IsBatchFault q from to sink Memory = AreDeals from to × IsBudget q.method.strategy.budget × IsUntouched sink
 IsBatchFault q from to sink (Write of_answer) =
-    IsBudget q.method.strategy.budget × ((count : ℕ) × IsAsked from to count × AreCutShort q from count sink)
+    IsBudget q.method.strategy.budget × ((count : ℕ) × IsAsked from to count × AreCutShort (IsRightOf q) from count sink)
 IsBatchFault q from to sink fault = IsUnasked from to fault × IsUntouched sink

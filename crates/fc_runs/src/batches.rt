@@ -193,10 +193,10 @@ fn write_lines<G: Game + Drop, K: Sink>(
     requires some { 1 ≤ count }
     requires numbers { from + count ≤ 1000001 }
     ensures told { (q : Asked) → HoldsDeals q from count batch.now → HaveEnded count batch.now
-        → IfOk result (AreTold q from count
+        → IfOk result (AreTold (IsRightOf q) from count
         (change K.held K.has_failed out.old out.new)) }
     ensures cut { (q : Asked) → HoldsDeals q from count batch.now → HaveEnded count batch.now
-        → OnErr result (AreCutShort q from count
+        → OnErr result (AreCutShort (IsRightOf q) from count
         (change K.held K.has_failed out.old out.new)) }
 {
     let mut greatest = 0;
