@@ -3,6 +3,7 @@
 #![tactic(auto)]
 
 pub use batches::{MOST_DEALS, run_batch, run_batch_by};
+pub use best_batches::run_best_batch;
 pub use besting::run_best;
 pub use checking::{run_check, run_check_of};
 pub use fc_board_runs::{
@@ -13,6 +14,7 @@ pub use solving::{run_solve, run_solve_by};
 pub use tabling::run_table;
 
 mod batches;
+mod best_batches;
 mod besting;
 mod checking;
 mod solving;
