@@ -8,10 +8,15 @@ mod batch_runs;
 #[cfg(test)]
 mod batches;
 #[cfg(test)]
+mod below;
+#[cfg(test)]
+mod best;
+#[cfg(test)]
 mod best_first;
 #[cfg(test)]
-mod bounds;
+mod best_runs;
 #[cfg(test)]
+mod bounds;
 #[cfg(test)]
 mod faults;
 #[cfg(test)]

@@ -122,8 +122,8 @@ fn answer_of<F: Frontier + Drop, G: Game + Drop>(
     sure(rt, search.answer())
 }
 
-// An answer agrees with the plain search's.
-fn check_answer(rt: &impl Abort, answer: &Answer, found: Found) {
+/// An answer agrees with the plain search's, where that had room enough.
+pub fn check_answer(rt: &impl Abort, answer: &Answer, found: Found) {
     assert!(rt; agree(answer, found), "another answer");
 }
 

@@ -14,9 +14,9 @@ use std::alloc::Global;
 use std::io;
 use std::process::Abort;
 
-// What a run prints: this text; or this line, and then so many moves, which win.
+/// What a run prints: this text; or this line, and then so many moves, which win.
 #[derive(Clone, Copy)]
-enum Printed {
+pub enum Printed {
     Text(&'static [u8]),
     Moves(&'static [u8], usize),
 }
@@ -47,13 +47,19 @@ fn check_wins<G: Game>(rt: &impl Abort, game: &G, text: &str, line: &[u8], count
     assert!(rt; made == count && position.is_won(), "moves that don't win");
 }
 
-// What the row's run printed is right.
-fn check_printed<G: Game>(rt: &impl Abort, game: &G, row: &Row, text: &[u8]) {
-    match row.printed {
+/// What a run printed of a board's text is right.
+pub fn check_printed<G: Game>(
+    rt: &impl Abort,
+    game: &G,
+    board: &str,
+    printed: Printed,
+    text: &[u8],
+) {
+    match printed {
         Printed::Text(wanted) => assert!(rt; text == wanted, "another text"),
         Printed::Moves(head, count) => {
             let line = text.strip_prefix(head).expect(rt, "a first line");
-            check_wins(rt, game, row.board, line, count);
+            check_wins(rt, game, board, line, count);
         }
     }
 }
@@ -65,7 +71,7 @@ fn ends<G: Game + Drop>(rt: &impl Abort, alloc: Global, game: &G, row: &Row) {
     let none: Option<&mut ToArray<1>> = None;
     let result = run_solve(alloc, game, 1, &mut source, row.budget, &mut out, none);
     assert!(rt; result == row.wanted, "another answer");
-    check_printed(rt, game, row, out.held());
+    check_printed(rt, game, row.board, row.printed, out.held());
 }
 
 // Solving the rows' boards ends so.

@@ -1,0 +1,177 @@
+//! The best answer of a position, on boards whose answers are known and on random ones.
+
+ghost use Rattle.fc_methods.specs.Method.{Asked};
+ghost use Rattle.fc_position.specs.Position.{Fits};
+
+use crate::given::{bakers_game, board, budget, expanded, free_cell, home_rule, method, sure};
+use crate::plain::{self, Found};
+use crate::random::{Numbers, check_answer, random_board};
+use crate::shown::{check_table, check_wins};
+use fc_best::best;
+use fc_moves::{Game, Kings};
+use fc_position::Position;
+use fc_search::{BoundKind, Expansion, Question, Verdict};
+use fc_tests::boards::{
+    ALL_HOME, CLASSES_495, DEAL_ONE, FREE_KING, LOCKED, ONE_COLUMN, ONE_KING, QUEEN_UNDER_KING,
+    Rules, THIRTY_MOVES, THREE_KINGS, THREE_SPADES, TWO_KINGS,
+};
+use std::alloc::Global;
+use std::process::Abort;
+
+// The best answer of a question for a board is what was found of it; it has a table where one is wanted.
+fn check_best<G: Game + Drop>(
+    rt: &impl Abort,
+    alloc: Global,
+    question: &Question<G>,
+    start: &Position,
+    found: Found,
+    has_table: bool,
+)
+    requires fits { Fits question.now.game.cells start.now }
+{
+    let answer = sure(rt, best(alloc, question, start, has_table));
+    check_answer(rt, &answer, found);
+    if let Verdict::Shortest(list) = &answer.verdict {
+        check_wins(rt, question.game(), start, list);
+    }
+    assert!(rt; answer.table.is_some() == has_table, "another table");
+    if let Some(table) = &answer.table {
+        check_table(rt, table, question.method().rule.get());
+    }
+}
+
+// The best answers for a board by this rule are what was found of it, by either bound and expansion. A single search by the
+// weight of the question wouldn't say that a list is a shortest one.
+fn check_rule<G: Game + Drop>(
+    rt: &impl Abort,
+    alloc: Global,
+    game: &G,
+    rule: u8,
+    start: &Position,
+    found: Found,
+) {
+    assert!(rt; start.fits(game.cells()));
+    for bound in [BoundKind::Plain, BoundKind::Clearing] {
+        for expansion in [Expansion::Full, Expansion::Partial] {
+            let asked = expanded(method(rt, rule, 30, bound, 10_000), expansion);
+            let question = Question::new(game, asked);
+            check_best(rt, alloc, &question, start, found, true);
+            check_best(rt, alloc, &question, start, found, false);
+        }
+    }
+}
+
+// The best answers for a board's text are known, by each rule.
+fn check_known<G: Game + Drop>(
+    rt: &impl Abort,
+    alloc: Global,
+    game: &G,
+    text: &str,
+    known: Found,
+) {
+    let start = board(rt, game, text);
+    for rule in 0..3 {
+        check_rule(rt, alloc, game, rule, &start, known);
+    }
+}
+
+// Boards whose shortest lists, or whose want of any, are known.
+static KNOWN: [(Rules, &str, Found); 15] = [
+    (Rules::FreeCell(4), ALL_HOME, Found::Shortest(0)),
+    (Rules::FreeCell(4), ONE_KING, Found::Shortest(1)),
+    (Rules::FreeCell(4), QUEEN_UNDER_KING, Found::Shortest(3)),
+    (Rules::FreeCell(4), FREE_KING, Found::Shortest(3)),
+    (Rules::FreeCell(4), TWO_KINGS, Found::Shortest(5)),
+    (Rules::FreeCell(4), THREE_KINGS, Found::Shortest(5)),
+    (Rules::FreeCell(4), THIRTY_MOVES, Found::Shortest(30)),
+    (Rules::FreeCell(4), ONE_COLUMN, Found::Shortest(52)),
+    (Rules::FreeCell(4), LOCKED, Found::CannotWin),
+    (Rules::FreeCell(4), CLASSES_495, Found::CannotWin),
+    (Rules::FreeCell(0), THREE_SPADES, Found::Shortest(4)),
+    (Rules::Bakers(4), ONE_KING, Found::Shortest(1)),
+    (Rules::Bakers(4), THIRTY_MOVES, Found::Shortest(30)),
+    (Rules::Kings(1), THREE_SPADES, Found::Shortest(4)),
+    (Rules::Kings(0), THREE_SPADES, Found::CannotWin),
+];
+
+#[test]
+fn known_boards(rt: HostRuntime) {
+    let alloc = rt.alloc();
+    for (game, text, known) in KNOWN {
+        match game {
+            Rules::FreeCell(cells) => {
+                check_known(&rt, alloc, &free_cell(&rt, cells), text, known);
+            }
+            Rules::Bakers(cells) => {
+                check_known(&rt, alloc, &bakers_game(&rt, cells), text, known);
+            }
+            Rules::Kings(cells) => {
+                check_known(&rt, alloc, &Kings::new(free_cell(&rt, cells)), text, known);
+            }
+        }
+    }
+}
+
+// The best answer for a board within a budget.
+fn told<G: Game + Drop>(
+    rt: &impl Abort,
+    alloc: Global,
+    game: &G,
+    text: &str,
+    classes: u32,
+) -> Verdict {
+    let start = board(rt, game, text);
+    let question = Question::shortest(game, home_rule(rt, 1), budget(rt, classes));
+    sure(rt, best(alloc, &question, &start, true)).verdict
+}
+
+#[test]
+fn a_deal_within_one_class(rt: HostRuntime) {
+    let freely = told(&rt, rt.alloc(), &free_cell(&rt, 4), DEAL_ONE, 1);
+    assert!(&rt; matches!(freely, Verdict::GaveUp(1)), "FreeCell");
+    let by_suits = told(&rt, rt.alloc(), &bakers_game(&rt, 4), DEAL_ONE, 1);
+    assert!(&rt; matches!(by_suits, Verdict::GaveUp(1)), "Baker's Game");
+}
+
+// Whether a verdict within so many classes is right of the board of thirty moves.
+fn is_right_of_thirty(verdict: &Verdict, classes: u32) -> bool {
+    match verdict {
+        Verdict::Shortest(list) => list.len() == 30,
+        Verdict::Won { moves, floor } => *floor <= 30 && 30 <= moves.len(),
+        Verdict::GaveUp(told) => *told <= classes,
+        Verdict::CannotWin => false,
+    }
+}
+
+#[test]
+fn less_is_told_within_less(rt: HostRuntime) {
+    for classes in [1, 3, 10, 30, 100, 300, 1000, 3000, 10_000] {
+        let verdict = told(&rt, rt.alloc(), &free_cell(&rt, 4), THIRTY_MOVES, classes);
+        assert!(&rt; is_right_of_thirty(&verdict, classes), "{classes}");
+    }
+}
+
+// Compares the best answers for some boards of a game with the plain search, by each rule in turn.
+fn compare<G: Game + Drop>(rt: &impl Abort, alloc: Global, game: &G, seed: u32) {
+    let mut numbers = Numbers::new(seed);
+    for _ in 0..5 {
+        for rule in 0..3 {
+            let start = random_board(rt, &mut numbers, u32::from(game.cells()));
+            let found = plain::search(rt, alloc, game, &start, 300);
+            check_rule(rt, alloc, game, rule, &start, found);
+        }
+    }
+}
+
+#[test]
+fn agrees_with_the_plain_search(rt: HostRuntime) {
+    for cells in 0..5u8 {
+        let seed = u32::from(cells);
+        compare(&rt, rt.alloc(), &free_cell(&rt, cells), 800 + seed);
+        compare(&rt, rt.alloc(), &bakers_game(&rt, cells), 900 + seed);
+        let kings = Kings::new(free_cell(&rt, cells));
+        compare(&rt, rt.alloc(), &kings, 1000 + seed);
+        let kings = Kings::new(bakers_game(&rt, cells));
+        compare(&rt, rt.alloc(), &kings, 1100 + seed);
+    }
+}
