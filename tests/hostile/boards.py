@@ -1,5 +1,5 @@
-"""Random small boards of every game: what `solve --cert` prints, what `check` accepts of its certificate, and where `replay` of its
-moves ends, agree with a plain search breadth first.
+"""Random small boards of every game: what `solve --cert` and `best --cert` print, what `check` accepts of their certificates, and where
+`replay` of their moves ends, agree with a plain search breadth first.
 
 usage:  boards.py COUNT SEED
 """
@@ -47,15 +47,16 @@ def try_board(task):
     numbers, game = random.Random(f"{seed}/{number}"), GAMES[number % len(GAMES)]
     board, fewest = drawn(numbers, game)
     weight = numbers.choice([1, 1, 2, 3])
-    options = ["--rule", numbers.choice("012"), "--bound", numbers.choice(["plain", "clearing"]), "--within", str(weight)]
-    told = told_wrong(game, board, fewest, options, weight)
-    return fewest, told and f"board {number} {game} {options}\n{rules.printed(board)}{told}"
+    rule = ["--rule", numbers.choice("012")]
+    words = ["solve", *rule, "--bound", numbers.choice(["plain", "clearing"]), "--within", str(weight)]
+    told = told_wrong(game, board, fewest, words, weight) or told_wrong(game, board, fewest, ["best", *rule], 1)
+    return fewest, told and f"board {number} {game} {words}\n{rules.printed(board)}{told}"
 
 
-def told_wrong(game, board, fewest, options, weight):
+def told_wrong(game, board, fewest, words, weight):
     """What the program says otherwise of a board, or None."""
     program, text = runs.program(), rules.printed(board).encode()
-    solved = program.run(["solve", *game.words(), *options, "--cert", "/dev/fd/3"], text, [b""])
+    solved = program.run([*words, *game.words(), "--cert", "/dev/fd/3"], text, [b""])
     first, moves = (solved.out.decode().split("\n") + [""])[:2]
     moves = moves.split()
     checked = program.run(["check", *game.words(), "-", "/dev/fd/3"], text, solved.files)
