@@ -11,16 +11,19 @@ use Rattle.fc_answers.specs.declared.answers.Outcome.TheVariants as outcome
 use Rattle.fc_answers.specs.declared.answers.Verdict.{Verdict}
 use Rattle.fc_answers.specs.declared.answers.Verdict.TheVariants as verdict
 use Rattle.fc_answers.specs.Verdict.{IsRight, outcome_of}
+use Rattle.fc_best.specs.Best.{IsBest}
 use Rattle.fc_search.specs.declared.listeners.Progress.{Progress}
 use Rattle.fc_search.specs.Watch.{HearsAll}
 use Rattle.fc_search.specs.inner.Watch.{TellFloors}
 use Rattle.fc_board_runs.specs.Devices.{Device}
 use Rattle.fc_runs.specs.declared.tabling.Last.{Last}
 use Rattle.fc_runs.specs.declared.tabling.Row.{Row}
+use Rattle.fc_runs.specs.declared.tabling.Sought.{Sought}
 use Rattle.fc_methods.specs.Method.{Asked}
 use Rattle.fc_runs.specs.Batches.{IsToldOf, greatest_status}
 use Rattle.fc_answer_text.specs.AnswerText.{told_status}
-use Rattle.fc_runs.specs.Tabling.{AreRows, IsDealFloor, IsTableCutShort, floor_of, line_of, names_text, row_text, table_text, told_floor}
+use Rattle.fc_runs.specs.Tabling.{AreRows, IsDealFloor, IsTableCutShort, IsToldBy, floor_of, line_of, names_text, row_text, table_text, told_floor}
+use Rattle.fc_runs.specs.Besting.{IsBestTold}
 use Rattle.fc_runs.proofs.BatchLemmas.{greatest_more}
 
 -- a row after others
@@ -33,21 +36,21 @@ last_row (y ∷ rows) row P all last (suc i) x at =
     last_row rows row (λ j z. P (suc j) z) (λ j z there. all (suc j) z there) last i x at
 
 -- one more row that is right
-one_more_row : (q : Asked) (from count : ℕ) (rows : List Row) (row : Row) → AreRows q from rows
-    → length rows ≡ count → row.deal ≡ from + count → IfSome row.told (IsToldOf q (from + count))
-    → IfSome (floor_of row.told row.far) (IsDealFloor q.game (from + count)) → AreRows q from (rows ++ row ∷ [])
-one_more_row q from count rows row right whole deal told floor = record {
+one_more_row : (sought : Sought) (q : Asked) (from count : ℕ) (rows : List Row) (row : Row) → AreRows sought q from rows
+    → length rows ≡ count → row.deal ≡ from + count → IfSome row.told (IsToldBy sought q (from + count))
+    → IfSome (floor_of row.told row.far) (IsDealFloor q.game (from + count)) → AreRows sought q from (rows ++ row ∷ [])
+one_more_row sought q from count rows row right whole deal told floor = record {
   rising = last_row rows row (λ i x. x.deal ≡ from + i) right.rising (deal ∙ ap (λ n. from + n) (sym whole));
-  right = last_row rows row (λ i x. IfSome x.told (IsToldOf q x.deal)) right.right
-      (subst (λ n. IfSome row.told (IsToldOf q n)) (sym deal) told);
+  right = last_row rows row (λ i x. IfSome x.told (IsToldBy sought q x.deal)) right.right
+      (subst (λ n. IfSome row.told (IsToldBy sought q n)) (sym deal) told);
   floors = last_row rows row (λ i x. IfSome (floor_of x.told x.far) (IsDealFloor q.game x.deal)) right.floors
       (subst (λ n. IfSome (floor_of row.told row.far) (IsDealFloor q.game n)) (sym deal) floor);
 }
 
 -- the names and so many rows were written, and this is the greatest of their statuses
-pub record RowsAreWritten (q : Asked) (from count : ℕ) (old new : Option (List ℕ)) (status : ℕ) : Type 0 where
+pub record RowsAreWritten (sought : Sought) (q : Asked) (from count : ℕ) (old new : Option (List ℕ)) (status : ℕ) : Type 0 where
   pub rows : List Row
-  pub right : AreRows q from rows
+  pub right : AreRows sought q from rows
   pub whole : length rows ≡ count
   pub written : TakesBytes old new (table_text rows)
   pub greatest : status ≡ greatest_status (map line_of rows)
@@ -56,16 +59,16 @@ pub record RowsAreWritten (q : Asked) (from count : ℕ) (old new : Option (List
 text_more : (rows : List Row) (row : Row) → table_text rows ++ row_text row ≡ table_text (rows ++ row ∷ [])
 text_more rows row = flat_map_more row_text names_text rows row
 
-pub one_more_written : (q : Asked) (from count : ℕ) (old mid new : Option (List ℕ)) (status next : ℕ) (row : Row)
-    → RowsAreWritten q from count old mid status → row.deal ≡ from + count
-    → IfSome row.told (IsToldOf q (from + count)) → IfSome (floor_of row.told row.far) (IsDealFloor q.game (from + count))
+pub one_more_written : (sought : Sought) (q : Asked) (from count : ℕ) (old mid new : Option (List ℕ)) (status next : ℕ) (row : Row)
+    → RowsAreWritten sought q from count old mid status → row.deal ≡ from + count
+    → IfSome row.told (IsToldBy sought q (from + count)) → IfSome (floor_of row.told row.far) (IsDealFloor q.game (from + count))
     → TakesBytes mid new (row_text row) → next ≡ max status (told_status row.told)
-    → RowsAreWritten q from (count + 1) old new next
-one_more_written q from count old mid new status next row so_far deal told floor taken greater =
+    → RowsAreWritten sought q from (count + 1) old new next
+one_more_written sought q from count old mid new status next row so_far deal told floor taken greater =
     let whole = so_far.whole in
     record {
       rows = so_far.rows ++ row ∷ [];
-      right = one_more_row q from count so_far.rows row so_far.right whole deal told floor;
+      right = one_more_row sought q from count so_far.rows row so_far.right whole deal told floor;
       whole = omega (arith, whole, length-append so_far.rows (row ∷ []));
       written = subst (TakesBytes old new) (text_more so_far.rows row)
           (TakesBytes-both old mid new (table_text so_far.rows) (row_text row) so_far.written taken);
@@ -74,16 +77,16 @@ one_more_written q from count old mid new status next row so_far deal told floor
     }
 
 -- and one that was cut short
-pub row_cut_short : (q : Asked) (from count most : ℕ) (mid : Option (List ℕ)) (sink : Device) (status : ℕ) (row : Row)
-    → RowsAreWritten q from count sink.old mid status → row.deal ≡ from + count
-    → IfSome row.told (IsToldOf q (from + count)) → IfSome (floor_of row.told row.far) (IsDealFloor q.game (from + count))
+pub row_cut_short : (sought : Sought) (q : Asked) (from count most : ℕ) (mid : Option (List ℕ)) (sink : Device) (status : ℕ) (row : Row)
+    → RowsAreWritten sought q from count sink.old mid status → row.deal ≡ from + count
+    → IfSome row.told (IsToldBy sought q (from + count)) → IfSome (floor_of row.told row.far) (IsDealFloor q.game (from + count))
     → TakesFront mid sink.new (row_text row) → count < most → IsTrue sink.failed
-    → IsTableCutShort q from most sink
-row_cut_short q from count most mid sink status row so_far deal told floor front within failed =
+    → IsTableCutShort sought q from most sink
+row_cut_short sought q from count most mid sink status row so_far deal told floor front within failed =
     let whole = so_far.whole in
     record {
       rows = so_far.rows ++ row ∷ [];
-      right = one_more_row q from count so_far.rows row so_far.right whole deal told floor;
+      right = one_more_row sought q from count so_far.rows row so_far.right whole deal told floor;
       some = omega (arith, whole, within, length-append so_far.rows (row ∷ []));
       front = subst (TakesFront sink.old sink.new) (text_more so_far.rows row)
           (takes_then_front sink.old mid sink.new (table_text so_far.rows) (row_text row) so_far.written front);
@@ -125,3 +128,27 @@ row_floor q deal (Some (outcome.Shortest count)) far right floor =
 row_floor q deal (Some (outcome.Won count least)) far right floor =
     subst (λ o. IfSome (answered_floor o) (IsDealFloor q.game deal)) (sym right.answer)
     (answer_floor q.game q.method.strategy.weight.parts q.method.strategy.weight.times q.method.strategy.budget deal right.verdict right.decided.right.right)
+
+best_answer_floor : (g : GameRules) (deal budget : ℕ) (verdict : Verdict) → IsBest g (dealt_board deal) budget verdict
+    → IfSome (answered_floor (outcome_of verdict)) (IsDealFloor g deal)
+unfolding answered_floor
+best_answer_floor g deal budget (verdict.Shortest moves) right = right.least
+best_answer_floor g deal budget (verdict.Won moves least) (wins, floor, less) = floor
+best_answer_floor g deal budget verdict.CannotWin right = tt
+best_answer_floor g deal budget (verdict.GaveUp told) right = tt
+
+-- the floor that a best answer tells of its deal
+best_floor : (q : Asked) (deal : ℕ) (told : Outcome) → IsBestTold q deal told → IfSome (answered_floor told) (IsDealFloor q.game deal)
+best_floor q deal told right =
+    subst (λ o. IfSome (answered_floor o) (IsDealFloor q.game deal)) (sym right.answer)
+    (best_answer_floor q.game deal q.method.strategy.budget right.verdict right.best.right)
+
+-- the floor of a row that tells no more than a best answer
+pub best_row_floor : (q : Asked) (deal : ℕ) (told : Option Outcome) → IfSome told (IsBestTold q deal)
+    → IfSome (floor_of told None) (IsDealFloor q.game deal)
+unfolding answered_floor
+best_row_floor q deal None right = tt
+best_row_floor q deal (Some (outcome.GaveUp told)) right = tt
+best_row_floor q deal (Some outcome.CannotWin) right = tt
+best_row_floor q deal (Some (outcome.Shortest count)) right = best_floor q deal (outcome.Shortest count) right
+best_row_floor q deal (Some (outcome.Won count least)) right = best_floor q deal (outcome.Won count least) right

@@ -15,7 +15,10 @@ use Rattle.fc_board_runs.specs.declared.faults.ProgramFault.{ProgramFault}
 use Rattle.fc_board_runs.specs.declared.faults.ProgramFault.TheVariants.{Write}
 use Rattle.fc_board_runs.specs.Devices.{Device, IsUntouched}
 use Rattle.fc_runs.specs.declared.tabling.Row.{Row}
+use Rattle.fc_runs.specs.declared.tabling.Sought.{Sought}
+use Rattle.fc_runs.specs.declared.tabling.Sought.TheVariants.{ByMethod, Best}
 use Rattle.fc_runs.specs.Batches.{IsAsked, IsToldOf, IsUnasked, greatest_status}
+use Rattle.fc_runs.specs.Besting.{IsBestTold}
 use Rattle.fc_answer_text.specs.AnswerText.{Line}
 
 -- the names of the columns
@@ -79,39 +82,44 @@ line_of row = record { deal = row.deal; told = row.told }
 abbrev pub IsDealFloor : GameRules → ℕ → ℕ → Type 0
 IsDealFloor g deal floor = (moves : List Move) → Wins g (dealt_board deal) moves → floor ≤ length moves
 
+-- what is told of a deal is what was sought, and right: an answer by the question's method, or a best answer
+abbrev pub IsToldBy : Sought → Asked → ℕ → Outcome → Type 0
+IsToldBy ByMethod q deal told = IsToldOf q deal told
+IsToldBy Best q deal told = IsBestTold q deal told
+
 -- rows that are right, one a deal, rising from this one: an answer that is told is right for its deal, and no list of fewer moves
 -- than a row's floor wins from it. Nothing else is promised of a deal for which memory was wanted, nor of the other numbers that
 -- a search told
-pub record AreRows (q : Asked) (from : ℕ) (rows : List Row) : Type 0 where
+pub record AreRows (sought : Sought) (q : Asked) (from : ℕ) (rows : List Row) : Type 0 where
   pub rising : (i : ℕ) (row : Row) → slice_get rows i ≡ Some row → row.deal ≡ from + i
-  pub right : (i : ℕ) (row : Row) → slice_get rows i ≡ Some row → IfSome row.told (IsToldOf q row.deal)
+  pub right : (i : ℕ) (row : Row) → slice_get rows i ≡ Some row → IfSome row.told (IsToldBy sought q row.deal)
   pub floors : (i : ℕ) (row : Row) → slice_get rows i ≡ Some row → IfSome (floor_of row.told row.far) (IsDealFloor q.game row.deal)
 
 -- so many deals were told: the sink took the names and a row for each, and the status is the greatest of theirs
-pub record AreTabled (q : Asked) (from count : ℕ) (sink : Device) (status : ℕ) : Type 0 where
+pub record AreTabled (sought : Sought) (q : Asked) (from count : ℕ) (sink : Device) (status : ℕ) : Type 0 where
   pub rows : List Row
-  pub right : AreRows q from rows
+  pub right : AreRows sought q from rows
   pub whole : length rows ≡ count
   pub written : TakesBytes sink.old sink.new (table_text rows)
   pub sound : IsTrue sink.failed → ⊥
   pub greatest : status ≡ greatest_status (map line_of rows)
 
 -- a table was told: it can be asked for, and each of its deals was told
-pub record IsTabled (q : Asked) (from to : ℕ) (sink : Device) (status : ℕ) : Type 0 where
+pub record IsTabled (sought : Sought) (q : Asked) (from to : ℕ) (sink : Device) (status : ℕ) : Type 0 where
   pub count : ℕ
   pub asked : IsAsked from to count
-  pub told : AreTabled q from count sink status
+  pub told : AreTabled sought q from count sink status
 
 -- the sink failed while it was given the names and the rows of at most so many deals
-pub record IsTableCutShort (q : Asked) (from count : ℕ) (sink : Device) : Type 0 where
+pub record IsTableCutShort (sought : Sought) (q : Asked) (from count : ℕ) (sink : Device) : Type 0 where
   pub rows : List Row
-  pub right : AreRows q from rows
+  pub right : AreRows sought q from rows
   pub some : length rows ≤ count
   pub front : TakesFront sink.old sink.new (table_text rows)
   pub failed : IsTrue sink.failed
 
 -- why no table was told, or not all of one: it can't be asked for, and nothing is written; or the sink failed
-abbrev pub IsTableFault : Asked → ℕ → ℕ → Device → ProgramFault → Type 0
-IsTableFault q from to sink (Write of_answer) =
-    (count : ℕ) × IsAsked from to count × IsTableCutShort q from count sink
-IsTableFault q from to sink fault = IsUnasked from to fault × IsUntouched sink
+abbrev pub IsTableFault : Sought → Asked → ℕ → ℕ → Device → ProgramFault → Type 0
+IsTableFault sought q from to sink (Write of_answer) =
+    (count : ℕ) × IsAsked from to count × IsTableCutShort sought q from count sink
+IsTableFault sought q from to sink fault = IsUnasked from to fault × IsUntouched sink

@@ -69,7 +69,11 @@ fn write_best_lines<G: Game + Drop, K: Sink>(
 }
 
 // What is told of a deal, whose best answer is searched for without a table.
-fn best_told<G: Game + Drop>(alloc: Global, question: &Question<G>, number: u32) -> Option<Outcome>
+pub(crate) fn best_told<G: Game + Drop>(
+    alloc: Global,
+    question: &Question<G>,
+    number: u32,
+) -> Option<Outcome>
     requires deal { IsDealNumber number }
     ensures told { IsBestLine question.now number result }
 {

@@ -11,7 +11,7 @@ pub use fc_board_runs::{
     run_replay, run_replay_as, run_replay_sequences, run_show,
 };
 pub use solving::{run_solve, run_solve_by};
-pub use tabling::run_table;
+pub use tabling::{run_best_table, run_table};
 
 mod batches;
 mod best_batches;

@@ -8,9 +8,11 @@ ghost use Rattle.fc_search.specs.Watch.{HearsAll};
 ghost use Rattle.fc_search.specs.inner.Watch.{TellFloors};
 ghost use Rattle.fc_board_runs.specs.Devices.{change};
 ghost use Rattle.fc_runs.specs.Batches.{IsToldOf};
-ghost use Rattle.fc_runs.specs.Tabling.{AreTabled, IsDealFloor, IsTabled, IsTableCutShort, IsTableFault, answer_name, far_text, floor_of, moves_of, number_text, row_text};
+ghost use Rattle.fc_runs.specs.Besting.{IsBestTold};
+ghost use Rattle.fc_runs.specs.Tabling.{AreTabled, IsDealFloor, IsTabled, IsTableCutShort, IsTableFault, IsToldBy, answer_name, far_text, floor_of, moves_of, number_text, row_text};
 
 use crate::batches::deals_of;
+use crate::best_batches::best_told;
 use arrayvec::ArrayString;
 use fc_answer_text::{outcome_of, told_status};
 use fc_answers::Outcome;
@@ -22,6 +24,13 @@ use fc_moves::Game;
 use fc_search::{Listener, Progress, decide_by};
 use itoa::Buffer;
 use std::alloc::{AllocError, Global};
+
+/// What is searched for of each deal: its answer by the question's method, or its best answer.
+#[derive(Clone, Copy)]
+enum Sought {
+    ByMethod,
+    Best,
+}
 
 /// A row of a table: a deal, its answer without moves, or `None` where memory was wanted, and what its search told last.
 #[derive(Clone, Copy)]
@@ -65,13 +74,39 @@ pub fn run_table<G: Game + Drop, K: Sink>(
     to: u32,
     out: &mut K,
 ) -> Result<u8, ProgramFault>
-    ensures tabled { IfOk result (IsTabled question.now from to
+    ensures tabled { IfOk result (IsTabled Sought.ByMethod question.now from to
         (change K.held K.has_failed out.old out.new)) }
-    ensures fault { IfErr result (IsTableFault question.now from to
+    ensures fault { IfErr result (IsTableFault Sought.ByMethod question.now from to
         (change K.held K.has_failed out.old out.new)) }
 {
     let count = deals_of(from, to)?;
-    match write_table(alloc, question, from, count, out) {
+    match write_table(alloc, question, Sought::ByMethod, from, count, out) {
+        Ok(status) => Ok(status),
+        Err(_) => Err(ProgramFault::Write(Output::Answer)),
+    }
+}
+
+/// Searches the deals `from` to `to` of the question's game for their best answers, one after the other, each within the
+/// question's budget, as `run_best_batch` does, and writes a table of them, as `run_table` does. A row's floor is what the answer
+/// tells, and of a deal of which nothing is known there is none; of its searches nothing is told, so the last three cells of a row
+/// are empty.
+///
+/// # Errors
+/// Those of `run_table`.
+pub fn run_best_table<G: Game + Drop, K: Sink>(
+    alloc: Global,
+    question: &Question<G>,
+    from: u32,
+    to: u32,
+    out: &mut K,
+) -> Result<u8, ProgramFault>
+    ensures tabled { IfOk result (IsTabled Sought.Best question.now from to
+        (change K.held K.has_failed out.old out.new)) }
+    ensures fault { IfErr result (IsTableFault Sought.Best question.now from to
+        (change K.held K.has_failed out.old out.new)) }
+{
+    let count = deals_of(from, to)?;
+    match write_table(alloc, question, Sought::Best, from, count, out) {
         Ok(status) => Ok(status),
         Err(_) => Err(ProgramFault::Write(Output::Answer)),
     }
@@ -81,15 +116,16 @@ pub fn run_table<G: Game + Drop, K: Sink>(
 fn write_table<G: Game + Drop, K: Sink>(
     alloc: Global,
     question: &Question<G>,
+    sought: Sought,
     from: u32,
     count: u32,
     out: &mut K,
 ) -> Result<u8, Failed>
     requires first { 1 ≤ from }
     requires last { from + count ≤ 1000001 }
-    ensures tabled { IfOk result (AreTabled question.now from count
+    ensures tabled { IfOk result (AreTabled sought question.now from count
         (change K.held K.has_failed out.old out.new)) }
-    ensures cut { OnErr result (IsTableCutShort question.now from count
+    ensures cut { OnErr result (IsTableCutShort sought question.now from count
         (change K.held K.has_failed out.old out.new)) }
 {
     write_all(
@@ -98,7 +134,7 @@ fn write_table<G: Game + Drop, K: Sink>(
     )?;
     let mut greatest = 0;
     for i in 0..count {
-        let row = row_of(alloc, question, from + i);
+        let row = row_by(alloc, question, sought, from + i);
         let Ok(()) = write_all(out, row_text(&row).as_bytes()) else {
             return Err(Failed);
         };
@@ -107,7 +143,34 @@ fn write_table<G: Game + Drop, K: Sink>(
     Ok(greatest)
 }
 
-// The row of a deal, which is searched.
+// The row of a deal, for which this is sought.
+fn row_by<G: Game + Drop>(alloc: Global, question: &Question<G>, sought: Sought, number: u32) -> Row
+    requires deal { IsDealNumber number }
+    ensures deal { result.deal ≡ number }
+    ensures right { IfSome result.told (IsToldBy sought question.now number) }
+    ensures floor { IfSome (floor_of result.told result.far) (IsDealFloor question.now.game number) }
+{
+    match sought {
+        Sought::ByMethod => row_of(alloc, question, number),
+        Sought::Best => best_row(alloc, question, number),
+    }
+}
+
+// The row of a deal, whose best answer is searched for.
+fn best_row<G: Game + Drop>(alloc: Global, question: &Question<G>, number: u32) -> Row
+    requires deal { IsDealNumber number }
+    ensures deal { result.deal ≡ number }
+    ensures right { IfSome result.told (IsBestTold question.now number) }
+    ensures floor { IfSome (floor_of result.told result.far) (IsDealFloor question.now.game number) }
+{
+    Row {
+        deal: number,
+        told: best_told(alloc, question, number),
+        far: None,
+    }
+}
+
+// The row of a deal, which is searched by the question's method.
 fn row_of<G: Game + Drop>(alloc: Global, question: &Question<G>, number: u32) -> Row
     requires deal { IsDealNumber number }
     ensures deal { result.deal ≡ number }
