@@ -62,13 +62,7 @@ fn check_rule<G: Game + Drop>(
 }
 
 // The best answers for a board's text are known, by each rule.
-fn check_known<G: Game + Drop>(
-    rt: &impl Abort,
-    alloc: Global,
-    game: &G,
-    text: &str,
-    known: Found,
-) {
+fn check_known<G: Game + Drop>(rt: &impl Abort, alloc: Global, game: &G, text: &str, known: Found) {
     let start = board(rt, game, text);
     for rule in 0..3 {
         check_rule(rt, alloc, game, rule, &start, known);

@@ -145,7 +145,10 @@ fn ends<G: Game + Drop>(rt: &impl Abort, alloc: Global, game: &G, row: &Row) {
     let mut bare = ToArray::<200>::new();
     let none: Option<&mut ToArray<1>> = None;
     let status = run_best(alloc, &question, &start, &mut bare, none);
-    assert!(rt; status == Ok(row.status), "another end without a certificate");
+    assert!(rt;
+        status == Ok(row.status),
+        "another end without a certificate"
+    );
     assert!(rt; bare.held() == out.held(), "another text");
 }
 

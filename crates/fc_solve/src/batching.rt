@@ -5,7 +5,7 @@ use crate::games::InGame;
 use fc_io::ToWriter;
 use fc_methods::{Method, Question};
 use fc_moves::Game;
-use fc_runs::{run_batch, run_batch_by, run_best_batch, run_table};
+use fc_runs::{run_batch, run_batch_by, run_best_batch, run_best_table, run_table};
 use fc_words::{BatchSearch, BatchWords};
 
 impl InGame for BatchWords {
@@ -18,12 +18,11 @@ impl InGame for BatchWords {
             return of_run(run_batch(alloc, game, rule, from, to, budget, &mut out));
         };
         let question = Question::new(game, method);
-        of_run(match self.search {
-            BatchSearch::By(_) if self.is_table => {
-                run_table(alloc, &question, from, to, &mut out)
-            }
-            BatchSearch::By(_) => run_batch_by(alloc, &question, from, to, &mut out),
-            BatchSearch::Best(_) => run_best_batch(alloc, &question, from, to, &mut out),
+        of_run(match (self.search, self.is_table) {
+            (BatchSearch::By(_), false) => run_batch_by(alloc, &question, from, to, &mut out),
+            (BatchSearch::By(_), true) => run_table(alloc, &question, from, to, &mut out),
+            (BatchSearch::Best(_), false) => run_best_batch(alloc, &question, from, to, &mut out),
+            (BatchSearch::Best(_), true) => run_best_table(alloc, &question, from, to, &mut out),
         })
     }
 }
