@@ -1,4 +1,5 @@
 //! `batch`: several numbered deals are solved.
+ghost use Rattle.std.specs.Prelude.{◌≤◌};
 
 use crate::endings::{Ending, of_run};
 use crate::games::InGame;
