@@ -3,7 +3,7 @@
 ghost use Rattle.fc_methods.specs.Method.{Asked};
 ghost use Rattle.fc_position.specs.Position.{Fits};
 
-use crate::given::{bakers_game, board, budget, expanded, free_cell, home_rule, method, sure};
+use crate::given::{bakers_game, board, dealt, expanded, free_cell, method, sure};
 use crate::plain::{self, Found};
 use crate::random::{Numbers, check_answer, random_board};
 use crate::shown::{check_table, check_wins};
@@ -12,8 +12,8 @@ use fc_moves::{Game, Kings};
 use fc_position::Position;
 use fc_search::{BoundKind, Expansion, Question, Verdict};
 use fc_tests::boards::{
-    ALL_HOME, CLASSES_495, DEAL_ONE, FREE_KING, LOCKED, ONE_COLUMN, ONE_KING, QUEEN_UNDER_KING,
-    Rules, THIRTY_MOVES, THREE_KINGS, THREE_SPADES, TWO_KINGS,
+    ALL_HOME, CLASSES_495, FREE_KING, LOCKED, ONE_COLUMN, ONE_KING, QUEEN_UNDER_KING, Rules,
+    THIRTY_MOVES, THREE_KINGS, THREE_SPADES, TWO_KINGS,
 };
 use std::alloc::Global;
 use std::process::Abort;
@@ -106,42 +106,37 @@ fn known_boards(rt: HostRuntime) {
     }
 }
 
-// The best answer for a board within a budget.
-fn told<G: Game + Drop>(
-    rt: &impl Abort,
-    alloc: Global,
-    game: &G,
-    text: &str,
-    classes: u32,
-) -> Verdict {
-    let start = board(rt, game, text);
-    let question = Question::shortest(game, home_rule(rt, 1), budget(rt, classes));
-    sure(rt, best(alloc, &question, &start, true)).verdict
+// Deals, and by how many moves FreeCell is won from them at least, as searches with more room showed.
+static DEALS: [(u32, u32); 3] = [(33, 69), (46, 70), (59, 73)];
+
+// The best answer for a deal of FreeCell by the clearing bound within so many classes.
+fn told(rt: &impl Abort, alloc: Global, number: u32, classes: u32) -> Verdict {
+    let game = free_cell(rt, 4);
+    let start = dealt(rt, &game, number);
+    let question = Question::new(&game, method(rt, 2, 10, BoundKind::Clearing, classes));
+    let answer = sure(rt, best(alloc, &question, &start, false));
+    if let Verdict::Shortest(moves) | Verdict::Won { moves, .. } = &answer.verdict {
+        check_wins(rt, &game, &start, moves);
+    }
+    answer.verdict
 }
 
-#[test]
-fn a_deal_within_one_class(rt: HostRuntime) {
-    let freely = told(&rt, rt.alloc(), &free_cell(&rt, 4), DEAL_ONE, 1);
-    assert!(&rt; matches!(freely, Verdict::GaveUp(1)), "FreeCell");
-    let by_suits = told(&rt, rt.alloc(), &bakers_game(&rt, 4), DEAL_ONE, 1);
-    assert!(&rt; matches!(by_suits, Verdict::GaveUp(1)), "Baker's Game");
-}
-
-// Whether a verdict within so many classes is right of the board of thirty moves.
-fn is_right_of_thirty(verdict: &Verdict, classes: u32) -> bool {
+// Whether a list is told, of so many moves where it's said to be a shortest one, and else with a floor around that number.
+fn is_around(verdict: &Verdict, fewest: u32) -> bool {
     match verdict {
-        Verdict::Shortest(list) => list.len() == 30,
-        Verdict::Won { moves, floor } => *floor <= 30 && 30 <= moves.len(),
-        Verdict::GaveUp(told) => *told <= classes,
-        Verdict::CannotWin => false,
+        Verdict::Shortest(list) => list.len() == fewest as usize,
+        Verdict::Won { moves, floor } => *floor <= fewest && fewest as usize <= moves.len(),
+        _ => false,
     }
 }
 
 #[test]
-fn less_is_told_within_less(rt: HostRuntime) {
-    for classes in [1, 3, 10, 30, 100, 300, 1000, 3000, 10_000] {
-        let verdict = told(&rt, rt.alloc(), &free_cell(&rt, 4), THIRTY_MOVES, classes);
-        assert!(&rt; is_right_of_thirty(&verdict, classes), "{classes}");
+fn deals_within_few_classes(rt: HostRuntime) {
+    for (number, fewest) in DEALS {
+        let least = told(&rt, rt.alloc(), number, 1);
+        assert!(&rt; matches!(least, Verdict::GaveUp(1)), "deal {number}");
+        let more = told(&rt, rt.alloc(), number, 10_000);
+        assert!(&rt; is_around(&more, fewest), "deal {number}");
     }
 }
 

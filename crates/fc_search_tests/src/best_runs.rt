@@ -1,14 +1,17 @@
 //! Runs that write the best answer, and certificates of it that the checker accepts.
 
+ghost use Rattle.fc_methods.specs.Method.{Asked};
+ghost use Rattle.fc_moves.specs.GameRules.{IsPositionOf};
 ghost use Rattle.fc_position.specs.Position.{Fits};
 
-use crate::given::{bakers_game, board, budget, free_cell, home_rule};
+use crate::given::{bakers_game, board, budget, dealt, free_cell, home_rule, method};
 use crate::runs::{Printed, check_printed};
+use fc_io::testing::Failing;
 use fc_io::{FromSlice, ToArray};
 use fc_moves::{Game, Kings};
 use fc_position::Position;
-use fc_runs::{run_best, run_check_of};
-use fc_search::Question;
+use fc_runs::{Output, ProgramFault, run_best, run_check_of};
+use fc_search::{BoundKind, Question};
 use fc_tests::boards::{
     ALL_HOME, DEAL_ONE, LOCKED, ONE_KING, QUEEN_UNDER_KING, Rules, THIRTY_MOVES, THREE_SPADES,
     TWO_KINGS,
@@ -16,14 +19,13 @@ use fc_tests::boards::{
 use std::alloc::Global;
 use std::process::Abort;
 
-// A game and a board's text, a budget, the status, what is printed, and what the certificate proves; giving up has none.
+// A game and a board's text, a budget, the status, and what is printed.
 struct Row {
     game: Rules,
     board: &'static str,
     budget: u32,
     status: u8,
     printed: Printed,
-    accepted: Option<&'static [u8]>,
 }
 
 const ROWS: [Row; 10] = [
@@ -33,7 +35,6 @@ const ROWS: [Row; 10] = [
         budget: 1,
         status: 0,
         printed: Printed::Text(b"shortest 0\n\n"),
-        accepted: Some(b"accepted: shortest 0\n"),
     },
     Row {
         game: Rules::FreeCell(4),
@@ -41,7 +42,6 @@ const ROWS: [Row; 10] = [
         budget: 100,
         status: 0,
         printed: Printed::Text(b"shortest 1\nah\n"),
-        accepted: Some(b"accepted: shortest 1\n"),
     },
     Row {
         game: Rules::FreeCell(4),
@@ -49,7 +49,6 @@ const ROWS: [Row; 10] = [
         budget: 4000,
         status: 0,
         printed: Printed::Moves(b"shortest 3\n", 3),
-        accepted: Some(b"accepted: shortest 3\n"),
     },
     Row {
         game: Rules::FreeCell(4),
@@ -57,7 +56,6 @@ const ROWS: [Row; 10] = [
         budget: 100,
         status: 0,
         printed: Printed::Moves(b"shortest 5\n", 5),
-        accepted: Some(b"accepted: shortest 5\n"),
     },
     Row {
         game: Rules::Bakers(4),
@@ -65,7 +63,6 @@ const ROWS: [Row; 10] = [
         budget: 10_000,
         status: 0,
         printed: Printed::Moves(b"shortest 30\n", 30),
-        accepted: Some(b"accepted: shortest 30\n"),
     },
     Row {
         game: Rules::Kings(1),
@@ -73,7 +70,6 @@ const ROWS: [Row; 10] = [
         budget: 4000,
         status: 0,
         printed: Printed::Moves(b"shortest 4\n", 4),
-        accepted: Some(b"accepted: shortest 4\n"),
     },
     Row {
         game: Rules::Kings(0),
@@ -81,7 +77,6 @@ const ROWS: [Row; 10] = [
         budget: 100,
         status: 1,
         printed: Printed::Text(b"can't be won\n"),
-        accepted: Some(b"accepted: can't be won\n"),
     },
     Row {
         game: Rules::FreeCell(4),
@@ -89,7 +84,6 @@ const ROWS: [Row; 10] = [
         budget: 1,
         status: 1,
         printed: Printed::Text(b"can't be won\n"),
-        accepted: Some(b"accepted: can't be won\n"),
     },
     Row {
         game: Rules::FreeCell(4),
@@ -97,7 +91,6 @@ const ROWS: [Row; 10] = [
         budget: 1,
         status: 2,
         printed: Printed::Text(b"gave up 1\n"),
-        accepted: None,
     },
     Row {
         game: Rules::Bakers(4),
@@ -105,51 +98,63 @@ const ROWS: [Row; 10] = [
         budget: 1,
         status: 2,
         printed: Printed::Text(b"gave up 1\n"),
-        accepted: None,
     },
 ];
 
-// The checker accepts these bytes as a certificate of this; or there are none.
+// The checker accepts the certificate, as one of what the answer's first line tells.
 fn check_certificate<G: Game>(
     rt: &impl Abort,
     alloc: Global,
     game: &G,
     start: &Position,
-    bytes: &[u8],
-    wanted: Option<&[u8]>,
+    cert: &[u8],
+    answer: &[u8],
 )
     requires fits { Fits (G.game game.now).cells start.now }
 {
-    let Some(wanted) = wanted else {
-        assert!(rt; bytes.is_empty(), "a certificate of nothing");
-        return;
-    };
-    let mut cert = FromSlice::new(bytes);
+    let mut source = FromSlice::new(cert);
     let mut out = ToArray::<40>::new();
-    let status = run_check_of(alloc, game, start, &mut cert, &mut out);
+    let status = run_check_of(alloc, game, start, &mut source, &mut out);
     assert!(rt; status == Ok(0), "refused");
-    assert!(rt; out.held() == wanted, "another claim");
+    let claim = out.held().strip_prefix(b"accepted: ".as_slice());
+    let claim = claim.expect(rt, "a claim");
+    assert!(rt; answer.strip_prefix(claim).is_some(), "another claim");
 }
 
-// The best answer for the row's board is written so, with its certificate and without.
+// What a run writes of the best answer, with this status: the same without a certificate, which giving up hasn't.
+fn written<G: Game + Drop>(
+    rt: &impl Abort,
+    alloc: Global,
+    question: &Question<G>,
+    start: &Position,
+    wanted: u8,
+) -> ToArray<600>
+    requires position { IsPositionOf question.now.game start.now }
+{
+    let mut out = ToArray::<600>::new();
+    let mut cert = ToArray::<4000>::new();
+    let sink = Some(&mut cert);
+    let status = run_best(alloc, question, start, &mut out, sink);
+    assert!(rt; status == Ok(wanted), "another end");
+    if wanted == 2 {
+        assert!(rt; cert.held().is_empty(), "a certificate of nothing");
+    } else {
+        check_certificate(rt, alloc, question.game(), start, cert.held(), out.held());
+    }
+    let mut bare = ToArray::<600>::new();
+    let none: Option<&mut ToArray<1>> = None;
+    let status = run_best(alloc, question, start, &mut bare, none);
+    assert!(rt; status == Ok(wanted), "another end");
+    assert!(rt; bare.held() == out.held(), "another text");
+    out
+}
+
+// The best answer for the row's board is written so.
 fn ends<G: Game + Drop>(rt: &impl Abort, alloc: Global, game: &G, row: &Row) {
     let start = board(rt, game, row.board);
     let question = Question::shortest(game, home_rule(rt, 1), budget(rt, row.budget));
-    let mut out = ToArray::<200>::new();
-    let mut cert = ToArray::<4000>::new();
-    let sink = Some(&mut cert);
-    let status = run_best(alloc, &question, &start, &mut out, sink);
-    assert!(rt; status == Ok(row.status), "another end");
+    let out = written(rt, alloc, &question, &start, row.status);
     check_printed(rt, game, row.board, row.printed, out.held());
-    check_certificate(rt, alloc, game, &start, cert.held(), row.accepted);
-    let mut bare = ToArray::<200>::new();
-    let none: Option<&mut ToArray<1>> = None;
-    let status = run_best(alloc, &question, &start, &mut bare, none);
-    assert!(rt;
-        status == Ok(row.status),
-        "another end without a certificate"
-    );
-    assert!(rt; bare.held() == out.held(), "another text");
 }
 
 #[test]
@@ -162,4 +167,46 @@ fn best_answers_are_written(rt: HostRuntime) {
             Rules::Kings(cells) => ends(&rt, alloc, &Kings::new(free_cell(&rt, cells)), row),
         }
     }
+}
+
+// Within so few classes the deal's list isn't shown to be a shortest one.
+#[test]
+fn a_list_with_a_floor_is_written(rt: HostRuntime) {
+    let game = free_cell(&rt, 4);
+    let start = dealt(&rt, &game, 59);
+    let question = Question::new(&game, method(&rt, 2, 10, BoundKind::Clearing, 10_000));
+    let mut out = ToArray::<600>::new();
+    let none: Option<&mut ToArray<1>> = None;
+    let status = run_best(rt.alloc(), &question, &start, &mut out, none);
+    assert!(&rt; status == Ok(0), "another end");
+    assert!(&rt; out.held().strip_prefix(b"won ".as_slice()).is_some());
+}
+
+// The best answer for one king ends so over devices that take one byte a call and fail after so many calls: of the answer, and
+// of its certificate of 18 bytes.
+fn ends_over(
+    rt: &impl Abort,
+    alloc: Global,
+    calls: (u32, u32),
+    wanted: Result<u8, ProgramFault>,
+    printed: &[u8],
+) {
+    let game = free_cell(rt, 4);
+    let start = board(rt, &game, ONE_KING);
+    let question = Question::shortest(&game, home_rule(rt, 1), budget(rt, 100));
+    let mut out = Failing::new(ToArray::<200>::new(), calls.0);
+    let mut cert = Failing::new(ToArray::<200>::new(), calls.1);
+    let sink = Some(&mut cert);
+    let status = run_best(alloc, &question, &start, &mut out, sink);
+    assert!(rt; status == wanted, "another end");
+    assert!(rt; out.device.held() == printed, "another text");
+}
+
+#[test]
+fn failing_devices_are_told(rt: HostRuntime) {
+    let uncertified = Err(ProgramFault::Write(Output::Cert));
+    ends_over(&rt, rt.alloc(), (200, 17), uncertified, b"");
+    let untold = Err(ProgramFault::Write(Output::Answer));
+    ends_over(&rt, rt.alloc(), (5, 18), untold, b"short");
+    ends_over(&rt, rt.alloc(), (14, 18), Ok(0), b"shortest 1\nah\n");
 }

@@ -4,6 +4,7 @@
 ghost use Rattle.std.specs.Prelude.{◌≡◌, Ok};
 ghost use Rattle.fc_position.specs.Position.{Fits};
 
+use fc_deal::deal;
 use fc_moves::{BakersGame, FreeCell, Game, Move, allows, apply};
 use fc_position::Position;
 use fc_search::{BoundKind, Budget, Expansion, HomeRule, Method, Strategy, Weight};
@@ -25,6 +26,15 @@ pub fn board<G: Game>(rt: &impl Abort, game: &G, text: &str) -> Position
     ensures fits { Fits (G.game game.now).cells result }
 {
     sure(rt, read_board(text.as_bytes(), game.cells()))
+}
+
+/// The position of a numbered deal, which fits the game.
+pub fn dealt<G: Game>(rt: &impl Abort, game: &G, number: u32) -> Position
+    ensures fits { Fits (G.game game.now).cells result }
+{
+    let position = deal(number).expect(rt, "a deal is 1 to 1,000,000");
+    assert!(rt; position.fits(game.cells()));
+    position
 }
 
 /// FreeCell with so many cells.
