@@ -22,7 +22,7 @@ use Rattle.fc_runs.specs.declared.tabling.Sought.{Sought}
 use Rattle.fc_methods.specs.Method.{Asked}
 use Rattle.fc_runs.specs.Batches.{IsToldOf, greatest_status}
 use Rattle.fc_answer_text.specs.AnswerText.{told_status}
-use Rattle.fc_runs.specs.Tabling.{AreRows, IsDealFloor, IsTableCutShort, IsToldBy, floor_of, line_of, names_text, row_text, table_text, told_floor}
+use Rattle.fc_runs.specs.Tabling.{AreRows, IsDealFloor, IsRowBy, IsTableCutShort, floor_of, line_of, names_text, row_text, table_text, told_floor}
 use Rattle.fc_runs.specs.Besting.{IsBestTold}
 use Rattle.fc_runs.proofs.BatchLemmas.{greatest_more}
 
@@ -37,12 +37,12 @@ last_row (y ∷ rows) row P all last (suc i) x at =
 
 -- one more row that is right
 one_more_row : (sought : Sought) (q : Asked) (from count : ℕ) (rows : List Row) (row : Row) → AreRows sought q from rows
-    → length rows ≡ count → row.deal ≡ from + count → IfSome row.told (IsToldBy sought q (from + count))
+    → length rows ≡ count → row.deal ≡ from + count → IsRowBy sought q (from + count) row
     → IfSome (floor_of row.told row.far) (IsDealFloor q.game (from + count)) → AreRows sought q from (rows ++ row ∷ [])
 one_more_row sought q from count rows row right whole deal told floor = record {
   rising = last_row rows row (λ i x. x.deal ≡ from + i) right.rising (deal ∙ ap (λ n. from + n) (sym whole));
-  right = last_row rows row (λ i x. IfSome x.told (IsToldBy sought q x.deal)) right.right
-      (subst (λ n. IfSome row.told (IsToldBy sought q n)) (sym deal) told);
+  right = last_row rows row (λ i x. IsRowBy sought q x.deal x) right.right
+      (subst (λ n. IsRowBy sought q n row) (sym deal) told);
   floors = last_row rows row (λ i x. IfSome (floor_of x.told x.far) (IsDealFloor q.game x.deal)) right.floors
       (subst (λ n. IfSome (floor_of row.told row.far) (IsDealFloor q.game n)) (sym deal) floor);
 }
@@ -61,7 +61,7 @@ text_more rows row = flat_map_more row_text names_text rows row
 
 pub one_more_written : (sought : Sought) (q : Asked) (from count : ℕ) (old mid new : Option (List ℕ)) (status next : ℕ) (row : Row)
     → RowsAreWritten sought q from count old mid status → row.deal ≡ from + count
-    → IfSome row.told (IsToldBy sought q (from + count)) → IfSome (floor_of row.told row.far) (IsDealFloor q.game (from + count))
+    → IsRowBy sought q (from + count) row → IfSome (floor_of row.told row.far) (IsDealFloor q.game (from + count))
     → TakesBytes mid new (row_text row) → next ≡ max status (told_status row.told)
     → RowsAreWritten sought q from (count + 1) old new next
 one_more_written sought q from count old mid new status next row so_far deal told floor taken greater =
@@ -79,7 +79,7 @@ one_more_written sought q from count old mid new status next row so_far deal tol
 -- and one that was cut short
 pub row_cut_short : (sought : Sought) (q : Asked) (from count most : ℕ) (mid : Option (List ℕ)) (sink : Device) (status : ℕ) (row : Row)
     → RowsAreWritten sought q from count sink.old mid status → row.deal ≡ from + count
-    → IfSome row.told (IsToldBy sought q (from + count)) → IfSome (floor_of row.told row.far) (IsDealFloor q.game (from + count))
+    → IsRowBy sought q (from + count) row → IfSome (floor_of row.told row.far) (IsDealFloor q.game (from + count))
     → TakesFront mid sink.new (row_text row) → count < most → IsTrue sink.failed
     → IsTableCutShort sought q from most sink
 row_cut_short sought q from count most mid sink status row so_far deal told floor front within failed =

@@ -82,17 +82,18 @@ line_of row = record { deal = row.deal; told = row.told }
 abbrev pub IsDealFloor : GameRules → ℕ → ℕ → Type 0
 IsDealFloor g deal floor = (moves : List Move) → Wins g (dealt_board deal) moves → floor ≤ length moves
 
--- what is told of a deal is what was sought, and right: an answer by the question's method, or a best answer
-abbrev pub IsToldBy : Sought → Asked → ℕ → Outcome → Type 0
-IsToldBy ByMethod q deal told = IsToldOf q deal told
-IsToldBy Best q deal told = IsBestTold q deal told
+-- a row tells what was sought of a deal, and an answer in it is right: one by the question's method; or a best answer, and
+-- nothing of its searches
+abbrev pub IsRowBy : Sought → Asked → ℕ → Row → Type 0
+IsRowBy ByMethod q deal row = IfSome row.told (IsToldOf q deal)
+IsRowBy Best q deal row = IfSome row.told (IsBestTold q deal) × (row.far ≡ None)
 
 -- rows that are right, one a deal, rising from this one: an answer that is told is right for its deal, and no list of fewer moves
 -- than a row's floor wins from it. Nothing else is promised of a deal for which memory was wanted, nor of the other numbers that
 -- a search told
 pub record AreRows (sought : Sought) (q : Asked) (from : ℕ) (rows : List Row) : Type 0 where
   pub rising : (i : ℕ) (row : Row) → slice_get rows i ≡ Some row → row.deal ≡ from + i
-  pub right : (i : ℕ) (row : Row) → slice_get rows i ≡ Some row → IfSome row.told (IsToldBy sought q row.deal)
+  pub right : (i : ℕ) (row : Row) → slice_get rows i ≡ Some row → IsRowBy sought q row.deal row
   pub floors : (i : ℕ) (row : Row) → slice_get rows i ≡ Some row → IfSome (floor_of row.told row.far) (IsDealFloor q.game row.deal)
 
 -- so many deals were told: the sink took the names and a row for each, and the status is the greatest of theirs

@@ -1,6 +1,6 @@
 //! A table of several numbered deals, which are searched one after the other, over any sink.
 
-ghost use Rattle.std.specs.Prelude.{◌≡◌, ◌+◌, ◌≤◌, ◌++◌, List, length, IfOk, IfErr, IfSome, OnErr};
+ghost use Rattle.std.specs.Prelude.{◌≡◌, ◌+◌, ◌≤◌, ◌++◌, List, None, length, IfOk, IfErr, IfSome, OnErr};
 ghost use Rattle.fc_deal.specs.Deal.{IsDealNumber, dealt_board};
 ghost use Rattle.arrayvec.specs.ArrayString.{array_string_len};
 ghost use Rattle.fc_search.specs.declared.listeners.Progress.{Progress};
@@ -9,7 +9,7 @@ ghost use Rattle.fc_search.specs.inner.Watch.{TellFloors};
 ghost use Rattle.fc_board_runs.specs.Devices.{change};
 ghost use Rattle.fc_runs.specs.Batches.{IsToldOf};
 ghost use Rattle.fc_runs.specs.Besting.{IsBestTold};
-ghost use Rattle.fc_runs.specs.Tabling.{AreTabled, IsDealFloor, IsTabled, IsTableCutShort, IsTableFault, IsToldBy, answer_name, far_text, floor_of, moves_of, number_text, row_text};
+ghost use Rattle.fc_runs.specs.Tabling.{AreTabled, IsDealFloor, IsRowBy, IsTabled, IsTableCutShort, IsTableFault, answer_name, far_text, floor_of, moves_of, number_text, row_text};
 
 use crate::batches::deals_of;
 use crate::best_batches::best_told;
@@ -88,8 +88,8 @@ pub fn run_table<G: Game + Drop, K: Sink>(
 
 /// Searches the deals `from` to `to` of the question's game for their best answers, one after the other, each within the
 /// question's budget, as `run_best_batch` does, and writes a table of them, as `run_table` does. A row's floor is what the answer
-/// tells, and of a deal of which nothing is known there is none; of its searches nothing is told, so the last three cells of a row
-/// are empty.
+/// tells, and there is none where the searches gave up or memory was wanted. Nothing is told of the searches: the last three cells
+/// of a row are empty.
 ///
 /// # Errors
 /// Those of `run_table`.
@@ -147,7 +147,7 @@ fn write_table<G: Game + Drop, K: Sink>(
 fn row_by<G: Game + Drop>(alloc: Global, question: &Question<G>, sought: Sought, number: u32) -> Row
     requires deal { IsDealNumber number }
     ensures deal { result.deal ≡ number }
-    ensures right { IfSome result.told (IsToldBy sought question.now number) }
+    ensures right { IsRowBy sought question.now number result }
     ensures floor { IfSome (floor_of result.told result.far) (IsDealFloor question.now.game number) }
 {
     match sought {
@@ -161,6 +161,7 @@ fn best_row<G: Game + Drop>(alloc: Global, question: &Question<G>, number: u32) 
     requires deal { IsDealNumber number }
     ensures deal { result.deal ≡ number }
     ensures right { IfSome result.told (IsBestTold question.now number) }
+    ensures silent { result.far ≡ None }
     ensures floor { IfSome (floor_of result.told result.far) (IsDealFloor question.now.game number) }
 {
     Row {
