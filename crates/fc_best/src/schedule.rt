@@ -14,11 +14,10 @@ use std::alloc::{AllocError, Global};
 
 // How many tenths as much as a cost a bound counts: falling, so that a list is found soon and the next search looks for a shorter
 // one.
-const FIRST_TENTHS: u8 = 20;
-
-const SECOND_TENTHS: u8 = 15;
-
-const THIRD_TENTHS: u8 = 13;
+const FIRST_TENTHS: u8 = 30;
+const SECOND_TENTHS: u8 = 20;
+const THIRD_TENTHS: u8 = 15;
+const FOURTH_TENTHS: u8 = 13;
 
 /// The best answer for a position that fits the question's game: a list that wins and a number of moves that no list that wins is
 /// below, a shortest list where they meet, that none wins, or, where no list was found, that the searches gave up. They go by the
@@ -42,6 +41,7 @@ pub fn best<G: Game + Drop>(
     let standing = standing.weighed(alloc, question, position, tenths(FIRST_TENTHS))?;
     let standing = standing.weighed(alloc, question, position, tenths(SECOND_TENTHS))?;
     let standing = standing.weighed(alloc, question, position, tenths(THIRD_TENTHS))?;
+    let standing = standing.weighed(alloc, question, position, tenths(FOURTH_TENTHS))?;
     let standing = standing.last(alloc, question, position)?;
     Ok(standing.into_answer())
 }
