@@ -15,8 +15,11 @@ use std::alloc::{AllocError, Global};
 // How many tenths as much as a cost a bound counts: falling, so that a list is found soon and the next search looks for a shorter
 // one.
 const FIRST_TENTHS: u8 = 30;
+
 const SECOND_TENTHS: u8 = 20;
+
 const THIRD_TENTHS: u8 = 15;
+
 const FOURTH_TENTHS: u8 = 13;
 
 /// The best answer for a position that fits the question's game: a list that wins and a number of moves that no list that wins is
