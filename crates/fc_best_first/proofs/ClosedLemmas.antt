@@ -12,10 +12,10 @@ use Rattle.fc_best_first.specs.declared.books.Opening.{Opening}
 use Rattle.fc_best_first.specs.declared.strategies.Expansion.{Expansion}
 use Rattle.fc_best_first.specs.declared.strategies.Expansion.TheVariants.{Full, Partial}
 use Rattle.fc_best_first.specs.Graph.{Graph, Task, Reached, IsLawful, IsClosedInside, Lists}
-use Rattle.fc_best_first.specs.Limits.{IsEven, IsWithinLimit, Ratio, ReachesLimit, weigh}
+use Rattle.fc_best_first.specs.Limits.{IsEven, IsUpTo, IsWithinLimit, Ratio, ReachesLimit, weigh}
 use Rattle.fc_best_first.specs.Store.{Store, IsStored, IsTaken, opens_at, weighed}
 use Rattle.fc_best_first.specs.Turn.{IsStale, TakesFloor}
-use Rattle.fc_best_first.specs.Kept.{AreNoted, HasAt, IsDone, IsExpanded, IsExpandedBelow, IsMet, IsOpenAt, IsOpenLater, IsOpenOrExpanded, IsSound, IsKept, f_of}
+use Rattle.fc_best_first.specs.Kept.{AreNoted, HasAt, IsAt, IsCoveredBelow, IsDone, IsExpanded, IsExpandedBelow, IsMet, IsOpenAt, IsOpenLater, IsOpenOrExpanded, IsSound, IsKept, f_of}
 use Rattle.fc_best_first.specs.Shown.{IsFloor}
 use Rattle.fc_best_first.proofs.KeptLemmas.{front_there, front_cases, added_stays, added_cases, least_below, pair_high}
 
@@ -44,10 +44,6 @@ even_past weight cost bound n some even le =
     le_of_mul-le-mul_left all some
 
 -- a number reaches the limit, or the next one doesn't pass it
-abbrev pub IsUpTo : Option ℕ → ℕ → Type 0
-IsUpTo None n = Unit {0}
-IsUpTo (Some limit) n = n ≤ limit
-
 pub limit_cases : (limit : Option ℕ) (n : ℕ) → ReachesLimit limit n ⊎ IsUpTo limit (suc n)
 limit_cases None n = inr tt
 limit_cases (Some limit) n = ⊎_elim (λ lt. inr (omega (arith, lt))) (λ le. inl le) (cases_lt n limit)
@@ -58,15 +54,6 @@ limit_within None times f n within reach = absurd reach
 limit_within (Some limit) times f n within reach =
     let all : times * limit ≤ times * n = mul-le-mul_left times reach in
     omega (arith, all, within)
-
--- where a key is open, if it is: by full expansion at its weighed cost plus bound, by partial expansion where it was opened last
-abbrev pub IsAt : {K : Type 0} → Expansion → Task K → Store K → ℕ → K → Mark → ℕ → Type 0
-IsAt Full task s number x mark f = f ≡ f_of task x mark
-IsAt Partial task s number x mark f = (opening : Opening) × (slice_get s.openings number ≡ Some opening) × (f ≡ opens_at (weighed task.strategy mark) opening)
-
--- a key that isn't won, and of which each edge's end is stored at no more, or can't be won below n
-abbrev pub IsCoveredBelow : {K : Type 0} → Graph K → Store K → K → ℕ → ℕ → Type 0
-IsCoveredBelow g s x cost n = (g.won x → ⊥) × ((c : ℕ) (y : _) → g.edge x c y → HasAt s y (cost + c) ⊎ (n ≤ cost + c + g.bound y))
 
 module _ {K : Type 0} where
   pub open_waits : (expansion : Expansion) (s : Store K) (i cost f : ℕ) → IsOpenAt expansion s i cost f → Contains s.waiting (f, i)
@@ -121,7 +108,7 @@ module _ {K : Type 0} where
   past_met None g s y d past = absurd past
   past_met (Some limit) g s y d past = inr past
 
-  met_covered : (limit : Option ℕ) (g : Graph K) (s : Store K) (y : K) (d n : ℕ) → IsUpTo limit n → IsMet limit g s y d
+  pub met_covered : (limit : Option ℕ) (g : Graph K) (s : Store K) (y : K) (d n : ℕ) → IsUpTo limit n → IsMet limit g s y d
       → HasAt s y d ⊎ (n ≤ d + g.bound y)
   met_covered None g s y d n up has = inl has
   met_covered (Some limit) g s y d n up (inl has) = inl has

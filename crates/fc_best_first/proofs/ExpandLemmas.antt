@@ -14,9 +14,9 @@ use Rattle.fc_best_first.specs.Graph.{Reached, IsLawful, Task}
 use Rattle.fc_best_first.specs.Limits.{IsBelowLimit, IsWithinLimit, ReachesLimit, weigh}
 use Rattle.fc_best_first.specs.Store.{Store, Candidate, IsStored, Admits, Offers, weighed}
 use Rattle.fc_best_first.specs.Turn.{Expands, IsPresent, candidate_of, opening_of, put_off, work_left}
-use Rattle.fc_best_first.specs.Kept.{AreNoted, HasAt, IsMet, IsOpenOrExpanded, IsNeeded, Comes, IsSound, f_of}
+use Rattle.fc_best_first.specs.Kept.{AreNoted, HasAt, IsAt, IsDone, IsMet, IsOpenOrExpanded, IsNeeded, Comes, IsSound, f_of}
 use Rattle.fc_best_first.specs.Shown.{IsFloor, IsGivenUp}
-use Rattle.fc_best_first.proofs.KeptLemmas.{front_there, front_cases, stands_within, Notes, Puts, puts_lowered, puts_added, still_has, other_number, still_sound, still_settled}
+use Rattle.fc_best_first.proofs.KeptLemmas.{front_there, front_cases, stands_within, Notes, Puts, puts_lowered, puts_added, still_done, still_has, other_number, still_sound, still_settled}
 use Rattle.fc_best_first.proofs.ClosedLemmas.{has_met, past_met, stays_met}
 use Rattle.fc_best_first.proofs.TurnLemmas.{off_past, offers_room}
 use Rattle.fc_best_first.proofs.WorkLemmas.{lowered_work, added_work}
@@ -87,6 +87,13 @@ module _ {K : Type 0} (task : Task K) where
       pub settled : (j : ℕ) (y : K) (l : Mark) → (j ≡ busy → ⊥) → IsStored s j y l → IsOpenOrExpanded task s j y l
       pub stands : IsStored s busy xb mb
       pub present : IsPresent task.strategy.expansion s busy (weighed task.strategy mb) (f_of task xb mb) taken
+      pub done : f_of task xb mb < taken → IsDone task.strategy.expansion task s xb mb.cost taken
+
+    -- a pair that is present is where its key is open
+    present_at_own : (expansion : Expansion) (s : Store K) → IsPresent expansion s busy (weighed task.strategy mb) (f_of task xb mb) taken
+        → IsAt expansion task s busy xb mb taken
+    present_at_own Full s present = (omega (arith, present, high))
+    present_at_own Partial s present = present
 
     -- the child as it is offered
     abbrev child_offer : Child K → Candidate K
@@ -125,6 +132,8 @@ module _ {K : Type 0} (task : Task K) where
           stands = puts.on busy xb mb other d.stands;
           present = still_present task.strategy.expansion task old new (opening_of task child.key) i busy xb mb taken puts.notes
               d.sound.noted other d.present;
+          done = λ lt. still_done task.strategy.expansion task.strategy.weight old new child.key e (opening_of task child.key) i puts
+              task.strategy.expansion task xb mb.cost taken (d.done lt);
         }
 
     -- a child that found its place
@@ -250,8 +259,14 @@ module _ {K : Type 0} (task : Task K) where
         inr (
           child.key,
           out,
-          subst (λ s. IsGivenUp task s child.key busy) (sym same)
-              (d.sound, no_room, fresh, child_needed task.strategy.expansion old child edge d admits, (xb, mb, child.cost, d.stands, edge), d.settled),
+          subst (λ s. IsGivenUp task s child.key busy) (sym same) (
+            d.sound,
+            no_room,
+            fresh,
+            child_needed task.strategy.expansion old child edge d admits,
+            (xb, mb, child.cost, taken, record { stands = d.stands; at = present_at_own task.strategy.expansion old d.present; done = d.done }, edge),
+            d.settled,
+          ),
         )
     expands_done lawful (child ∷ children) old new placing edges d (inr (inl (mid, how, rest))) =
         let edge = edges child (front_there child children) in

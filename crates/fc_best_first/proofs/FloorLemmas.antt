@@ -1,4 +1,4 @@
--- Lemmas on the least cost plus bound of the keys that are open.
+-- Lemmas on the least that the keys tell that are open.
 use Rattle.std.proofs.Common.{◌≡◌, ℕ, ◌+◌, ◌-◌, ◌*◌, ◌<◌, ◌≤◌, ◌⊎◌, suc, Option, Some, None, List, [], ◌∷◌, length, refl, sym, ◌∙◌, ap, subst, inl, inr, ⊎_elim, arith}
 use Rattle.std.specs.Prelude.{◌≢◌, Contains, MatchOption, min, slice_get}
 use Rattle.std.specs.List.Sorted.{IsPermutation}
@@ -12,11 +12,14 @@ use Rattle.fc_best_first.specs.declared.strategies.Expansion.{Expansion}
 use Rattle.fc_best_first.specs.declared.strategies.Expansion.TheVariants.{Full, Partial}
 use Rattle.fc_best_first.specs.Graph.{Graph, Task}
 use Rattle.fc_best_first.specs.Store.{Store, IsStored, weighed}
-use Rattle.fc_best_first.specs.Kept.{AreNoted, IsExpanded, IsOpenAt, IsOpenLater, IsOpenOrExpanded, IsSound, f_of}
+use Rattle.fc_best_first.specs.Limits.{IsUpTo, ReachesLimit, weigh}
+use Rattle.std.proofs.lemmas.Nat.{mul-le}
+use Rattle.std.proofs.Math.Nat.{mul-le-mul_left}
+use Rattle.fc_best_first.specs.Kept.{AreNoted, IsAt, IsCoveredBelow, IsDone, IsOpenAt, IsOpenLater, IsSound, f_of}
 use Rattle.fc_best_first.specs.Laws.{OpenFloorsHold}
-use Rattle.fc_best_first.specs.Shown.{AreSettledBut, IsLeastOpen, IsOpen, Waits}
+use Rattle.fc_best_first.specs.Shown.{AreSettledBut, IsLeastOpen, IsOpen, IsTold, IsUnder}
 use Rattle.fc_best_first.proofs.KeptLemmas.{front_cases, front_there, same_entry, stands_within}
-use Rattle.fc_best_first.proofs.ClosedLemmas.{IsAt, closed_inside, expanded_covered, limit_cases}
+use Rattle.fc_best_first.proofs.ClosedLemmas.{closed_inside, expanded_covered, limit_cases, met_covered}
 
 -- what is told where nothing, or this, is
 pub none_told : (A : Type 0) (B : ℕ → Type 0) (told : Option ℕ) → ((b : ℕ) → told ≡ Some b → ⊥) → MatchOption told A B → A
@@ -27,28 +30,6 @@ pub some_told : (A : Type 0) (B : ℕ → Type 0) (told : Option ℕ) (b : ℕ) 
 some_told A B told b is h = subst (λ o. MatchOption o A B) is h
 
 module _ {K : Type 0} where
-  -- a key is open where a pair of it at its f waits
-  waits_at : (expansion : Expansion) (task : Task K) (s : Store K) (i : ℕ) (x : K) (m : Mark) → Waits expansion task s i x m
-      → (h : ℕ) × IsAt expansion task s i x m h × Contains s.waiting (h, i)
-  waits_at Full task s i x m waits = (f_of task x m, refl, waits)
-  waits_at Partial task s i x m (h, (waits, at)) = (h, at, waits)
-
-  at_waits : (expansion : Expansion) (task : Task K) (s : Store K) (i : ℕ) (x : K) (m : Mark) (h : ℕ) → IsAt expansion task s i x m h
-      → Contains s.waiting (h, i) → Waits expansion task s i x m
-  at_waits Full task s i x m h at there = subst (λ f. Contains s.waiting (f, i)) at there
-  at_waits Partial task s i x m h at there = (h, (there, at))
-
-  -- what is open at its weighed cost plus bound, or later, is open
-  own_waits : (expansion : Expansion) (task : Task K) (s : Store K) (i : ℕ) (x : K) (m : Mark)
-      → IsOpenAt expansion s i (weighed task.strategy m) (f_of task x m) → Waits expansion task s i x m
-  own_waits Full task s i x m is_open = is_open
-  own_waits Partial task s i x m is_open = (f_of task x m, is_open)
-
-  later_waits : (expansion : Expansion) (task : Task K) (s : Store K) (i : ℕ) (x : K) (m : Mark)
-      → IsOpenLater expansion task s i x m → Waits expansion task s i x m
-  later_waits Full task s i x m later = absurd later
-  later_waits Partial task s i x m (h, is_open, below) = (h, is_open)
-
   -- what a pair so far above the weighed cost of its key tells, by what is noted of the key
   pub present_at : (expansion : Expansion) (task : Task K) (s : Store K) (i : ℕ) (x : K) (m : Mark) (f over : ℕ)
       (noted : Option Opening) (told : Option ℕ) → AreNoted expansion task.graph s → IsStored s i x m → f_of task x m ≤ f
@@ -75,37 +56,70 @@ module _ {K : Type 0} where
       let one : o ≡ own.0 = (let both = sym is ∙ own.1 in cc) in
       ((o, is, omega (arith, above, same, high)), bound ∙ ap (λ q. q.bound) one ∙ own.2)
 
-module _ {K : Type 0} (task : Task K) (s : Store K) (most : ℕ) where
-  -- where the key is open, if it is
-  abbrev At : ℕ → K → Mark → ℕ → Type 0
-  At number x mark h = IsAt task.strategy.expansion task s number x mark h
+-- what reaches the limit is no less than what is no more than that
+reach_up : (limit : Option ℕ) (n floor : ℕ) → ReachesLimit limit n → IsUpTo limit floor → floor ≤ n
+reach_up None n floor reach up = absurd reach
+reach_up (Some limit) n floor reach up = omega (arith, reach, up)
 
+-- what is no more than a lesser number
+under_less : {K : Type 0} (task : Task K) (x : K) (m : Mark) (f n floor : ℕ) → floor ≤ n → IsUnder task x m f n → IsUnder task x m f floor
+under_less task x m f n floor le (inl own) = inl (omega (arith, le, own))
+under_less task x m f n floor le (inr over) =
+    let all : task.strategy.weight.times * floor ≤ task.strategy.weight.times * n = mul-le-mul_left task.strategy.weight.times le in
+    inr (omega (arith, all, over))
+
+-- what a key tells, by its own cost plus bound and how many times a bound counts
+pub told_so : {K : Type 0} (task : Task K) (x : K) (m : Mark) (f bound times told : ℕ) → bound ≡ task.graph.bound x
+    → times ≡ task.strategy.weight.times → m.cost + bound ≤ told → f ≤ times * told → (told ≤ m.cost + bound) ⊎ (times * told < f + times)
+    → IsTold task x m f told
+told_so task x m f bound times told same counts own most under = record {
+  own = subst (λ b. m.cost + b ≤ told) same own;
+  weighed = subst (λ t. f ≤ t * told) counts most;
+  under = subst (λ b. (told ≤ m.cost + b) ⊎ (task.strategy.weight.times * told < f + task.strategy.weight.times)) same
+      (subst (λ t. (told ≤ m.cost + bound) ⊎ (t * told < f + t)) counts under);
+}
+
+-- where a key is open, by what is noted of it
+pub noted_at : {K : Type 0} (expansion : Expansion) (task : Task K) (s : Store K) (i : ℕ) (x : K) (m : Mark) (noted : Option Opening) (bound over : ℕ)
+    → AreNoted expansion task.graph s → IsStored s i x m
+    → MatchOption noted (length s.openings ≤ i) (λ o. slice_get s.openings i ≡ Some o)
+    → MatchOption noted ((bound ≡ task.graph.bound x) × (over ≡ task.strategy.weight.times * task.graph.bound x))
+    (λ o. (bound ≡ o.bound) × (over ≡ o.over))
+    → IsAt expansion task s i x m (weighed task.strategy m + over) × (bound ≡ task.graph.bound x)
+noted_at Full task s i x m (Some o) bound over are at is tells = absurd (none-some o (ap (λ os. slice_get os i) (sym are) ∙ is))
+noted_at Full task s i x m None bound over are at is (same, level) = (ap (λ n. weighed task.strategy m + n) level, same)
+noted_at Partial task s i x m None bound over are at is tells =
+    absurd (let lt = stands_within s i x m at in let long = are.0 in omega (arith, lt, long, is))
+noted_at Partial task s i x m (Some o) bound over are at is (same, level) =
+    let own = are.1 i x m at in
+    let one : o ≡ own.0 = (let both = sym is ∙ own.1 in cc) in
+    ((o, is, ap (λ n. weighed task.strategy m + n) level), same ∙ ap (λ q. q.bound) one ∙ own.2)
+
+module _ {K : Type 0} (task : Task K) (s : Store K) (most : ℕ) where
   -- a floor of the open keys, but of those of the pairs that are left
   pub record IsLeastBut (floor : ℕ) (rest : List (ℕ × ℕ)) : Type 0 where
     pub inside : (p : ℕ × ℕ) → Contains rest p → Contains s.waiting p
     pub within : floor ≤ most
-    pub least : (number : ℕ) (x : K) (mark : Mark) → IsOpen task s number x mark
-        → (floor ≤ mark.cost + task.graph.bound x) ⊎ ((h : ℕ) × At number x mark h × Contains rest (h, number))
+    pub least : (number : ℕ) (x : K) (mark : Mark) (h : ℕ) → IsOpen task s number x mark h
+        → IsUnder task x mark h floor ⊎ Contains rest (h, number)
     pub met : (floor ≡ most)
-        ⊎ ((number : ℕ) × (x : K) × (mark : Mark) × IsOpen task s number x mark × (floor ≡ mark.cost + task.graph.bound x))
+        ⊎ ((number : ℕ) × (x : K) × (mark : Mark) × (h : ℕ) × IsOpen task s number x mark h × IsTold task x mark h floor)
 
   pub least_begins : (all : List (ℕ × ℕ)) → IsPermutation all s.waiting → IsLeastBut most all
   least_begins all same = record {
     inside = λ p there. Contains-permutation all s.waiting p same there;
     within = omega arith;
-    least = λ number x mark is.
-        let waits = waits_at task.strategy.expansion task s number x mark is.waits in
-        inr (waits.0, waits.1, Contains-permutation s.waiting all (waits.0, number) (IsPermutation-sym all s.waiting same) waits.2);
+    least = λ number x mark h is. inr (Contains-permutation s.waiting all (h, number) (IsPermutation-sym all s.waiting same) is.waits);
     met = inl refl;
   }
 
   pub least_ends : (floor : ℕ) (rest : List (ℕ × ℕ)) → rest ≡ [] → IsLeastBut floor rest → IsLeastOpen task s most floor
   least_ends floor rest none h = record {
     within = h.within;
-    least = λ number x mark is. ⊎_elim
-        (λ le. le)
-        (λ (f, at, waits). absurd (let there = subst (λ ps. Contains ps (f, number)) none waits in omega (arith, there.1)))
-        (h.least number x mark is);
+    least = λ number x mark f is. ⊎_elim
+        (λ under. under)
+        (λ waits. absurd (let there = subst (λ ps. Contains ps (f, number)) none waits in omega (arith, there.1)))
+        (h.least number x mark f is);
     met = h.met;
   }
 
@@ -120,16 +134,15 @@ module _ {K : Type 0} (task : Task K) (s : Store K) (most : ℕ) where
         h.inside p (subst (λ ps. Contains ps p) (sym taken) (Contains-append_right ((f, i) ∷ []) rest p there))
 
     -- an open key is counted, or its pair is the next or behind it
-    next_cases : (number : ℕ) (x : K) (mark : Mark) → IsOpen task s number x mark
-        → (floor ≤ mark.cost + task.graph.bound x)
-        ⊎ ((At number x mark f × (i ≡ number)) ⊎ ((k : ℕ) × At number x mark k × Contains rest (k, number)))
-    next_cases number x mark is = ⊎_elim
-        (λ le. inl le)
-        (λ (k, at, left). ⊎_elim
-        (λ same. inr (inl (subst (At number x mark) (sym (ap (λ p. p.0) same)) at, ap (λ p. p.1) same)))
-        (λ behind. inr (inr (k, at, behind)))
+    next_cases : (number : ℕ) (x : K) (mark : Mark) (k : ℕ) → IsOpen task s number x mark k
+        → IsUnder task x mark k floor ⊎ (((f ≡ k) × (i ≡ number)) ⊎ Contains rest (k, number))
+    next_cases number x mark k is = ⊎_elim
+        (λ under. inl under)
+        (λ left. ⊎_elim
+        (λ same. inr (inl (ap (λ p. p.0) same, ap (λ p. p.1) same)))
+        (λ behind. inr (inr behind))
         (front_cases (f, i) (k, number) rest (subst (λ ps. Contains ps (k, number)) taken left)))
-        (h.least number x mark is)
+        (h.least number x mark k is)
 
     module _ (x : K) (m : Mark) (at : IsStored s i x m) where
       -- the key with the next pair is this one
@@ -140,96 +153,164 @@ module _ {K : Type 0} (task : Task K) (s : Store K) (most : ℕ) where
           subst (λ v. P i v m) (sym both.0) (subst (λ n. P i y n) (sym both.1) (subst (λ k. P k y mark) (sym same) p))
 
       -- a pair whose f isn't its key's present one is passed over
-      pub least_stale : (At i x m f → ⊥) → IsLeastBut floor rest
+      pub least_stale : (IsAt task.strategy.expansion task s i x m f → ⊥) → IsLeastBut floor rest
       least_stale stale = record {
         inside = rest_inside;
         within = h.within;
-        least = λ number y mark is. ⊎_elim
-            (λ le. inl le)
+        least = λ number y mark k is. ⊎_elim
+            (λ under. inl under)
             (λ later. ⊎_elim
-            (λ here. absurd (stale (same_key number y mark (λ n z l. At n z l f) is.stands here.1 here.0)))
+            (λ here. absurd (stale (same_key number y mark (λ n z l. IsAt task.strategy.expansion task s n z l f) is.stands here.1
+            (subst (IsAt task.strategy.expansion task s number y mark) (sym here.0) is.at))))
             (λ behind. inr behind)
             later)
-            (next_cases number y mark is);
+            (next_cases number y mark k is);
         met = h.met;
       }
 
       -- an open key is counted
-      pub least_counts : (new : ℕ) → At i x m f → new ≡ min floor (m.cost + task.graph.bound x) → IsLeastBut new rest
-      least_counts new present is_min = ⊎_elim (λ lt. by_floor lt) (λ le. by_key le) (cases_lt floor (m.cost + task.graph.bound x))
+      pub least_counts : (told new : ℕ) → IsAt task.strategy.expansion task s i x m f → IsTold task x m f told → new ≡ min floor told
+          → IsLeastBut new rest
+      least_counts told new present tells is_min = ⊎_elim (λ lt. by_floor lt) (λ le. by_key le) (cases_lt floor told)
         where
-          opened : IsOpen task s i x m
-          opened = record {
-            stands = at;
-            waits = at_waits task.strategy.expansion task s i x m f present next_waits;
-          }
+          opened : IsOpen task s i x m f
+          opened = record { stands = at; at = present; waits = next_waits }
 
-          each : new ≤ floor → new ≤ m.cost + task.graph.bound x → (number : ℕ) (y : K) (mark : Mark) → IsOpen task s number y mark
-              → (new ≤ mark.cost + task.graph.bound y) ⊎ ((k : ℕ) × At number y mark k × Contains rest (k, number))
-          each low own number y mark is = ⊎_elim
-              (λ le. inl (omega (arith, le, low)))
+          each : new ≤ floor → new ≤ told → (number : ℕ) (y : K) (mark : Mark) (k : ℕ) → IsOpen task s number y mark k
+              → IsUnder task y mark k new ⊎ Contains rest (k, number)
+          each low own number y mark k is = ⊎_elim
+              (λ under. inl (under_less task y mark k floor new low under))
               (λ later. ⊎_elim
               (λ here.
-              let both = same_entry s i x y m mark at (subst (λ k. IsStored s k y mark) (sym here.1) is.stands) in
-              inl (subst (λ v. new ≤ mark.cost + task.graph.bound v) both.0 (subst (λ n. new ≤ n.cost + task.graph.bound x) both.1 own)))
+              let both = same_entry s i x y m mark at (subst (λ n. IsStored s n y mark) (sym here.1) is.stands) in
+              inl (subst (λ v. IsUnder task v mark k new) both.0 (subst (λ l. IsUnder task x l k new) both.1
+              (subst (λ g. IsUnder task x m g new) here.0 (under_less task x m f told new own tells.under)))))
               (λ behind. inr behind)
               later)
-              (next_cases number y mark is)
+              (next_cases number y mark k is)
 
-          by_floor : floor < m.cost + task.graph.bound x → IsLeastBut new rest
+          by_floor : floor < told → IsLeastBut new rest
           by_floor lt =
               let same : new ≡ floor = omega (arith, is_min, lt) in
               record {
                 inside = rest_inside;
                 within = omega (arith, same, h.within);
                 least = each (omega (arith, same)) (omega (arith, same, lt));
-                met = subst (λ n. (n ≡ most) ⊎ ((number : ℕ) × (y : K) × (mark : Mark) × IsOpen task s number y mark × (n ≡ mark.cost + task.graph.bound y)))
+                met = subst (λ n. (n ≡ most) ⊎ ((number : ℕ) × (y : K) × (mark : Mark) × (k : ℕ) × IsOpen task s number y mark k × IsTold task y mark k n))
                     (sym same) h.met;
               }
 
-          by_key : m.cost + task.graph.bound x ≤ floor → IsLeastBut new rest
+          by_key : told ≤ floor → IsLeastBut new rest
           by_key le =
-              let same : new ≡ m.cost + task.graph.bound x = omega (arith, is_min, le) in
+              let same : new ≡ told = omega (arith, is_min, le) in
               record {
                 inside = rest_inside;
                 within = omega (arith, same, le, h.within);
                 least = each (omega (arith, same, le)) (omega (arith, same));
-                met = inr (i, x, m, opened, same);
+                met = inr (i, x, m, f, opened, subst (IsTold task x m f) (sym same) tells);
               }
 
+module _ {K : Type 0} (task : Task K) (s : Store K) (heavy : task.strategy.weight.parts ≤ task.strategy.weight.times) where
+  -- a cost and a bound, weighed, are no more than both together, counted as a bound is
+  weighed_most : (cost bound : ℕ) → weigh task.strategy.weight cost bound ≤ task.strategy.weight.times * (cost + bound)
+  weighed_most cost bound =
+      let part : task.strategy.weight.parts * cost ≤ task.strategy.weight.times * cost =
+      mul-le task.strategy.weight.parts cost task.strategy.weight.times cost heavy (omega arith) in
+      omega (arith, part)
+
+  -- what is less than a number, counted so, and once more, is no more than it
+  counted_most : (times n f most : ℕ) → times * n < f + times → f ≤ times * most → n ≤ most
+  counted_most times n f most lt le = ⊎_elim
+      (λ less. absurd (let all : times * suc most ≤ times * n = mul-le-mul_left times less in omega (arith, all, lt, le)))
+      (λ no. no)
+      (cases_lt most n)
+
+  -- what is expanded below a number is covered below what that is, over how many times a bound counts, rounded up
+  below_covered : (expansion : Expansion) (x : K) (d f floor : ℕ) → IsUpTo task.limit floor
+      → task.strategy.weight.times * floor < f + task.strategy.weight.times → IsDone expansion task s x d f
+      → IsCoveredBelow task.graph s x d floor
+  below_covered Full x d f floor up lt done = expanded_covered task s x d floor up done
+  below_covered Partial x d f floor up lt done = (
+    done.0,
+    λ c y edge. ⊎_elim (met_covered task.limit task.graph s y (d + c) floor up)
+        (λ far. inr (counted_most task.strategy.weight.times floor f (d + c + task.graph.bound y) lt
+        (let most = weighed_most (d + c) (task.graph.bound y) in omega (arith, far, most))))
+        (done.1 c y edge),
+  )
+
+  -- so a key that tells no less than a floor, and whose cost plus bound is below that, is covered below it, where it is done with below
+  -- what it is open at
+  under_covered : (x : K) (m : Mark) (f floor : ℕ) → IsUpTo task.limit floor → IsUnder task x m f floor
+      → m.cost + task.graph.bound x < floor → (f_of task x m < f → IsDone task.strategy.expansion task s x m.cost f)
+      → IsCoveredBelow task.graph s x m.cost floor
+  under_covered x m f floor up (inl own) lt done = absurd (omega (arith, own, lt))
+  under_covered x m f floor up (inr over) lt done = ⊎_elim
+      (λ later. below_covered task.strategy.expansion x m.cost f floor up over (done later))
+      (λ own. absurd (
+      let most = weighed_most m.cost (task.graph.bound x) in
+      let le = counted_most task.strategy.weight.times floor f (m.cost + task.graph.bound x) over (omega (arith, own, most)) in
+      omega (arith, le, lt)))
+      (cases_lt (f_of task x m) f)
+
+  -- a key that is open at its own f, or later, is covered below what is open
+  open_covered : (most floor : ℕ) (i : ℕ) (y : K) (m : Mark) → IsLeastOpen task s most floor → IsUpTo task.limit floor → IsStored s i y m
+      → m.cost + task.graph.bound y < floor → (expansion : Expansion) → expansion ≡ task.strategy.expansion
+      → IsOpenAt expansion s i (weighed task.strategy m) (f_of task y m) ⊎ IsOpenLater expansion task s i y m
+      → IsCoveredBelow task.graph s y m.cost floor
+  open_covered most floor i y m least up there lt Full is (inl waits) =
+      under_covered y m (f_of task y m) floor up
+      (least.least i y m (f_of task y m) (record { stands = there; at = subst (λ e. IsAt e task s i y m (f_of task y m)) is refl; waits = waits }))
+      lt (λ less. absurd (omega (arith, less)))
+  open_covered most floor i y m least up there lt Partial is (inl (waits, at)) =
+      under_covered y m (f_of task y m) floor up
+      (least.least i y m (f_of task y m) (record { stands = there; at = subst (λ e. IsAt e task s i y m (f_of task y m)) is at; waits = waits }))
+      lt (λ less. absurd (omega (arith, less)))
+  open_covered most floor i y m least up there lt Full is (inr later) = absurd later
+  open_covered most floor i y m least up there lt Partial is (inr (h, (waits, at), below)) =
+      under_covered y m h floor up
+      (least.least i y m h (record { stands = there; at = subst (λ e. IsAt e task s i y m h) is at; waits = waits }))
+      lt (λ less. subst (λ e. IsDone e task s y m.cost h) is below)
+
 module _ {K : Type 0} where
-  -- what is expanded where every pair that is open tells no less
-  below_expanded : (task : Task K) (s : Store K) (number : ℕ) (x : K) (mark : Mark) (most floor : ℕ) → IsStored s number x mark
-      → AreSettledBut task s number → most ≤ mark.cost + task.graph.bound x → IsLeastOpen task s most floor
-      → (i : ℕ) (y : K) (m : Mark) → IsStored s i y m → m.cost + task.graph.bound y < floor → IsExpanded task s y m.cost
-  below_expanded task s number x mark most floor at settled within least i y m there lt = ⊎_elim
+  -- a key is covered where every pair that is open tells no less, and so does the one that was taken
+  floor_covered : (task : Task K) (s : Store K) → task.strategy.weight.parts ≤ task.strategy.weight.times
+      → (number : ℕ) (x : K) (mark : Mark) (f most floor : ℕ) → IsStored s number x mark
+      → AreSettledBut task s number → IsUnder task x mark f most
+      → (f_of task x mark < f → IsDone task.strategy.expansion task s x mark.cost f) → IsLeastOpen task s most floor → IsUpTo task.limit floor
+      → (i : ℕ) (y : K) (m : Mark) → IsStored s i y m → m.cost + task.graph.bound y < floor → IsCoveredBelow task.graph s y m.cost floor
+  floor_covered task s heavy number x mark f most floor at settled under done least up i y m there lt = ⊎_elim
       (λ same.
       let both = same_entry s number x y mark m at (subst (λ k. IsStored s k y m) same there) in
-      let cost = ap (λ n. n.cost) both.1 in
-      let bound = ap task.graph.bound both.0 in
-      absurd (omega (arith, cost, bound, lt, within, least.within)))
+      let cost : mark.cost ≡ m.cost = ap (λ n. n.cost) both.1 in
+      let bound : task.graph.bound x ≡ task.graph.bound y = ap task.graph.bound both.0 in
+      subst (λ v. IsCoveredBelow task.graph s v m.cost floor) both.0
+      (subst (λ d. IsCoveredBelow task.graph s x d floor) cost
+      (under_covered task s heavy x mark f floor up (under_less task x mark f most floor least.within under)
+      (omega (arith, cost, bound, lt)) done)))
       (λ other. elim (settled i y m other there) [
-        | inl is_open ↦ absurd (too_low (own_waits task.strategy.expansion task s i y m is_open))
-        | inr (inl done) ↦ done
-        | inr (inr later) ↦ absurd (too_low (later_waits task.strategy.expansion task s i y m later))
+        | inl is_open ↦ open_covered task s heavy most floor i y m least up there lt task.strategy.expansion refl (inl is_open)
+        | inr (inl done) ↦ expanded_covered task s y m.cost floor up done
+        | inr (inr later) ↦ open_covered task s heavy most floor i y m least up there lt task.strategy.expansion refl (inr later)
       ])
       (cases_eq i number)
-    where
-      too_low : Waits task.strategy.expansion task s i y m → ⊥
-      too_low waits = let le = least.least i y m (record { stands = there; waits = waits }) in omega (arith, le, lt)
 
-  -- the least cost plus bound of the open keys is a floor: the keys below it are expanded, and no answer is below it
+  -- what is covered below a number is covered below each lesser one
+  covered_less : (g : Graph K) (s : Store K) (x : K) (d n floor : ℕ) → n ≤ floor → IsCoveredBelow g s x d floor → IsCoveredBelow g s x d n
+  covered_less g s x d n floor le h =
+      (h.0, λ c y edge. ⊎_elim (λ has. inl has) (λ far. inr (omega (arith, le, far))) (h.1 c y edge))
+
+  -- the least that the open keys tell is a floor: the keys below it are covered, and no answer is below it
   pub open_floors : (g : Graph K) → OpenFloorsHold g
-  open_floors g lawful strategy limit s number x mark most floor sound settled at within least =
+  open_floors g lawful strategy limit s number x mark f most floor heavy sound settled at under done least up =
       let task : Task K = record { graph = g; strategy = strategy; limit = limit } in
-      let expanded = below_expanded task s number x mark most floor at settled within least in (
-        expanded,
+      let covered = floor_covered task s heavy number x mark f most floor at settled under done least up in (
+        covered,
         λ n wins. ⊎_elim
-            (λ reach. let le = sound.under number x mark at n wins reach in let low = least.within in omega (arith, le, low, within))
-            (λ up. ⊎_elim
+            (λ reach. reach_up limit n floor reach up)
+            (λ on. ⊎_elim
             (λ below. absurd (
             let closed = closed_inside task s (suc n) sound
-            (λ i z l here lt. expanded_covered task s z l.cost (suc n) up (expanded i z l here (omega (arith, lt, below)))) in
+            (λ i z l here lt. covered_less g s z l.cost (suc n) floor (omega (arith, below)) (covered i z l here (omega (arith, lt, below)))) in
             let over = lawful.closed (suc n) _ closed n wins in omega (arith, over)))
             (λ within. within)
             (cases_lt n floor))

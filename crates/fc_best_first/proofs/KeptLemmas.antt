@@ -20,7 +20,7 @@ use Rattle.fc_best_first.specs.Graph.{Graph, Task, Reached}
 use Rattle.fc_best_first.specs.Limits.{Ratio, ReachesLimit, weigh}
 use Rattle.fc_best_first.specs.Store.{Store, Candidate, IsStored, IsNew, Lowers, NotesAnew, NotesLast, Stores, opens_at, weighed}
 use Rattle.fc_best_first.specs.Turn.{TakesFloor, opening_of}
-use Rattle.fc_best_first.specs.Kept.{AreNoted, HasAt, IsExpanded, IsExpandedBelow, IsMet, IsOpenAt, IsOpenLater, IsOpenOrExpanded, IsNeeded, Comes, IsSound, f_of}
+use Rattle.fc_best_first.specs.Kept.{AreNoted, HasAt, IsDone, IsExpanded, IsExpandedBelow, IsMet, IsOpenAt, IsOpenLater, IsOpenOrExpanded, IsNeeded, Comes, IsSound, f_of}
 use Rattle.fc_best_first.proofs.StoreLemmas.{set_here, set_elsewhere, push_here, push_elsewhere, slot_here, slot_elsewhere, length-slot}
 
 -- a cost plus bound that is no more than an answer is no more, weighed
@@ -205,6 +205,10 @@ module _ {K : Type 0} where
       h.0,
       λ c z edge. ⊎_elim (λ met. inl (still_met task.limit task.graph z (d + c) met)) (λ far. inr far) (h.1 c z edge),
     )
+
+    pub still_done : (expansion : Expansion) (task : Task K) (x : K) (d n : ℕ) → IsDone expansion task old x d n → IsDone expansion task new x d n
+    still_done Full task x d n h = still_expanded task x d h
+    still_done Partial task x d n h = still_below task x d n h
 
     -- the key that is put in stood nowhere else
     pub own_number : (j : ℕ) (m : Mark) → IsStored old j y m

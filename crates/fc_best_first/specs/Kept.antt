@@ -36,6 +36,11 @@ module _ {K : Type 0} where
   IsDone Full task s x cost n = IsExpanded task s x cost
   IsDone Partial task s x cost n = IsExpandedBelow task s x cost n
 
+  -- the key isn't won, and the end of each of its edges is stored at this cost and the edge's, or that and its bound are no less than n
+  abbrev pub IsCoveredBelow : Graph K → Store K → K → ℕ → ℕ → Type 0
+  IsCoveredBelow g s x cost n = (g.won x → ⊥)
+      × ((c : ℕ) (y : K) → g.edge x c y → HasAt s y (cost + c) ⊎ (n ≤ cost + c + g.bound y))
+
   -- the weighed cost plus bound of a key with this mark
   abbrev pub f_of : Task K → K → Mark → ℕ
   f_of task x mark = weigh task.strategy.weight mark.cost (task.graph.bound x)
@@ -46,6 +51,13 @@ module _ {K : Type 0} where
   IsOpenAt Full s number cost f = Contains s.waiting (f, number)
   IsOpenAt Partial s number cost f = Contains s.waiting (f, number)
       × ((opening : Opening) × (slice_get s.openings number ≡ Some opening) × (f ≡ opens_at cost opening))
+
+  -- where the key with this number is open, if it is: by full expansion at its weighed cost plus bound, by partial expansion where it
+  -- was opened last
+  abbrev pub IsAt : Expansion → Task K → Store K → ℕ → K → Mark → ℕ → Type 0
+  IsAt Full task s number x mark f = f ≡ f_of task x mark
+  IsAt Partial task s number x mark f = (opening : Opening) × (slice_get s.openings number ≡ Some opening)
+      × (f ≡ opens_at (weighed task.strategy mark) opening)
 
   -- the key is open at some greater f, and expanded below it: never by full expansion
   abbrev pub IsOpenLater : Expansion → Task K → Store K → ℕ → K → Mark → Type 0

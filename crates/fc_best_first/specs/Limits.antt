@@ -37,6 +37,11 @@ abbrev pub IsWithinLimit : Option ℕ → ℕ → ℕ → Type 0
 IsWithinLimit None times n = Unit {0}
 IsWithinLimit (Some limit) times n = n ≤ times * limit
 
+-- the number is no more than the limit, if there is one
+abbrev pub IsUpTo : Option ℕ → ℕ → Type 0
+IsUpTo None n = Unit {0}
+IsUpTo (Some limit) n = n ≤ limit
+
 -- so many keys may be stored
 pub record IsBudget (budget : ℕ) : Type 0 where
   pub least : 1 ≤ budget

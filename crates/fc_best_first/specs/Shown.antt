@@ -1,14 +1,12 @@
 -- What a search holds by its status, and what one that is done shows.
-use Rattle.std.specs.Prelude.{◌≡◌, ℕ, ◌+◌, ◌*◌, ◌<◌, ◌≤◌, ◌⊎◌, List, length, slice_get, Some}
+use Rattle.std.specs.Prelude.{◌≡◌, ℕ, ◌+◌, ◌*◌, ◌<◌, ◌≤◌, ◌⊎◌, List, Contains, length, slice_get, Some}
 use Rattle.fc_best_first.specs.declared.books.Mark.{Mark}
-use Rattle.fc_best_first.specs.declared.strategies.Expansion.{Expansion}
-use Rattle.fc_best_first.specs.declared.strategies.Expansion.TheVariants.{Full, Partial}
 use Rattle.fc_best_first.specs.declared.turns.Status.{Status}
 use Rattle.fc_best_first.specs.declared.turns.Status.TheVariants.{Running, Won, CannotWin, GaveUp, Stopped}
 use Rattle.fc_best_first.specs.Graph.{Graph, Task, Reached}
 use Rattle.fc_best_first.specs.Limits.{Ratio, ReachesLimit}
 use Rattle.fc_best_first.specs.Store.{Store, IsStored, IsNew, weighed}
-use Rattle.fc_best_first.specs.Kept.{IsSound, IsKept, IsDone, IsExpanded, IsOpenAt, IsOpenOrExpanded, IsNeeded, f_of}
+use Rattle.fc_best_first.specs.Kept.{IsAt, IsSound, IsKept, IsDone, IsExpanded, IsOpenOrExpanded, IsNeeded, f_of}
 
 module _ {K : Type 0} where
   -- no answer, weighed as a bound is, is below it
@@ -33,12 +31,19 @@ module _ {K : Type 0} where
   IsExhausted task s = IsSound task s
       × ((i : ℕ) (y : K) (m : Mark) → IsStored s i y m → IsExpanded task s y m.cost)
 
-  -- as many keys as the budget are stored, one more came by needed work from the key with this number, and each other key is
-  -- open or expanded
+  -- the key with this number is where it was taken, and done with below that, if that is more than its weighed cost plus bound
+  pub record IsTakenAt (task : Task K) (s : Store K) (number : ℕ) (x : K) (mark : Mark) (f : ℕ) : Type 0 where
+    pub stands : IsStored s number x mark
+    pub at : IsAt task.strategy.expansion task s number x mark f
+    pub done : f_of task x mark < f → IsDone task.strategy.expansion task s x mark.cost f
+
+  -- as many keys as the budget are stored, one more came by needed work from the key with this number, which was taken, and each
+  -- other key is open or expanded
   abbrev pub IsGivenUp : Task K → Store K → K → ℕ → Type 0
   IsGivenUp task s y number = IsSound task s × (task.strategy.budget ≤ length s.stored) × IsNew s y
       × IsNeeded task.strategy.expansion task.graph task.strategy.weight y
-      × ((x : K) × (mark : Mark) × (c : ℕ) × IsStored s number x mark × task.graph.edge x c y) × AreSettledBut task s number
+      × ((x : K) × (mark : Mark) × (c : ℕ) × (f : ℕ) × IsTakenAt task s number x mark f × task.graph.edge x c y)
+      × AreSettledBut task s number
 
   -- what a search holds by its status
   abbrev pub Holds : Task K → Store K → Status K → Type 0
@@ -66,20 +71,32 @@ module _ {K : Type 0} where
   Shows task s (GaveUp y number) = (keys : List K) × AreNeeded task (task.strategy.budget + 1) keys
   Shows task s Stopped = Unit {0}
 
-  -- a pair of the key with this number and mark waits: at its weighed cost plus bound by full expansion, where it was opened
-  -- last by partial expansion
-  abbrev pub Waits : Expansion → Task K → Store K → ℕ → K → Mark → Type 0
-  Waits Full task s number x mark = IsOpenAt Full s number (weighed task.strategy mark) (f_of task x mark)
-  Waits Partial task s number x mark = (f : ℕ) × IsOpenAt Partial s number (weighed task.strategy mark) f
+  -- a number is no more than what a key tells that is open at f: its cost plus its bound, or f over how many times a bound counts,
+  -- rounded up
+  abbrev pub IsUnder : Task K → K → Mark → ℕ → ℕ → Type 0
+  IsUnder task x mark f n = (n ≤ mark.cost + task.graph.bound x)
+      ⊎ (task.strategy.weight.times * n < f + task.strategy.weight.times)
 
-  -- the key with this number and mark is open
-  pub record IsOpen (task : Task K) (s : Store K) (number : ℕ) (x : K) (mark : Mark) : Type 0 where
+  -- a number is what a key tells that is open at f: no less than either, and no more than both
+  pub record IsTold (task : Task K) (x : K) (mark : Mark) (f told : ℕ) : Type 0 where
+    pub own : mark.cost + task.graph.bound x ≤ told
+    pub weighed : f ≤ task.strategy.weight.times * told
+    pub under : IsUnder task x mark f told
+
+  -- the number is what the key with this one tells, by where it is open
+  abbrev pub TellsAt : Task K → Store K → ℕ → ℕ → Type 0
+  TellsAt task s number told = (x : K) × (mark : Mark) × (f : ℕ) × IsStored s number x mark
+      × IsAt task.strategy.expansion task s number x mark f × IsTold task x mark f told
+
+  -- the key with this number and mark is open at f
+  pub record IsOpen (task : Task K) (s : Store K) (number : ℕ) (x : K) (mark : Mark) (f : ℕ) : Type 0 where
     pub stands : IsStored s number x mark
-    pub waits : Waits task.strategy.expansion task s number x mark
+    pub at : IsAt task.strategy.expansion task s number x mark f
+    pub waits : Contains s.waiting (f, number)
 
-  -- the least cost plus bound of the open keys, at most a number
+  -- the least that the open keys tell, at most a number
   pub record IsLeastOpen (task : Task K) (s : Store K) (most floor : ℕ) : Type 0 where
     pub within : floor ≤ most
-    pub least : (number : ℕ) (x : K) (mark : Mark) → IsOpen task s number x mark → floor ≤ mark.cost + task.graph.bound x
+    pub least : (number : ℕ) (x : K) (mark : Mark) (f : ℕ) → IsOpen task s number x mark f → IsUnder task x mark f floor
     pub met : (floor ≡ most)
-        ⊎ ((number : ℕ) × (x : K) × (mark : Mark) × IsOpen task s number x mark × (floor ≡ mark.cost + task.graph.bound x))
+        ⊎ ((number : ℕ) × (x : K) × (mark : Mark) × (f : ℕ) × IsOpen task s number x mark f × IsTold task x mark f floor)

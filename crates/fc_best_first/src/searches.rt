@@ -3,12 +3,12 @@ ghost use Rattle.fc_frontier.specs.Queue.{Adds};
 ghost use Rattle.fc_best_first.specs.Limits.{IsBudget, IsWeight};
 ghost use Rattle.fc_best_first.specs.Search.{Begins, FloorAfter, Turns, Runs, reply_of, task_of};
 ghost use Rattle.fc_best_first.specs.Kept.{IsSound};
-ghost use Rattle.fc_best_first.specs.Shown.{Holds, IsFloor, IsLeastOpen, Shows};
+ghost use Rattle.fc_best_first.specs.Shown.{Holds, IsFloor, IsLeastOpen, Shows, TellsAt};
 ghost use Rattle.fc_best_first.specs.Store.{IsStored};
 ghost use Rattle.fc_best_first.specs.Turn.{work_left};
 
 use crate::books::{Book, Mark, Opening};
-use crate::floors::least_open;
+use crate::floors::{least_open, told_by};
 use crate::keys::ExactKey;
 use crate::limits::Budget;
 use crate::offers::bound_of;
@@ -176,12 +176,22 @@ impl<K: ExactKey, F: Frontier + Drop, S: Space<K> + Drop> Search<K, F, S> {
         self.floor
     }
 
-    /// The least cost plus bound, the bound counted once, of the keys that are still open, and at most a number.
+    /// The least that the keys tell that are still open, and at most a number: each its cost plus bound, the bound counted once, or
+    /// the f at which it is open over how many times a bound counts, rounded up, where that is more.
     pub fn least_open(&self, most: u32) -> u32
         requires sound { IsSound (task_of S.graph self.now) self.now.store }
         ensures value { IsLeastOpen (task_of S.graph self.now) self.now.store most result }
     {
         least_open(&self.space, &self.book, &self.strategy, most)
+    }
+
+    /// What the key with this number tells where it is open, or was when it was taken.
+    pub fn told_by(&self, number: u32) -> u32
+        requires sound { IsSound (task_of S.graph self.now) self.now.store }
+        requires within { number < length self.now.store.stored }
+        ensures told { TellsAt (task_of S.graph self.now) self.now.store number result }
+    {
+        told_by(&self.space, &self.book, &self.strategy, number)
     }
 
     /// How many pairs are open. It is counted anew.

@@ -1,8 +1,7 @@
-use Rattle.std.proofs.Common.{◌+◌, ◌-◌, ◌∙◌, ap, arith, refl, subst, sym}
-use Rattle.std.specs.Prelude.{min}
+use Rattle.std.proofs.Common.{◌-◌, ◌∙◌, ap, arith, refl, subst, sym}
 use Rattle.std.specs.List.Sorted.{IsPermutation}
 use Rattle.fc_best_first.specs.Graph.{Task}
-use Rattle.fc_best_first.proofs.FloorLemmas.{least_begins, least_counts, least_ends, least_stale, next_waits, none_told, present_at, some_told, waiting_high, waiting_within}
+use Rattle.fc_best_first.proofs.FloorLemmas.{least_begins, least_counts, least_ends, least_stale, next_waits, none_told, present_at, some_told, told_so, waiting_high, waiting_within}
 use Rattle.fc_best_first.proofs.KeptLemmas.{entry_low}
 use Rattle.fc_best_first.proofs.floors.least_open.Goals as goal
 use Rattle.fc_best_first.proofs.floors.least_open.Goals.{After-present_bound}
@@ -63,9 +62,13 @@ loop-f-preserved g c limit =
     (present_at task.strategy.expansion own c.args.book.now c.in-Some.number c.at.result.0.now c.at.result.1 c.in-Some.f _
     c.noted-noted.result c.present_bound.result c.requires.sound.1.1.noted c.at.ensures.stands high (ap (λ k. c.in-Some.f - k) c.weighed.ensures.value)
     c.noted-noted.ensures.value c.present_bound.ensures.present) in
+    let told = c.told-told in
     least_counts own c.args.book.now c.args.most c.loop-f.floor c.in-Some.f c.in-Some.number c.loop-f.f-iterator
-    c.next.new.self c.in-Some.ensures.steps (c.loop-f.invariant limit) c.at.result.0.now c.at.result.1 c.at.ensures.stands c.min-floor.result
-    both.0 (c.min-floor.ensures ∙ ap (λ b. min c.loop-f.floor (c.at.result.1.cost + b)) (c.from.ensures ∙ both.1))
+    c.next.new.self c.in-Some.ensures.steps (c.loop-f.invariant limit) c.at.result.0.now c.at.result.1 c.at.ensures.stands told.result c.min-floor.result
+    both.0
+    (told_so own c.at.result.0.now c.at.result.1 c.in-Some.f c.from.result c.times.result told.result (c.from.ensures ∙ both.1) (ap (λ w. w) c.times.ensures.value)
+    told.ensures.own told.ensures.weighed told.ensures.under)
+    c.min-floor.ensures
 
 pub returns : goal.returns
 returns g c =
