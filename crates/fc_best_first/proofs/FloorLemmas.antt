@@ -11,7 +11,7 @@ use Rattle.fc_best_first.specs.declared.books.Opening.{Opening}
 use Rattle.fc_best_first.specs.declared.strategies.Expansion.{Expansion}
 use Rattle.fc_best_first.specs.declared.strategies.Expansion.TheVariants.{Full, Partial}
 use Rattle.fc_best_first.specs.Graph.{Graph, Task}
-use Rattle.fc_best_first.specs.Store.{Store, IsStored, weighed}
+use Rattle.fc_best_first.specs.Store.{Store, IsStored, opens_at, weighed}
 use Rattle.fc_best_first.specs.Limits.{IsUpTo, ReachesLimit, weigh}
 use Rattle.std.proofs.lemmas.Nat.{mul-le}
 use Rattle.std.proofs.Math.Nat.{mul-le-mul_left}
@@ -61,8 +61,16 @@ reach_up : (limit : Option ℕ) (n floor : ℕ) → ReachesLimit limit n → IsU
 reach_up None n floor reach up = absurd reach
 reach_up (Some limit) n floor reach up = omega (arith, reach, up)
 
+-- a key is open at one f
+pub at_same : {K : Type 0} (expansion : Expansion) (task : Task K) (s : Store K) (i : ℕ) (x : K) (m : Mark) (f h : ℕ)
+    → IsAt expansion task s i x m f → IsAt expansion task s i x m h → f ≡ h
+at_same Full task s i x m f h here there = here ∙ sym there
+at_same Partial task s i x m f h (last, is, at) (other, was, where_it_is) =
+    let one : last ≡ other = (let both = sym is ∙ was in cc) in
+    at ∙ ap (λ o. opens_at (weighed task.strategy m) o) one ∙ sym where_it_is
+
 -- what is no more than a lesser number
-under_less : {K : Type 0} (task : Task K) (x : K) (m : Mark) (f n floor : ℕ) → floor ≤ n → IsUnder task x m f n → IsUnder task x m f floor
+pub under_less : {K : Type 0} (task : Task K) (x : K) (m : Mark) (f n floor : ℕ) → floor ≤ n → IsUnder task x m f n → IsUnder task x m f floor
 under_less task x m f n floor le (inl own) = inl (omega (arith, le, own))
 under_less task x m f n floor le (inr over) =
     let all : task.strategy.weight.times * floor ≤ task.strategy.weight.times * n = mul-le-mul_left task.strategy.weight.times le in
