@@ -1,5 +1,5 @@
 -- What a search that is done holds makes its verdict right, and its table backs it.
-use Rattle.std.proofs.Common.{◌≡◌, ℕ, zero, suc, ◌+◌, ◌*◌, ◌<◌, ◌≤◌, Bool, List, [], ◌∷◌, length, Option, Some, None, refl, sym, ◌∙◌, ap, subst, arith, nat_lt}
+use Rattle.std.proofs.Common.{inl, ◌≡◌, ℕ, zero, suc, ◌+◌, ◌*◌, ◌<◌, ◌≤◌, Bool, List, [], ◌∷◌, length, Option, Some, None, refl, sym, ◌∙◌, ap, subst, arith, nat_lt}
 use Rattle.std.specs.Prelude.{All, Contains}
 use Rattle.std.specs.List.Sorted.{IsPermutation}
 use Rattle.std.proofs.lemmas.List.{length-map}
@@ -18,14 +18,14 @@ use Rattle.fc_tables.specs.Table as boards
 use Rattle.fc_tables.proofs.RowLemmas.{rows_inside, inside_all, costs_free}
 use Rattle.fc_best_first.specs.declared.books.Mark.{Mark}
 use Rattle.fc_best_first.specs.declared.turns.Status.TheVariants as status
-use Rattle.fc_best_first.specs.Kept.{IsSound}
-use Rattle.fc_best_first.specs.Limits.{IsEven, Ratio, ReachesLimit, weigh}
-use Rattle.fc_best_first.specs.Shown.{AreSettledBut, IsFound, IsExhausted, IsLeastOpen, Shows}
+use Rattle.fc_best_first.specs.Kept.{IsCoveredBelow, IsDone, IsSound, f_of}
+use Rattle.fc_best_first.specs.Limits.{IsEven, IsUpTo, Ratio, ReachesLimit, weigh}
+use Rattle.fc_best_first.specs.Shown.{AreSettledBut, IsFound, IsExhausted, IsLeastOpen, IsUnder, Shows}
 use Rattle.fc_best_first.specs.Store.{Store, IsStored}
 use Rattle.fc_best_first.proofs.KeptLemmas.{same_entry, stands_within}
 use Rattle.fc_best_first.proofs.FloorLemmas.{open_floors}
 use Rattle.fc_best_first.specs.Graph.{IsClosedInside}
-use Rattle.fc_best_first.proofs.ClosedLemmas.{IsCoveredBelow, IsUpTo, closed_inside, expanded_covered, light_covered, rows as codes_of}
+use Rattle.fc_best_first.proofs.ClosedLemmas.{closed_inside, expanded_covered, light_covered, rows as codes_of}
 use Rattle.fc_tables.specs.Table.{as_boards}
 use Rattle.fc_canonical.specs.Spelled.{IsKeyIn, spelled}
 use Rattle.fc_codes.specs.Spelled.{board_of_code}
@@ -236,43 +236,39 @@ module _ (pr : Problem) (s : Store (List ℕ)) (names : IsNaming (by_codes pr.st
           subst (IsCoveredBelow (classes_of pr) s y m.cost) (sym cost)
           (light_covered pr.method.strategy.expansion (task_of_problem pr) s y m.cost found.1.1.cost (up_to whole found.1.1.cost) positive light (found.1.4 i y m there lt))
 
-  -- what is shown where each stored class but one is open or expanded, also where there is a limit: the stored classes below that
-  -- are covered, and no list has fewer moves
-  pub floor_but_holds : (number : ℕ) (x : List ℕ) (mark : Mark) (floor : ℕ) → IsSound (task_of_problem pr) s
-      → AreSettledBut (task_of_problem pr) s number → IsStored s number x mark
-      → IsLeastOpen (task_of_problem pr) s (capped pr.limit (mark.cost + guide_of pr.method.bound (board_of_code pr.start x))) floor
+  -- what is shown where each stored class but one is open or expanded, and that one was taken, also where there is a limit: the
+  -- stored classes below the least that is told are covered, and no list has fewer moves
+  pub floor_at_holds : pr.method.strategy.weight.parts ≤ pr.method.strategy.weight.times → (number : ℕ) (x : List ℕ) (mark : Mark) (f most floor : ℕ)
+      → IsSound (task_of_problem pr) s → AreSettledBut (task_of_problem pr) s number → IsStored s number x mark
+      → IsUnder (task_of_problem pr) x mark f most
+      → (f_of (task_of_problem pr) x mark < f → IsDone pr.method.strategy.expansion (task_of_problem pr) s x mark.cost f)
+      → IsLeastOpen (task_of_problem pr) s most floor → IsUpTo pr.limit floor
       → ((i : ℕ) (y : List ℕ) (m : Mark) → IsStored s i y m → m.cost + guide_of pr.method.bound (board_of_code pr.start y) < floor
       → IsCoveredBelow (classes_of pr) s y m.cost floor)
       × ((others : List Move) → Wins pr.game pr.start others → floor ≤ length others)
-  floor_but_holds number x mark floor sound settled at least =
-      let most = mark.cost + guide_of pr.method.bound (board_of_code pr.start x) in
+  floor_at_holds heavy number x mark f most floor sound settled at under done least up =
       let both = open_floors (classes_of pr) (lawful (by_codes pr.start) (guide_of pr.method.bound) pr.game pr.method.rule pr.start names (bounds_lower pr.method.bound).0 pp)
-      pr.method.strategy pr.limit s number x mark (capped pr.limit most) floor sound settled at (capped_most pr.limit most) least in (
-        λ i y m there lt. expanded_covered (task_of_problem pr) s y m.cost floor (capped_up pr.limit most floor least.within) (both.0 i y m there lt),
-        λ others wins. both.1 (length others) (others, refl, wins),
-      )
+      pr.method.strategy pr.limit s number x mark f most floor heavy sound settled at under done least up in
+      (both.0, λ others wins. both.1 (length others) (others, refl, wins))
 
-  -- no list has fewer moves than the least cost and bound of what is open, also where there is a limit
-  pub floor_under : (number : ℕ) (x : List ℕ) (mark : Mark) (floor : ℕ) → IsFound (task_of_problem pr) s number
-      → IsStored s number x mark → IsLeastOpen (task_of_problem pr) s mark.cost floor
-      → (others : List Move) → Wins pr.game pr.start others → floor ≤ length others
-  floor_under number x mark floor found at least others wins =
-      let both = open_floors (classes_of pr) (lawful (by_codes pr.start) (guide_of pr.method.bound) pr.game pr.method.rule pr.start names (bounds_lower pr.method.bound).0 pp) pr.method.strategy pr.limit s number x
-      mark mark.cost floor found.0 found.1.5 at (omega arith) least in
-      both.1 (length others) (others, refl, wins)
+  -- the same where that one tells no more than its own cost and bound
+  pub floor_but_holds : pr.method.strategy.weight.parts ≤ pr.method.strategy.weight.times → (number : ℕ) (x : List ℕ) (mark : Mark) (most floor : ℕ)
+      → IsSound (task_of_problem pr) s → AreSettledBut (task_of_problem pr) s number → IsStored s number x mark
+      → most ≤ mark.cost + guide_of pr.method.bound (board_of_code pr.start x) → IsLeastOpen (task_of_problem pr) s most floor → IsUpTo pr.limit floor
+      → ((i : ℕ) (y : List ℕ) (m : Mark) → IsStored s i y m → m.cost + guide_of pr.method.bound (board_of_code pr.start y) < floor
+      → IsCoveredBelow (classes_of pr) s y m.cost floor)
+      × ((others : List Move) → Wins pr.game pr.start others → floor ≤ length others)
+  floor_but_holds heavy number x mark most floor sound settled at own least up =
+      floor_at_holds heavy number x mark (f_of (task_of_problem pr) x mark) most floor sound settled at (inl own) (λ lt. absurd (omega (arith, lt))) least up
 
   -- what a number is that is told as a floor: no list has fewer moves, and the stored classes below it are covered
-  pub floor_holds : pr.limit ≡ None → (number : ℕ) (x : List ℕ) (mark : Mark) (floor : ℕ) → IsFound (task_of_problem pr) s number
-      → IsStored s number x mark → IsLeastOpen (task_of_problem pr) s mark.cost floor
+  pub floor_holds : pr.method.strategy.weight.parts ≤ pr.method.strategy.weight.times → pr.limit ≡ None → (number : ℕ) (x : List ℕ) (mark : Mark) (floor : ℕ)
+      → IsFound (task_of_problem pr) s number → IsStored s number x mark → IsLeastOpen (task_of_problem pr) s mark.cost floor
       → ((i : ℕ) (y : List ℕ) (m : Mark) → IsStored s i y m → m.cost + guide_of pr.method.bound (board_of_code pr.start y) < floor
       → IsCoveredBelow (classes_of pr) s y m.cost floor)
       × ((others : List Move) → Wins pr.game pr.start others → floor ≤ length others)
-  floor_holds whole number x mark floor found at least =
-      let both = open_floors (classes_of pr) (lawful (by_codes pr.start) (guide_of pr.method.bound) pr.game pr.method.rule pr.start names (bounds_lower pr.method.bound).0 pp) pr.method.strategy pr.limit s number x
-      mark mark.cost floor found.0 found.1.5 at (omega arith) least in (
-        λ i y m there lt. expanded_covered (task_of_problem pr) s y m.cost floor (up_to whole floor) (both.0 i y m there lt),
-        λ others wins. both.1 (length others) (others, refl, wins),
-      )
+  floor_holds heavy whole number x mark floor found at least =
+      floor_but_holds heavy number x mark mark.cost floor found.0 found.1.5 at (omega arith) least (up_to whole floor)
 
   -- rows of which no two have one key, as a table of the search's rule and bound
   as_table : (rows : List (List ℕ × ℕ)) → HaveKeysOnce rows → length rows ≤ 4000000
@@ -327,7 +323,7 @@ module _ (pr : Problem) (s : Store (List ℕ)) (names : IsNaming (by_codes pr.st
       let low = found.0.low number x mark at in
       let inside_store = stands_within s number x mark at in
       let room = found.0.room in
-      let holds = floor_holds whole number x mark floor found at opened in
+      let holds = floor_holds (omega (arith, heavy)) whole number x mark floor found at opened in
       let listed = inside_table floor few found.0 in
       let table = listed.0 in
       let backed = backed_below floor table found.0 holds.0 listed.1 listed.2 (subst (λ r. r ≤ 2) (sym listed.1) known) listed.3 listed.4

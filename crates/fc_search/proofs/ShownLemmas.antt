@@ -1,5 +1,5 @@
 -- What a search that is done has found and shown.
-use Rattle.std.proofs.Common.{◌≡◌, ℕ, ◌≤◌, Option, Some, None, Ok, List, length, refl, sym, subst, arith}
+use Rattle.std.proofs.Common.{◌≡◌, ℕ, ◌+◌, ◌<◌, ◌≤◌, Option, Some, None, Ok, List, length, refl, sym, subst, arith}
 use Rattle.std.specs.List.Sorted.{IsPermutation}
 use Rattle.std.proofs.lemmas.Option.{same_Some}
 use Rattle.std.specs.Prelude.{MatchOption}
@@ -14,23 +14,26 @@ use Rattle.fc_answers.specs.inner.Table.{at_no_cost, inside}
 use Rattle.fc_best_first.specs.declared.searches.Step.TheVariants.{Done}
 use Rattle.fc_best_first.specs.declared.turns.Status.{Status}
 use Rattle.fc_best_first.specs.declared.turns.Status.TheVariants as status
-use Rattle.fc_best_first.specs.Limits.{ReachesLimit}
-use Rattle.fc_best_first.specs.Kept.{IsSound}
+use Rattle.fc_best_first.specs.Limits.{IsUpTo, ReachesLimit}
+use Rattle.fc_best_first.specs.Kept.{IsAt, IsCoveredBelow, IsDone, IsSound, f_of}
+use Rattle.fc_best_first.specs.declared.books.Mark.{Mark}
+use Rattle.fc_best_first.proofs.FloorLemmas.{at_same, under_less}
+use Rattle.fc_codes.specs.Spelled.{board_of_code}
 use Rattle.fc_best_first.specs.Search.{reply_of}
-use Rattle.fc_best_first.specs.Shown.{AreSettledBut, Holds, Shows}
-use Rattle.fc_best_first.specs.Store.{Store}
-use Rattle.fc_best_first.proofs.ClosedLemmas.{IsUpTo, expanded_covered}
-use Rattle.fc_best_first.proofs.KeptLemmas.{stands_within}
+use Rattle.fc_best_first.specs.Shown.{AreSettledBut, Holds, IsGivenUp, Shows}
+use Rattle.fc_best_first.specs.Store.{Store, IsStored}
+use Rattle.fc_best_first.proofs.ClosedLemmas.{expanded_covered}
+use Rattle.fc_best_first.proofs.KeptLemmas.{same_entry, stands_within}
 use Rattle.fc_bound.specs.Kinds.{guide_of}
 use Rattle.fc_classes.specs.Namings.{IsNaming, by_codes}
 use Rattle.fc_search.specs.Need.{NeedsMore}
-use Rattle.fc_search.specs.Problem.{Problem, task_of_problem}
+use Rattle.fc_search.specs.Problem.{Problem, classes_of, task_of_problem}
 use Rattle.fc_search.specs.Search.{State}
-use Rattle.fc_search.specs.Shown.{HasFound, HasFoundBy, HasShownBy, IsFloorBut}
+use Rattle.fc_search.specs.Shown.{capped, HasFound, HasFoundBy, HasShownBy, IsFloorAt, IsFloorBut}
 use Rattle.fc_search.specs.inner.Stored.{costs_of}
 use Rattle.fc_search.specs.inner.Walk.{IsAtClass}
 use Rattle.fc_search.proofs.NeedLemmas.{needs_more, needs_reach}
-use Rattle.fc_search.proofs.AnswerLemmas.{backed_below, backed_whole, floor_but_holds, run_texts, won_within}
+use Rattle.fc_search.proofs.AnswerLemmas.{backed_below, backed_whole, capped_most, capped_up, floor_at_holds, floor_but_holds, run_texts, won_within}
 
 -- the list that leads to the won class is one that the search has found
 pub found_there : (s : State) (number : ℕ) (ms : List Move) (b : Board) → IsNaming (by_codes s.problem.start) s.problem.game s.problem.start
@@ -75,12 +78,47 @@ none_below pr s (Some floor) same none = λ moves wins. subst (λ l. ReachesLimi
 some_same : (n floor : ℕ) → Some n ≡ Some floor → floor ≡ n
 some_same n floor e = sym (same_Some n floor e)
 
-module _ (s : State) (names : IsNaming (by_codes s.problem.start) s.problem.game s.problem.start) (fits : IsPositionOf s.problem.game s.problem.start) where
-  -- no list has fewer moves than what is told where each stored class but one is open or expanded
+module _ (s : State) (names : IsNaming (by_codes s.problem.start) s.problem.game s.problem.start) (fits : IsPositionOf s.problem.game s.problem.start)
+    (heavy : s.problem.method.strategy.weight.parts ≤ s.problem.method.strategy.weight.times) where
+  -- what is shown by a number below which the stored classes are covered: no list has fewer moves
+  abbrev Holding : ℕ → Type 0
+  Holding floor = ((i : ℕ) (y : List ℕ) (m : Mark) → IsStored s.store i y m
+      → m.cost + guide_of s.problem.method.bound (board_of_code s.problem.start y) < floor
+      → IsCoveredBelow (classes_of s.problem) s.store y m.cost floor)
+      × ((others : List Move) → Wins s.problem.game s.problem.start others → floor ≤ length others)
+
+  -- such is what is told where each stored class but one is open or expanded
+  but_holding : (number floor : ℕ) → IsSound (task_of_problem s.problem) s.store → AreSettledBut (task_of_problem s.problem) s.store number
+      → IsFloorBut s number floor → Holding floor
+  but_holding number floor sound settled (x, mark, at, least) =
+      let most = mark.cost + guide_of s.problem.method.bound (board_of_code s.problem.start x) in
+      floor_but_holds s.problem s.store names fits heavy number x mark (capped s.problem.limit most) floor sound settled at
+      (capped_most s.problem.limit most) least (capped_up s.problem.limit most floor least.within)
+
+  -- and where that one was taken when the search gave up
+  at_holding : (y : List ℕ) (number floor : ℕ) → IsGivenUp (task_of_problem s.problem) s.store y number → IsFloorAt s number floor → Holding floor
+  at_holding y number floor held (most, (x, mark, f, at, is_at, told), least) =
+      let taken = held.4.4 in
+      let both = same_entry s.store number x held.4.0 mark held.4.1 at taken.stands in
+      let here : IsAt s.problem.method.strategy.expansion (task_of_problem s.problem) s.store number x mark held.4.3 =
+      subst (λ v. IsAt s.problem.method.strategy.expansion (task_of_problem s.problem) s.store number v mark held.4.3) (sym both.0)
+      (subst (λ m. IsAt s.problem.method.strategy.expansion (task_of_problem s.problem) s.store number held.4.0 m held.4.3) (sym both.1) taken.at) in
+      let same : f ≡ held.4.3 = at_same s.problem.method.strategy.expansion (task_of_problem s.problem) s.store number x mark f held.4.3 is_at here in
+      floor_at_holds s.problem s.store names fits heavy number x mark f (capped s.problem.limit most) floor held.0 held.5 at
+      (under_less (task_of_problem s.problem) x mark f most (capped s.problem.limit most) (capped_most s.problem.limit most) told.under)
+      (subst (λ h. f_of (task_of_problem s.problem) x mark < h → IsDone s.problem.method.strategy.expansion (task_of_problem s.problem) s.store x mark.cost h) (sym same)
+      (subst (λ v. f_of (task_of_problem s.problem) v mark < held.4.3 → IsDone s.problem.method.strategy.expansion (task_of_problem s.problem) s.store v mark.cost held.4.3) (sym both.0)
+      (subst (λ m. f_of (task_of_problem s.problem) held.4.0 m < held.4.3 → IsDone s.problem.method.strategy.expansion (task_of_problem s.problem) s.store held.4.0 m.cost held.4.3) (sym both.1) taken.done)))
+      least (capped_up s.problem.limit most floor least.within)
+
+  -- no list has fewer moves than what is told
   pub floor_told : (number floor : ℕ) → IsSound (task_of_problem s.problem) s.store → AreSettledBut (task_of_problem s.problem) s.store number
       → IsFloorBut s number floor → (others : List Move) → Wins s.problem.game s.problem.start others → floor ≤ length others
-  floor_told number floor sound settled told =
-      (floor_but_holds s.problem s.store names fits number told.0 told.1 floor sound settled told.2 told.3).1
+  floor_told number floor sound settled told = (but_holding number floor sound settled told).1
+
+  pub floor_at_told : (y : List ℕ) (number floor : ℕ) → IsGivenUp (task_of_problem s.problem) s.store y number → IsFloorAt s number floor
+      → (others : List Move) → Wins s.problem.game s.problem.start others → floor ≤ length others
+  floor_at_told y number floor held told = (at_holding y number floor held told).1
 
   -- a table of the search: of its rule and bound, in order, of these rows
   pub record IsTableWith (table : Listing) (all : List (List ℕ × ℕ)) : Type 0 where
@@ -91,13 +129,12 @@ module _ (s : State) (names : IsNaming (by_codes s.problem.start) s.problem.game
     pub rising : IsRising table.rows
     pub rows : IsPermutation all table.rows
 
-  -- the table of the stored classes below what is told so shows it
-  below_told : (number n : ℕ) (table : Listing) → IsSound (task_of_problem s.problem) s.store → AreSettledBut (task_of_problem s.problem) s.store number
-      → IsFloorBut s number n → IsTableWith table (inside (guide_of s.problem.method.bound) n (costs_of s.problem.start s.store))
+  -- the table of the stored classes below such a number shows it
+  below_told : (n : ℕ) (table : Listing) → IsSound (task_of_problem s.problem) s.store → Holding n
+      → IsTableWith table (inside (guide_of s.problem.method.bound) n (costs_of s.problem.start s.store))
       → IsBackedBelow s.problem.game s.problem.start n table
-  below_told number n table sound settled told made =
-      backed_below s.problem s.store names fits n table sound
-      (floor_but_holds s.problem s.store names fits number told.0 told.1 n sound settled told.2 told.3).0
+  below_told n table sound holding made =
+      backed_below s.problem s.store names fits n table sound holding.0
       made.rule made.bound made.known made.few made.rising made.rows
 
   -- the table of a search that is done, below the number that it has shown, shows that
@@ -108,9 +145,9 @@ module _ (s : State) (names : IsNaming (by_codes s.problem.start) s.problem.game
   number_backed status.Running n table done held told made = absurd (cc)
   number_backed status.Stopped n table done held told made = absurd (cc)
   number_backed (status.Won number) n table done held (floor, is, told) made =
-      below_told number n table held.0 held.1.5 (subst (IsFloorBut s number) (some_same n floor is) told) made
+      below_told n table held.0 (but_holding number n held.0 held.1.5 (subst (IsFloorBut s number) (some_same n floor is) told)) made
   number_backed (status.GaveUp y number) n table done held (floor, is, told) made =
-      below_told number n table held.0 held.5 (subst (IsFloorBut s number) (some_same n floor is) told) made
+      below_told n table held.0 (at_holding y number n held (subst (IsFloorAt s number) (some_same n floor is) told)) made
   number_backed status.CannotWin n table done held told made =
       let self : n ≤ n = omega arith in
       backed_below s.problem s.store names fits n table held.0

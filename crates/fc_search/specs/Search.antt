@@ -29,8 +29,8 @@ pub record State : Type 0 where
   pub floor : ℕ
 
 -- the verdict is of the kind of the status that a search ends with: by weight 1 as many moves as the won class costs, and
--- by more no more than that, since a class on the way may have been met at less cost after it, with the least cost and bound
--- of what is open; that no list wins; or the budget
+-- by more no more than that, since a class on the way may have been met at less cost after it, with the least that what is open
+-- tells; that no list wins; or the budget
 abbrev pub IsOfStatus : Problem → Store (List ℕ) → Status (List ℕ) → Verdict → Type 0
 IsOfStatus p s (Won number) (verdict.Shortest moves) =
     (x : List ℕ) × (mark : Mark) × IsStored s number x mark × (length moves ≡ mark.cost) × IsEven p.method.strategy.weight

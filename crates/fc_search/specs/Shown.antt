@@ -9,7 +9,7 @@ use Rattle.fc_answers.specs.Table.{Listing}
 use Rattle.fc_best_first.specs.declared.books.Mark.{Mark}
 use Rattle.fc_best_first.specs.declared.turns.Status.{Status}
 use Rattle.fc_best_first.specs.declared.turns.Status.TheVariants.{Won, CannotWin, GaveUp}
-use Rattle.fc_best_first.specs.Shown.{IsLeastOpen}
+use Rattle.fc_best_first.specs.Shown.{IsLeastOpen, TellsAt}
 use Rattle.fc_best_first.specs.Store.{IsStored}
 use Rattle.fc_search.specs.Problem.{Problem, classes_of, task_of_problem}
 use Rattle.fc_search.specs.Search.{State}
@@ -43,19 +43,24 @@ abbrev pub capped : Option ℕ → ℕ → ℕ
 capped None n = n
 capped (Some limit) n = min n limit
 
--- the number is the least cost and bound of what is open, and no more than those of the class with this number, nor than the
+-- the number is the least that what is open tells, and no more than the cost and bound of the class with this number, nor than the
 -- limit
 abbrev pub IsFloorBut : State → ℕ → ℕ → Type 0
 IsFloorBut s number floor = (class : List ℕ) × (mark : Mark) × IsStored s.store number class mark
     × IsLeastOpen (task_of_problem s.problem) s.store (capped s.problem.limit (mark.cost + (classes_of s.problem).bound class)) floor
 
+-- the number is the least that what is open tells, and no more than what the class with this number tells, nor than the limit
+abbrev pub IsFloorAt : State → ℕ → ℕ → Type 0
+IsFloorAt s number floor = (most : ℕ) × TellsAt (task_of_problem s.problem) s.store number most
+    × IsLeastOpen (task_of_problem s.problem) s.store (capped s.problem.limit most) floor
+
 -- a search by whose status no list that is wanted wins shows its limit, which none is below, or, where it has none, that none
--- wins; one that ended with a won class, or with one whose child it had no place for, the least cost and bound of what is open
--- and of that class; another one the greatest cost and bound that it took, in moves, rounded up
+-- wins; one that ended with a won class the least that what is open tells, and that class; one that ended with a class whose child
+-- it had no place for the same, as that class tells it; another one the greatest cost and bound that it took, in moves, rounded up
 abbrev pub HasShownBy : State → Status (List ℕ) → Option ℕ → Type 0
 HasShownBy s CannotWin shown = shown ≡ s.problem.limit
 HasShownBy s (Won number) shown = (floor : ℕ) × (shown ≡ Some floor) × IsFloorBut s number floor
-HasShownBy s (GaveUp y number) shown = (floor : ℕ) × (shown ≡ Some floor) × IsFloorBut s number floor
+HasShownBy s (GaveUp y number) shown = (floor : ℕ) × (shown ≡ Some floor) × IsFloorAt s number floor
 HasShownBy s status shown = (floor : ℕ) × (shown ≡ Some floor) × (s.floor ≤ s.problem.method.strategy.weight.times * floor)
     × (s.problem.method.strategy.weight.times * floor < s.floor + s.problem.method.strategy.weight.times)
 

@@ -257,7 +257,7 @@ impl<F: Frontier + Drop, G: Game + Drop> Search<F, G> {
         Ok(moves)
     }
 
-    // The least cost and bound of what is open, and no more than the class with this number costs.
+    // The least that what is open tells, and no more than the class with this number costs.
     pub(crate) fn floor_of(&self, number: u32) -> u32
         requires sound { IsSound (task_of_problem self.now.problem) self.now.store }
         requires within { number < length self.now.store.stored }

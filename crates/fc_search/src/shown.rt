@@ -7,7 +7,7 @@ ghost use Rattle.fc_best_first.specs.Kept.{IsSound};
 ghost use Rattle.fc_best_first.specs.Search.{reply_of};
 ghost use Rattle.fc_search.specs.Need.{NeedsMore};
 ghost use Rattle.fc_search.specs.Problem.{task_of_problem};
-ghost use Rattle.fc_search.specs.Shown.{capped, BacksShown, HasFound, HasShown, IsFloorBut};
+ghost use Rattle.fc_search.specs.Shown.{capped, BacksShown, HasFound, HasShown, IsFloorAt, IsFloorBut};
 
 use crate::searches::Search;
 use fc_answers::{MoveList, Table};
@@ -42,7 +42,7 @@ impl<F: Frontier + Drop, G: Game + Drop> Search<F, G> {
         match self.search.status() {
             Status::CannotWin => self.search.limit(),
             Status::Won(number) => Some(self.floor_but(*number)),
-            Status::GaveUp(_, number) => Some(self.floor_but(*number)),
+            Status::GaveUp(_, number) => Some(self.floor_at(*number)),
             _ => Some(self.at_least()),
         }
     }
@@ -106,7 +106,7 @@ impl<F: Frontier + Drop, G: Game + Drop> Search<F, G> {
         Ok(table)
     }
 
-    // The least cost and bound of what is open and of the class with this number, and no more than the limit.
+    // The least that what is open tells, and no more than the cost and bound of the class with this number, nor than the limit.
     fn floor_but(&self, number: u32) -> u32
         requires sound { IsSound (task_of_problem self.now.problem) self.now.store }
         requires within { number < length self.now.store.stored }
@@ -116,6 +116,16 @@ impl<F: Frontier + Drop, G: Game + Drop> Search<F, G> {
         let (position, mark) = self.position_at(number);
         let bound = self.search.space().rules.kind.guide(&position);
         let most = mark.cost + u32::from(bound);
+        self.search.least_open(self.capped(most))
+    }
+
+    // The least that what is open tells, and the class with this number, and no more than the limit.
+    fn floor_at(&self, number: u32) -> u32
+        requires sound { IsSound (task_of_problem self.now.problem) self.now.store }
+        requires within { number < length self.now.store.stored }
+        ensures value { IsFloorAt self.now number result }
+    {
+        let most = self.search.told_by(number);
         self.search.least_open(self.capped(most))
     }
 

@@ -9,7 +9,7 @@ use Rattle.fc_classes.specs.Namings.{IsName, by_codes}
 use Rattle.fc_search.specs.Problem.{task_of_problem}
 use Rattle.fc_search.specs.Search.{State}
 
--- the number is the least cost and bound of what a search has open, and no more than the class with this number costs
+-- the number is the least that what a search has open tells, and no more than the class with this number costs
 abbrev pub IsFloorOf : State → ℕ → ℕ → Type 0
 IsFloorOf s number floor = (x : List ℕ) × (mark : Mark) × IsStored s.store number x mark
     × IsLeastOpen (task_of_problem s.problem) s.store mark.cost floor

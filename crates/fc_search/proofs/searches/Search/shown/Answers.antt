@@ -3,16 +3,16 @@ use Rattle.fc_best_first.specs.Shown.{Holds, Shows}
 use Rattle.fc_best_first.specs.declared.turns.Status.TheVariants as status
 use Rattle.fc_best_first.proofs.KeptLemmas.{stands_within}
 use Rattle.fc_search.specs.Problem.{task_of_problem}
-use Rattle.fc_search.proofs.ShownLemmas.{floor_told, none_below}
+use Rattle.fc_search.proofs.ShownLemmas.{floor_at_told, floor_told, none_below}
 use Rattle.fc_search.proofs.searches.Search.shown.Goals as goal
 
-pub floor_but-requires-in-GaveUp-clause-within : goal.floor_but-requires-in-GaveUp-clause-within
-floor_but-requires-in-GaveUp-clause-within g c =
+pub floor_at-requires-clause-within : goal.floor_at-requires-clause-within
+floor_at-requires-clause-within g c =
     let now = c.args.self.now in
     let stands : now.status ≡ status.GaveUp c.in-GaveUp.field-0 c.in-GaveUp.number = sym (ap (λ s. s.status) c.self.view_is) ∙ sym c.status.ensures.value ∙ c.in-GaveUp.is in
     let held = subst (Holds (task_of_problem now.problem) now.store) stands
     (subst (λ s. Holds (task_of_problem s.problem) s.store s.status) c.self.view_is c.status.ensures.holds) in
-    stands_within now.store c.in-GaveUp.number held.4.0 held.4.1 held.4.3
+    stands_within now.store c.in-GaveUp.number held.4.0 held.4.1 held.4.4.stands
 
 pub returns-in-CannotWin-clause-floor : goal.returns-in-CannotWin-clause-floor
 returns-in-CannotWin-clause-floor g c =
@@ -28,7 +28,7 @@ returns-in-Won-clause-floor g c =
     let stands : now.status ≡ status.Won c.in-Won.number = sym (ap (λ s. s.status) c.self.view_is) ∙ sym c.status.ensures.value ∙ c.in-Won.is in
     let held = subst (Holds (task_of_problem now.problem) now.store) stands
     (subst (λ s. Holds (task_of_problem s.problem) s.store s.status) c.self.view_is c.status.ensures.holds) in
-    floor_told now c.known.ensures.names c.known.ensures.fits c.in-Won.number c.floor_but.result held.0 held.1.5 c.floor_but.ensures.value
+    floor_told now c.known.ensures.names c.known.ensures.fits c.known.ensures.weight.above c.in-Won.number c.floor_but.result held.0 held.1.5 c.floor_but.ensures.value
 
 pub returns-in-GaveUp-clause-floor : goal.returns-in-GaveUp-clause-floor
 returns-in-GaveUp-clause-floor g c =
@@ -36,4 +36,4 @@ returns-in-GaveUp-clause-floor g c =
     let stands : now.status ≡ status.GaveUp c.in-GaveUp.field-0 c.in-GaveUp.number = sym (ap (λ s. s.status) c.self.view_is) ∙ sym c.status.ensures.value ∙ c.in-GaveUp.is in
     let held = subst (Holds (task_of_problem now.problem) now.store) stands
     (subst (λ s. Holds (task_of_problem s.problem) s.store s.status) c.self.view_is c.status.ensures.holds) in
-    floor_told now c.known.ensures.names c.known.ensures.fits c.in-GaveUp.number c.floor_but-in-GaveUp.result held.0 held.5 c.floor_but-in-GaveUp.ensures.value
+    floor_at_told now c.known.ensures.names c.known.ensures.fits c.known.ensures.weight.above c.in-GaveUp.field-0 c.in-GaveUp.number c.floor_at.result held c.floor_at.ensures.value
