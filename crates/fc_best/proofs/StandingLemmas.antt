@@ -8,7 +8,6 @@ use Rattle.fc_moves.specs.declared.steps.Move.{Move}
 use Rattle.fc_moves.specs.Run.{ReachesMore}
 use Rattle.fc_answers.specs.Table.{Listing}
 use Rattle.fc_best_first.specs.Limits.{Ratio}
-use Rattle.fc_best_first.specs.declared.strategies.Expansion.{Expansion}
 use Rattle.fc_methods.specs.Method.{Asked}
 use Rattle.fc_best.specs.declared.attempts.Attempt.{Attempt}
 use Rattle.fc_best.specs.declared.standings.Shown.{Shown}
@@ -97,10 +96,10 @@ both_none (Some moves) old is = absurd (cc)
 both_none None old is = (refl, is)
 
 -- a table of a question with another weight and budget is one of the question
-tabled_so : (q : Asked) (b : Board) (weight : Ratio) (expansion : Expansion) (share : ℕ) (floor : Option ℕ) (table : Option Listing)
-    → IfSome table (IsTableOf (with_share q weight expansion share) b floor) → IfSome table (IsTableOf q b floor)
-tabled_so q b weight expansion share floor None h = tt
-tabled_so q b weight expansion share floor (Some table) h = record { rule = h.rule; bound = h.bound; backed = h.backed }
+tabled_so : (q : Asked) (b : Board) (weight : Ratio) (share : ℕ) (floor : Option ℕ) (table : Option Listing)
+    → IfSome table (IsTableOf (with_share q weight share) b floor) → IfSome table (IsTableOf q b floor)
+tabled_so q b weight share floor None h = tt
+tabled_so q b weight share floor (Some table) h = record { rule = h.rule; bound = h.bound; backed = h.backed }
 
 -- what was given up with is no more than the budget, of which it is a share
 given_so : (q : Asked) (b : Board) (ended : Ended) (share : ℕ) (told : Option ℕ) → share ≤ q.method.strategy.budget
@@ -108,8 +107,8 @@ given_so : (q : Asked) (b : Board) (ended : Ended) (share : ℕ) (told : Option 
 given_so q b ended share None all h = tt
 given_so q b ended share (Some told) all h = (h.0, let few = h.1 in omega (arith, few, all))
 
-pub after_stands : (q : Asked) (b : Board) (weight : Ratio) (expansion : Expansion) (share : ℕ) (old : Standing) (attempt : Attempt) → Stands q b old
-    → old.shown ≡ None → share ≤ old.left → attempt.stored ≤ old.left → IsAttempt (with_share q weight expansion share) b (limit_of old.list) attempt
+pub after_stands : (q : Asked) (b : Board) (weight : Ratio) (share : ℕ) (old : Standing) (attempt : Attempt) → Stands q b old
+    → old.shown ≡ None → share ≤ old.left → attempt.stored ≤ old.left → IsAttempt (with_share q weight share) b (limit_of old.list) attempt
     → (IsTrue old.has_table → IsTrue attempt.is_settled → IsSome attempt.table)
     → Stands q b (record {
       list = newest attempt.list old.list;
@@ -118,14 +117,14 @@ pub after_stands : (q : Asked) (b : Board) (weight : Ratio) (expansion : Expansi
       given_up = greater old.given_up attempt.given_up;
       has_table = old.has_table;
     })
-after_stands q b weight expansion share old attempt (searches, was) unshown within room is made = (
+after_stands q b weight share old attempt (searches, was) unshown within room is made = (
   is.ended ∷ searches,
   record {
     asked = All-cons (IsOfQuestion q b) is.ended searches
         (record { game = is.asked.game; start = is.asked.start; rule = is.asked.rule; bound = is.asked.bound; ran = is.asked.ran }) was.asked;
     spent = let sum = sum_by-cons (λ (e : Ended). length e.last.stored) is.ended searches in let size = is.stored in let all = was.spent in omega (arith, sum, size, all, room);
     list = newest_good (IsGoodList q.game b) attempt.list old.list is.list was.list;
-    shown = end_good q b attempt.is_settled attempt.shown attempt.table is.shown (tabled_so q b weight expansion share attempt.shown attempt.table is.table);
+    shown = end_good q b attempt.is_settled attempt.shown attempt.table is.shown (tabled_so q b weight share attempt.shown attempt.table is.table);
     none = λ nothing.
         let both = both_none attempt.list old.list nothing in
         none_found q b searches is.ended old.shown old.given_up attempt.given_up attempt.is_settled attempt.shown attempt.table unshown (was.none both.1)

@@ -24,9 +24,9 @@ const FOURTH_TENTHS: u8 = 13;
 
 /// The best answer for a position that fits the question's game: a list that wins and a number of moves that no list that wins is
 /// below, a shortest list where they meet, that none wins, or, where no list was found, that the searches gave up. They go by the
-/// question's home rule and bound, each with what the ones before left of the budget and for a list shorter than the best so far: by
-/// partial expansion and falling weights, and last, with a fifth of the budget at least, by weight 1 and full expansion, which raises
-/// the floor. Only where it is wanted a table is made, which backs the answer.
+/// question's home rule, bound and expansion and by falling weights, whatever its own weight is: each with what the ones before left
+/// of the budget and for a list shorter than the best so far; the last, with a fifth of the budget at least, by weight 1. Only where
+/// it is wanted a table is made, which backs the answer.
 ///
 /// # Errors
 /// A growth was refused.

@@ -6,7 +6,6 @@ ghost use Rattle.std.specs.Prelude.{◌≡◌, ◌+◌, ◌<◌, ◌≤◌, ℕ,
 ghost use Rattle.fc_answers.specs.Answer.{IsBacked};
 ghost use Rattle.fc_answers.specs.declared.answers.TheConstants.{MOST_MOVES};
 ghost use Rattle.fc_best_first.specs.Limits.{Ratio};
-ghost use Rattle.fc_best_first.specs.declared.strategies.Expansion.{Expansion};
 ghost use Rattle.fc_methods.specs.Method.{Asked};
 ghost use Rattle.fc_best.specs.Best.{IsBestAnswer};
 ghost use Rattle.fc_best.specs.inner.Attempt.{IsAttempt};
@@ -14,7 +13,7 @@ ghost use Rattle.fc_best.specs.inner.Standing.{end_of, greater, limit_of, newest
 
 use crate::attempts::Attempt;
 use fc_answers::{Answer, MoveList, Table, Verdict};
-use fc_methods::{Budget, Expansion, Method, Question, Strategy, Weight};
+use fc_methods::{Budget, Method, Question, Strategy, Weight};
 use fc_moves::Game;
 use fc_position::Position;
 use std::alloc::{AllocError, Global};
@@ -62,7 +61,7 @@ impl Standing {
         }
     }
 
-    // After a search by this weight and partial expansion, unless the question is settled or all that is left is for the last search.
+    // After a search by this weight, unless the question is settled or all that is left is for the last search.
     pub(crate) fn weighed<G: Game + Drop>(
         self,
         alloc: Global,
@@ -84,13 +83,12 @@ impl Standing {
         let Some(budget) = Budget::new(share) else {
             return Ok(self);
         };
-        let asked = asked_with(question, weight, Expansion::Partial, budget);
+        let asked = asked_with(question, weight, budget);
         let attempt = Attempt::below(alloc, &asked, position, self.limit(), false, self.has_table)?;
         Ok(self.after(attempt))
     }
 
-    // After the last search, by weight 1 and full expansion with all that is left, unless the question is settled: of what partial
-    // expansion has open the least cost and bound is often that of the start.
+    // After the last search, by weight 1 with all that is left, unless the question is settled.
     pub(crate) fn last<G: Game + Drop>(
         self,
         alloc: Global,
@@ -109,7 +107,7 @@ impl Standing {
         }
         let _ = question.method().strategy.budget.get();
         let budget = Budget::new(self.left).unwrap();
-        let asked = asked_with(question, Weight::ONE, Expansion::Full, budget);
+        let asked = asked_with(question, Weight::ONE, budget);
         let attempt = Attempt::below(alloc, &asked, position, self.limit(), true, self.has_table)?;
         Ok(self.after(attempt))
     }
@@ -138,8 +136,8 @@ impl Standing {
         requires open { self.shown ≡ None }
         requires room { attempt.stored ≤ self.left }
         requires tabled { IsTrue self.has_table → IsTrue attempt.is_settled → IsSome attempt.table }
-        ensures stands { (q : Asked) (b : Board) (weight : Ratio) (expansion : Expansion) (share : ℕ) → Stands q b self → share ≤ self.left
-            → IsAttempt (with_share q weight expansion share) b (limit_of self.list) attempt → Stands q b result }
+        ensures stands { (q : Asked) (b : Board) (weight : Ratio) (share : ℕ) → Stands q b self → share ≤ self.left
+            → IsAttempt (with_share q weight share) b (limit_of self.list) attempt → Stands q b result }
         ensures left { result.left + attempt.stored ≡ self.left }
         ensures shown { IsTrue attempt.is_settled → IsSome result.shown }
         ensures has_table { result.has_table ≡ self.has_table }
@@ -245,18 +243,17 @@ fn greater(one: Option<u32>, other: Option<u32>) -> Option<u32>
 }
 
 // The question with another weight, and with a share of its budget.
-fn asked_with<G: Game + Drop>(
-    question: &Question<G>,
-    weight: Weight,
-    expansion: Expansion,
-    share: Budget,
-) -> Question<G>
-    ensures value { result ≡ with_share question.now weight expansion share }
+fn asked_with<G: Game + Drop>(question: &Question<G>, weight: Weight, share: Budget) -> Question<G>
+    ensures value { result ≡ with_share question.now weight share }
 {
-    let Method { rule, bound, .. } = question.method();
+    let Method {
+        rule,
+        bound,
+        strategy,
+    } = question.method();
     let strategy = Strategy {
         weight,
-        expansion,
+        expansion: strategy.expansion,
         budget: share,
     };
     Question::new(

@@ -125,8 +125,8 @@ impl<F: Frontier + Drop, G: Game + Drop> Search<F, G> {
         requires within { number < length self.now.store.stored }
         ensures value { IsFloorAt self.now number result }
     {
-        let most = self.search.told_by(number);
-        self.search.least_open(self.capped(most))
+        let most = self.capped(self.search.told_by(number));
+        self.search.least_open(most)
     }
 
     // The number, but the limit where there is one that is lower.

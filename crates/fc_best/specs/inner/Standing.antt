@@ -5,7 +5,6 @@ use Rattle.fc_moves.specs.declared.steps.Move.{Move}
 use Rattle.fc_moves.specs.Run.{ReachesMore}
 use Rattle.fc_answers.specs.Table.{Listing}
 use Rattle.fc_best_first.specs.Limits.{Ratio}
-use Rattle.fc_best_first.specs.declared.strategies.Expansion.{Expansion}
 use Rattle.fc_best.specs.declared.standings.Shown.{Shown}
 use Rattle.fc_best.specs.declared.standings.Standing.{Standing}
 use Rattle.fc_best.specs.Best.{Ended, HaveGivenUp, IsOfQuestion, stored_by}
@@ -39,14 +38,14 @@ pub record IsStanding (q : Asked) (b : Board) (searches : List Ended) (standing 
 abbrev pub Stands : Asked → Board → Standing → Type 0
 Stands q b standing = (searches : List Ended) × IsStanding q b searches standing
 
--- the question with another weight and expansion, and with a share of its budget
-abbrev pub with_share : Asked → Ratio → Expansion → ℕ → Asked
-with_share q weight expansion share = record {
+-- the question with another weight, and with a share of its budget
+abbrev pub with_share : Asked → Ratio → ℕ → Asked
+with_share q weight share = record {
   game = q.game;
   method = record {
     rule = q.method.rule;
     bound = q.method.bound;
-    strategy = record { weight = weight; expansion = expansion; budget = share };
+    strategy = record { weight = weight; expansion = q.method.strategy.expansion; budget = share };
   };
 }
 
