@@ -15,7 +15,7 @@ use Rattle.fc_best_first.specs.Graph.{Graph, Task, Reached, IsLawful, IsClosedIn
 use Rattle.fc_best_first.specs.Limits.{IsEven, IsUpTo, IsWithinLimit, Ratio, ReachesLimit, weigh}
 use Rattle.fc_best_first.specs.Store.{Store, IsStored, IsTaken, opens_at, weighed}
 use Rattle.fc_best_first.specs.Turn.{IsStale, TakesFloor}
-use Rattle.fc_best_first.specs.Kept.{AreNoted, HasAt, IsAt, IsCoveredBelow, IsDone, IsExpanded, IsExpandedBelow, IsMet, IsOpenAt, IsOpenLater, IsOpenOrExpanded, IsSound, IsKept, f_of}
+use Rattle.fc_best_first.specs.Kept.{AreNoted, HasAt, IsWhereOpen, IsCoveredBelow, IsDone, IsExpanded, IsExpandedBelow, IsMet, IsOpenAt, IsOpenLater, IsOpenOrExpanded, IsSound, IsKept, f_of}
 use Rattle.fc_best_first.specs.Shown.{IsFloor}
 use Rattle.fc_best_first.proofs.KeptLemmas.{front_there, front_cases, added_stays, added_cases, least_below, pair_high}
 
@@ -54,6 +54,10 @@ limit_within None times f n within reach = absurd reach
 limit_within (Some limit) times f n within reach =
     let all : times * limit ≤ times * n = mul-le-mul_left times reach in
     omega (arith, all, within)
+
+-- where a key with this mark is open
+abbrev pub IsAt : {K : Type 0} → Expansion → Task K → Store K → ℕ → K → Mark → ℕ → Type 0
+IsAt expansion task s number x mark f = IsWhereOpen expansion s number (weighed task.strategy mark) (f_of task x mark) f
 
 module _ {K : Type 0} where
   pub open_waits : (expansion : Expansion) (s : Store K) (i cost f : ℕ) → IsOpenAt expansion s i cost f → Contains s.waiting (f, i)

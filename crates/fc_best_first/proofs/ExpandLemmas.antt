@@ -14,10 +14,10 @@ use Rattle.fc_best_first.specs.Graph.{Reached, IsLawful, Task}
 use Rattle.fc_best_first.specs.Limits.{IsBelowLimit, IsWithinLimit, ReachesLimit, weigh}
 use Rattle.fc_best_first.specs.Store.{Store, Candidate, IsStored, Admits, Offers, weighed}
 use Rattle.fc_best_first.specs.Turn.{Expands, IsPresent, candidate_of, opening_of, put_off, work_left}
-use Rattle.fc_best_first.specs.Kept.{AreNoted, HasAt, IsAt, IsDone, IsMet, IsOpenOrExpanded, IsNeeded, Comes, IsSound, f_of}
+use Rattle.fc_best_first.specs.Kept.{AreNoted, HasAt, IsDone, IsMet, IsOpenOrExpanded, IsNeeded, Comes, IsSound, f_of}
 use Rattle.fc_best_first.specs.Shown.{IsFloor, IsGivenUp}
 use Rattle.fc_best_first.proofs.KeptLemmas.{front_there, front_cases, stands_within, Notes, Puts, puts_lowered, puts_added, still_done, still_has, other_number, still_sound, still_settled}
-use Rattle.fc_best_first.proofs.ClosedLemmas.{has_met, past_met, stays_met}
+use Rattle.fc_best_first.proofs.ClosedLemmas.{IsAt, has_met, past_met, stays_met}
 use Rattle.fc_best_first.proofs.TurnLemmas.{off_past, offers_room}
 use Rattle.fc_best_first.proofs.WorkLemmas.{lowered_work, added_work}
 

@@ -15,11 +15,11 @@ use Rattle.fc_best_first.specs.Store.{Store, IsStored, opens_at, weighed}
 use Rattle.fc_best_first.specs.Limits.{IsUpTo, ReachesLimit, weigh}
 use Rattle.std.proofs.lemmas.Nat.{mul-le}
 use Rattle.std.proofs.Math.Nat.{mul-le-mul_left}
-use Rattle.fc_best_first.specs.Kept.{AreNoted, IsAt, IsCoveredBelow, IsDone, IsOpenAt, IsOpenLater, IsSound, f_of}
+use Rattle.fc_best_first.specs.Kept.{AreNoted, IsCoveredBelow, IsDone, IsOpenAt, IsOpenLater, IsSound, f_of}
 use Rattle.fc_best_first.specs.Laws.{OpenFloorsHold}
 use Rattle.fc_best_first.specs.Shown.{AreSettledBut, IsLeastOpen, IsOpen, IsTold, IsUnder}
 use Rattle.fc_best_first.proofs.KeptLemmas.{front_cases, front_there, same_entry, stands_within}
-use Rattle.fc_best_first.proofs.ClosedLemmas.{closed_inside, expanded_covered, limit_cases, met_covered}
+use Rattle.fc_best_first.proofs.ClosedLemmas.{IsAt, closed_inside, expanded_covered, limit_cases, met_covered}
 
 -- what is told where nothing, or this, is
 pub none_told : (A : Type 0) (B : ℕ → Type 0) (told : Option ℕ) → ((b : ℕ) → told ≡ Some b → ⊥) → MatchOption told A B → A

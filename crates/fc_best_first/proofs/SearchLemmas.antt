@@ -20,11 +20,11 @@ use Rattle.fc_best_first.specs.Graph.{Task, IsLawful}
 use Rattle.fc_best_first.specs.Limits.{weigh}
 use Rattle.fc_best_first.specs.Store.{Store, IsStored, IsTaken, opens_at, weighed}
 use Rattle.fc_best_first.specs.Turn.{Advances, AreChildren, Closes, DropsTaken, ExpandsTaken, Expands, IsPresent, Reopens, work_left}
-use Rattle.fc_best_first.specs.Kept.{AreNoted, Comes, IsAt, IsExpanded, IsExpandedBelow, IsMet, IsOpenLater, IsOpenOrExpanded, IsNeeded, IsSound, IsKept, f_of}
+use Rattle.fc_best_first.specs.Kept.{AreNoted, Comes, IsExpanded, IsExpandedBelow, IsMet, IsOpenLater, IsOpenOrExpanded, IsNeeded, IsSound, IsKept, f_of}
 use Rattle.fc_best_first.specs.Shown.{IsFloor, IsFound, IsExhausted, IsGivenUp, Holds, Shows}
 use Rattle.fc_best_first.proofs.KeptLemmas.{Notes, added_cases, added_there, anew_notes, open_under, same_entry, stands_within, still_open}
 use Rattle.fc_best_first.proofs.WorkLemmas.{reopened_work, taken_work}
-use Rattle.fc_best_first.proofs.ClosedLemmas.{closed_inside, below_least, expanded_covered, kept_back, kept_below, kept_done, kept_expanded, kept_has, kept_met, least_floor, less_done, limit_cases, limit_within, more_met, none_below, open_waits, others_settled, rows, stale_elsewhere, taken_high, taken_sound}
+use Rattle.fc_best_first.proofs.ClosedLemmas.{IsAt, closed_inside, below_least, expanded_covered, kept_back, kept_below, kept_done, kept_expanded, kept_has, kept_met, least_floor, less_done, limit_cases, limit_within, more_met, none_below, open_waits, others_settled, rows, stale_elsewhere, taken_high, taken_sound}
 use Rattle.fc_best_first.proofs.ExpandLemmas.{Done, IsNearLimit, IsPlaced, PutOffTo, expands_done}
 
 -- a key of a list of keys is a stored one, or the one at the end

@@ -52,12 +52,12 @@ module _ {K : Type 0} where
   IsOpenAt Partial s number cost f = Contains s.waiting (f, number)
       × ((opening : Opening) × (slice_get s.openings number ≡ Some opening) × (f ≡ opens_at cost opening))
 
-  -- where the key with this number is open, if it is: by full expansion at its weighed cost plus bound, by partial expansion where it
-  -- was opened last
-  abbrev pub IsAt : Expansion → Task K → Store K → ℕ → K → Mark → ℕ → Type 0
-  IsAt Full task s number x mark f = f ≡ f_of task x mark
-  IsAt Partial task s number x mark f = (opening : Opening) × (slice_get s.openings number ≡ Some opening)
-      × (f ≡ opens_at (weighed task.strategy mark) opening)
+  -- where the key with this number, weighed cost and own f is open, if it is: by full expansion at its own f, by partial expansion where
+  -- it was opened last
+  abbrev pub IsWhereOpen : Expansion → Store K → ℕ → ℕ → ℕ → ℕ → Type 0
+  IsWhereOpen Full s number cost own f = f ≡ own
+  IsWhereOpen Partial s number cost own f = (opening : Opening) × (slice_get s.openings number ≡ Some opening)
+      × (f ≡ opens_at cost opening)
 
   -- the key is open at some greater f, and expanded below it: never by full expansion
   abbrev pub IsOpenLater : Expansion → Task K → Store K → ℕ → K → Mark → Type 0

@@ -15,14 +15,14 @@ use Rattle.fc_best_first.specs.declared.searches.Step.TheVariants.{Done}
 use Rattle.fc_best_first.specs.declared.turns.Status.{Status}
 use Rattle.fc_best_first.specs.declared.turns.Status.TheVariants as status
 use Rattle.fc_best_first.specs.Limits.{IsUpTo, ReachesLimit}
-use Rattle.fc_best_first.specs.Kept.{IsAt, IsCoveredBelow, IsDone, IsSound, f_of}
+use Rattle.fc_best_first.specs.Kept.{IsCoveredBelow, IsDone, IsSound, f_of}
 use Rattle.fc_best_first.specs.declared.books.Mark.{Mark}
 use Rattle.fc_best_first.proofs.FloorLemmas.{at_same, under_less}
 use Rattle.fc_codes.specs.Spelled.{board_of_code}
 use Rattle.fc_best_first.specs.Search.{reply_of}
 use Rattle.fc_best_first.specs.Shown.{AreSettledBut, Holds, IsGivenUp, Shows}
 use Rattle.fc_best_first.specs.Store.{Store, IsStored}
-use Rattle.fc_best_first.proofs.ClosedLemmas.{expanded_covered}
+use Rattle.fc_best_first.proofs.ClosedLemmas.{IsAt, expanded_covered}
 use Rattle.fc_best_first.proofs.KeptLemmas.{same_entry, stands_within}
 use Rattle.fc_bound.specs.Kinds.{guide_of}
 use Rattle.fc_classes.specs.Namings.{IsNaming, by_codes}
