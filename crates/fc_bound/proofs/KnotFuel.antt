@@ -1,5 +1,5 @@
 -- More steps than there are cards change no count of knots.
-use Rattle.std.proofs.Common.{◌≡◌, ℕ, ◌+◌, ◌-◌, ◌≤◌, zero, suc, List, ◌∙◌, refl, sym, ap, ⊎_elim, arith}
+use Rattle.std.proofs.Common.{◌≡◌, ℕ, ◌+◌, ◌-◌, ◌≤◌, zero, suc, List, ◌∙◌, sym, ap, ⊎_elim, arith}
 use Rattle.std.specs.Prelude.{count_by}
 use Rattle.std.specs.List.{list_any}
 use Rattle.std.proofs.lemmas.Bool.{cases_Bool}
@@ -8,10 +8,6 @@ use Rattle.fc_bound.specs.Clearing.{cards_in}
 use Rattle.fc_bound.specs.Knots.{has_last, is_loose, is_in_knot, waits_above, shed, knots, knot_count}
 use Rattle.fc_bound.proofs.ClearingSearch.{loose_fewer}
 use Rattle.fc_bound.proofs.KnotSteps.{knots_loose, knots_knot, knots_none, shed_knot, count_is}
-
-pub knots_zero : (columns : List (List ℕ)) → knots 0 columns ≡ 0
-unfolding knots
-knots_zero columns = refl
 
 enough : (steps : ℕ) (columns : List (List ℕ)) → cards_in columns ≤ steps → knots (suc steps) columns ≡ knots steps columns
 enough zero columns few =
