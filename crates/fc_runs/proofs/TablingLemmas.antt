@@ -13,8 +13,7 @@ use Rattle.fc_answers.specs.declared.answers.Verdict.TheVariants as verdict
 use Rattle.fc_answers.specs.Verdict.{IsRight, outcome_of}
 use Rattle.fc_best.specs.Best.{IsBest}
 use Rattle.fc_search.specs.declared.listeners.Progress.{Progress}
-use Rattle.fc_search.specs.Watch.{HearsAll}
-use Rattle.fc_search.specs.inner.Watch.{TellFloors}
+use Rattle.fc_search.specs.Watch.{HearsAll, TellFloors}
 use Rattle.fc_board_runs.specs.Devices.{Device}
 use Rattle.fc_runs.specs.declared.tabling.Last.{Last}
 use Rattle.fc_runs.specs.declared.tabling.Row.{Row}

@@ -4,8 +4,7 @@ ghost use Rattle.std.specs.Prelude.{◌≡◌, ◌+◌, ◌≤◌, ◌++◌, Lis
 ghost use Rattle.fc_deal.specs.Deal.{IsDealNumber, dealt_board};
 ghost use Rattle.arrayvec.specs.ArrayString.{array_string_len};
 ghost use Rattle.fc_search.specs.declared.listeners.Progress.{Progress};
-ghost use Rattle.fc_search.specs.Watch.{HearsAll};
-ghost use Rattle.fc_search.specs.inner.Watch.{TellFloors};
+ghost use Rattle.fc_search.specs.Watch.{HearsAll, TellFloors};
 ghost use Rattle.fc_board_runs.specs.Devices.{change};
 ghost use Rattle.fc_runs.specs.Batches.{IsToldOf};
 ghost use Rattle.fc_runs.specs.Besting.{IsBestTold};

@@ -9,8 +9,7 @@ use Rattle.fc_best_first.specs.Search.{Begins}
 use Rattle.fc_search.specs.Problem.{Problem, task_of_problem}
 use Rattle.fc_search.specs.Search.{State}
 use Rattle.fc_search.specs.declared.listeners.Progress.{Progress}
-use Rattle.fc_search.specs.Watch.{IsFirst, IsHeard, IsHeardInPart, TellsFloor, TurnsMany}
-use Rattle.fc_search.specs.inner.Watch.{IsHeardOn, stage_of}
+use Rattle.fc_search.specs.Watch.{IsFirst, IsHeard, IsHeardInPart, TellsFloor, TurnsMany, IsHeardOn, stage_of}
 use Rattle.fc_search.proofs.HearLemmas.{heard_on, most_of, some_heard}
 
 -- a search that has had no turn

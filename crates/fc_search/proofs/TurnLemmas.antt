@@ -21,8 +21,7 @@ use Rattle.fc_best_first.specs.Turn.{work_left}
 use Rattle.fc_best_first.proofs.WorkLemmas.{costs_twice}
 use Rattle.fc_search.specs.Problem.{Problem, task_of_problem}
 use Rattle.fc_search.specs.Search.{State}
-use Rattle.fc_search.specs.Watch.{Stage, TurnsMany, TurnsOnce}
-use Rattle.fc_search.specs.inner.Watch.{stage_of}
+use Rattle.fc_search.specs.Watch.{Stage, TurnsMany, TurnsOnce, stage_of}
 
 module _ (q : Problem) where
   -- some turns, and then one more

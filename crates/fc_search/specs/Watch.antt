@@ -2,7 +2,9 @@
 use Rattle.std.specs.Prelude.{◌≡◌, ◌≢◌, ℕ, zero, suc, ◌+◌, ◌*◌, ◌<◌, ◌≤◌, ◌⊎◌, max, List, [], ◌∷◌, ◌++◌, length, Result}
 use Rattle.fc_frontier.specs.Queue.{Adds}
 use Rattle.fc_moves.specs.declared.steps.Move.{Move}
+use Rattle.fc_moves.specs.GameRules.{GameRules}
 use Rattle.fc_moves.specs.Run.{Wins}
+use Rattle.fc_position.specs.Board.{Board}
 use Rattle.fc_best_first.specs.Search.{Begins, FloorAfter, Turns}
 use Rattle.fc_best_first.specs.Store.{Store}
 use Rattle.fc_best_first.specs.declared.searches.SearchFault.{SearchFault}
@@ -11,12 +13,12 @@ use Rattle.fc_best_first.specs.declared.turns.Status.{Status}
 use Rattle.fc_best_first.specs.declared.turns.Status.TheVariants.{Running, Stopped}
 use Rattle.fc_answers.specs.declared.answers.Verdict.{Verdict}
 use Rattle.fc_search.specs.Problem.{Problem, task_of_problem}
-use Rattle.fc_search.specs.Search.{IsOfStatus}
+use Rattle.fc_search.specs.Search.{IsOfStatus, State}
 use Rattle.fc_search.specs.declared.listeners.Progress.{Progress}
 
-module _ {L : Type 0} where
+module _ {L E : Type 0} where
   -- a listener hears these, one after the other, and each does to it what hearing does
-  abbrev pub HearsAll : (L → Progress → L → Type 0) → L → List Progress → L → Type 0
+  abbrev pub HearsAll : (L → E → L → Type 0) → L → List E → L → Type 0
   HearsAll hears old [] new = new ≡ old
   HearsAll hears old (far ∷ later) new = (mid : L) × hears old far mid × HearsAll hears mid later new
 
@@ -26,6 +28,10 @@ pub record Stage : Type 0 where
   pub status : Status (List ℕ)
   pub floor : ℕ
   pub turns : ℕ
+
+-- where a search stands after so many turns
+abbrev pub stage_of : State → ℕ → Stage
+stage_of s turns = record { store = s.store; status = s.status; floor = s.floor; turns = turns }
 
 -- a search of the problem that has had no turn stands there
 pub record IsFirst (p : Problem) (stage : Stage) : Type 0 where
@@ -69,6 +75,14 @@ IsHeard p old most [] new = new ≡ old
 IsHeard p old most (far ∷ later) new = (mid : Stage) × (made : ℕ) × (1 ≤ made) × TurnsMany made p old mid
     × IsFar p mid far × (far.most_open ≡ max most far.open) × IsHeard p mid far.most_open later new
 
+-- a search of the problem began and stands there now; and this is what was heard of it, where it stands now last
+pub record IsHeardOn (p : Problem) (heard : List Progress) (s : State) : Type 0 where
+  pub first : Stage
+  pub turns : ℕ
+  pub begins : IsFirst p first
+  pub some : heard ≢ []
+  pub told : IsHeard p first 0 heard (stage_of s turns)
+
 -- a search of the problem began and ran to its end, from which it has this verdict; and this is what was heard of it, its
 -- end last
 pub record IsHeardToEnd (p : Problem) (heard : List Progress) (verdict : Verdict) : Type 0 where
@@ -100,3 +114,8 @@ pub record IsHeardInPart (p : Problem) (heard : List Progress) : Type 0 where
 -- nothing was heard, or this of a search of the problem
 abbrev pub IsHeardAtMost : Problem → List Progress → Type 0
 IsHeardAtMost p heard = (heard ≡ []) ⊎ IsHeardInPart p heard
+
+-- each tells a number of moves that no list that wins from the board is shorter than
+abbrev pub TellFloors : GameRules → Board → List Progress → Type 0
+TellFloors g b [] = Unit {0}
+TellFloors g b (far ∷ heard) = ((moves : List Move) → Wins g b moves → far.at_least ≤ length moves) × TellFloors g b heard

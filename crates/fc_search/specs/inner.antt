@@ -2,4 +2,3 @@
 pub mod Search
 pub mod Stored
 pub mod Walk
-pub mod Watch

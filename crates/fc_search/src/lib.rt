@@ -14,7 +14,7 @@ pub use fc_methods::{
 pub use fc_space::{Children, ClassRules, Positions};
 pub use listeners::{Listener, Progress, Unheard};
 pub use searches::Search;
-pub use solving::{decide_by, solve, solve_by};
+pub use solving::{decide_by, ended_below, solve, solve_by};
 
 mod listeners;
 mod progress;

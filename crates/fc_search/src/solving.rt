@@ -5,10 +5,9 @@ ghost use Rattle.fc_position.specs.Position.{Fits};
 ghost use Rattle.fc_best_first.specs.Limits.{IsBudget};
 ghost use Rattle.fc_best_first.specs.Search.{reply_of};
 ghost use Rattle.fc_search.specs.declared.listeners.Progress.{Progress};
-ghost use Rattle.fc_search.specs.Problem.{problem_of, shortest_from};
+ghost use Rattle.fc_search.specs.Problem.{problem_below, problem_of, shortest_from};
 ghost use Rattle.fc_search.specs.Search.{Answers, IsOfStatus, IsOneOfThree, IsRefused, IsVerdict, IsRunToEnd, HasRun};
-ghost use Rattle.fc_search.specs.Watch.{HearsAll, IsHeardAtMost, IsHeardToEnd};
-ghost use Rattle.fc_search.specs.inner.Watch.{IsHeardOn};
+ghost use Rattle.fc_search.specs.Watch.{HearsAll, IsHeardAtMost, IsHeardToEnd, IsHeardOn};
 
 use crate::listeners::{Listener, Unheard};
 use crate::searches::{Search, shortest};
@@ -91,6 +90,31 @@ pub fn decide_by<G: Game + Drop, L: Listener>(
     decide_with::<EitherFrontier, G, L>(alloc, question, position, listener)
 }
 
+/// A search of a question for a position that fits its game, which wants no list of so many moves as the limit, if there is one,
+/// as `Search::below` makes it, and which has run to its end. It is heard as that of `solve_by` is.
+///
+/// # Errors
+/// A growth was refused.
+pub fn ended_below<F: Frontier + Drop, G: Game + Drop, L: Listener>(
+    alloc: Global,
+    question: &Question<G>,
+    position: &Position,
+    limit: Option<u32>,
+    listener: &mut L,
+) -> Result<Search<F, G>, AllocError>
+    requires fits { Fits question.now.game.cells position.now }
+    ensures problem { IfOk result (λ search. search.problem ≡ problem_below question.now position.now limit) }
+    ensures ran { IfOk result (λ search. HasRun (problem_below question.now position.now limit) search.store search.status) }
+    ensures done { IfOk result (λ search. reply_of search.status ≡ Ok Step.Done) }
+    ensures heard { (heard : List Progress) × HearsAll L.hears listener.old heard listener.new
+        × MatchResult result (IsHeardOn (problem_below question.now position.now limit) heard)
+        (λ refused. IsHeardAtMost (problem_below question.now position.now limit) heard) }
+{
+    let mut search = Search::below(alloc, question, position, limit)?;
+    watch(&mut search, listener)?;
+    Ok(search)
+}
+
 // The answer, as `solve_by` gives it, of a search with a queue of any kind: where a search is dropped, the prover looks at each
 // part of a queue of one kind.
 fn solve_with<F: Frontier + Drop, G: Game + Drop, L: Listener>(
@@ -106,7 +130,7 @@ fn solve_with<F: Frontier + Drop, G: Game + Drop, L: Listener>(
         × MatchResult result (λ answer. IsHeardToEnd (problem_of question.now position.now) heard answer.verdict)
         (λ refused. IsHeardAtMost (problem_of question.now position.now) heard) }
 {
-    let search: Search<F, G> = at_end(alloc, question, position, listener)?;
+    let search: Search<F, G> = ended_below(alloc, question, position, None, listener)?;
     answer_of(&search)
 }
 
@@ -137,7 +161,7 @@ fn decide_with<F: Frontier + Drop, G: Game + Drop, L: Listener>(
         × MatchResult result (IsHeardToEnd (problem_of question.now position.now) heard)
         (λ refused. IsHeardAtMost (problem_of question.now position.now) heard) }
 {
-    let search: Search<F, G> = at_end(alloc, question, position, listener)?;
+    let search: Search<F, G> = ended_below(alloc, question, position, None, listener)?;
     verdict_of(&search)
 }
 
@@ -152,24 +176,4 @@ fn verdict_of<F: Frontier + Drop, G: Game + Drop>(
         Ok(verdict) => Ok(verdict),
         Err(_) => Err(AllocError),
     }
-}
-
-// Such a search, which has run to its end.
-fn at_end<F: Frontier + Drop, G: Game + Drop, L: Listener>(
-    alloc: Global,
-    question: &Question<G>,
-    position: &Position,
-    listener: &mut L,
-) -> Result<Search<F, G>, AllocError>
-    requires fits { Fits question.now.game.cells position.now }
-    ensures problem { IfOk result (λ search. search.problem ≡ problem_of question.now position.now) }
-    ensures ran { IfOk result (λ search. HasRun (problem_of question.now position.now) search.store search.status) }
-    ensures done { IfOk result (λ search. reply_of search.status ≡ Ok Step.Done) }
-    ensures heard { (heard : List Progress) × HearsAll L.hears listener.old heard listener.new
-        × MatchResult result (IsHeardOn (problem_of question.now position.now) heard)
-        (λ refused. IsHeardAtMost (problem_of question.now position.now) heard) }
-{
-    let mut search = Search::new_by(alloc, question, position)?;
-    watch(&mut search, listener)?;
-    Ok(search)
 }

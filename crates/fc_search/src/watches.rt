@@ -8,8 +8,7 @@ ghost use Rattle.fc_best_first.specs.Search.{Begins, Runs, reply_of};
 ghost use Rattle.fc_best_first.specs.Turn.{work_left};
 ghost use Rattle.fc_search.specs.Problem.{task_of_problem};
 ghost use Rattle.fc_search.specs.declared.listeners.Progress.{Progress};
-ghost use Rattle.fc_search.specs.Watch.{HearsAll, IsHeardInPart, TurnsMany};
-ghost use Rattle.fc_search.specs.inner.Watch.{IsHeardOn, stage_of};
+ghost use Rattle.fc_search.specs.Watch.{HearsAll, IsHeardInPart, TurnsMany, IsHeardOn, stage_of};
 
 use crate::listeners::{Listener, Progress};
 use crate::searches::Search;

@@ -1,7 +1,7 @@
 use Rattle.std.proofs.Common.{◌≡◌, rules, subst}
 use Rattle.fc_deal.specs.Deal.{dealt_board}
 use Rattle.fc_search.specs.Problem.{problem_of}
-use Rattle.fc_search.specs.inner.Watch.{TellFloors}
+use Rattle.fc_search.specs.Watch.{TellFloors}
 use Rattle.fc_search.proofs.EndLemmas.{at_most_floors, end_at_most}
 use Rattle.fc_deal.proofs.DealLemmas.{dealt_fits}
 use Rattle.fc_runs.proofs.tabling.told_of.Goals as goal

@@ -7,8 +7,7 @@ use Rattle.fc_best_first.specs.Search.{FloorAfter, Turns}
 use Rattle.fc_best_first.specs.Turn.{work_left}
 use Rattle.fc_search.specs.Problem.{Problem, task_of_problem}
 use Rattle.fc_search.specs.Search.{State}
-use Rattle.fc_search.specs.Watch.{TurnsMany}
-use Rattle.fc_search.specs.inner.Watch.{stage_of}
+use Rattle.fc_search.specs.Watch.{TurnsMany, stage_of}
 use Rattle.fc_search.proofs.TurnLemmas.{one_turn, replies_running, turn_replies, turns_more}
 use Rattle.fc_search.proofs.watches.run_on.Goals as goal
 

@@ -1,8 +1,7 @@
 use Rattle.std.proofs.Common.{◌≡◌, ℕ, ◌+◌, ◌≤◌}
 use Rattle.fc_best_first.specs.declared.turns.Status.TheVariants.{Running}
 use Rattle.fc_best_first.specs.Turn.{work_left}
-use Rattle.fc_search.specs.Watch.{TurnsMany}
-use Rattle.fc_search.specs.inner.Watch.{stage_of}
+use Rattle.fc_search.specs.Watch.{TurnsMany, stage_of}
 use Rattle.fc_search.proofs.watches.run_on.Given as goal
 
 abbrev pub invariant-loop-made : goal.invariant-loop-made

@@ -11,7 +11,7 @@ use Rattle.fc_classes.specs.Namings.{by_codes}
 use Rattle.fc_classes.proofs.TableLemmas.{lawful}
 use Rattle.fc_search.specs.Problem.{Problem, task_of_problem}
 use Rattle.fc_search.specs.declared.listeners.Progress.{Progress}
-use Rattle.fc_search.specs.inner.Watch.{stage_of}
+use Rattle.fc_search.specs.Watch.{stage_of}
 use Rattle.fc_search.proofs.FarLemmas.{heard_stopped, heard_then, heard_to, is_first, tells_floor, turned_on}
 use Rattle.fc_search.proofs.HearLemmas.{hears_on, most_of-append, most_of-none, stopped_runs}
 use Rattle.fc_search.proofs.TurnLemmas.{begun_work, ended_stopped, replies_going, replies_running}

@@ -2,8 +2,7 @@ use Rattle.std.proofs.Common.{◌≡◌, ◌+◌, ◌≤◌, List}
 use Rattle.fc_best_first.specs.declared.turns.Status.TheVariants.{Running}
 use Rattle.fc_best_first.specs.Turn.{work_left}
 use Rattle.fc_search.specs.declared.listeners.Progress.{Progress}
-use Rattle.fc_search.specs.Watch.{HearsAll, IsHeard}
-use Rattle.fc_search.specs.inner.Watch.{stage_of}
+use Rattle.fc_search.specs.Watch.{HearsAll, IsHeard, stage_of}
 use Rattle.fc_search.proofs.HearLemmas.{most_of}
 use Rattle.fc_search.proofs.watches.watch.Given as goal
 

@@ -3,9 +3,8 @@ use Rattle.std.proofs.lemmas.Result.{err_from_is_err_and}
 use Rattle.fc_best_first.specs.declared.turns.Status.TheVariants.{Running}
 use Rattle.fc_best_first.specs.Search.{Begins, Runs}
 use Rattle.fc_search.specs.Problem.{task_of_problem}
-use Rattle.fc_search.specs.Watch.{IsHeardInPart}
-use Rattle.fc_search.specs.inner.Watch.{IsHeardOn}
-use Rattle.fc_search.proofs.solving.at_end.Goals as goal
+use Rattle.fc_search.specs.Watch.{IsHeardInPart, IsHeardOn}
+use Rattle.fc_search.proofs.solving.ended_below.Goals as goal
 
 pub returns-clause-ran : goal.returns-clause-ran
 returns-clause-ran g c =
