@@ -1,2 +1,4 @@
 pub mod AttemptLemmas
+pub mod HearLemmas
+pub mod RelayLemmas
 pub mod StandingLemmas

@@ -5,16 +5,19 @@ use Rattle.std.proofs.lemmas.List.Elements.{All-nil, All-cons}
 use Rattle.std.proofs.lemmas.List.Sums.{sum_by-cons}
 use Rattle.fc_position.specs.Board.{Board}
 use Rattle.fc_moves.specs.declared.steps.Move.{Move}
-use Rattle.fc_moves.specs.Run.{ReachesMore}
+use Rattle.fc_moves.specs.GameRules.{GameRules}
+use Rattle.fc_moves.specs.Run.{CannotWin, ReachesMore}
 use Rattle.fc_answers.specs.Table.{Listing}
 use Rattle.fc_best_first.specs.Limits.{Ratio}
 use Rattle.fc_methods.specs.Method.{Asked}
 use Rattle.fc_best.specs.declared.attempts.Attempt.{Attempt}
+use Rattle.fc_best.specs.declared.listeners.BestProgress.{BestProgress}
 use Rattle.fc_best.specs.declared.standings.Shown.{Shown}
 use Rattle.fc_best.specs.declared.standings.Standing.{Standing}
-use Rattle.fc_best.specs.Best.{Ended, HasGivenUp, HaveGivenUp, IsOfQuestion}
+use Rattle.fc_best.specs.Best.{Ended, HasGivenUp, HaveGivenUp, IsFloor, IsOfQuestion}
 use Rattle.fc_best.specs.inner.Attempt.{IsAttempt, IsGivenUp, IsGoodList, IsShown, IsTableOf}
 use Rattle.fc_best.specs.inner.Standing.{AllGaveUp, IsEnd, ShowsNone, Stands, end_of, greater, limit_of, newest, with_share}
+use Rattle.fc_best.specs.inner.Watch.{IsAfter, IsFurther, floor_shown}
 
 -- the first of a list is one of it, and so is one of the rest
 first_of : {X : Type 0} (x : X) (xs : List X) → Contains (x ∷ xs) x
@@ -107,7 +110,15 @@ given_so : (q : Asked) (b : Board) (ended : Ended) (share : ℕ) (told : Option 
 given_so q b ended share None all h = tt
 given_so q b ended share (Some told) all h = (h.0, let few = h.1 in omega (arith, few, all))
 
-pub after_stands : (q : Asked) (b : Board) (weight : Ratio) (share : ℕ) (old : Standing) (attempt : Attempt) → Stands q b old
+-- a number that no list that wins is below, or what is shown, whichever is greater
+floor_after : (g : GameRules) (b : Board) (before new : ℕ) (shown : Option ℕ) → new ≡ max before (floor_shown shown) → IsFloor g b before
+    → IsShown g b shown → IsFloor g b new
+floor_after g b before new None is floor shown moves wins = let least = floor moves wins in omega (arith, is, least)
+floor_after g b before new (Some most) is floor shown moves wins =
+    let least = floor moves wins in let more = shown moves wins in omega (arith, is, least, more)
+
+pub after_stands : (q : Asked) (b : Board) (weight : Ratio) (share : ℕ) (old : Standing) (attempt : Attempt) (last new : BestProgress)
+    → Stands q b old → IsFurther q.game b old.far last → IsAfter last attempt.shown (limit_of (newest attempt.list old.list)) new
     → old.shown ≡ None → share ≤ old.left → attempt.stored ≤ old.left → IsAttempt (with_share q weight share) b (limit_of old.list) attempt
     → (IsTrue old.has_table → IsTrue attempt.is_settled → IsSome attempt.table)
     → Stands q b (record {
@@ -116,8 +127,9 @@ pub after_stands : (q : Asked) (b : Board) (weight : Ratio) (share : ℕ) (old :
       left = old.left - attempt.stored;
       given_up = greater old.given_up attempt.given_up;
       has_table = old.has_table;
+      far = new;
     })
-after_stands q b weight share old attempt (searches, was) unshown within room is made = (
+after_stands q b weight share old attempt last new (searches, was) further after unshown within room is made = (
   is.ended ∷ searches,
   record {
     asked = All-cons (IsOfQuestion q b) is.ended searches
@@ -131,15 +143,48 @@ after_stands q b weight share old attempt (searches, was) unshown within room is
         (given_so q b is.ended share attempt.given_up (let all = was.spent in omega (arith, all, within)) is.given_up)
         (λ kept. let said = is.none both.0 kept in (said.0 ∙ ap limit_of both.1, said.1));
     tabled = λ wanted. end_tabled attempt.is_settled attempt.shown attempt.table (made wanted);
+    told = record {
+      budget = after.budget ∙ further.budget ∙ was.told.budget;
+      least = floor_after q.game b last.at_least new.at_least attempt.shown after.at_least (further.least was.told.least) is.shown;
+      shortest = after.shortest;
+    };
   },
 )
 
 -- the same, of what is made so
 pub stands_after : (q : Asked) (b : Board) (list : Option (List Move)) (shown : Option Shown) (left : ℕ) (given_up : Option ℕ) (has_table : Bool)
-    (made : Option (List Move)) (settled : Option Shown) (most : Option ℕ) → list ≡ made → shown ≡ settled → given_up ≡ most
-    → Stands q b (record { list = made; shown = settled; left = left; given_up = most; has_table = has_table })
-    → Stands q b (record { list = list; shown = shown; left = left; given_up = given_up; has_table = has_table })
-stands_after q b list shown left given_up has_table made settled most same ended gave stands =
-    subst (λ l. Stands q b (record { list = l; shown = shown; left = left; given_up = given_up; has_table = has_table })) (sym same)
-    (subst (λ e. Stands q b (record { list = made; shown = e; left = left; given_up = given_up; has_table = has_table })) (sym ended)
-    (subst (λ g. Stands q b (record { list = made; shown = settled; left = left; given_up = g; has_table = has_table })) (sym gave) stands))
+    (far : BestProgress) (made : Option (List Move)) (settled : Option Shown) (most : Option ℕ) → list ≡ made → shown ≡ settled → given_up ≡ most
+    → Stands q b (record { list = made; shown = settled; left = left; given_up = most; has_table = has_table; far = far })
+    → Stands q b (record { list = list; shown = shown; left = left; given_up = given_up; has_table = has_table; far = far })
+stands_after q b list shown left given_up has_table far made settled most same ended gave stands =
+    subst (λ l. Stands q b (record { list = l; shown = shown; left = left; given_up = given_up; has_table = has_table; far = far })) (sym same)
+    (subst (λ e. Stands q b (record { list = made; shown = e; left = left; given_up = given_up; has_table = has_table; far = far })) (sym ended)
+    (subst (λ g. Stands q b (record { list = made; shown = settled; left = left; given_up = g; has_table = has_table; far = far })) (sym gave) stands))
+
+-- no list is told where it is shown that none wins
+none_listed : (g : GameRules) (b : Board) (list : Option (List Move)) (told : Option ℕ) → IfSome list (IsGoodList g b) → CannotWin g b
+    → told ≡ limit_of list → told ≡ None
+none_listed g b None told good none same = same
+none_listed g b (Some moves) told good none same = absurd (none moves good.wins)
+
+no_number : (o : Option ℕ) → ((n : ℕ) → o ≡ Some n → ⊥) → o ≡ None
+no_number None is = refl
+no_number (Some n) is = absurd (is n refl)
+
+pub none_told : (q : Asked) (b : Board) (s : Standing) (end : Shown) → Stands q b s → s.shown ≡ Some end
+    → ((n : ℕ) → end.floor ≡ Some n → ⊥) → s.far.shortest ≡ None
+none_told q b s end (searches, is) same none =
+    let so : IsEnd q b end = subst (λ o. IfSome o (IsEnd q b)) same is.shown in
+    none_listed q.game b s.list s.far.shortest is.list (subst (IsShown q.game b) (no_number end.floor none) so.0) is.told.shortest
+
+-- one more search of the question, by a share of the budget
+pub searched_stands : (q asked : Asked) (b : Board) (weight : Ratio) (share : ℕ) (limit : Option ℕ) (old new : Standing) (attempt : Attempt)
+    (far : BestProgress)
+    → ((q : Asked) (b : Board) (weight : Ratio) (share : ℕ) → Stands q b old → share ≤ old.left
+    → IsAttempt (with_share q weight share) b (limit_of old.list) attempt → IsFurther q.game b old.far far → Stands q b new)
+    → Stands q b old → share ≤ old.left → asked ≡ with_share q weight share → limit ≡ limit_of old.list
+    → IsAttempt asked b limit attempt → IsFurther asked.game b old.far far → Stands q b new
+searched_stands q asked b weight share limit old new attempt far after stands within same told is further =
+    after q b weight share stands within
+    (subst (λ l. IsAttempt (with_share q weight share) b l attempt) told (subst (λ a. IsAttempt a b limit attempt) same is))
+    (subst (λ a. IsFurther a.game b old.far far) same further)

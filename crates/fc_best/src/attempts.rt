@@ -2,12 +2,14 @@
 
 ghost use Rattle.fc_position.specs.Board.{Board};
 ghost use Rattle.fc_position.specs.Position.{Fits};
-ghost use Rattle.std.specs.Prelude.{◌≡◌, ℕ, Option, None, IfOk, IfSome, IsSome, IsTrue};
+ghost use Rattle.std.specs.Prelude.{◌≡◌, ℕ, List, Option, None, IfOk, IfSome, IsSome, IsTrue};
 ghost use Rattle.fc_best_first.specs.Search.{reply_of};
 ghost use Rattle.fc_methods.specs.Method.{Asked};
 ghost use Rattle.fc_search.specs.Problem.{problem_below};
 ghost use Rattle.fc_search.specs.Search.{HasRun};
 ghost use Rattle.fc_search.specs.Shown.{BacksShown, HasShown};
+ghost use Rattle.fc_search.specs.Watch.{HearsAll, TellFloors};
+ghost use Rattle.fc_search.specs.declared.listeners.Progress.{Progress};
 ghost use Rattle.fc_best.specs.inner.Attempt.{IsAttempt};
 
 use fc_answers::{MoveList, Table};
@@ -16,7 +18,7 @@ use fc_frontier::{EitherFrontier, Frontier};
 use fc_methods::Question;
 use fc_moves::Game;
 use fc_position::Position;
-use fc_search::Search;
+use fc_search::{Listener, Progress, Search, ended_below};
 use std::alloc::{AllocError, Global};
 
 // What one search, which ran to its end, has found and shown.
@@ -36,61 +38,53 @@ pub(crate) struct Attempt {
     pub(crate) given_up: Option<u32>,
 }
 
+// What a search is to look for.
+#[derive(Clone, Copy)]
+pub(crate) struct Aim {
+    // A list of fewer moves than this, if it is told.
+    pub(crate) limit: Option<u32>,
+    // Whether it is the last search, which settles the question.
+    pub(crate) is_last: bool,
+    // Whether a table is to be made of what settles the question.
+    pub(crate) has_table: bool,
+}
+
 impl Attempt {
     // Searches a question for a list of fewer moves than the limit, if there is one. After the last search the question is settled,
     // and after one that left nothing open, or whose list is as short as any can be; then a table is made, if it is wanted.
-    pub(crate) fn below<G: Game + Drop>(
+    pub(crate) fn below<G: Game + Drop, L: Listener>(
         alloc: Global,
         question: &Question<G>,
         position: &Position,
-        limit: Option<u32>,
-        is_last: bool,
-        has_table: bool,
+        aim: Aim,
+        listener: &mut L,
     ) -> Result<Self, AllocError>
         requires fits { Fits question.now.game.cells position.now }
-        ensures right { IfOk result (IsAttempt question.now position.now limit) }
-        ensures last { IsTrue is_last → IfOk result (λ attempt. IsTrue attempt.is_settled) }
-        ensures tabled { IsTrue has_table → IfOk result (λ attempt. IsTrue attempt.is_settled → IsSome attempt.table) }
+        ensures right { IfOk result (IsAttempt question.now position.now aim.limit) }
+        ensures last { IsTrue aim.is_last → IfOk result (λ attempt. IsTrue attempt.is_settled) }
+        ensures tabled { IsTrue aim.has_table → IfOk result (λ attempt. IsTrue attempt.is_settled → IsSome attempt.table) }
+        ensures heard { (heard : List Progress) × HearsAll L.hears listener.old heard listener.new × TellFloors question.now.game position.now heard }
     {
-        below_with::<EitherFrontier, G>(alloc, question, position, limit, is_last, has_table)
+        below_with::<EitherFrontier, G, L>(alloc, question, position, aim, listener)
     }
 }
 
 // The same by a queue of any kind: where a search is dropped, the prover looks at each part of a queue of one kind.
-fn below_with<F: Frontier + Drop, G: Game + Drop>(
+fn below_with<F: Frontier + Drop, G: Game + Drop, L: Listener>(
     alloc: Global,
     question: &Question<G>,
     position: &Position,
-    limit: Option<u32>,
-    is_last: bool,
-    has_table: bool,
+    aim: Aim,
+    listener: &mut L,
 ) -> Result<Attempt, AllocError>
     requires fits { Fits question.now.game.cells position.now }
-    ensures right { IfOk result (IsAttempt question.now position.now limit) }
-    ensures last { IsTrue is_last → IfOk result (λ attempt. IsTrue attempt.is_settled) }
-    ensures tabled { IsTrue has_table → IfOk result (λ attempt. IsTrue attempt.is_settled → IsSome attempt.table) }
+    ensures right { IfOk result (IsAttempt question.now position.now aim.limit) }
+    ensures last { IsTrue aim.is_last → IfOk result (λ attempt. IsTrue attempt.is_settled) }
+    ensures tabled { IsTrue aim.has_table → IfOk result (λ attempt. IsTrue attempt.is_settled → IsSome attempt.table) }
+    ensures heard { (heard : List Progress) × HearsAll L.hears listener.old heard listener.new × TellFloors question.now.game position.now heard }
 {
-    let search: Search<F, G> = run_below(alloc, question, position, limit)?;
-    attempt_of(&search, is_last, has_table)
-}
-
-// A search of a question below a limit, if there is one, which ran to its end.
-fn run_below<F: Frontier + Drop, G: Game + Drop>(
-    alloc: Global,
-    question: &Question<G>,
-    position: &Position,
-    limit: Option<u32>,
-) -> Result<Search<F, G>, AllocError>
-    requires fits { Fits question.now.game.cells position.now }
-    ensures problem { IfOk result (λ search. search.problem ≡ problem_below question.now position.now limit) }
-    ensures ran { IfOk result (λ search. HasRun (problem_below question.now position.now limit) search.store search.status) }
-    ensures done { IfOk result (λ search. reply_of search.status ≡ Ok Step.Done) }
-{
-    let mut search = Search::below(alloc, question, position, limit)?;
-    match search.run() {
-        Ok(()) => Ok(search),
-        Err(_) => Err(AllocError),
-    }
+    let search: Search<F, G> = ended_below(alloc, question, position, aim.limit, listener)?;
+    attempt_of(&search, aim.is_last, aim.has_table)
 }
 
 // What a search that ran to its end has found and shown.

@@ -2,8 +2,12 @@
 //! told how long the best list so far is; the last raises the floor.
 #![tactic(auto)]
 
+pub use fc_search::Unheard;
+pub use listeners::{BestListener, BestProgress};
 pub use schedule::best;
 
 mod attempts;
+mod listeners;
+mod relays;
 mod schedule;
 mod standings;

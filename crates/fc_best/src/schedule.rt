@@ -4,7 +4,9 @@ ghost use Rattle.fc_position.specs.Position.{Fits};
 ghost use Rattle.std.specs.Prelude.{IfOk, IsTrue};
 ghost use Rattle.fc_answers.specs.Answer.{IsBacked};
 ghost use Rattle.fc_best.specs.Best.{IsBestAnswer};
+ghost use Rattle.fc_best.specs.Watch.{HearsTold, HearsToEnd};
 
+use crate::listeners::BestListener;
 use crate::standings::Standing;
 use fc_answers::Answer;
 use fc_methods::{Question, Weight};
@@ -26,26 +28,31 @@ const FOURTH_TENTHS: u8 = 13;
 /// below, a shortest list where they meet, that none wins, or, where no list was found, that the searches gave up. They go by the
 /// question's home rule, bound and expansion and by falling weights, whatever its own weight is: each with what the ones before left
 /// of the budget and for a list shorter than the best so far; the last, with a fifth of the budget at least, by weight 1. Only where
-/// it is wanted a table is made, which backs the answer.
+/// it is wanted a table is made, which backs the answer. The listener hears how far the searches are as that of `solve_by` does, and
+/// once more when they have ended: then of the list that is answered.
 ///
 /// # Errors
 /// A growth was refused.
-pub fn best<G: Game + Drop>(
+pub fn best<G: Game + Drop, L: BestListener>(
     alloc: Global,
     question: &Question<G>,
     position: &Position,
     has_table: bool,
+    listener: &mut L,
 ) -> Result<Answer, AllocError>
     requires fits { Fits question.now.game.cells position.now }
     ensures best { IfOk result (IsBestAnswer question.now position.now) }
     ensures backed { IsTrue has_table → IfOk result (IsBacked question.now.game position.now) }
+    ensures heard { HearsTold L.hears question.now position.now listener.old listener.new }
+    ensures ended { IfOk result (λ answer. HearsToEnd L.hears question.now position.now answer.verdict listener.old listener.new) }
 {
     let standing = Standing::new(question.method().strategy.budget, has_table);
-    let standing = standing.weighed(alloc, question, position, tenths(FIRST_TENTHS))?;
-    let standing = standing.weighed(alloc, question, position, tenths(SECOND_TENTHS))?;
-    let standing = standing.weighed(alloc, question, position, tenths(THIRD_TENTHS))?;
-    let standing = standing.weighed(alloc, question, position, tenths(FOURTH_TENTHS))?;
-    let standing = standing.last(alloc, question, position)?;
+    let standing = standing.weighed(alloc, question, position, tenths(FIRST_TENTHS), listener)?;
+    let standing = standing.weighed(alloc, question, position, tenths(SECOND_TENTHS), listener)?;
+    let standing = standing.weighed(alloc, question, position, tenths(THIRD_TENTHS), listener)?;
+    let standing = standing.weighed(alloc, question, position, tenths(FOURTH_TENTHS), listener)?;
+    let standing = standing.last(alloc, question, position, listener)?;
+    listener.hear(standing.far);
     Ok(standing.into_answer())
 }
 

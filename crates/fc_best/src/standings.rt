@@ -8,10 +8,14 @@ ghost use Rattle.fc_answers.specs.declared.answers.TheConstants.{MOST_MOVES};
 ghost use Rattle.fc_best_first.specs.Limits.{Ratio};
 ghost use Rattle.fc_methods.specs.Method.{Asked};
 ghost use Rattle.fc_best.specs.Best.{IsBestAnswer};
+ghost use Rattle.fc_best.specs.Watch.{HearsTold, moves_told};
 ghost use Rattle.fc_best.specs.inner.Attempt.{IsAttempt};
 ghost use Rattle.fc_best.specs.inner.Standing.{end_of, greater, limit_of, newest, with_share, Stands};
+ghost use Rattle.fc_best.specs.inner.Watch.{IsFurther};
 
-use crate::attempts::Attempt;
+use crate::attempts::{Aim, Attempt};
+use crate::listeners::{BestListener, BestProgress};
+use crate::relays::attempt_after;
 use fc_answers::{Answer, MoveList, Table, Verdict};
 use fc_methods::{Budget, Method, Question, Strategy, Weight};
 use fc_moves::Game;
@@ -43,6 +47,19 @@ pub(crate) struct Standing {
     pub(crate) given_up: Option<u32>,
     // Whether a table is to be made of what settles the question.
     pub(crate) has_table: bool,
+    // How far they are.
+    pub(crate) far: BestProgress,
+}
+
+// How one more search goes.
+#[derive(Clone, Copy)]
+pub(crate) struct Plan {
+    // How often its bound counts.
+    pub(crate) weight: Weight,
+    // How many classes it may store.
+    pub(crate) budget: Budget,
+    // Whether it is the last one, which settles the question.
+    pub(crate) is_last: bool,
 }
 
 impl Standing {
@@ -58,16 +75,18 @@ impl Standing {
             left: budget.get(),
             given_up: None,
             has_table,
+            far: BestProgress::new(budget.get()),
         }
     }
 
     // After a search by this weight, unless the question is settled or all that is left is for the last search.
-    pub(crate) fn weighed<G: Game + Drop>(
+    pub(crate) fn weighed<G: Game + Drop, L: BestListener>(
         self,
         alloc: Global,
         question: &Question<G>,
         position: &Position,
         weight: Weight,
+        listener: &mut L,
     ) -> Result<Self, AllocError>
         requires fits { Fits question.now.game.cells position.now }
         requires stands { Stands question.now position.now self }
@@ -75,6 +94,7 @@ impl Standing {
         ensures stands { IfOk result (Stands question.now position.now) }
         ensures left { IfOk result (λ standing. 1 ≤ standing.left) }
         ensures has_table { IfOk result (λ standing. standing.has_table ≡ self.has_table) }
+        ensures heard { HearsTold L.hears question.now position.now listener.old listener.new }
     {
         let share = self.share(question.method().strategy.budget);
         if self.shown.is_some() {
@@ -83,17 +103,21 @@ impl Standing {
         let Some(budget) = Budget::new(share) else {
             return Ok(self);
         };
-        let asked = asked_with(question, weight, budget);
-        let attempt = Attempt::below(alloc, &asked, position, self.limit(), false, self.has_table)?;
-        Ok(self.after(attempt))
+        let plan = Plan {
+            weight,
+            budget,
+            is_last: false,
+        };
+        self.searched(alloc, question, position, plan, listener)
     }
 
     // After the last search, by weight 1 with all that is left, unless the question is settled.
-    pub(crate) fn last<G: Game + Drop>(
+    pub(crate) fn last<G: Game + Drop, L: BestListener>(
         self,
         alloc: Global,
         question: &Question<G>,
         position: &Position,
+        listener: &mut L,
     ) -> Result<Self, AllocError>
         requires fits { Fits question.now.game.cells position.now }
         requires stands { Stands question.now position.now self }
@@ -101,15 +125,45 @@ impl Standing {
         ensures stands { IfOk result (Stands question.now position.now) }
         ensures shown { IfOk result (λ standing. IsSome standing.shown) }
         ensures has_table { IfOk result (λ standing. standing.has_table ≡ self.has_table) }
+        ensures heard { HearsTold L.hears question.now position.now listener.old listener.new }
     {
         if self.shown.is_some() {
             return Ok(self);
         }
         let _ = question.method().strategy.budget.get();
         let budget = Budget::new(self.left).unwrap();
-        let asked = asked_with(question, Weight::ONE, budget);
-        let attempt = Attempt::below(alloc, &asked, position, self.limit(), true, self.has_table)?;
-        Ok(self.after(attempt))
+        let plan = Plan {
+            weight: Weight::ONE,
+            budget,
+            is_last: true,
+        };
+        self.searched(alloc, question, position, plan, listener)
+    }
+
+    // After a search by this plan for a shorter list, while the question isn't settled.
+    fn searched<G: Game + Drop, L: BestListener>(
+        self,
+        alloc: Global,
+        question: &Question<G>,
+        position: &Position,
+        plan: Plan,
+        listener: &mut L,
+    ) -> Result<Self, AllocError>
+        requires fits { Fits question.now.game.cells position.now }
+        requires stands { Stands question.now position.now self }
+        requires open { self.shown ≡ None }
+        requires room { plan.budget ≤ self.left }
+        ensures stands { IfOk result (Stands question.now position.now) }
+        ensures left { IfOk result (λ standing. self.left ≤ standing.left + plan.budget) }
+        ensures shown { IsTrue plan.is_last → IfOk result (λ standing. IsSome standing.shown) }
+        ensures has_table { IfOk result (λ standing. standing.has_table ≡ self.has_table) }
+        ensures heard { HearsTold L.hears question.now position.now listener.old listener.new }
+    {
+        let Plan { is_last, .. } = plan;
+        let asked = asked_with(question, plan);
+        let aim = self.aim(is_last);
+        let (attempt, far) = attempt_after(alloc, &asked, position, aim, self.far, listener)?;
+        Ok(self.after(attempt, far))
     }
 
     // How many classes a search that isn't the last may store.
@@ -120,24 +174,29 @@ impl Standing {
         self.left.saturating_sub(last)
     }
 
-    // The number of moves from which on lists aren't wanted any more.
-    fn limit(&self) -> Option<u32>
+    // What the next search is to look for: a shorter list.
+    fn aim(&self, is_last: bool) -> Aim
         requires few { IfSome self.now.list (λ moves. length moves ≤ MOST_MOVES) }
-        ensures value { result ≡ limit_of self.now.list }
+        ensures limit { result.limit ≡ limit_of self.now.list }
+        ensures is_last { result.is_last ≡ is_last }
+        ensures has_table { result.has_table ≡ self.now.has_table }
     {
-        match &self.list {
-            Some(list) => Some(list.len() as u32),
-            None => None,
+        Aim {
+            limit: limit_of(&self.list),
+            is_last,
+            has_table: self.has_table,
         }
     }
 
     // After a search by a weight and a share of what was left, which found and showed this.
-    fn after(self, attempt: Attempt) -> Self
+    fn after(self, attempt: Attempt, far: BestProgress) -> Self
         requires open { self.shown ≡ None }
+        requires few { IfSome self.list (λ moves. length moves ≤ MOST_MOVES) }
+        requires few_found { IfSome attempt.list (λ moves. length moves ≤ MOST_MOVES) }
         requires room { attempt.stored ≤ self.left }
         requires tabled { IsTrue self.has_table → IsTrue attempt.is_settled → IsSome attempt.table }
         ensures stands { (q : Asked) (b : Board) (weight : Ratio) (share : ℕ) → Stands q b self → share ≤ self.left
-            → IsAttempt (with_share q weight share) b (limit_of self.list) attempt → Stands q b result }
+            → IsAttempt (with_share q weight share) b (limit_of self.list) attempt → IsFurther q.game b self.far far → Stands q b result }
         ensures left { result.left + attempt.stored ≡ self.left }
         ensures shown { IsTrue attempt.is_settled → IsSome result.shown }
         ensures has_table { result.has_table ≡ self.has_table }
@@ -157,12 +216,15 @@ impl Standing {
             stored,
             given_up,
         } = attempt;
+        let list = newest(list, best);
+        let far = far.after(shown, limit_of(&list));
         Standing {
-            list: newest(list, best),
+            list,
             shown: end_of(is_settled, shown, table),
             left: left - stored,
             given_up: greater(most, given_up),
             has_table,
+            far,
         }
     }
 
@@ -171,6 +233,7 @@ impl Standing {
         requires shown { IsSome self.shown }
         ensures best { (q : Asked) (b : Board) → Stands q b self → IsBestAnswer q b result }
         ensures backed { (q : Asked) (b : Board) → Stands q b self → IsTrue self.has_table → IsBacked q.game b result }
+        ensures listed { (q : Asked) (b : Board) → Stands q b self → self.far.shortest ≡ moves_told result.verdict }
     {
         let Standing {
             list,
@@ -210,6 +273,17 @@ fn told(list: MoveList, floor: u32) -> Verdict
     }
 }
 
+// The number of moves from which on lists aren't wanted any more.
+fn limit_of(list: &Option<MoveList>) -> Option<u32>
+    requires few { IfSome list.now (λ moves. length moves ≤ MOST_MOVES) }
+    ensures value { result ≡ limit_of list.now }
+{
+    match list {
+        Some(list) => Some(list.len() as u32),
+        None => None,
+    }
+}
+
 // The new list, or the old one where there is no new one.
 fn newest(new: Option<MoveList>, old: Option<MoveList>) -> Option<MoveList>
     ensures value { result ≡ newest new old }
@@ -242,9 +316,9 @@ fn greater(one: Option<u32>, other: Option<u32>) -> Option<u32>
     }
 }
 
-// The question with another weight, and with a share of its budget.
-fn asked_with<G: Game + Drop>(question: &Question<G>, weight: Weight, share: Budget) -> Question<G>
-    ensures value { result ≡ with_share question.now weight share }
+// The question by a plan: with another weight, and with a share of its budget.
+fn asked_with<G: Game + Drop>(question: &Question<G>, plan: Plan) -> Question<G>
+    ensures value { result ≡ with_share question.now plan.weight plan.budget }
 {
     let Method {
         rule,
@@ -252,9 +326,9 @@ fn asked_with<G: Game + Drop>(question: &Question<G>, weight: Weight, share: Bud
         strategy,
     } = question.method();
     let strategy = Strategy {
-        weight,
+        weight: plan.weight,
         expansion: strategy.expansion,
-        budget: share,
+        budget: plan.budget,
     };
     Question::new(
         question.game(),

@@ -9,7 +9,7 @@ ghost use Rattle.fc_runs.specs.Besting.{IsBestBatched, IsBestBatchFault, IsBestL
 use crate::batches::deals_of;
 use fc_answer_text::{line_text, outcome_of, told_status};
 use fc_answers::Outcome;
-use fc_best::best;
+use fc_best::{Unheard, best};
 use fc_board_runs::{Output, ProgramFault};
 use fc_deal::deal;
 use fc_io::{Failed, Sink, write_all};
@@ -78,6 +78,6 @@ pub(crate) fn best_told<G: Game + Drop>(
     ensures told { IsBestLine question.now number result }
 {
     let position = deal(number).unwrap();
-    let answer = best(alloc, question, &position, false).ok()?;
+    let answer = best(alloc, question, &position, false, &mut Unheard).ok()?;
     Some(outcome_of(&answer.verdict))
 }

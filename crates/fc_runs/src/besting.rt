@@ -8,7 +8,7 @@ ghost use Rattle.fc_runs.specs.Besting.{IsBestAnswered, IsBestUnanswered};
 
 use crate::solving::write_certificate;
 use fc_answer_text::{verdict_status, verdict_text};
-use fc_best::best;
+use fc_best::{Unheard, best};
 use fc_board_runs::{Output, ProgramFault};
 use fc_io::{Sink, write_all};
 use fc_methods::Question;
@@ -56,7 +56,7 @@ fn tell_best<G: Game + Drop, K: Sink>(
     ensures answered { IfOk result (IsBestAnswered question.now start.now None (change K.held K.has_failed out.old out.new)) }
     ensures fault { IfErr result (IsBestUnanswered question.now start.now None (change K.held K.has_failed out.old out.new)) }
 {
-    let answer = best(alloc, question, start, false)?;
+    let answer = best(alloc, question, start, false, &mut Unheard)?;
     let text = verdict_text(alloc, &answer.verdict)?;
     match write_all(out, text.as_slice()) {
         Ok(()) => Ok(verdict_status(&answer.verdict)),
@@ -78,7 +78,7 @@ fn certify_best<G: Game + Drop, K: Sink, C: Sink>(
     ensures fault { IfErr result (IsBestUnanswered question.now start.now (Some (change C.held C.has_failed cert.old cert.new))
         (change K.held K.has_failed out.old out.new)) }
 {
-    let answer = best(alloc, question, start, true)?;
+    let answer = best(alloc, question, start, true, &mut Unheard)?;
     let text = verdict_text(alloc, &answer.verdict)?;
     let Ok(()) = write_certificate(question.game(), &answer, cert) else {
         return Err(ProgramFault::Write(Output::Cert));

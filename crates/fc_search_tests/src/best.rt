@@ -7,7 +7,7 @@ use crate::given::{bakers_game, board, dealt, expanded, free_cell, method, sure}
 use crate::plain::{self, Found};
 use crate::random::{Numbers, check_answer, random_board};
 use crate::shown::{check_table, check_wins};
-use fc_best::best;
+use fc_best::{Unheard, best};
 use fc_moves::{Game, Kings};
 use fc_position::Position;
 use fc_search::{BoundKind, Expansion, Question, Verdict};
@@ -29,7 +29,7 @@ fn check_best<G: Game + Drop>(
 )
     requires fits { Fits question.now.game.cells start.now }
 {
-    let answer = sure(rt, best(alloc, question, start, has_table));
+    let answer = sure(rt, best(alloc, question, start, has_table, &mut Unheard));
     check_answer(rt, &answer, found);
     if let Verdict::Shortest(list) = &answer.verdict {
         check_wins(rt, question.game(), start, list);
@@ -114,7 +114,7 @@ fn told(rt: &impl Abort, alloc: Global, number: u32, classes: u32) -> Verdict {
     let game = free_cell(rt, 4);
     let start = dealt(rt, &game, number);
     let question = Question::new(&game, method(rt, 2, 10, BoundKind::Clearing, classes));
-    let answer = sure(rt, best(alloc, &question, &start, false));
+    let answer = sure(rt, best(alloc, &question, &start, false, &mut Unheard));
     if let Verdict::Shortest(moves) | Verdict::Won { moves, .. } = &answer.verdict {
         check_wins(rt, &game, &start, moves);
     }

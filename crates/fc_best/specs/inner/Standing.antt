@@ -5,9 +5,10 @@ use Rattle.fc_moves.specs.declared.steps.Move.{Move}
 use Rattle.fc_moves.specs.Run.{ReachesMore}
 use Rattle.fc_answers.specs.Table.{Listing}
 use Rattle.fc_best_first.specs.Limits.{Ratio}
+use Rattle.fc_best.specs.declared.listeners.BestProgress.{BestProgress}
 use Rattle.fc_best.specs.declared.standings.Shown.{Shown}
 use Rattle.fc_best.specs.declared.standings.Standing.{Standing}
-use Rattle.fc_best.specs.Best.{Ended, HaveGivenUp, IsOfQuestion, stored_by}
+use Rattle.fc_best.specs.Best.{Ended, HaveGivenUp, IsFloor, IsOfQuestion, stored_by}
 use Rattle.fc_best.specs.inner.Attempt.{IsGoodList, IsShown, IsTableOf}
 use Rattle.fc_methods.specs.Method.{Asked}
 
@@ -24,8 +25,21 @@ AllGaveUp q b searches shown (Some told) = HaveGivenUp searches told × (told �
 abbrev pub IsEnd : Asked → Board → Shown → Type 0
 IsEnd q b end = IsShown q.game b end.floor × IfSome end.table (IsTableOf q b end.floor)
 
+-- the number of moves from which on lists aren't wanted any more: as many as the list has, if there is one
+abbrev pub limit_of : Option (List Move) → Option ℕ
+limit_of None = None
+limit_of (Some moves) = Some (length moves)
+
+-- how far the searches are is told so: the question's budget, a number of moves that no list that wins is below, and how many moves
+-- the list has, if they found one
+pub record IsToldWith (q : Asked) (b : Board) (list : Option (List Move)) (far : BestProgress) : Type 0 where
+  pub budget : far.budget ≡ q.method.strategy.budget
+  pub least : IsFloor q.game b far.at_least
+  pub shortest : far.shortest ≡ limit_of list
+
 -- what these searches of the question from the board have found and shown is so, and this is left of the budget; where they found
--- no list, each gave up, or one showed that none wins; and what settled the question has a table, where that is wanted
+-- no list, each gave up, or one showed that none wins; what settled the question has a table, where that is wanted; and how far they
+-- are is told so
 pub record IsStanding (q : Asked) (b : Board) (searches : List Ended) (standing : Standing) : Type 0 where
   pub asked : All (IsOfQuestion q b) searches
   pub spent : stored_by searches + standing.left ≡ q.method.strategy.budget
@@ -33,6 +47,7 @@ pub record IsStanding (q : Asked) (b : Board) (searches : List Ended) (standing 
   pub shown : IfSome standing.shown (IsEnd q b)
   pub none : standing.list ≡ None → ShowsNone standing.shown ⊎ AllGaveUp q b searches standing.shown standing.given_up
   pub tabled : IsTrue standing.has_table → IfSome standing.shown (λ end. IsSome end.table)
+  pub told : IsToldWith q b standing.list standing.far
 
 -- it is so of some searches
 abbrev pub Stands : Asked → Board → Standing → Type 0
@@ -48,11 +63,6 @@ with_share q weight share = record {
     strategy = record { weight = weight; expansion = q.method.strategy.expansion; budget = share };
   };
 }
-
--- the number of moves from which on lists aren't wanted any more: as many as the list has, if there is one
-abbrev pub limit_of : Option (List Move) → Option ℕ
-limit_of None = None
-limit_of (Some moves) = Some (length moves)
 
 -- the new list, or the old one where there is no new one
 abbrev pub newest : Option (List Move) → Option (List Move) → Option (List Move)

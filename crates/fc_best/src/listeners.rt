@@ -1,0 +1,84 @@
+//! How far the searches for a best answer are, and who hears it.
+
+ghost use Rattle.std.specs.Prelude.{◌≡◌};
+ghost use Rattle.fc_best.specs.inner.Watch.{IsAfter, IsFirstTold, IsJoined};
+
+use fc_search::{Progress, Unheard};
+
+/// How far the searches for a best answer are, taken together. Its counts of classes and of turns stop at the greatest number of
+/// their type.
+#[derive(Clone, Copy, Debug, PartialEq, Eq)]
+pub struct BestProgress {
+    /// How many classes of positions all searches so far have stored, the running one among them.
+    pub classes: u32,
+    /// How many all of them may store.
+    pub budget: u32,
+    /// How many turns all searches so far had.
+    pub turns: u64,
+    /// The most entries that were open in one of them, whenever it was told.
+    pub most_open: u128,
+    /// How many moves the best list so far has.
+    pub shortest: Option<u32>,
+    /// No list of fewer moves wins. It never falls.
+    pub at_least: u32,
+}
+
+/// Who hears how far the searches for a best answer are.
+pub trait BestListener {
+    ghost use Rattle.fc_best.specs.declared.listeners.BestProgress.{BestProgress};
+
+    /// What hearing it does to the listener.
+    ghost hears: { Self → BestProgress → Self → Type 0 };
+
+    /// Hears it once more.
+    fn hear(&mut self, far: BestProgress)
+        ensures heard { hears self.old far self.new };
+}
+
+impl BestListener for Unheard {
+    ghost hears = { λ old _ new. new ≡ old };
+
+    fn hear(&mut self, _far: BestProgress) {}
+}
+
+impl BestProgress {
+    // Before the first search.
+    pub(crate) fn new(budget: u32) -> Self
+        ensures first { IsFirstTold budget result }
+    {
+        BestProgress {
+            classes: 0,
+            budget,
+            turns: 0,
+            most_open: 0,
+            shortest: None,
+            at_least: 0,
+        }
+    }
+
+    // While a further search is as far as this.
+    pub(crate) fn joined(self, far: Progress) -> Self
+        ensures joined { IsJoined self far result }
+    {
+        let classes = far.classes.min(u32::MAX as usize) as u32;
+        BestProgress {
+            classes: self.classes.saturating_add(classes),
+            budget: self.budget,
+            turns: self.turns.saturating_add(far.turns),
+            most_open: self.most_open.max(far.most_open),
+            shortest: self.shortest,
+            at_least: self.at_least.max(far.at_least),
+        }
+    }
+
+    // Once a search has shown this, and the best list has so many moves.
+    pub(crate) fn after(self, shown: Option<u32>, shortest: Option<u32>) -> Self
+        ensures after { IsAfter self shown shortest result }
+    {
+        BestProgress {
+            shortest,
+            at_least: self.at_least.max(shown.unwrap_or(0)),
+            ..self
+        }
+    }
+}

@@ -1,0 +1,66 @@
+//! One search of several, which is heard as one of them.
+
+ghost use Rattle.std.specs.Prelude.{◌≡◌, ℕ, List, All, IfOk, IsSome, IsTrue};
+ghost use Rattle.fc_position.specs.Position.{Fits};
+ghost use Rattle.fc_search.specs.Watch.{HearsAll};
+ghost use Rattle.fc_best.specs.declared.listeners.BestProgress.{BestProgress};
+ghost use Rattle.fc_best.specs.inner.Attempt.{IsAttempt};
+ghost use Rattle.fc_best.specs.inner.Watch.{IsFurther};
+
+use crate::attempts::{Aim, Attempt};
+use crate::listeners::{BestListener, BestProgress};
+use fc_methods::Question;
+use fc_moves::Game;
+use fc_position::Position;
+use fc_search::{Listener, Progress};
+use std::alloc::{AllocError, Global};
+
+// Who hears one search, and tells a listener how far all of them are.
+#[derive(Drop)]
+pub(crate) struct Relay<'a, L: BestListener> {
+    listener: &'a mut L,
+    // What was told before this search.
+    before: BestProgress,
+    // What was told last.
+    last: BestProgress,
+}
+
+impl<L: BestListener> Listener for Relay<'_, L> {
+    ghost use Rattle.std.specs.Prelude.{◌≡◌};
+    ghost use Rattle.fc_best.specs.inner.Watch.{IsJoined};
+
+    ghost hears = { λ old far new. (new.listener.ghost_name ≡ old.listener.ghost_name) × (new.before ≡ old.before)
+        × IsJoined old.before far new.last × L.hears old.listener.now new.last new.listener.now };
+
+    fn hear(&mut self, far: Progress) {
+        let told = self.before.joined(far);
+        self.last = told;
+        self.listener.hear(told);
+    }
+}
+
+// A search, as `Attempt::below` makes it, after those that told this; and what is told last.
+pub(crate) fn attempt_after<G: Game + Drop, L: BestListener>(
+    alloc: Global,
+    question: &Question<G>,
+    position: &Position,
+    aim: Aim,
+    before: BestProgress,
+    listener: &mut L,
+) -> Result<(Attempt, BestProgress), AllocError>
+    requires fits { Fits question.now.game.cells position.now }
+    ensures right { IfOk result (λ r. IsAttempt question.now position.now aim.limit r.0) }
+    ensures last { IsTrue aim.is_last → IfOk result (λ r. IsTrue r.0.is_settled) }
+    ensures tabled { IsTrue aim.has_table → IfOk result (λ r. IsTrue r.0.is_settled → IsSome r.0.table) }
+    ensures far { IfOk result (λ r. IsFurther question.now.game position.now before r.1) }
+    ensures heard { (heard : List BestProgress) × HearsAll L.hears listener.old heard listener.new
+        × All (IsFurther question.now.game position.now before) heard }
+{
+    let mut relay = Relay {
+        listener,
+        before,
+        last: before,
+    };
+    let attempt = Attempt::below(alloc, question, position, aim, &mut relay)?;
+    Ok((attempt, relay.last))
+}
