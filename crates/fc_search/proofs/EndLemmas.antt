@@ -72,9 +72,3 @@ module _ (q : Problem) where
       (λ same. subst (TellFloors q.game q.start) (sym same) floors)
       (λ (far, same, stop). subst (TellFloors q.game q.start) (sym same) (floors_on part.front far floors stop.floor.least))
       part.rest
-
-  -- and so is each that was told, whether or not the search ended
-  pub told_floors : {E : Type 0} (heard : List Progress) (ended : Result State E)
-      → MatchResult ended (IsHeardOn q heard) (λ refused. IsHeardAtMost q heard) → TellFloors q.game q.start heard
-  told_floors heard (Ok s) is = at_most_floors heard (ends_unanswered heard s is)
-  told_floors heard (Err e) is = at_most_floors heard is

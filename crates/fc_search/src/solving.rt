@@ -7,7 +7,7 @@ ghost use Rattle.fc_best_first.specs.Search.{reply_of};
 ghost use Rattle.fc_search.specs.declared.listeners.Progress.{Progress};
 ghost use Rattle.fc_search.specs.Problem.{problem_below, problem_of, shortest_from};
 ghost use Rattle.fc_search.specs.Search.{Answers, IsOfStatus, IsOneOfThree, IsRefused, IsVerdict, IsRunToEnd, HasRun};
-ghost use Rattle.fc_search.specs.Watch.{HearsAll, IsHeardAtMost, IsHeardToEnd, IsHeardOn};
+ghost use Rattle.fc_search.specs.Watch.{HearsAll, IsHeardAtMost, IsHeardOn, IsHeardToEnd, TellFloors};
 
 use crate::listeners::{Listener, Unheard};
 use crate::searches::{Search, shortest};
@@ -107,6 +107,7 @@ pub fn ended_below<F: Frontier + Drop, G: Game + Drop, L: Listener>(
     ensures ran { IfOk result (λ search. HasRun (problem_below question.now position.now limit) search.store search.status) }
     ensures done { IfOk result (λ search. reply_of search.status ≡ Ok Step.Done) }
     ensures heard { (heard : List Progress) × HearsAll L.hears listener.old heard listener.new
+        × TellFloors question.now.game position.now heard
         × MatchResult result (IsHeardOn (problem_below question.now position.now limit) heard)
         (λ refused. IsHeardAtMost (problem_below question.now position.now limit) heard) }
 {

@@ -1,12 +1,9 @@
-use Rattle.fc_search.proofs.EndLemmas.{told_floors}
-use Rattle.fc_search.specs.Problem.{problem_below}
 use Rattle.fc_best.proofs.attempts.below_with.Goals as goal
 
 pub returns-in_err-search-clause-heard : goal.returns-in_err-search-clause-heard
 returns-in_err-search-clause-heard g c =
-    let p = problem_below c.args.question.now c.args.position.now c.args.aim.limit in
-    let (heard, hearing, is) = c.ended_below.ensures.heard in
-    (heard, hearing, told_floors p heard c.ended_below.result is)
+    let (heard, hearing, floors, is) = c.ended_below.ensures.heard in
+    (heard, hearing, floors)
 
 pub returns-clause-right : goal.returns-clause-right
 returns-clause-right g c =
@@ -14,6 +11,5 @@ returns-clause-right g c =
 
 pub returns-clause-heard : goal.returns-clause-heard
 returns-clause-heard g c =
-    let p = problem_below c.args.question.now c.args.position.now c.args.aim.limit in
-    let (heard, hearing, is) = c.ended_below.ensures.heard in
-    (heard, hearing, told_floors p heard c.ended_below.result is)
+    let (heard, hearing, floors, is) = c.ended_below.ensures.heard in
+    (heard, hearing, floors)

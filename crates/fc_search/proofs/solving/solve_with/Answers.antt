@@ -26,6 +26,6 @@ returns-clause-ran g c =
 pub returns-clause-heard : goal.returns-clause-heard
 returns-clause-heard g c =
     let search = c.in_ok-search.search in
-    let (heard, hears, is) = c.in_ok-search.ensures.heard in
+    let (heard, hears, floors, is) = c.in_ok-search.ensures.heard in
     let p = problem_of c.args.question.now c.args.position.now in
     (heard, hears, ends_told p heard search is (λ (answer : Answer). answer.verdict) c.answer_of.result c.in_ok-search.ensures.problem c.answer_of.ensures.kind)
