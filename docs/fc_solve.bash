@@ -16,7 +16,7 @@ _fc_solve() {
       case ${COMP_WORDS[1]} in
         "$word") words="deal show best solve check replay batch help --help --version" ;;
         show) words="--plain --deal $game --help" ;;
-        best) words="--cert --deal --boards --quiet --budget --rule $game --help" ;;
+        best) words="--cert --deal --boards --stats --quiet --budget --rule $game --help" ;;
         solve) words="--cert --deal --boards --stats --quiet $search $game --help" ;;
         batch) words="--table --best $search $game --help" ;;
         replay) words="--numbered --sequences $game --help" ;;

@@ -20,8 +20,7 @@ with_option name value words = cond (has_option name words) words (put (codes "-
 
 -- an option that only `solve` has stands among the words
 abbrev pub asks_to_solve : List (List ℕ) → Bool
-asks_to_solve words = has_option (codes "within") words || (has_option (codes "bound") words
-    || (has_option (codes "expand") words || has_option (codes "stats") words))
+asks_to_solve words = has_option (codes "within") words || (has_option (codes "bound") words || has_option (codes "expand") words)
 
 -- the words that solve a board: where they don't tell these, within twice the fewest moves, by the clearing bound
 abbrev pub solving : List (List ℕ) → List (List ℕ)

@@ -4,7 +4,6 @@ ghost use Rattle.fc_words.specs.Sound.{IsSubcommand};
 
 use crate::bounds::bound_name;
 use crate::options::{BOUND, EXPAND, WITHIN};
-use crate::subcommands::STATS;
 use crate::tasks::Task;
 use fc_methods::BoundKind;
 use std::alloc::{AllocError, Global};
@@ -47,7 +46,6 @@ fn asks_to_solve(words: &[String]) -> bool
     has_option(words, WITHIN.name)
         || has_option(words, BOUND.name)
         || has_option(words, EXPAND.name)
-        || has_option(words, STATS.name)
 }
 
 // Puts the words before a board that solve it, as the other words say, and by what is meant where they don't say.

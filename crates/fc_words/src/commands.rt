@@ -153,6 +153,8 @@ pub struct BestWords<'a> {
     pub cert: Option<&'a str>,
     /// Whether the board is drawn after each move.
     pub has_boards: bool,
+    /// Whether a line of numbers ends the searches.
+    pub has_stats: bool,
     /// Whether nothing is said on a terminal but the answer.
     pub is_quiet: bool,
 }

@@ -81,7 +81,7 @@ pub(crate) fn show<'a>(words: &ArgMatches<'a>) -> Option<ShowWords<'a>>
     })
 }
 
-// `best [--budget B] [--cert FILE] [--boards] [--quiet] [GAME] [--rule R] [--deal N] [BOARD]`.
+// `best [--budget B] [--cert FILE] [--boards] [--stats] [--quiet] [GAME] [--rule R] [--deal N] [BOARD]`.
 static BEST_SOLVING: Subcommand = Subcommand {
     about: "Prints the best solution that a moment's work gives, and how near the shortest it is",
     after_help: "The answer is one of four, with the moves of a solution below it:
@@ -104,6 +104,7 @@ Examples:
         BUDGET,
         CERT_OPTION,
         BOARDS,
+        STATS,
         QUIET,
         GAME,
         KINGS,
@@ -131,6 +132,7 @@ pub(crate) fn best<'a>(words: &ArgMatches<'a>) -> Result<BestWords<'a>, WordsFau
         search,
         cert: words.get_str(CERT_OPTION.name),
         has_boards: words.get_flag(BOARDS.name),
+        has_stats: words.get_flag(STATS.name),
         is_quiet: words.get_flag(QUIET.name),
     })
 }
@@ -182,7 +184,7 @@ const BOARDS: Word = Word {
     help: "Numbers the moves, and draws the board after each",
 };
 
-pub(crate) const STATS: Word = Word {
+const STATS: Word = Word {
     name: "stats",
     kind: Kind::Flag,
     help: "Ends with a line of numbers of the search, on standard error",
