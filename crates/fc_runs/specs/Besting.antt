@@ -5,7 +5,11 @@ use Rattle.fc_deal.specs.Deal.{dealt_board}
 use Rattle.fc_answers.specs.declared.answers.Outcome.{Outcome}
 use Rattle.fc_answers.specs.declared.answers.Verdict.{Verdict}
 use Rattle.fc_answers.specs.Verdict.{outcome_of}
+use Rattle.fc_answer_text.specs.AnswerText.{answer_text}
 use Rattle.fc_best.specs.Best.{IsBestVerdict}
+use Rattle.fc_best.specs.Watch.{HearsToEnd}
+use Rattle.fc_best.specs.declared.listeners.BestProgress.{BestProgress}
+use Rattle.fc_io.specs.Moves.{TakesBytes}
 use Rattle.fc_methods.specs.Method.{Asked}
 use Rattle.fc_search.specs.Problem.{problem_of}
 use Rattle.fc_board_runs.specs.declared.faults.Output.TheVariants.{Answer as of_answer}
@@ -22,6 +26,12 @@ IsBestAnswered q b cert sink status = IsAnsweredBy (IsBestVerdict q b) (problem_
 -- why a board wasn't: memory, its certificate, its text
 abbrev pub IsBestUnanswered : Asked → Board → Option Device → Device → ProgramFault → Type 0
 IsBestUnanswered q b cert sink fault = IsUnansweredBy (IsBestVerdict q b) (problem_of q b) cert sink fault
+
+module _ {L : Type 0} (hears : L → BestProgress → L → Type 0) where
+  -- a board was answered, and a listener heard of the searches, last of the list that was written
+  abbrev pub HearsBestAnswered : Asked → Board → Device → L → L → Type 0
+  HearsBestAnswered q b sink old new = (verdict : Verdict) × HearsToEnd hears q b verdict old new
+      × TakesBytes sink.old sink.new (answer_text verdict)
 
 -- an answer without moves is told of a deal: that of a best verdict for its board
 pub record IsBestTold (q : Asked) (deal : ℕ) (told : Outcome) : Type 0 where

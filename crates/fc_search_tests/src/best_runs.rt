@@ -6,6 +6,7 @@ ghost use Rattle.fc_position.specs.Position.{Fits};
 
 use crate::given::{bakers_game, board, budget, dealt, free_cell, home_rule, method};
 use crate::runs::{Printed, check_printed};
+use fc_best::Unheard;
 use fc_io::testing::Failing;
 use fc_io::{FromSlice, ToArray};
 use fc_moves::{Game, Kings};
@@ -134,7 +135,7 @@ fn written<G: Game + Drop>(
     let mut out = ToArray::<600>::new();
     let mut cert = ToArray::<4000>::new();
     let sink = Some(&mut cert);
-    let status = run_best(alloc, question, start, &mut out, sink);
+    let status = run_best(alloc, question, start, &mut out, sink, &mut Unheard);
     assert!(rt; status == Ok(wanted), "another end");
     if wanted == 2 {
         assert!(rt; cert.held().is_empty(), "a certificate of nothing");
@@ -143,7 +144,7 @@ fn written<G: Game + Drop>(
     }
     let mut bare = ToArray::<600>::new();
     let none: Option<&mut ToArray<1>> = None;
-    let status = run_best(alloc, question, start, &mut bare, none);
+    let status = run_best(alloc, question, start, &mut bare, none, &mut Unheard);
     assert!(rt; status == Ok(wanted), "another end");
     assert!(rt; bare.held() == out.held(), "another text");
     out
@@ -177,7 +178,7 @@ fn a_list_with_a_floor_is_written(rt: HostRuntime) {
     let question = Question::new(&game, method(&rt, 2, 10, BoundKind::Clearing, 10_000));
     let mut out = ToArray::<600>::new();
     let none: Option<&mut ToArray<1>> = None;
-    let status = run_best(rt.alloc(), &question, &start, &mut out, none);
+    let status = run_best(rt.alloc(), &question, &start, &mut out, none, &mut Unheard);
     assert!(&rt; status == Ok(0), "another end");
     assert!(&rt; out.held().strip_prefix(b"won ".as_slice()).is_some());
 }
@@ -197,7 +198,7 @@ fn ends_over(
     let mut out = Failing::new(ToArray::<200>::new(), calls.0);
     let mut cert = Failing::new(ToArray::<200>::new(), calls.1);
     let sink = Some(&mut cert);
-    let status = run_best(alloc, &question, &start, &mut out, sink);
+    let status = run_best(alloc, &question, &start, &mut out, sink, &mut Unheard);
     assert!(rt; status == wanted, "another end");
     assert!(rt; out.device.held() == printed, "another text");
 }

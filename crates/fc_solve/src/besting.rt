@@ -1,4 +1,4 @@
-//! `best`: a board is answered as well as a budget lets.
+//! `best`: a board is answered as well as a budget lets, and it is told how far the searches are.
 ghost use Rattle.fc_moves.specs.GameRules.{IsPositionOf};
 
 use crate::boards::{create, find_board, read_start};
@@ -6,6 +6,7 @@ use crate::endings::{Ending, of_run};
 use crate::games::InGame;
 use crate::pages::best_in_pages;
 use crate::solving::tell_advice;
+use crate::watching::{AfterLine, BestTeller, Line};
 use fc_io::ToWriter;
 use fc_methods::Question;
 use fc_moves::Game;
@@ -28,7 +29,8 @@ impl InGame for BestWords<'_> {
             return Err(Ending::Fault(ProgramFault::Budget));
         };
         let start = read_start(rt, source, game.cells())?;
-        let status = answer_from(rt, self, &Question::new(game, method), &start, cert)?;
+        let line = Line::new(rt, deal);
+        let status = answer_from(rt, self, &Question::new(game, method), &start, cert, &line)?;
         if status == 2 && !self.is_quiet && rt.stderr().is_terminal() {
             tell_advice(rt, "a greater --budget", deal);
         }
@@ -36,22 +38,35 @@ impl InGame for BestWords<'_> {
     }
 }
 
-// Searches, and writes the best answer.
+// Searches, tells on a line how far the searches are, and writes the best answer.
 fn answer_from<G: Game + Drop>(
     rt: &HostRuntime,
     words: &BestWords<'_>,
     question: &Question<G>,
     start: &Position,
     cert: Option<ToWriter<File>>,
+    line: &Line<'_>,
 ) -> Result<u8, Ending>
     requires position { IsPositionOf question.now.game start.now }
 {
     let mut cert = cert;
+    let mut teller = BestTeller::new(line, rt.stderr().is_terminal() && !words.is_quiet);
     let ran = if words.has_boards {
-        best_in_pages(rt, question, start, cert.as_mut())
+        best_in_pages(rt, question, start, cert.as_mut(), &mut teller)
     } else {
-        let mut out = ToWriter::new(rt.stdout());
-        run_best(rt.alloc(), question, start, &mut out, cert.as_mut())
+        let mut out = AfterLine::new(line, ToWriter::new(rt.stdout()));
+        run_best(
+            rt.alloc(),
+            question,
+            start,
+            &mut out,
+            cert.as_mut(),
+            &mut teller,
+        )
     };
+    line.clear();
+    if words.has_stats {
+        teller.tell_stats();
+    }
     of_run(ran)
 }

@@ -2,7 +2,7 @@
 ghost use Rattle.fc_position.specs.Position.{Fits};
 ghost use Rattle.fc_moves.specs.GameRules.{IsPositionOf};
 
-use crate::watching::Teller;
+use crate::watching::{BestTeller, Teller};
 use fc_io::{Sink, ToArray, ToWriter, write_all};
 use fc_methods::Question;
 use fc_moves::Game;
@@ -35,11 +35,13 @@ pub fn best_in_pages<G: Game + Drop>(
     question: &Question<G>,
     start: &Position,
     cert: Option<&mut ToWriter<File>>,
+    teller: &mut BestTeller<'_>,
 ) -> Result<u8, ProgramFault>
     requires position { IsPositionOf question.now.game start.now }
 {
     let mut answer = ToArray::<LONGEST_ANSWER>::new();
-    let status = run_best(rt.alloc(), question, start, &mut answer, cert)?;
+    let status = run_best(rt.alloc(), question, start, &mut answer, cert, teller)?;
+    teller.clear();
     tell_in_pages(rt, question.game(), start, answer.held())?;
     Ok(status)
 }

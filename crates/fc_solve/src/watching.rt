@@ -1,6 +1,7 @@
 //! How far a search is, told on standard error: on a terminal by one line that is written over, and at the end, where it is
 //! asked for, by a line of numbers. Where a line can't be written, the search goes on.
 
+use fc_best::{BestListener, BestProgress};
 use fc_io::{Failed, Sink};
 use fc_search::{Listener, Progress};
 use std::cell::Cell;
@@ -33,21 +34,37 @@ impl<'a> Line<'a> {
         }
     }
 
-    // Writes the line over.
-    fn show(&self, far: Progress) {
-        let Progress {
-            classes,
-            budget,
-            at_least,
-            ..
-        } = far;
+    // Begins the line anew: what it tells next may be shorter.
+    fn begin(&self) {
+        self.clear();
         self.is_there.set(true);
         let _told = eprint!(self.rt; "\rfc_solve: ");
         if let Some(number) = self.deal {
             let _told = eprint!(self.rt; "deal {number}: ");
         }
+    }
+
+    // Writes the line over: how full a search is, and its floor.
+    fn show_kept(&self, classes: usize, budget: u32, at_least: u32) {
+        self.begin();
         let _told = eprint!(self.rt;
             "{classes} of {budget} positions kept, at least {at_least} moves"
+        );
+    }
+
+    // Writes the line over: how many moves the best list so far has, and the floor.
+    fn show_best(&self, moves: u32, at_least: u32) {
+        self.begin();
+        let _told = eprint!(self.rt; "best so far {moves}, at least {at_least}");
+    }
+
+    // Ends a run with a line of numbers.
+    fn tell_stats(&self, classes: usize, turns: u64, most_open: u128, floor: u32) {
+        if let Some(number) = self.deal {
+            let _told = eprint!(self.rt; "deal={number} ");
+        }
+        let _told = eprintln!(self.rt;
+            "classes={classes} turns={turns} most_open={most_open} floor={floor}"
         );
     }
 }
@@ -82,20 +99,8 @@ impl<'a> Teller<'a> {
         let Some(far) = self.last else {
             return;
         };
-        let rt = self.line.rt;
-        if let Some(number) = self.line.deal {
-            let _told = eprint!(rt; "deal={number} ");
-        }
-        let Progress {
-            classes,
-            turns,
-            most_open,
-            at_least,
-            ..
-        } = far;
-        let _told = eprintln!(rt;
-            "classes={classes} turns={turns} most_open={most_open} floor={at_least}"
-        );
+        self.line
+            .tell_stats(far.classes, far.turns, far.most_open, far.at_least);
     }
 }
 
@@ -106,7 +111,77 @@ impl Listener for Teller<'_> {
         let lines = far.turns / TURNS_A_LINE;
         if self.is_shown && lines > self.lines {
             self.lines = lines;
-            self.line.show(far);
+            self.line.show_kept(far.classes, far.budget, far.at_least);
+        }
+        self.last = Some(far);
+    }
+}
+
+/// Tells how far the searches for a best answer are.
+#[derive(Drop)]
+pub struct BestTeller<'a> {
+    line: &'a Line<'a>,
+    is_shown: bool,
+    shown: Option<BestProgress>,
+    last: Option<BestProgress>,
+}
+
+impl<'a> BestTeller<'a> {
+    /// One that shows the line or doesn't.
+    pub fn new(line: &'a Line<'a>, is_shown: bool) -> Self {
+        BestTeller {
+            line,
+            is_shown,
+            shown: None,
+            last: None,
+        }
+    }
+
+    /// Takes the line away, if it is there.
+    pub fn clear(&self) {
+        self.line.clear();
+    }
+
+    /// The line of numbers of all searches together.
+    pub fn tell_stats(&self) {
+        let Some(far) = self.last else {
+            return;
+        };
+        self.line.tell_stats(far.classes as usize, far.turns, far.most_open, far.at_least);
+    }
+
+    // Whether the line is to be written, first after so many turns: where the best list or the floor changed, or after so many
+    // turns more.
+    fn is_due(&self, far: BestProgress) -> bool {
+        let lines = far.turns / TURNS_A_LINE;
+        match self.shown {
+            Some(shown) => {
+                shown.shortest != far.shortest
+                    || shown.at_least != far.at_least
+                    || lines > shown.turns / TURNS_A_LINE
+            }
+            None => lines > 0,
+        }
+    }
+
+    // Writes the line over.
+    fn show(&self, far: BestProgress) {
+        match far.shortest {
+            Some(moves) => self.line.show_best(moves, far.at_least),
+            None => self
+                .line
+                .show_kept(far.classes as usize, far.budget, far.at_least),
+        }
+    }
+}
+
+impl BestListener for BestTeller<'_> {
+    ghost hears = { λ _ _ _. Unit {0} };
+
+    fn hear(&mut self, far: BestProgress) {
+        if self.is_shown && self.is_due(far) {
+            self.shown = Some(far);
+            self.show(far);
         }
         self.last = Some(far);
     }
