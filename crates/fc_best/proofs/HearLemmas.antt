@@ -39,7 +39,7 @@ module _ (q : Asked) (b : Board) where
 
   -- how far searches are that stand so
   pub told_stands : (s : Standing) → Stands q b s → IsTold q b s.far
-  told_stands s (searches, is) = told_with s.list s.far is.list is.told
+  told_stands s (searches, tails, is) = told_with s.list s.far is.list is.told
 
   -- and so is what is told after that
   told_further : (list : Option (List Move)) (before far : BestProgress) → IfSome list (IsGoodList q.game b) → IsToldWith q b list before
@@ -69,5 +69,5 @@ module _ (q : Asked) (b : Board) where
     -- where the searches so far stand so, and one more is heard after them
     pub hears_further : (s : Standing) (g : GameRules) (old new : L) → Stands q b s → g ≡ q.game
         → ((heard : List BestProgress) × HearsAll hears old heard new × All (IsFurther g b s.far) heard) → HearsTold hears q b old new
-    hears_further s g old new (searches, is) same (heard, hearing, further) =
+    hears_further s g old new (searches, tails, is) same (heard, hearing, further) =
         (heard, hearing, all_further s.list s.far heard is.list is.told (subst (λ x. All (IsFurther x b s.far) heard) same further))

@@ -2,3 +2,4 @@ pub mod AttemptLemmas
 pub mod HearLemmas
 pub mod RelayLemmas
 pub mod StandingLemmas
+pub mod TailLemmas

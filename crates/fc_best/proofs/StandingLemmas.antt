@@ -33,7 +33,7 @@ in_order (suc n) zero = inr (omega arith)
 in_order (suc n) (suc m) = ⊎_elim (λ le. inl (omega (arith, le))) (λ le. inr (omega (arith, le))) (in_order n m)
 
 -- the list is good, whichever it is
-newest_good : (P : List Move → Type 0) (new old : Option (List Move)) → IfSome new P → IfSome old P → IfSome (newest new old) P
+pub newest_good : (P : List Move → Type 0) (new old : Option (List Move)) → IfSome new P → IfSome old P → IfSome (newest new old) P
 newest_good P (Some moves) old is was = is
 newest_good P None old is was = was
 
@@ -94,7 +94,7 @@ none_found q b searches ended old before (Some told) settled floor table unshown
     inr (more_gave_up q b searches ended old (end_of settled floor table) before told gave is.0 is.1)
 
 -- of the lists no new one is found and no old one
-both_none : (new old : Option (List Move)) → newest new old ≡ None → (new ≡ None) × (old ≡ None)
+pub both_none : (new old : Option (List Move)) → newest new old ≡ None → (new ≡ None) × (old ≡ None)
 both_none (Some moves) old is = absurd (cc)
 both_none None old is = (refl, is)
 
@@ -129,11 +129,13 @@ pub after_stands : (q : Asked) (b : Board) (weight : Ratio) (share : ℕ) (old :
       has_table = old.has_table;
       far = new;
     })
-after_stands q b weight share old attempt last new (searches, was) further after unshown within room is made = (
+after_stands q b weight share old attempt last new (searches, tails, was) further after unshown within room is made = (
   is.ended ∷ searches,
+  tails,
   record {
     asked = All-cons (IsOfQuestion q b) is.ended searches
         (record { game = is.asked.game; start = is.asked.start; rule = is.asked.rule; bound = is.asked.bound; ran = is.asked.ran }) was.asked;
+    middle = was.middle;
     spent = let sum = sum_by-cons (λ (e : Ended). length e.last.stored) is.ended searches in let size = is.stored in let all = was.spent in omega (arith, sum, size, all, room);
     list = newest_good (IsGoodList q.game b) attempt.list old.list is.list was.list;
     shown = end_good q b attempt.is_settled attempt.shown attempt.table is.shown (tabled_so q b weight share attempt.shown attempt.table is.table);
@@ -173,7 +175,7 @@ no_number (Some n) is = absurd (is n refl)
 
 pub none_told : (q : Asked) (b : Board) (s : Standing) (end : Shown) → Stands q b s → s.shown ≡ Some end
     → ((n : ℕ) → end.floor ≡ Some n → ⊥) → s.far.shortest ≡ None
-none_told q b s end (searches, is) same none =
+none_told q b s end (searches, tails, is) same none =
     let so : IsEnd q b end = subst (λ o. IfSome o (IsEnd q b)) same is.shown in
     none_listed q.game b s.list s.far.shortest is.list (subst (IsShown q.game b) (no_number end.floor none) so.0) is.told.shortest
 

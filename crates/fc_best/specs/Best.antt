@@ -1,10 +1,10 @@
 -- The best answer that several searches within one budget give.
-use Rattle.std.specs.Prelude.{◌≡◌, ℕ, ◌<◌, ◌≤◌, List, length, All, Contains, IfSome}
+use Rattle.std.specs.Prelude.{◌≡◌, ℕ, ◌+◌, ◌<◌, ◌≤◌, List, length, All, Contains, IfSome}
 use Rattle.std.specs.List.{sum_by}
 use Rattle.fc_position.specs.Board.{Board}
 use Rattle.fc_moves.specs.declared.steps.Move.{Move}
 use Rattle.fc_moves.specs.GameRules.{GameRules}
-use Rattle.fc_moves.specs.Run.{CannotWin as NoneWins, IsShortest, ReachesMore, Wins}
+use Rattle.fc_moves.specs.Run.{CanReach, CannotWin as NoneWins, IsShortest, ReachesMore, Wins}
 use Rattle.fc_answers.specs.Answer.{IsBackedBy, IsSearchedBy}
 use Rattle.fc_answers.specs.declared.answers.Answer.{Answer}
 use Rattle.fc_answers.specs.declared.answers.Verdict.{Verdict}
@@ -44,6 +44,14 @@ pub record IsOfQuestion (q : Asked) (b : Board) (ended : Ended) : Type 0 where
   pub bound : ended.problem.method.bound ≡ q.method.bound
   pub ran : HasRun ended.problem ended.last ended.status
 
+-- it is one from a board that can be reached from the board, by the question's game, home rule and bound
+pub record IsOnTheWay (q : Asked) (b : Board) (ended : Ended) : Type 0 where
+  pub game : ended.problem.game ≡ q.game
+  pub start : CanReach q.game b ended.problem.start
+  pub rule : ended.problem.method.rule ≡ q.method.rule
+  pub bound : ended.problem.method.bound ≡ q.method.bound
+  pub ran : HasRun ended.problem ended.last ended.status
+
 -- how many classes searches store, all told
 abbrev pub stored_by : List Ended → ℕ
 stored_by searches = sum_by (λ ended. length ended.last.stored) searches
@@ -65,11 +73,14 @@ abbrev pub RestsOn : List Ended → Verdict → Type 0
 RestsOn searches (GaveUp told) = HaveGivenUp searches told
 RestsOn searches other = Unit {0}
 
--- the verdict is of searches of the question from the board, which store no more classes than the budget, all told
+-- the verdict is of searches of the question from the board, and others from boards on the way, for shorter tails of a list;
+-- they store no more classes than the budget, all told
 pub record IsOfSearches (q : Asked) (b : Board) (verdict : Verdict) : Type 0 where
   pub searches : List Ended
+  pub tails : List Ended
   pub asked : All (IsOfQuestion q b) searches
-  pub spent : stored_by searches ≤ q.method.strategy.budget
+  pub middle : All (IsOnTheWay q b) tails
+  pub spent : stored_by searches + stored_by tails ≤ q.method.strategy.budget
   pub rests : RestsOn searches verdict
 
 -- all that a best verdict is: right, of searches within the budget, such as can be written, and of few moves

@@ -49,6 +49,19 @@ pub(crate) struct Aim {
     pub(crate) has_table: bool,
 }
 
+impl Aim {
+    // A list of fewer moves than so many, by a search that isn't the last one.
+    pub(crate) fn below(limit: u32) -> Self
+        ensures limit { result.limit ≡ Some limit }
+    {
+        Aim {
+            limit: Some(limit),
+            is_last: false,
+            has_table: false,
+        }
+    }
+}
+
 impl Attempt {
     // Searches a question for a list of fewer moves than the limit, if there is one. After the last search the question is settled,
     // and after one that left nothing open, or whose list is as short as any can be; then a table is made, if it is wanted.

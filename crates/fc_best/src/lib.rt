@@ -10,4 +10,6 @@ mod attempts;
 mod listeners;
 mod relays;
 mod schedule;
+mod shortenings;
 mod standings;
+mod tails;

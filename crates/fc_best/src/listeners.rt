@@ -1,8 +1,9 @@
 //! How far the searches for a best answer are, and who hears it.
 
 ghost use Rattle.std.specs.Prelude.{◌≡◌};
-ghost use Rattle.fc_best.specs.inner.Watch.{IsAfter, IsFirstTold, IsJoined};
+ghost use Rattle.fc_best.specs.inner.Watch.{IsAfter, IsFirstTold, IsJoined, IsWithTail};
 
+use crate::tails::Effort;
 use fc_search::{Progress, Unheard};
 
 /// How far the searches for a best answer are, taken together. Its counts of classes and of turns stop at the greatest number of
@@ -79,6 +80,20 @@ impl BestProgress {
             shortest,
             at_least: self.at_least.max(shown.unwrap_or(0)),
             ..self
+        }
+    }
+
+    // Once a search for a tail of the best list has stored so many classes and taken this, and the list has so many moves.
+    pub(crate) fn with_tail(self, stored: u32, effort: Effort, shortest: Option<u32>) -> Self
+        ensures with_tail { IsWithTail self stored effort shortest result }
+    {
+        BestProgress {
+            classes: self.classes.saturating_add(stored),
+            budget: self.budget,
+            turns: self.turns.saturating_add(effort.turns),
+            most_open: self.most_open.max(effort.most_open),
+            shortest,
+            at_least: self.at_least,
         }
     }
 }

@@ -22,8 +22,18 @@ use fc_moves::Game;
 use fc_position::Position;
 use std::alloc::{AllocError, Global};
 
-// A fifth of a budget, and at least one class, is left for the last search.
-const LAST_SHARE: u32 = 5;
+// A stage before the last search.
+#[derive(Clone, Copy)]
+pub(crate) struct Stage {
+    // How many tenths as much as a cost its bound counts.
+    pub(crate) weight_tenths: u8,
+    // How many tenths of the budget it may store at most.
+    pub(crate) most: u8,
+    // How many tenths are kept for what comes after it.
+    pub(crate) kept: u8,
+    // Whether it is only for where no list is found yet.
+    pub(crate) is_rescue: bool,
+}
 
 // What a search that settled a question showed.
 #[derive(Drop)]
@@ -69,23 +79,24 @@ impl Standing {
         ensures left { 1 ≤ result.left }
         ensures has_table { result.has_table ≡ has_table }
     {
+        let left = budget.get();
         Standing {
             list: None,
             shown: None,
-            left: budget.get(),
+            left,
             given_up: None,
             has_table,
-            far: BestProgress::new(budget.get()),
+            far: BestProgress::new(left),
         }
     }
 
-    // After a search by this weight, unless the question is settled or all that is left is for the last search.
+    // After a search of this stage, unless the question is settled, there is nothing to rescue, or all that is left is kept.
     pub(crate) fn weighed<G: Game + Drop, L: BestListener>(
         self,
         alloc: Global,
         question: &Question<G>,
         position: &Position,
-        weight: Weight,
+        stage: Stage,
         listener: &mut L,
     ) -> Result<Self, AllocError>
         requires fits { Fits question.now.game.cells position.now }
@@ -96,15 +107,15 @@ impl Standing {
         ensures has_table { IfOk result (λ standing. standing.has_table ≡ self.has_table) }
         ensures heard { HearsTold L.hears question.now position.now listener.old listener.new }
     {
-        let share = self.share(question.method().strategy.budget);
-        if self.shown.is_some() {
+        let share = self.share(question.method().strategy.budget, stage.most, stage.kept);
+        if self.shown.is_some() || (stage.is_rescue && self.list.is_some()) {
             return Ok(self);
         }
         let Some(budget) = Budget::new(share) else {
             return Ok(self);
         };
         let plan = Plan {
-            weight,
+            weight: Weight::of_tenths(stage.weight_tenths).unwrap_or(Weight::ONE),
             budget,
             is_last: false,
         };
@@ -166,12 +177,13 @@ impl Standing {
         Ok(self.after(attempt, far))
     }
 
-    // How many classes a search that isn't the last may store.
-    fn share(&self, budget: Budget) -> u32
+    // How many classes may be stored where they are at most so many tenths of the budget, and so many, or one class, are kept.
+    pub(crate) fn share(&self, budget: Budget, most: u8, kept: u8) -> u32
         ensures most { 1 ≤ self.now.left → result + 1 ≤ self.now.left }
     {
-        let last = (budget.get() / LAST_SHARE).max(1);
-        self.left.saturating_sub(last)
+        let tenth = budget.get() / 10;
+        let kept = (tenth * u32::from(kept)).max(1);
+        self.left.saturating_sub(kept).min(tenth * u32::from(most))
     }
 
     // What the next search is to look for: a shorter list.
@@ -229,6 +241,7 @@ impl Standing {
     }
 
     // The answer, once the question is settled.
+    #[tactic(auto, using(crate::proofs::TailLemmas::of_searches))]
     pub(crate) fn into_answer(self) -> Answer
         requires shown { IsSome self.shown }
         ensures best { (q : Asked) (b : Board) → Stands q b self → IsBestAnswer q b result }
@@ -274,7 +287,7 @@ fn told(list: MoveList, floor: u32) -> Verdict
 }
 
 // The number of moves from which on lists aren't wanted any more.
-fn limit_of(list: &Option<MoveList>) -> Option<u32>
+pub(crate) fn limit_of(list: &Option<MoveList>) -> Option<u32>
     requires few { IfSome list.now (λ moves. length moves ≤ MOST_MOVES) }
     ensures value { result ≡ limit_of list.now }
 {
@@ -285,7 +298,7 @@ fn limit_of(list: &Option<MoveList>) -> Option<u32>
 }
 
 // The new list, or the old one where there is no new one.
-fn newest(new: Option<MoveList>, old: Option<MoveList>) -> Option<MoveList>
+pub(crate) fn newest(new: Option<MoveList>, old: Option<MoveList>) -> Option<MoveList>
     ensures value { result ≡ newest new old }
 {
     match new {
@@ -317,7 +330,7 @@ fn greater(one: Option<u32>, other: Option<u32>) -> Option<u32>
 }
 
 // The question by a plan: with another weight, and with a share of its budget.
-fn asked_with<G: Game + Drop>(question: &Question<G>, plan: Plan) -> Question<G>
+pub(crate) fn asked_with<G: Game + Drop>(question: &Question<G>, plan: Plan) -> Question<G>
     ensures value { result ≡ with_share question.now plan.weight plan.budget }
 {
     let Method {

@@ -8,7 +8,7 @@ use Rattle.fc_best_first.specs.Limits.{Ratio}
 use Rattle.fc_best.specs.declared.listeners.BestProgress.{BestProgress}
 use Rattle.fc_best.specs.declared.standings.Shown.{Shown}
 use Rattle.fc_best.specs.declared.standings.Standing.{Standing}
-use Rattle.fc_best.specs.Best.{Ended, HaveGivenUp, IsFloor, IsOfQuestion, stored_by}
+use Rattle.fc_best.specs.Best.{Ended, HaveGivenUp, IsFloor, IsOfQuestion, IsOnTheWay, stored_by}
 use Rattle.fc_best.specs.inner.Attempt.{IsGoodList, IsShown, IsTableOf}
 use Rattle.fc_methods.specs.Method.{Asked}
 
@@ -37,12 +37,13 @@ pub record IsToldWith (q : Asked) (b : Board) (list : Option (List Move)) (far :
   pub least : IsFloor q.game b far.at_least
   pub shortest : far.shortest ≡ limit_of list
 
--- what these searches of the question from the board have found and shown is so, and this is left of the budget; where they found
--- no list, each gave up, or one showed that none wins; what settled the question has a table, where that is wanted; and how far they
--- are is told so
-pub record IsStanding (q : Asked) (b : Board) (searches : List Ended) (standing : Standing) : Type 0 where
+-- what these searches of the question from the board have found and shown is so, and others for shorter tails of their lists, and
+-- this is left of the budget; where they found no list, each gave up, or one showed that none wins; what settled the question has a
+-- table, where that is wanted; and how far they are is told so
+pub record IsStanding (q : Asked) (b : Board) (searches tails : List Ended) (standing : Standing) : Type 0 where
   pub asked : All (IsOfQuestion q b) searches
-  pub spent : stored_by searches + standing.left ≡ q.method.strategy.budget
+  pub middle : All (IsOnTheWay q b) tails
+  pub spent : stored_by searches + stored_by tails + standing.left ≡ q.method.strategy.budget
   pub list : IfSome standing.list (IsGoodList q.game b)
   pub shown : IfSome standing.shown (IsEnd q b)
   pub none : standing.list ≡ None → ShowsNone standing.shown ⊎ AllGaveUp q b searches standing.shown standing.given_up
@@ -51,7 +52,7 @@ pub record IsStanding (q : Asked) (b : Board) (searches : List Ended) (standing 
 
 -- it is so of some searches
 abbrev pub Stands : Asked → Board → Standing → Type 0
-Stands q b standing = (searches : List Ended) × IsStanding q b searches standing
+Stands q b standing = (searches : List Ended) × (tails : List Ended) × IsStanding q b searches tails standing
 
 -- the question with another weight, and with a share of its budget
 abbrev pub with_share : Asked → Ratio → ℕ → Asked

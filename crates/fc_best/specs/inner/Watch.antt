@@ -4,6 +4,7 @@ use Rattle.fc_position.specs.Board.{Board}
 use Rattle.fc_moves.specs.GameRules.{GameRules}
 use Rattle.fc_best.specs.Best.{IsFloor}
 use Rattle.fc_best.specs.declared.listeners.BestProgress.{BestProgress}
+use Rattle.fc_best.specs.declared.tails.Effort.{Effort}
 use Rattle.fc_search.specs.declared.listeners.Progress.{Progress}
 
 -- before the first search nothing is told but the budget
@@ -43,3 +44,12 @@ pub record IsFurther (g : GameRules) (b : Board) (before far : BestProgress) : T
   pub budget : far.budget ≡ before.budget
   pub shortest : far.shortest ≡ before.shortest
   pub least : IsFloor g b before.at_least → IsFloor g b far.at_least
+
+-- what was told before a search for a tail of the best list, together with what that stored and took, and how many moves the list has
+pub record IsWithTail (before : BestProgress) (stored : ℕ) (effort : Effort) (moves : Option ℕ) (far : BestProgress) : Type 0 where
+  pub classes : far.classes ≡ min (before.classes + stored) 4294967295
+  pub budget : far.budget ≡ before.budget
+  pub turns : far.turns ≡ min (before.turns + effort.turns) 18446744073709551615
+  pub most_open : far.most_open ≡ max before.most_open effort.most_open
+  pub shortest : far.shortest ≡ moves
+  pub at_least : far.at_least ≡ before.at_least
