@@ -59,12 +59,15 @@ impl Ord for TiedPair {
     ghost matches_eq = { Prim.search (comparing, rules) };
 
     fn cmp(&self, other: &TiedPair) -> Ordering {
-        let by_f = other.f.cmp(&self.f);
-        let by_tie = other.tie.cmp(&self.tie);
+        // Most pairs differ in the first two, and then the others aren't read.
+        if self.f != other.f {
+            return other.f.cmp(&self.f);
+        }
+        if self.tie != other.tie {
+            return other.tie.cmp(&self.tie);
+        }
         let by_stamp = self.stamp.cmp(&other.stamp);
-        by_f.then(by_tie)
-            .then(by_stamp)
-            .then(self.node.cmp(&other.node))
+        by_stamp.then(self.node.cmp(&other.node))
     }
 }
 
