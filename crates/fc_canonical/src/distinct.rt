@@ -19,14 +19,24 @@ pub fn distinct_moves<G: Game>(game: &G, position: &Position) -> ArrayVec<Move, 
     ensures first { AreFirst (G.game game.now) position.now result.items }
     ensures order { AreInOrder result.items }
 {
+    let mut list = ArrayVec::new();
+    list_distinct_moves(game, position, &mut list);
+    list
+}
+
+/// Lists the moves of [`distinct_moves`] in the place of what was in the list, so that none is copied.
+pub fn list_distinct_moves<G: Game>(game: &G, position: &Position, list: &mut ArrayVec<Move, 132>)
+    ensures classes { ListsClasses (G.game game.now) position.now list.new.items }
+    ensures first { AreFirst (G.game game.now) position.now list.new.items }
+    ensures order { AreInOrder list.new.items }
+{
     // What a call tells of the position, each of the 52 cards in one place, is needed below.
     let _home = position.playable(Place::Home);
     let column = first_empty_column(position);
     let cell = first_empty_cell(game, position);
-    let mut list = ArrayVec::new();
-    list_from_columns(game, position, column, cell, &mut list);
-    list_from_cells(game, position, column, &mut list);
-    list
+    list.clear();
+    list_from_columns(game, position, column, cell, list);
+    list_from_cells(game, position, column, list);
 }
 
 // The first column that holds no card.

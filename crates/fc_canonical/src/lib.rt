@@ -2,7 +2,7 @@
 #![tactic(auto)]
 
 pub use checks::is_key;
-pub use distinct::distinct_moves;
+pub use distinct::{distinct_moves, list_distinct_moves};
 pub use keys::{Key, key};
 pub use orders::canonical;
 pub use readers::{key_len, key_size, position_of, read_key};

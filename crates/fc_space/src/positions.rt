@@ -26,7 +26,7 @@ use crate::remembered::{Remembered, places};
 use arrayvec::ArrayVec;
 use fc_best_first::{Child, Space};
 use fc_bound::{BoundKind, is_held_back};
-use fc_canonical::distinct_moves;
+use fc_canonical::list_distinct_moves;
 use fc_cards::Place;
 use fc_codes::{Code, Layout};
 use fc_home::{HomeRule, goes_home_from};
@@ -164,7 +164,7 @@ impl<G: Game + Drop> Positions<G> {
         walk.position = position;
         walk.code = *code;
         walk.bound = bound;
-        walk.left = distinct_moves(&self.rules.game, &walk.position);
+        list_distinct_moves(&self.rules.game, &walk.position, &mut walk.left);
         walk.last = None;
     }
 

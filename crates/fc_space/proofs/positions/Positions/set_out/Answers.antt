@@ -21,7 +21,7 @@ invariant_of-walk g c =
     let here : v ≡ w = ap (λ u. frame_of (g.G.Game.game u.game) u.rule u.kind u.start) c.walk.view_is ∙ c.requires.owned in
     let x = c.args.code.now in
     let p = c.args.position in
-    let moves = c.distinct_moves-walk-inside.result.items in
+    let moves = c.list_distinct_moves.new.list.items in
     let reached = reached_code w x c.requires.reached.0 f c.requires.reached.1 in
     let valid = reached.0 in
     let same = sym c.requires.position in
@@ -29,7 +29,7 @@ invariant_of-walk g c =
     subst (λ (u : Frame). IsPositionOf u.game p × AreAllowed u.game p moves × (c.args.bound ≡ guide_of u.kind p) × NoneGoesHome u.rule u.game p
     × IsCodeOf u.start p x) (sym here) (
       subst (IsPositionOf w.game) same valid.position,
-      c.distinct_moves-walk-inside.ensures.classes.allowed,
+      c.list_distinct_moves.ensures.classes.allowed,
       c.requires.bound,
       subst (NoneGoesHome w.rule w.game) same (none_goes w.rule w.game (board_of_code w.start x) reached.1),
       subst (λ b. IsCodeOf w.start b x) same valid.coded,
@@ -46,10 +46,10 @@ returns g c =
     let here : v ≡ w = ap (λ u. frame_of (g.G.Game.game u.game) u.rule u.kind u.start) c.walk.view_is ∙ c.requires.owned in
     let x = c.args.code.now in
     let p = c.args.position in
-    let moves = c.distinct_moves-walk-inside.result.items in
+    let moves = c.list_distinct_moves.new.list.items in
     let reached = reached_code w x c.requires.reached.0 f c.requires.reached.1 in
     let valid = reached.0 in
-    let lists = subst (λ b. ListsClasses w.game b moves) c.requires.position c.distinct_moves-walk-inside.ensures.classes in
+    let lists = subst (λ b. ListsClasses w.game b moves) c.requires.position c.list_distinct_moves.ensures.classes in
     record {
       owned = here;
       children = λ children are. children_all w x moves children f valid lists

@@ -1,5 +1,5 @@
 use Rattle.fc_canonical.proofs.ListedLemmas.{lists_all, lists_first}
-use Rattle.fc_canonical.proofs.distinct.distinct_moves.Goals as goal
+use Rattle.fc_canonical.proofs.distinct.list_distinct_moves.Goals as goal
 
 pub returns : goal.returns
 returns g c = record {
