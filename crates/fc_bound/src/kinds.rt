@@ -5,7 +5,8 @@ ghost use Rattle.fc_bound.specs.Kinds.{guide_of, low_of};
 
 use crate::bounds::{GREATEST_BOUND, bound, is_held_back};
 use crate::clearing::clearing_bound;
-use crate::knots::{knot_bound, knot_bound_within};
+use crate::counts::WholeCount;
+use crate::knots::{knot_bound, knot_bound_whole, knot_bound_within};
 use fc_cards::Place;
 use fc_position::Position;
 
@@ -49,6 +50,18 @@ impl BoundKind {
         }
     }
 
+    /// The bound by which a search of this kind goes, counted to its end, with what [`BoundKind::guide_within`] would have given.
+    #[inline]
+    pub fn guide_whole(self, position: &Position) -> WholeCount
+        ensures value { result.bound ≡ guide_of self position.now }
+        ensures whole { IsPosition position.now }
+    {
+        match self {
+            BoundKind::Plain => WholeCount::at_once(bound(position)),
+            BoundKind::Clearing => knot_bound_whole(position),
+        }
+    }
+
     // What the playable card of a place adds to the bound by which a search of this kind goes, where that is plain to see: the
     // position without the card has so much less. `None` where it would have to be counted.
     fn fare(self, position: &Position, from: Place) -> Option<u8>
@@ -74,21 +87,18 @@ impl BoundKind {
         Some(bound - fare)
     }
 
-    /// The bound by which a search of this kind goes, counted no further than asked, as by [`BoundKind::guide_within`]; where the
-    /// bound without the playable card of a place is known, and what the card adds is plain to see, it isn't counted at all.
-    pub fn guide_with(self, position: &Position, to: Place, without: Option<u8>, most: u8) -> u8
+    /// The bound by which a search of this kind goes, where the bound without the playable card of a place is known, and what the
+    /// card adds is plain to see: it isn't counted.
+    pub fn guide_with(self, position: &Position, to: Place, without: Option<u8>) -> Option<u8>
         requires without { IfSome without (λ less. less ≡ guide_of self (lifted position.now to)) }
-        ensures lower { result ≤ guide_of self position.now }
-        ensures exact { result ≤ most → result ≡ guide_of self position.now }
-        ensures greatest { result ≤ GREATEST_BOUND }
+        ensures value { IfSome result (λ bound. bound ≡ guide_of self position.now) }
         ensures whole { IsPosition position.now }
     {
-        if let Some(less) = without {
-            if let Some(fare) = self.fare(position, to) {
-                return (less + fare).min(most.saturating_add(1));
-            }
+        let fare = self.fare(position, to);
+        match (without, fare) {
+            (Some(less), Some(fare)) => Some(less + fare),
+            _ => None,
         }
-        self.guide_within(position, most)
     }
 
     /// The bound by which a table of this kind is closed, at most 104: the plain bound, or the clearing bound.

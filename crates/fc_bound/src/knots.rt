@@ -7,6 +7,7 @@ ghost use Rattle.fc_bound.specs.inner.Rows.{waiting_in};
 
 use crate::bounds::{GREATEST_BOUND, away};
 use crate::columns::Left;
+use crate::counts::WholeCount;
 use crate::rows::{blank, fill};
 use fc_position::Position;
 
@@ -58,11 +59,26 @@ pub fn knot_bound(position: &Position) -> u8
     ensures most { result ≤ GREATEST_BOUND }
     ensures whole { IsPosition position.now }
 {
+    knot_bound_whole(position).bound
+}
+
+// The knot bound, and what a count of it that goes no further than asked would have given.
+pub(crate) fn knot_bound_whole(position: &Position) -> WholeCount
+    ensures value { result.bound ≡ knot_bound position.now }
+    ensures most { result.bound ≤ GREATEST_BOUND }
+    ensures whole { IsPosition position.now }
+{
     let away = away(position);
     let mut rows = blank();
     let marks = fill(&mut rows, position);
     let mut left = Left::new(position, &rows, marks);
-    away + knot_count(&mut left)
+    let waiting = left.waiting();
+    let count = knot_count(&mut left);
+    WholeCount {
+        bound: away + count,
+        away,
+        plain: away + waiting,
+    }
 }
 
 // The knot bound, counted no further than asked: the bound itself where it is at most so much, else a number above that which

@@ -9,6 +9,7 @@
 
 pub use bounds::{GREATEST_BOUND, bound, is_held_back};
 pub use clearing::clearing_bound;
+pub use counts::WholeCount;
 pub use kinds::BoundKind;
 pub use knots::knot_bound;
 
@@ -16,6 +17,7 @@ mod bits;
 mod bounds;
 mod clearing;
 mod columns;
+mod counts;
 mod kinds;
 mod knots;
 pub mod laws;

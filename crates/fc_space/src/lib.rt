@@ -6,6 +6,7 @@ pub use positions::{Children, ClassRules, Positions};
 pub use ways::follow;
 
 mod coded;
+mod counts;
 mod positions;
 mod remembered;
 mod ways;

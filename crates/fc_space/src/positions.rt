@@ -1,5 +1,5 @@
 ghost use Rattle.std.specs.Prelude.{◌≡◌, ◌≢◌, ◌≤◌, ℕ, IfOk, IfSome, List, None, Some, length, reverse};
-ghost use Rattle.fc_position.specs.Board.{Board};
+ghost use Rattle.fc_position.specs.Board.{Board, lifted};
 ghost use Rattle.fc_position.specs.Position.{Fits, IsPosition};
 ghost use Rattle.fc_moves.specs.GameRules.{IsPositionOf};
 ghost use Rattle.fc_cards.specs.declared.places.Place.TheVariants.{Home};
@@ -18,14 +18,15 @@ ghost use Rattle.fc_classes.proofs.TableLemmas.{lawful};
 ghost use Rattle.fc_space.specs.Children.{frame_of, IsWalkIn, IsSettledChild, IsChildOf, AreChildrenBy, StandsAt};
 ghost use Rattle.fc_space.specs.inner.Children.{OthersStay, classes_in};
 ghost use Rattle.fc_space.specs.inner.Codes.{IsCodeAfter};
-ghost use Rattle.fc_space.specs.inner.Remembered.{IsCount, bound_by_code};
+ghost use Rattle.fc_space.specs.inner.Remembered.{IsWhole, bound_by_code};
 ghost use Rattle.fc_bound.proofs.KindLemmas.{bounds_lower};
 
 use crate::coded::settle_coded;
+use crate::counts::{count_of, shift};
 use crate::remembered::{Remembered, places};
 use arrayvec::ArrayVec;
 use fc_best_first::{Child, Space};
-use fc_bound::{BoundKind, is_held_back};
+use fc_bound::{BoundKind, WholeCount};
 use fc_canonical::list_distinct_moves;
 use fc_cards::Place;
 use fc_codes::{Code, Layout};
@@ -168,18 +169,30 @@ impl<G: Game + Drop> Positions<G> {
         walk.last = None;
     }
 
-    // Counts the bound of the class with this code, at which a walk of this space stands, no further than is asked. The walk is as it
+    // The bound of the class with this code, at which a walk of this space stands: what is told of it, by which it is counted no
+    // further than asked, and what is to be remembered. Where a count to its end is known, it isn't counted again. The walk is as it
     // was.
-    fn count_within(&self, walk: &mut Children<G>, code: &Code, most: u8) -> u8
+    fn count(
+        &self,
+        walk: &mut Children<G>,
+        code: &Code,
+        known: Option<WholeCount>,
+    ) -> (WholeCount, Option<WholeCount>)
         requires reached { (d : ℕ) × Reached (classes_in (frame_of (G.game self.now.rules.game) self.now.rules.rule self.now.rules.kind self.now.start)) code.now d }
         requires owned { IsWalkIn G.game (frame_of (G.game self.now.rules.game) self.now.rules.rule self.now.rules.kind self.now.start) walk.old }
         requires at { StandsAt (frame_of (G.game walk.old.game) walk.old.rule walk.old.kind walk.old.start) walk.old.position walk.old.last code.now }
-        ensures count { IsCount (bound_by_code self.now.rules.kind self.now.start code.now) most result }
+        requires known { IsWhole (bound_by_code self.now.rules.kind self.now.start code.now) known }
+        ensures count { result.0.bound ≡ bound_by_code self.now.rules.kind self.now.start code.now }
+        ensures whole { IsWhole (bound_by_code self.now.rules.kind self.now.start code.now) result.1 }
         ensures same { walk.new ≡ walk.old }
     {
-        match walk.last {
-            Some(m) => walk.bound_after(self.rules.kind, m, most),
-            None => self.rules.kind.guide_within(&self.position(code), most),
+        match (walk.last, known) {
+            (Some(m), _) => walk.count_after(self.rules.kind, m, known),
+            (None, Some(whole)) => (whole, known),
+            (None, None) => {
+                let whole = self.rules.kind.guide_whole(&self.position(code));
+                (whole, Some(whole))
+            }
         }
     }
 }
@@ -224,36 +237,6 @@ fn settled_already<G: Game + Drop>(
         cost: 1,
         bound,
     })
-}
-
-// Moves a card, not home, and tells the plain bound of where it leads, by the bound of where it was moved from: it changes
-// only by whether the card is held back, before and after.
-fn shift<G: Game>(
-    game: &G,
-    kind: BoundKind,
-    position: &mut Position,
-    bound: u8,
-    m: Move,
-) -> Option<u8>
-    requires bound { bound ≡ guide_of kind position.old }
-    requires allowed { Allows (G.game game.now) position.old m }
-    requires away { m.to ≢ Home }
-    ensures step { Step (G.game game.now) position.old m position.new }
-    ensures bound { IfSome result (λ b. b ≡ guide_of kind position.new) }
-    ensures whole { IsPosition position.new }
-{
-    match kind {
-        BoundKind::Plain => {
-            let before = is_held_back(position, m.from) as u8;
-            apply(game, position, m);
-            let after = is_held_back(position, m.to) as u8;
-            Some(bound + after - before)
-        }
-        BoundKind::Clearing => {
-            apply(game, position, m);
-            None
-        }
-    }
 }
 
 // The child to which a move leads, to a position with this code, made by moving the card forth and back; `None` where
@@ -322,21 +305,27 @@ impl<G: Game + Drop> Children<G> {
         }
     }
 
-    // The bound of this kind, the walk's, of where a move leads that takes no card home, counted no further than is asked. The
-    // walk is as it was.
-    fn bound_after(&mut self, kind: BoundKind, m: Move, most: u8) -> u8
+    // The bound of this kind, the walk's, of where a move leads that takes no card home, and what is to be remembered of it: nothing
+    // more where what the card adds is plain to see. The walk is as it was.
+    fn count_after(
+        &mut self,
+        kind: BoundKind,
+        m: Move,
+        known: Option<WholeCount>,
+    ) -> (WholeCount, Option<WholeCount>)
         requires kind { kind ≡ self.old.kind }
         requires allowed { Allows (G.game self.old.game) self.old.position m }
         requires away { m.to ≢ Home }
-        ensures under { (z : Board) → Step (G.game self.old.game) self.old.position m z → result ≤ guide_of kind z }
-        ensures exact { (z : Board) → Step (G.game self.old.game) self.old.position m z → result ≤ most → result ≡ guide_of kind z }
+        requires known { (z : Board) → Step (G.game self.old.game) self.old.position m z → IsWhole (guide_of kind z) known }
+        ensures count { (z : Board) → Step (G.game self.old.game) self.old.position m z → result.0.bound ≡ guide_of kind z }
+        ensures whole { (z : Board) → Step (G.game self.old.game) self.old.position m z → IsWhole (guide_of kind z) result.1 }
         ensures same { self.new ≡ self.old }
     {
         let without = kind.guide_without(&self.position, m.from, self.bound);
         apply(&self.rules.game, &mut self.position, m);
-        let bound = kind.guide_with(&self.position, m.to, without, most);
+        let counted = count_of(kind, &self.position, m.to, without, known);
         self.position.shift(m.to, m.from);
-        bound
+        counted
     }
 }
 
@@ -371,10 +360,12 @@ impl<G: Game + Drop> Space<Code> for Positions<G> {
         if let Some(count) = walk.remembered.get(code, most) {
             return count;
         }
-        let count = self.count_within(walk, code, most);
+        let known = walk.remembered.whole(code);
+        let (whole, known) = self.count(walk, code, known);
+        let count = whole.within(most);
         // Else the class is stored, with its bound, and isn't asked again.
         if most < count {
-            walk.remembered.note(code, most, count);
+            walk.remembered.note(code, most, count, known);
         }
         count
     }

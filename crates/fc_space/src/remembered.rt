@@ -2,20 +2,23 @@
 //! same class or from another, and most often its bound is past what is asked again.
 
 ghost use Rattle.std.specs.Prelude.{◌≡◌, ◌^◌, ◌<◌, ◌≤◌, ℕ, List, [], length, IfOk, IfNone, IfSome};
-ghost use Rattle.fc_space.specs.inner.Remembered.{AreUnder};
+ghost use Rattle.fc_space.specs.inner.Remembered.{AreUnder, IsWhole};
 
+use fc_bound::WholeCount;
 use fc_codes::Code;
 use fc_methods::{BoundKind, Expansion, Method};
 use std::alloc::{AllocError, Global};
 use std::hash::{FoldHasher, Hash, Hasher};
 use std::marker::Model;
 
-// What was counted of the bound of the class with a code, a number that is no greater, when it was counted no further than asked.
+// What was counted of the bound of the class with a code: a number that is no greater, when it was counted no further than asked,
+// and the count to its end, if there was one.
 #[derive(Clone, Copy)]
 pub(crate) struct Counted {
     code: Code,
     most: u8,
     count: u8,
+    whole: Option<WholeCount>,
 }
 
 // What was counted of bounds, each in the place that its code tells, which a later one of this place takes. A place where
@@ -58,6 +61,7 @@ impl Remembered {
             code: Code::all_home(),
             most: 0,
             count: 0,
+            whole: None,
         };
         let places = vec![in alloc; nothing; places]?;
         Ok(Remembered { places })
@@ -90,10 +94,25 @@ impl Remembered {
         }
     }
 
-    // Notes what counting the bound of the class with this code, no further than asked, gave.
+    // The count of the bound of the class with this code to its end, if it is remembered.
     #[inline]
-    pub(crate) fn note(&mut self, code: &Code, most: u8, count: u8)
-        ensures under { (bound : List ℕ → ℕ) → AreUnder bound self.old → count ≤ bound code.now → AreUnder bound self.new }
+    pub(crate) fn whole(&self, code: &Code) -> Option<WholeCount>
+        ensures whole { (bound : List ℕ → ℕ) → AreUnder bound self.now → IsWhole (bound code.now) result }
+    {
+        let counted = self.places[self.place(code)?];
+        if counted.code == *code {
+            counted.whole
+        } else {
+            None
+        }
+    }
+
+    // Notes what counting the bound of the class with this code, no further than asked, gave, and the count to its end, if there
+    // was one.
+    #[inline]
+    pub(crate) fn note(&mut self, code: &Code, most: u8, count: u8, whole: Option<WholeCount>)
+        ensures under { (bound : List ℕ → ℕ) → AreUnder bound self.old → count ≤ bound code.now → IsWhole (bound code.now) whole
+            → AreUnder bound self.new }
         ensures size { length self.new ≡ length self.old }
     {
         if let Some(place) = self.place(code) {
@@ -101,6 +120,7 @@ impl Remembered {
                 code: *code,
                 most,
                 count,
+                whole,
             };
         }
     }

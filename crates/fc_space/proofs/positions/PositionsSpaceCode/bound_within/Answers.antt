@@ -1,7 +1,17 @@
-use Rattle.std.proofs.Common.{◌≡◌, sym, subst, ap, ◌∙◌}
+use Rattle.std.proofs.Common.{◌≡◌, ◌≤◌, sym, subst, ap, ◌∙◌}
 use Rattle.fc_space.specs.Children.{Frame, frame_of}
-use Rattle.fc_space.specs.inner.Remembered.{IsCount, bound_by_code}
+use Rattle.fc_space.specs.inner.Remembered.{IsWhole, bound_by_code}
 use Rattle.fc_space.proofs.positions.PositionsSpaceCode.bound_within.Goals as goal
+
+pub count-known-requires-clause-known : goal.count-known-requires-clause-known
+count-known-requires-clause-known g c =
+    let own = c.args.self.now in
+    let w = frame_of (g.G.Game.game own.rules.game) own.rules.rule own.rules.kind own.start in
+    let inner = c.walk.inside in
+    let v = frame_of (g.G.Game.game inner.rules.game) inner.rules.rule inner.rules.kind inner.layout in
+    let here : v ≡ w = ap (λ s. frame_of (g.G.Game.game s.game) s.rule s.kind s.start) c.walk.view_is ∙ c.requires.owned in
+    subst (λ (u : Frame). IsWhole (bound_by_code u.kind u.start c.args.code.now) c.whole-known.result) here
+    (c.whole-known.ensures.whole (bound_by_code inner.rules.kind inner.layout) c.walk.invariant.5)
 
 pub invariant_of-walk : goal.invariant_of-walk
 invariant_of-walk g c =
@@ -10,14 +20,17 @@ invariant_of-walk g c =
     let inner = c.walk-2.inside in
     let v = frame_of (g.G.Game.game inner.rules.game) inner.rules.rule inner.rules.kind inner.layout in
     let here : v ≡ w =
-    ap (λ s. frame_of (g.G.Game.game s.game) s.rule s.kind s.start) (c.walk-2.view_is ∙ c.count_within-count.ensures.same) ∙ c.requires.owned in
-    let count = subst (λ (u : Frame). IsCount (bound_by_code u.kind u.start c.args.code.now) c.args.most c.count_within-count.result) (sym here)
-    c.count_within-count.ensures.count in
+    ap (λ s. frame_of (g.G.Game.game s.game) s.rule s.kind s.start) (c.walk-2.view_is ∙ c.count-known.ensures.same) ∙ c.requires.owned in
+    let count = c.within-count.result in
+    let known = c.count-known.result.1 in
+    let lower = subst (λ n. count ≤ n) c.count-known.ensures.count c.within-count.ensures.lower in
     let kept = c.walk-2.invariant in (
       kept.0,
       kept.1,
       kept.2,
       kept.3,
       kept.4,
-      c.note.ensures.under (bound_by_code inner.rules.kind inner.layout) kept.5 count.0,
+      c.note.ensures.under (bound_by_code inner.rules.kind inner.layout) kept.5
+          (subst (λ (u : Frame). count ≤ bound_by_code u.kind u.start c.args.code.now) (sym here) lower)
+          (subst (λ (u : Frame). IsWhole (bound_by_code u.kind u.start c.args.code.now) known) (sym here) c.count-known.ensures.whole),
     )

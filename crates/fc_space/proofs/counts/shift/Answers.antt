@@ -2,7 +2,7 @@ use Rattle.std.proofs.Common.{◌≡◌, sym, ◌∙◌, ap, arith}
 use Rattle.fc_bound.specs.Bound.{bound}
 use Rattle.fc_bound.specs.Kinds.{guide_of}
 use Rattle.fc_space.proofs.ShiftLemmas.{shifts}
-use Rattle.fc_space.proofs.positions.shift.Goals as goal
+use Rattle.fc_space.proofs.counts.shift.Goals as goal
 
 pub overflow_add-result : goal.overflow_add-result
 overflow_add-result g c =

@@ -1,27 +1,29 @@
 use Rattle.std.proofs.Common.{◌≡◌, IfSome, sym, subst, ap, ◌∙◌}
 use Rattle.fc_position.specs.Board.{Board}
 use Rattle.fc_moves.specs.GameRules.{IsPositionOf}
-use Rattle.fc_moves.specs.Step.{Allows}
+use Rattle.fc_moves.specs.Step.{Allows, Step}
 use Rattle.fc_canonical.proofs.BackLemmas.{taken_back}
 use Rattle.fc_home.specs.Settles.{NoneGoesHome}
 use Rattle.fc_bound.specs.Kinds.{guide_of}
 use Rattle.fc_bound.proofs.FareLemmas.{guide_lifted}
 use Rattle.fc_space.specs.Children.{Left}
 use Rattle.fc_codes.specs.State.{IsCodeOf}
-use Rattle.fc_space.proofs.positions.Children.bound_after.Goals as goal
+use Rattle.fc_space.proofs.positions.Children.count_after.Goals as goal
 
 pub guide_without-without-requires : goal.guide_without-without-requires
 guide_without-without-requires g c = record {
   bound = c.self.invariant.2 ∙ ap (λ k. guide_of k c.self.inside.position) (sym (c.requires.kind ∙ ap (λ v. v.kind) (sym c.self.view_is)));
 }
 
-pub guide_with-bound-requires : goal.guide_with-bound-requires
-guide_with-bound-requires g c =
+pub count_of-counted-requires : goal.count_of-counted-requires
+count_of-counted-requires g c =
     let inner = c.self.inside in
     record {
       without = subst (λ n. IfSome c.guide_without-without.result (λ less. less ≡ n))
           (guide_lifted c.args.kind (g.G.Game.game inner.rules.game) inner.position c.apply.new.position c.args.m c.apply.ensures.step c.requires.away)
           c.guide_without-without.ensures.value;
+      known = c.requires.known c.apply.new.position
+          (subst (λ v. Step (g.G.Game.game v.game) v.position c.args.m c.apply.new.position) c.self.view_is c.apply.ensures.step);
     }
 
 pub shift-requires : goal.shift-requires
