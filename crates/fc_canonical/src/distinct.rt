@@ -1,11 +1,12 @@
-ghost use Rattle.std.specs.Prelude.{◌≡◌, ℕ, ◌+◌, ◌*◌, ◌<◌, ◌≤◌, ◌↔◌, IsTrue, Some, None, length};
+ghost use Rattle.std.specs.Prelude.{true, false, slice_index_or, ◌≡◌, ℕ, ◌+◌, ◌*◌, ◌<◌, ◌≤◌, ◌↔◌, IsTrue, Some, None, length};
 ghost use Rattle.arrayvec.specs.ArrayVec.{array_vec_len};
 ghost use Rattle.fc_cards.specs.declared.places.Place.TheVariants.{Column, Cell};
-ghost use Rattle.fc_position.specs.Board.{playable, column};
+ghost use Rattle.fc_cards.specs.Card.{rank};
+ghost use Rattle.fc_position.specs.Board.{Board, playable, column, last_of};
 ghost use Rattle.fc_position.specs.Position.{IsPosition};
 ghost use Rattle.fc_moves.specs.Step.{place_number};
 ghost use Rattle.fc_canonical.specs.Distinct.{ListsClasses, AreFirst, AreInOrder};
-ghost use Rattle.fc_canonical.specs.inner.Distinct.{IsCellOf, IsOpening, GoesTo, IsFirstCell, IsFirstColumn, ListsDistinctBelow, IsListed, IsLaterLone, IsLoneBelow, IsLone};
+ghost use Rattle.fc_canonical.specs.inner.Distinct.{HasNoHost, TellRanks, IsCellOf, IsOpening, GoesTo, IsFirstCell, IsFirstColumn, ListsDistinctBelow, IsListed, IsLaterLone, IsLoneBelow, IsLone};
 
 use arrayvec::ArrayVec;
 use fc_cards::{Card, Place};
@@ -34,9 +35,47 @@ pub fn list_distinct_moves<G: Game>(game: &G, position: &Position, list: &mut Ar
     let _home = position.playable(Place::Home);
     let column = first_empty_column(position);
     let cell = first_empty_cell(game, position);
+    let ranks = ranks_of_lasts(position);
     list.clear();
-    list_from_columns(game, position, column, cell, list);
-    list_from_cells(game, position, column, list);
+    list_from_columns(game, position, &ranks, column, cell, list);
+    list_from_cells(game, position, &ranks, column, list);
+}
+
+// Of each rank whether a column's last card has it.
+type Ranks = [bool; 15];
+
+// The ranks of the columns' last cards.
+fn ranks_of_lasts(position: &Position) -> Ranks
+    ensures ranks { TellRanks position.now 8 result }
+    ensures count { length result ≡ 15 }
+{
+    let mut ranks = [false; 15];
+    for j in 0..8 {
+        note_last(&mut ranks, position.column(j));
+    }
+    ranks
+}
+
+// Notes the rank of the last card, if there is one.
+#[inline]
+fn note_last(ranks: &mut Ranks, cards: &[Card])
+    requires count { length ranks.old ≡ 15 }
+    ensures last { (l : ℕ) → last_of cards.now ≡ Some l → slice_index_or ranks.new (rank l) false ≡ true }
+    ensures kept { (r : ℕ) → slice_index_or ranks.old r false ≡ true → slice_index_or ranks.new r false ≡ true }
+    ensures count { length ranks.new ≡ 15 }
+{
+    if let Some(card) = cards.last() {
+        ranks[card.rank() as usize] = true;
+    }
+}
+
+// Whether a column's last card is one rank higher than this one.
+#[inline]
+fn has_host(ranks: &Ranks, card: Card) -> bool
+    requires count { length ranks.now ≡ 15 }
+    ensures none { (b : Board) → TellRanks b 8 ranks.now → result ≡ false → HasNoHost b card }
+{
+    ranks[card.rank() as usize + 1]
 }
 
 // The first column that holds no card.
@@ -68,11 +107,13 @@ fn first_empty_cell<G: Game>(game: &G, position: &Position) -> Option<u8>
 fn list_from_columns<G: Game>(
     game: &G,
     position: &Position,
+    ranks: &Ranks,
     column: Option<u8>,
     cell: Option<u8>,
     list: &mut ArrayVec<Move, 132>,
 )
     requires whole { IsPosition position.now }
+    requires ranks { TellRanks position.now 8 ranks.now × (length ranks.now ≡ 15) }
     requires column { IsFirstColumn position.now column }
     requires cell { IsFirstCell position.now (G.game game.now).cells cell }
     requires empty { array_vec_len list.old ≡ 0 }
@@ -83,14 +124,12 @@ fn list_from_columns<G: Game>(
         if let Some(card) = position.column(i).last() {
             let from = Place::Column(i);
             let opening = opening_of(game, position, from, *card, column);
-            list_from(
-                game,
-                position,
-                Source { from, card: *card },
-                opening,
-                cell,
-                list,
-            );
+            let source = Source {
+                from,
+                card: *card,
+                has_host: has_host(ranks, *card),
+            };
+            list_from(game, position, &source, opening, cell, list);
         }
     }
 }
@@ -99,10 +138,12 @@ fn list_from_columns<G: Game>(
 fn list_from_cells<G: Game>(
     game: &G,
     position: &Position,
+    ranks: &Ranks,
     column: Option<u8>,
     list: &mut ArrayVec<Move, 132>,
 )
     requires whole { IsPosition position.now }
+    requires ranks { TellRanks position.now 8 ranks.now × (length ranks.now ≡ 15) }
     requires column { IsFirstColumn position.now column }
     requires before { ListsDistinctBelow (G.game game.now) position.now (8 * 13) list.old.items }
     requires room { array_vec_len list.old ≤ 80 }
@@ -112,7 +153,12 @@ fn list_from_cells<G: Game>(
         if let Some(card) = position.cell(i) {
             let from = Place::Cell(i);
             let opening = opening_of(game, position, from, card, column);
-            list_from(game, position, Source { from, card }, opening, None, list);
+            let source = Source {
+                from,
+                card,
+                has_host: has_host(ranks, card),
+            };
+            list_from(game, position, &source, opening, None, list);
         }
     }
 }
@@ -172,32 +218,34 @@ fn is_lone<G: Game>(game: &G, cards: &[Card]) -> bool
     }
 }
 
-// A playable card, and its place.
+// A playable card, its place, and whether some column's last card is one rank higher: on no other a card stands.
 #[derive(Clone, Copy)]
 struct Source {
     from: Place,
     card: Card,
+    has_host: bool,
 }
 
 // Lists the moves of the card, after those of the cards of the places before it.
 fn list_from<G: Game>(
     game: &G,
     position: &Position,
-    source: Source,
+    source: &Source,
     opening: Option<u8>,
     cell: Option<u8>,
     list: &mut ArrayVec<Move, 132>,
 )
     requires whole { IsPosition position.now }
-    requires card { playable position.now source.from ≡ Some source.card }
-    requires opening { IsOpening (G.game game.now) position.now source.from opening }
-    requires cell { IsCellOf (G.game game.now) position.now source.from cell }
-    requires before { ListsDistinctBelow (G.game game.now) position.now (place_number source.from * 13) list.old.items }
+    requires card { playable position.now source.now.from ≡ Some source.now.card }
+    requires host { source.now.has_host ≡ false → HasNoHost position.now source.now.card }
+    requires opening { IsOpening (G.game game.now) position.now source.now.from opening }
+    requires cell { IsCellOf (G.game game.now) position.now source.now.from cell }
+    requires before { ListsDistinctBelow (G.game game.now) position.now (place_number source.now.from * 13) list.old.items }
     requires room { array_vec_len list.old + 10 ≤ 132 }
-    ensures after { ListsDistinctBelow (G.game game.now) position.now (place_number source.from * 13 + 13) list.new.items }
+    ensures after { ListsDistinctBelow (G.game game.now) position.now (place_number source.now.from * 13 + 13) list.new.items }
     ensures count { array_vec_len list.new ≤ array_vec_len list.old + 10 }
 {
-    list_to_columns(game, position, source.from, source.card, opening, list);
+    list_to_columns(game, position, source, opening, list);
     if let Some(j) = cell {
         let to = Place::Cell(j);
         list.push(Move {
@@ -208,8 +256,31 @@ fn list_from<G: Game>(
     list_to_home(game, position, source.from, source.card, list);
 }
 
-// Lists the moves of the card to columns.
+// Lists the moves of the card to columns, which aren't looked at where none can take it: most cards have no host.
 fn list_to_columns<G: Game>(
+    game: &G,
+    position: &Position,
+    source: &Source,
+    opening: Option<u8>,
+    list: &mut ArrayVec<Move, 132>,
+)
+    requires whole { IsPosition position.now }
+    requires card { playable position.now source.now.from ≡ Some source.now.card }
+    requires host { source.now.has_host ≡ false → HasNoHost position.now source.now.card }
+    requires opening { IsOpening (G.game game.now) position.now source.now.from opening }
+    requires before { ListsDistinctBelow (G.game game.now) position.now (place_number source.now.from * 13) list.old.items }
+    requires room { array_vec_len list.old + 8 ≤ 132 }
+    ensures after { ListsDistinctBelow (G.game game.now) position.now (place_number source.now.from * 13 + 8) list.new.items }
+    ensures count { array_vec_len list.new ≤ array_vec_len list.old + 8 }
+{
+    if !source.has_host && opening.is_none() {
+        return;
+    }
+    list_to_each_column(game, position, source.from, source.card, opening, list);
+}
+
+// Lists the moves of the card to columns, each of which is looked at.
+fn list_to_each_column<G: Game>(
     game: &G,
     position: &Position,
     from: Place,

@@ -9,8 +9,8 @@ pub list_to_home-requires-clause-before : goal.list_to_home-requires-clause-befo
 list_to_home-requires-clause-before g c =
     let game = g.G.Game.game c.args.game.now in
     let b = c.args.position.now in
-    let from = c.args.source.from in
-    let source = source_there b from c.args.source.card c.requires.whole c.requires.card in
+    let from = c.args.source.now.from in
+    let source = source_there b from c.args.source.now.card c.requires.whole c.requires.card in
     let before = c.list_to_columns.new.list.items in
     elim c.match-cell.branch [
       | in-Some w ↦

@@ -2,7 +2,7 @@ use Rattle.std.proofs.Common.{◌+◌, ◌*◌, ◌≤◌}
 use Rattle.arrayvec.specs.ArrayVec.{array_vec_len}
 use Rattle.fc_moves.specs.Step.{place_number}
 use Rattle.fc_canonical.specs.inner.Distinct.{ListsDistinctBelow}
-use Rattle.fc_canonical.proofs.distinct.list_to_columns.Given as goal
+use Rattle.fc_canonical.proofs.distinct.list_to_each_column.Given as goal
 
 -- the moves to the columns before this one are listed, at most one to each
 abbrev pub invariant-loop-j : goal.invariant-loop-j
