@@ -85,6 +85,7 @@ fn expand<K: ExactKey, F: Frontier + Drop, S: Space<K>>(
 
 // Visits a key of which a pair was taken that is so far above its weighed cost, where that is its present one, and says whether it
 // is: where its opening is noted, the one that is, else one that is no greater than its weighed bound.
+#[inline(always)]
 fn visit_present<K, S: Space<K>>(
     space: &S,
     walk: &mut S::Walk,

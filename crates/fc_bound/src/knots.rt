@@ -24,6 +24,7 @@ fn loosen(left: &mut Left<'_>)
 // How many knots are met until no card is left, counted no further than asked: all of them where they are at most so many,
 // else as many as it was known by then that there are. It takes the cards out. Each card that waits for one beneath it is
 // met sooner or later, and none of the others but by a knot: so the former are counted first, all at once.
+#[inline(always)]
 fn knots_within(left: &mut Left<'_>, most: u8) -> u8
     requires few { cards_in left.old ≤ 52 }
     ensures lower { result ≤ knot_count left.old }
@@ -44,6 +45,7 @@ fn knots_within(left: &mut Left<'_>, most: u8) -> u8
 }
 
 // How many knots are met until no card is left; it takes all cards out.
+#[inline(always)]
 pub(crate) fn knot_count(left: &mut Left<'_>) -> u8
     requires few { cards_in left.old ≤ 52 }
     ensures value { result ≡ knot_count left.old }

@@ -42,7 +42,7 @@ pub(crate) fn blank() -> Rows
 }
 
 // Fills the rows of a position's cards.
-#[inline]
+#[inline(always)]
 pub(crate) fn fill(rows: &mut Rows, position: &Position) -> Marks
     requires whole { IsPosition position.now }
     ensures rows { AreRows position.now.columns rows.new }

@@ -45,6 +45,7 @@ pub fn list_distinct_moves<G: Game>(game: &G, position: &Position, list: &mut Ar
 type Ranks = [bool; 15];
 
 // The ranks of the columns' last cards.
+#[inline(always)]
 fn ranks_of_lasts(position: &Position) -> Ranks
     ensures ranks { TellRanks position.now 8 result }
     ensures count { length result ≡ 15 }
@@ -165,6 +166,7 @@ fn list_from_cells<G: Game>(
 
 // The empty column to which the card is listed: the first one, where the card may go there. A column's only card that
 // goes there leads to the class itself, as does another's, so it is listed of the first such column alone.
+#[inline(always)]
 fn opening_of<G: Game>(
     game: &G,
     position: &Position,
@@ -227,6 +229,7 @@ struct Source {
 }
 
 // Lists the moves of the card, after those of the cards of the places before it.
+#[inline(always)]
 fn list_from<G: Game>(
     game: &G,
     position: &Position,
@@ -257,6 +260,7 @@ fn list_from<G: Game>(
 }
 
 // Lists the moves of the card to columns, which aren't looked at where none can take it: most cards have no host.
+#[inline(always)]
 fn list_to_columns<G: Game>(
     game: &G,
     position: &Position,
@@ -280,6 +284,7 @@ fn list_to_columns<G: Game>(
 }
 
 // Lists the moves of the card to columns, each of which is looked at.
+#[inline(always)]
 fn list_to_each_column<G: Game>(
     game: &G,
     position: &Position,
@@ -316,6 +321,7 @@ fn goes_to<G: Game>(game: &G, cards: &[Card], card: Card, opens: bool) -> bool
 }
 
 // Lists the move of the card home, where it is next in its suit.
+#[inline(always)]
 fn list_to_home<G: Game>(
     game: &G,
     position: &Position,

@@ -128,7 +128,7 @@ impl Layout {
     }
 
     /// The code after a move from the position, which has this code.
-    #[inline]
+    #[inline(always)]
     pub fn moved(&self, code: &Code, position: &Position, m: Move) -> Code
         ensures value { (c : Board) (card : ℕ) → Moves self.now code.now card position.now m c → IsCodeOf self.now c result }
         ensures whole { IsPosition position.now }
@@ -200,6 +200,7 @@ impl Layout {
     }
 
     /// The canonical position of the class with this code, which is the code of some position.
+    #[inline(always)]
     pub fn position_of(&self, code: &Code) -> Position
         requires code { (b : Board) × IsPosition b × IsCodeOf self.now b code.now }
         ensures value { result ≡ board_of_code self.now code.now }

@@ -50,12 +50,15 @@ impl Seats {
         ensures homes { self.new.homes ≡ (if state == 1
             then slice_set self.old.homes (suit card) (slice_index self.old.homes (suit card) + 1) else self.old.homes) }
     {
-        match state {
-            1 => self.homes[card.suit().index() as usize] += 1,
-            2 => self.cells.push(card),
-            _ if seat < 52 => self.above[seat as usize] = Some(card),
-            _ if seat == 52 => self.deepest.push(card),
-            _ => {}
+        // Most cards lie on one.
+        if seat < 52 {
+            self.above[seat as usize] = Some(card);
+        } else if seat == 52 {
+            self.deepest.push(card);
+        } else if state == 1 {
+            self.homes[card.suit().index() as usize] += 1;
+        } else if state == 2 {
+            self.cells.push(card);
         }
     }
 }

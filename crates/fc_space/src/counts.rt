@@ -45,6 +45,7 @@ pub(crate) fn shift<G: Game>(
 
 // The bound of this kind of a position to which a card was moved, by the bound without the card, where that is known, and what is to
 // be remembered of it.
+#[inline(always)]
 pub(crate) fn count_of(
     kind: BoundKind,
     position: &Position,

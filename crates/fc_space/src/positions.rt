@@ -285,6 +285,7 @@ fn child_by_copy<G: Game + Drop>(
 
 impl<G: Game + Drop> Children<G> {
     // The child to which a move leads, at which the walk stands from then on.
+    #[inline(always)]
     fn step(&mut self, m: Move) -> Child<Code>
         requires allowed { Allows (G.game self.old.game) self.old.position m }
         ensures child { IsChildOf (frame_of (G.game self.old.game) self.old.rule self.old.kind self.old.start) self.old.position m result }
@@ -370,6 +371,7 @@ impl<G: Game + Drop> Space<Code> for Positions<G> {
         count
     }
 
+    #[inline(always)]
     fn visit(&self, code: &Code, walk: &mut Children<G>) -> u8 {
         let position = self.position(code);
         let bound = self.rules.kind.guide(&position);
@@ -377,10 +379,12 @@ impl<G: Game + Drop> Space<Code> for Positions<G> {
         bound
     }
 
+    #[inline(always)]
     fn revisit(&self, code: &Code, bound: u8, walk: &mut Children<G>) {
         self.set_out(code, self.position(code), bound, walk);
     }
 
+    #[inline(always)]
     fn next(&self, walk: &mut Children<G>) -> Option<Child<Code>> {
         let m = walk.left.pop()?;
         Some(walk.step(m))
