@@ -178,15 +178,3 @@ pub none_told : (q : Asked) (b : Board) (s : Standing) (end : Shown) → Stands 
 none_told q b s end (searches, tails, is) same none =
     let so : IsEnd q b end = subst (λ o. IfSome o (IsEnd q b)) same is.shown in
     none_listed q.game b s.list s.far.shortest is.list (subst (IsShown q.game b) (no_number end.floor none) so.0) is.told.shortest
-
--- one more search of the question, by a share of the budget
-pub searched_stands : (q asked : Asked) (b : Board) (weight : Ratio) (share : ℕ) (limit : Option ℕ) (old new : Standing) (attempt : Attempt)
-    (far : BestProgress)
-    → ((q : Asked) (b : Board) (weight : Ratio) (share : ℕ) → Stands q b old → share ≤ old.left
-    → IsAttempt (with_share q weight share) b (limit_of old.list) attempt → IsFurther q.game b old.far far → Stands q b new)
-    → Stands q b old → share ≤ old.left → asked ≡ with_share q weight share → limit ≡ limit_of old.list
-    → IsAttempt asked b limit attempt → IsFurther asked.game b old.far far → Stands q b new
-searched_stands q asked b weight share limit old new attempt far after stands within same told is further =
-    after q b weight share stands within
-    (subst (λ l. IsAttempt (with_share q weight share) b l attempt) told (subst (λ a. IsAttempt a b limit attempt) same is))
-    (subst (λ a. IsFurther a.game b old.far far) same further)

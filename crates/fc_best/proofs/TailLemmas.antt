@@ -1,5 +1,5 @@
 -- A list that wins, with a shorter tail.
-use Rattle.std.proofs.Common.{◌≡◌, ◌∙◌, inr, Bool, ℕ, ◌+◌, ◌<◌, ◌≤◌, Option, Some, None, List, [], ◌∷◌, ◌++◌, ◌-◌, length, take, drop, refl, sym, subst, ap, arith, append_assoc, append-nil, get_or, add-one, drop-cons}
+use Rattle.std.proofs.Common.{◌≡◌, ◌∙◌, inr, Bool, ℕ, ◌+◌, ◌<◌, ◌≤◌, Option, Some, None, List, [], ◌∷◌, ◌++◌, ◌-◌, length, take, drop, refl, sym, subst, ap, arith, append_assoc, get_or, add-one, drop-cons}
 use Rattle.std.specs.Prelude.{IfSome, IsSome, All}
 use Rattle.std.proofs.lemmas.List.{length-append, length-take-le, take-append-drop}
 use Rattle.std.proofs.lemmas.List.Elements.{All-append, All-cons, All-nil, All-take}
@@ -56,9 +56,6 @@ pub record OnTheWay (g : GameRules) (start : Board) (all left : List Move) (here
   pub end : Board
   pub rest : Run g here left end
 
-pub way_begins : (g : GameRules) (b end : Board) (all : List Move) → Run g b all end → OnTheWay g b all all b
-way_begins g b end all run = record { made = []; there = refl; parts = refl; end = end; rest = run }
-
 pub way_allowed : (g : GameRules) (start : Board) (all left more : List Move) (here : Board) (m : Move) → OnTheWay g start all left here
     → left ≡ m ∷ more → Allows g here m
 way_allowed g start all left more here m way first =
@@ -80,13 +77,6 @@ way_next g start all left more here next m way first step =
       end = way.end;
       rest = subst (λ b. Run g b more way.end) (step_once g here m on.0 next on.1 step) on.2;
     }
-
--- where none are left all were made
-pub way_ends : (g : GameRules) (start : Board) (all left : List Move) (here : Board) → OnTheWay g start all left here → left ≡ []
-    → Run g start all here
-way_ends g start all left here way none =
-    let whole : way.made ≡ all = sym (append-nil way.made) ∙ ap (λ l. way.made ++ l) (sym none) ∙ way.parts in
-    subst (λ l. Run g start l here) whole way.there
 
 -- a front of a good list with a good and shorter end is a good list
 joined_good : (g : GameRules) (b c : Board) (n limit : ℕ) (all front end made : List Move) → IsGoodList g b all → front ≡ take n all
