@@ -59,6 +59,14 @@ impl Table {
         }
     }
 
+    /// The same classes and costs, under another kind of bound.
+    pub fn with_bound(self, bound: BoundKind) -> Self
+        ensures value { result ≡ record { rule = self.rule; bound = bound; rows = self.rows } }
+    {
+        let Table { rule, rows, .. } = self;
+        Table { rule, bound, rows }
+    }
+
     /// The home rule that the classes were searched by, 0 to 2.
     pub fn rule(&self) -> u8
         ensures value { result ≡ self.now.rule }

@@ -9,6 +9,8 @@ use Rattle.fc_moves.specs.GameRules.{GameRules}
 use Rattle.fc_moves.specs.Run.{CannotWin, ReachesMore}
 use Rattle.fc_answers.specs.Table.{Listing}
 use Rattle.fc_best_first.specs.Limits.{Ratio}
+use Rattle.fc_bound.specs.declared.kinds.BoundKind.{BoundKind}
+use Rattle.fc_bound.specs.declared.kinds.BoundKind.TheVariants.{Plain}
 use Rattle.fc_methods.specs.Method.{Asked}
 use Rattle.fc_best.specs.declared.attempts.Attempt.{Attempt}
 use Rattle.fc_best.specs.declared.listeners.BestProgress.{BestProgress}
@@ -16,7 +18,7 @@ use Rattle.fc_best.specs.declared.standings.Shown.{Shown}
 use Rattle.fc_best.specs.declared.standings.Standing.{Standing}
 use Rattle.fc_best.specs.Best.{Ended, HasGivenUp, HaveGivenUp, IsFloor, IsOfQuestion}
 use Rattle.fc_best.specs.inner.Attempt.{IsAttempt, IsGivenUp, IsGoodList, IsShown, IsTableOf}
-use Rattle.fc_best.specs.inner.Standing.{AllGaveUp, IsEnd, ShowsNone, Stands, end_of, greater, limit_of, newest, with_share}
+use Rattle.fc_best.specs.inner.Standing.{AllGaveUp, IsEnd, ShowsNone, Stands, end_of, greater, limit_of, looked_with, newest, with_share}
 use Rattle.fc_best.specs.inner.Watch.{IsAfter, IsFurther, floor_shown}
 
 -- the first of a list is one of it, and so is one of the rest
@@ -117,9 +119,9 @@ floor_after g b before new None is floor shown moves wins = let least = floor mo
 floor_after g b before new (Some most) is floor shown moves wins =
     let least = floor moves wins in let more = shown moves wins in omega (arith, is, least, more)
 
-pub after_stands : (q : Asked) (b : Board) (weight : Ratio) (share : ℕ) (old : Standing) (attempt : Attempt) (last new : BestProgress)
+pub after_stands : (q : Asked) (kind : BoundKind) (b : Board) (weight : Ratio) (share : ℕ) (old : Standing) (attempt : Attempt) (last new : BestProgress)
     → Stands q b old → IsFurther q.game b old.far last → IsAfter last attempt.shown (limit_of (newest attempt.list old.list)) new
-    → old.shown ≡ None → share ≤ old.left → attempt.stored ≤ old.left → IsAttempt (with_share q weight share) b (limit_of old.list) attempt
+    → old.shown ≡ None → share ≤ old.left → attempt.stored ≤ old.left → IsAttempt (with_share q weight share) kind b (limit_of old.list) attempt
     → (IsTrue old.has_table → IsTrue attempt.is_settled → IsSome attempt.table)
     → Stands q b (record {
       list = newest attempt.list old.list;
@@ -127,9 +129,10 @@ pub after_stands : (q : Asked) (b : Board) (weight : Ratio) (share : ℕ) (old :
       left = old.left - attempt.stored;
       given_up = greater old.given_up attempt.given_up;
       has_table = old.has_table;
+      open_share = attempt.open_share;
       far = new;
     })
-after_stands q b weight share old attempt last new (searches, tails, was) further after unshown within room is made = (
+after_stands q kind b weight share old attempt last new (searches, tails, was) further after unshown within room is made = (
   is.ended ∷ searches,
   tails,
   record {
@@ -154,14 +157,14 @@ after_stands q b weight share old attempt last new (searches, tails, was) furthe
 )
 
 -- the same, of what is made so
-pub stands_after : (q : Asked) (b : Board) (list : Option (List Move)) (shown : Option Shown) (left : ℕ) (given_up : Option ℕ) (has_table : Bool)
+pub stands_after : (q : Asked) (b : Board) (list : Option (List Move)) (shown : Option Shown) (left : ℕ) (given_up : Option ℕ) (has_table : Bool) (ajar : ℕ)
     (far : BestProgress) (made : Option (List Move)) (settled : Option Shown) (most : Option ℕ) → list ≡ made → shown ≡ settled → given_up ≡ most
-    → Stands q b (record { list = made; shown = settled; left = left; given_up = most; has_table = has_table; far = far })
-    → Stands q b (record { list = list; shown = shown; left = left; given_up = given_up; has_table = has_table; far = far })
-stands_after q b list shown left given_up has_table far made settled most same ended gave stands =
-    subst (λ l. Stands q b (record { list = l; shown = shown; left = left; given_up = given_up; has_table = has_table; far = far })) (sym same)
-    (subst (λ e. Stands q b (record { list = made; shown = e; left = left; given_up = given_up; has_table = has_table; far = far })) (sym ended)
-    (subst (λ g. Stands q b (record { list = made; shown = settled; left = left; given_up = g; has_table = has_table; far = far })) (sym gave) stands))
+    → Stands q b (record { list = made; shown = settled; left = left; given_up = most; has_table = has_table; open_share = ajar; far = far })
+    → Stands q b (record { list = list; shown = shown; left = left; given_up = given_up; has_table = has_table; open_share = ajar; far = far })
+stands_after q b list shown left given_up has_table ajar far made settled most same ended gave stands =
+    subst (λ l. Stands q b (record { list = l; shown = shown; left = left; given_up = given_up; has_table = has_table; open_share = ajar; far = far })) (sym same)
+    (subst (λ e. Stands q b (record { list = made; shown = e; left = left; given_up = given_up; has_table = has_table; open_share = ajar; far = far })) (sym ended)
+    (subst (λ g. Stands q b (record { list = made; shown = settled; left = left; given_up = g; has_table = has_table; open_share = ajar; far = far })) (sym gave) stands))
 
 -- no list is told where it is shown that none wins
 none_listed : (g : GameRules) (b : Board) (list : Option (List Move)) (told : Option ℕ) → IfSome list (IsGoodList g b) → CannotWin g b
@@ -178,3 +181,11 @@ pub none_told : (q : Asked) (b : Board) (s : Standing) (end : Shown) → Stands 
 none_told q b s end (searches, tails, is) same none =
     let so : IsEnd q b end = subst (λ o. IfSome o (IsEnd q b)) same is.shown in
     none_listed q.game b s.list s.far.shortest is.list (subst (IsShown q.game b) (no_number end.floor none) so.0) is.told.shortest
+
+-- what a look for any list found is so of the question by the plain bound
+pub look_found : (q asked : Asked) (b : Board) (weight : Ratio) (share : ℕ) (old : Option (List Move)) (limit : Option ℕ) (one : Attempt)
+    → asked ≡ looked_with q weight share → limit ≡ limit_of old → old ≡ None → IsAttempt asked asked.method.bound b limit one
+    → IsAttempt (looked_with q weight share) Plain b None one
+look_found q asked b weight share old limit one same none missing is =
+    subst (λ a. IsAttempt a a.method.bound b None one) same
+    (subst (λ l. IsAttempt asked asked.method.bound b l one) (none ∙ ap limit_of missing) is)

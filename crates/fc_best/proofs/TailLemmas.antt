@@ -1,5 +1,5 @@
 -- A list that wins, with a shorter tail.
-use Rattle.std.proofs.Common.{◌≡◌, ◌∙◌, inr, Bool, ℕ, ◌+◌, ◌<◌, ◌≤◌, Option, Some, None, List, [], ◌∷◌, ◌++◌, ◌-◌, length, take, drop, refl, sym, subst, ap, arith, append_assoc, get_or, add-one, drop-cons}
+use Rattle.std.proofs.Common.{◌≡◌, ◌∙◌, inr, Bool, false, ℕ, ◌+◌, ◌<◌, ◌≤◌, Option, Some, None, List, [], ◌∷◌, ◌++◌, ◌-◌, length, take, drop, refl, sym, subst, ap, arith, append_assoc, get_or, add-one, drop-cons}
 use Rattle.std.specs.Prelude.{IfSome, IsSome, All}
 use Rattle.std.proofs.lemmas.List.{length-append, length-take-le, take-append-drop}
 use Rattle.std.proofs.lemmas.List.Elements.{All-append, All-cons, All-nil, All-take}
@@ -101,7 +101,7 @@ tail_good g b c n limit all front end (Some moves) good same long run tail (e, f
 
 pub is_tail : (q : Asked) (b c : Board) (n limit : ℕ) (all front : List Move) (attempt : Attempt) (made : Option (List Move))
     → IsGoodList q.game b all → front ≡ take n all → n + limit ≡ length all → Run q.game b front c
-    → IsAttempt q c (Some limit) attempt → IsWithEnd front attempt.list limit made
+    → IsAttempt q q.method.bound c (Some limit) attempt → IsWithEnd front attempt.list limit made
     → (gave : Bool) (effort : Effort) → IsTail q b (record { list = made; stored = attempt.stored; has_given_up = gave; effort = effort })
 is_tail q b c n limit all front attempt made good same long run is joined gave effort = record {
   ended = is.ended;
@@ -109,7 +109,7 @@ is_tail q b c n limit all front attempt made good same long run is joined gave e
     game = is.asked.game;
     start = (front, subst (λ x. Run q.game b front x) (sym is.asked.start) run);
     rule = is.asked.rule;
-    bound = is.asked.bound;
+    bound = is.by_kind;
     ran = is.asked.ran;
   };
   list = tail_good q.game b c n limit all front attempt.list made good same long run is.list joined;
@@ -131,6 +131,7 @@ pub tail_stands : (q : Asked) (b : Board) (weight : Ratio) (share : ℕ) (old : 
       left = old.left - tail.stored;
       given_up = old.given_up;
       has_table = old.has_table;
+      open_share = old.open_share;
       far = new;
     })
 tail_stands q b weight share old tail new (searches, tails, was) some room is far = (
@@ -155,14 +156,14 @@ tail_stands q b weight share old tail new (searches, tails, was) some room is fa
 
 -- the same, of the list that is made so
 pub stands_with : (q : Asked) (b : Board) (list made : Option (List Move)) (old : Standing) (left : ℕ) (far : BestProgress) → list ≡ made
-    → Stands q b (record { list = made; shown = old.shown; left = left; given_up = old.given_up; has_table = old.has_table; far = far })
-    → Stands q b (record { list = list; shown = old.shown; left = left; given_up = old.given_up; has_table = old.has_table; far = far })
+    → Stands q b (record { list = made; shown = old.shown; left = left; given_up = old.given_up; has_table = old.has_table; open_share = old.open_share; far = far })
+    → Stands q b (record { list = list; shown = old.shown; left = left; given_up = old.given_up; has_table = old.has_table; open_share = old.open_share; far = far })
 stands_with q b list made old left far same stands =
-    subst (λ l. Stands q b (record { list = l; shown = old.shown; left = left; given_up = old.given_up; has_table = old.has_table; far = far })) (sym same) stands
+    subst (λ l. Stands q b (record { list = l; shown = old.shown; left = left; given_up = old.given_up; has_table = old.has_table; open_share = old.open_share; far = far })) (sym same) stands
 
 -- before the first search nothing is stored
 pub nothing_stands : (q : Asked) (b : Board) (left : ℕ) (has_table : Bool) (far : BestProgress) → left ≡ q.method.strategy.budget
-    → IsFirstTold left far → Stands q b (record { list = None; shown = None; left = left; given_up = None; has_table = has_table; far = far })
+    → IsFirstTold left far → Stands q b (record { list = None; shown = None; left = left; given_up = None; has_table = has_table; open_share = 0; far = far })
 nothing_stands q b left has_table far whole first = (
   [],
   [],

@@ -1,10 +1,12 @@
 -- The best answer that several searches within one budget give.
-use Rattle.std.specs.Prelude.{◌≡◌, ℕ, ◌+◌, ◌<◌, ◌≤◌, List, length, All, Contains, IfSome}
+use Rattle.std.specs.Prelude.{◌≡◌, ◌⊎◌, ℕ, ◌+◌, ◌<◌, ◌≤◌, List, length, All, Contains, IfSome}
 use Rattle.std.specs.List.{sum_by}
 use Rattle.fc_position.specs.Board.{Board}
 use Rattle.fc_moves.specs.declared.steps.Move.{Move}
 use Rattle.fc_moves.specs.GameRules.{GameRules}
 use Rattle.fc_moves.specs.Run.{CanReach, CannotWin as NoneWins, IsShortest, ReachesMore, Wins}
+use Rattle.fc_bound.specs.declared.kinds.BoundKind.{BoundKind}
+use Rattle.fc_bound.specs.declared.kinds.BoundKind.TheVariants.{Plain}
 use Rattle.fc_answers.specs.Answer.{IsBackedBy, IsSearchedBy}
 use Rattle.fc_answers.specs.declared.answers.Answer.{Answer}
 use Rattle.fc_answers.specs.declared.answers.Verdict.{Verdict}
@@ -36,12 +38,16 @@ pub record Ended : Type 0 where
   pub last : Store (List ℕ)
   pub status : Status (List ℕ)
 
--- it is one from the board by the question's game, home rule and bound
+-- a search of the question goes by its bound, or by the plain one
+abbrev pub IsBoundOf : Asked → BoundKind → Type 0
+IsBoundOf q kind = (kind ≡ q.method.bound) ⊎ (kind ≡ Plain)
+
+-- it is one from the board by the question's game and home rule, and by its bound or the plain one
 pub record IsOfQuestion (q : Asked) (b : Board) (ended : Ended) : Type 0 where
   pub game : ended.problem.game ≡ q.game
   pub start : ended.problem.start ≡ b
   pub rule : ended.problem.method.rule ≡ q.method.rule
-  pub bound : ended.problem.method.bound ≡ q.method.bound
+  pub bound : IsBoundOf q ended.problem.method.bound
   pub ran : HasRun ended.problem ended.last ended.status
 
 -- it is one from a board that can be reached from the board, by the question's game, home rule and bound

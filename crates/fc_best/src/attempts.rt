@@ -10,10 +10,14 @@ ghost use Rattle.fc_search.specs.Search.{HasRun};
 ghost use Rattle.fc_search.specs.Shown.{BacksShown, HasShown};
 ghost use Rattle.fc_search.specs.Watch.{HearsAll, TellFloors};
 ghost use Rattle.fc_search.specs.declared.listeners.Progress.{Progress};
+ghost use Rattle.fc_best_first.specs.Limits.{Ratio};
+ghost use Rattle.fc_bound.specs.declared.kinds.BoundKind.TheVariants.{Plain};
 ghost use Rattle.fc_best.specs.inner.Attempt.{IsAttempt};
+ghost use Rattle.fc_best.specs.inner.Standing.{looked_with, lost_table, with_share};
 
 use fc_answers::{MoveList, Table};
 use fc_best_first::Step;
+use fc_bound::BoundKind;
 use fc_frontier::{EitherFrontier, Frontier};
 use fc_methods::Question;
 use fc_moves::Game;
@@ -36,6 +40,8 @@ pub(crate) struct Attempt {
     pub(crate) stored: u32,
     // Its budget, where it gave up.
     pub(crate) given_up: Option<u32>,
+    // How many hundredths of its classes are open, at most 255.
+    pub(crate) open_share: u8,
 }
 
 // What a search is to look for.
@@ -73,12 +79,28 @@ impl Attempt {
         listener: &mut L,
     ) -> Result<Self, AllocError>
         requires fits { Fits question.now.game.cells position.now }
-        ensures right { IfOk result (IsAttempt question.now position.now aim.limit) }
+        ensures right { IfOk result (IsAttempt question.now question.now.method.bound position.now aim.limit) }
         ensures last { IsTrue aim.is_last → IfOk result (λ attempt. IsTrue attempt.is_settled) }
         ensures tabled { IsTrue aim.has_table → IfOk result (λ attempt. IsTrue attempt.is_settled → IsSome attempt.table) }
         ensures heard { (heard : List Progress) × HearsAll L.hears listener.old heard listener.new × TellFloors question.now.game position.now heard }
     {
         below_with::<EitherFrontier, G, L>(alloc, question, position, aim, listener)
+    }
+
+    // What a look showed, as of a question by this kind of bound: that none wins, or nothing that settles it.
+    pub(crate) fn by_bound(self, bound: BoundKind) -> Self
+        ensures right { (q : Asked) (b : Board) (weight : Ratio) (share : ℕ) → bound ≡ q.method.bound
+            → IsAttempt (looked_with q weight share) Plain b None self → IsAttempt (with_share q weight share) Plain b None result }
+        ensures tabled { (IsTrue self.is_settled → IsSome self.table) → IsTrue result.is_settled → IsSome result.table }
+        ensures stored { result.stored ≡ self.stored }
+    {
+        let is_settled = is_lost(self.is_settled, self.shown);
+        let table = lost_table(self.shown, self.table, bound);
+        Attempt {
+            is_settled,
+            table,
+            ..self
+        }
     }
 }
 
@@ -91,7 +113,7 @@ fn below_with<F: Frontier + Drop, G: Game + Drop, L: Listener>(
     listener: &mut L,
 ) -> Result<Attempt, AllocError>
     requires fits { Fits question.now.game.cells position.now }
-    ensures right { IfOk result (IsAttempt question.now position.now aim.limit) }
+    ensures right { IfOk result (IsAttempt question.now question.now.method.bound position.now aim.limit) }
     ensures last { IsTrue aim.is_last → IfOk result (λ attempt. IsTrue attempt.is_settled) }
     ensures tabled { IsTrue aim.has_table → IfOk result (λ attempt. IsTrue attempt.is_settled → IsSome attempt.table) }
     ensures heard { (heard : List Progress) × HearsAll L.hears listener.old heard listener.new × TellFloors question.now.game position.now heard }
@@ -108,7 +130,7 @@ fn attempt_of<F: Frontier + Drop, G: Game + Drop>(
 ) -> Result<Attempt, AllocError>
     requires done { reply_of search.now.status ≡ Ok Step.Done }
     ensures right { (q : Asked) (b : Board) (limit : Option ℕ) → search.now.problem ≡ problem_below q b limit
-        → HasRun (problem_below q b limit) search.now.store search.now.status → IfOk result (IsAttempt q b limit) }
+        → HasRun (problem_below q b limit) search.now.store search.now.status → IfOk result (IsAttempt q q.method.bound b limit) }
     ensures last { IsTrue is_last → IfOk result (λ attempt. IsTrue attempt.is_settled) }
     ensures tabled { IsTrue has_table → IfOk result (λ attempt. IsTrue attempt.is_settled → IsSome attempt.table) }
 {
@@ -117,14 +139,41 @@ fn attempt_of<F: Frontier + Drop, G: Game + Drop>(
     let given_up = search.given_up();
     let is_settled = settles(&list, shown, given_up, is_last);
     let table = table_of(search, shown, is_settled && has_table)?;
+    let stored = search.stored();
+    let open_share = hundredths(search.open(), stored);
     Ok(Attempt {
         list,
         shown,
         table,
         is_settled,
-        stored: search.stored(),
+        stored,
         given_up,
+        open_share,
     })
+}
+
+// Whether a look is settled by that it showed that none wins.
+fn is_lost(is_settled: bool, shown: Option<u32>) -> bool
+    ensures lost { IsTrue result → (shown ≡ None) × IsTrue is_settled }
+    ensures settled { shown ≡ None → IsTrue is_settled → IsTrue result }
+{
+    is_settled && shown.is_none()
+}
+
+// The table of a look, under this kind of bound, where it showed that none wins.
+fn lost_table(shown: Option<u32>, table: Option<Table>, bound: BoundKind) -> Option<Table>
+    ensures value { result ≡ lost_table bound shown table }
+{
+    match (shown, table) {
+        (None, Some(table)) => Some(table.with_bound(bound)),
+        _ => None,
+    }
+}
+
+// How many hundredths of the stored classes so many entries that are open are, at most 255.
+fn hundredths(open: u128, stored: u32) -> u8 {
+    let hundredth = u128::from(stored / 100).max(1);
+    (open / hundredth).min(255) as u8
 }
 
 // The table of a search that is done, which shows what it has shown, if it is wanted.

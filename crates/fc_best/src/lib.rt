@@ -8,6 +8,7 @@ pub use schedule::best;
 
 mod attempts;
 mod listeners;
+mod looks;
 mod relays;
 mod schedule;
 mod shortenings;

@@ -49,7 +49,7 @@ pub(crate) fn attempt_after<G: Game + Drop, L: BestListener>(
     listener: &mut L,
 ) -> Result<(Attempt, BestProgress), AllocError>
     requires fits { Fits question.now.game.cells position.now }
-    ensures right { IfOk result (λ r. IsAttempt question.now position.now aim.limit r.0) }
+    ensures right { IfOk result (λ r. IsAttempt question.now question.now.method.bound position.now aim.limit r.0) }
     ensures last { IsTrue aim.is_last → IfOk result (λ r. IsTrue r.0.is_settled) }
     ensures tabled { IsTrue aim.has_table → IfOk result (λ r. IsTrue r.0.is_settled → IsSome r.0.table) }
     ensures far { IfOk result (λ r. IsFurther question.now.game position.now before r.1) }

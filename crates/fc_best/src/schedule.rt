@@ -8,52 +8,100 @@ ghost use Rattle.fc_best.specs.Best.{IsBestAnswer};
 ghost use Rattle.fc_best.specs.Watch.{HearsTold, HearsToEnd};
 
 use crate::listeners::BestListener;
-use crate::standings::{Stage, Standing};
+use crate::standings::{Purpose, Stage, Standing};
 use fc_answers::Answer;
 use fc_methods::Question;
 use fc_moves::Game;
 use fc_position::Position;
 use std::alloc::{AllocError, Global};
 
-// The searches before the last one: a list soon, by weight 3; where that gives up, by weight 7 with all that is left, which finds
-// most of the others; then shorter ones, as long as two fifths are left for the last search.
-static STAGES: [Stage; 5] = [
+// The searches before the last one. First a look; where it leaves few classes open the board may be lost, so a longer one, the more so
+// the fewer there are, and by a lower weight, which reaches all that can be reached in fewer turns. Then by weight 2, where so much is
+// left; where no list is found by then, by 3, and where that gives up too by 7 with all that is left, which finds most of the others;
+// then shorter ones, as long as enough is left for the last search.
+static STAGES: [Stage; 10] = [
     Stage {
+        purpose: Purpose::Look {
+            least_open: 0,
+            most_open: u8::MAX,
+        },
         weight_tenths: 30,
-        most: 3,
+        most: 12,
         kept: 0,
-        is_rescue: false,
     },
     Stage {
-        weight_tenths: 70,
-        most: 10,
+        purpose: Purpose::Look {
+            least_open: 28,
+            most_open: 44,
+        },
+        weight_tenths: 30,
+        most: 18,
         kept: 0,
-        is_rescue: true,
     },
     Stage {
+        purpose: Purpose::Look {
+            least_open: 28,
+            most_open: 34,
+        },
+        weight_tenths: 30,
+        most: 68,
+        kept: 0,
+    },
+    Stage {
+        purpose: Purpose::Look {
+            least_open: 20,
+            most_open: 27,
+        },
         weight_tenths: 20,
-        most: 10,
-        kept: 4,
-        is_rescue: false,
+        most: 70,
+        kept: 0,
     },
     Stage {
+        purpose: Purpose::Look {
+            least_open: 0,
+            most_open: 19,
+        },
+        weight_tenths: 10,
+        most: 70,
+        kept: 0,
+    },
+    Stage {
+        purpose: Purpose::Shorten,
+        weight_tenths: 20,
+        most: 25,
+        kept: 30,
+    },
+    Stage {
+        purpose: Purpose::Rescue,
+        weight_tenths: 30,
+        most: 30,
+        kept: 0,
+    },
+    Stage {
+        purpose: Purpose::Rescue,
+        weight_tenths: 70,
+        most: 100,
+        kept: 0,
+    },
+    Stage {
+        purpose: Purpose::Shorten,
         weight_tenths: 15,
-        most: 10,
-        kept: 4,
-        is_rescue: false,
+        most: 100,
+        kept: 30,
     },
     Stage {
+        purpose: Purpose::Shorten,
         weight_tenths: 13,
-        most: 10,
-        kept: 4,
-        is_rescue: false,
+        most: 100,
+        kept: 40,
     },
 ];
 
 /// The best answer for a position that fits the question's game: a list that wins and a number of moves that no list that wins is
 /// below, a shortest list where they meet, that none wins, or, where no list was found, that the searches gave up. They go by the
-/// question's home rule, bound and expansion, whatever its own weight is, and store no more classes than its budget, all told: first
-/// by falling weights, each for a list shorter than the best so far; then for shorter tails of the best list, from boards on its way;
+/// question's home rule, whatever its own weight is, and store no more classes than its budget, all told: first by the plain bound,
+/// storing all children, which soon shows of most lost boards that none wins; then by the question's own bound and expansion, by
+/// falling weights, each for a list shorter than the best so far; then for shorter tails of the best list, from boards on its way;
 /// the last one, by weight 1, with all that is left. Only where it is wanted a table is made, which backs the answer. The listener
 /// hears how far the searches are as that of `solve_by` does, and once more when they have ended: then of the list that is answered.
 ///

@@ -74,7 +74,7 @@ impl Standing {
             × IsTail (with_share question.now weight share) position.now found)) }
     {
         let budget = question.method().strategy.budget;
-        let share = self.share(budget, 10, 2).min(budget.get() / TAIL_SHARE);
+        let share = self.share(budget, 100, 10).min(budget.get() / TAIL_SHARE);
         let (Some(list), Some(budget), None) = (&self.list, Budget::new(share), &self.shown) else {
             return Ok(None);
         };
@@ -108,6 +108,7 @@ impl Standing {
             left,
             given_up,
             has_table,
+            open_share,
             far,
         } = self;
         let Tail {
@@ -124,6 +125,7 @@ impl Standing {
             left: left - stored,
             given_up,
             has_table,
+            open_share,
             far,
         }
     }

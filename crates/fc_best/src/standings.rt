@@ -7,6 +7,7 @@ ghost use Rattle.fc_answers.specs.Answer.{IsBacked};
 ghost use Rattle.fc_answers.specs.declared.answers.TheConstants.{MOST_MOVES};
 ghost use Rattle.fc_best_first.specs.Limits.{Ratio};
 ghost use Rattle.fc_methods.specs.Method.{Asked};
+ghost use Rattle.fc_bound.specs.declared.kinds.BoundKind.{BoundKind};
 ghost use Rattle.fc_best.specs.Best.{IsBestAnswer};
 ghost use Rattle.fc_best.specs.Watch.{HearsTold, moves_told};
 ghost use Rattle.fc_best.specs.inner.Attempt.{IsAttempt};
@@ -22,17 +23,28 @@ use fc_moves::Game;
 use fc_position::Position;
 use std::alloc::{AllocError, Global};
 
+// What a stage is for.
+#[derive(Clone, Copy)]
+pub(crate) enum Purpose {
+    // To show soon that none wins, or to find any list: by the plain bound, storing all children, which takes least time for a class.
+    // Only where the last search left so many hundredths of its classes open.
+    Look { least_open: u8, most_open: u8 },
+    // To find any list where none is found.
+    Rescue,
+    // To find a shorter list.
+    Shorten,
+}
+
 // A stage before the last search.
 #[derive(Clone, Copy)]
 pub(crate) struct Stage {
+    pub(crate) purpose: Purpose,
     // How many tenths as much as a cost its bound counts.
     pub(crate) weight_tenths: u8,
-    // How many tenths of the budget it may store at most.
+    // How many hundredths of the budget it may store at most.
     pub(crate) most: u8,
-    // How many tenths are kept for what comes after it.
+    // How many hundredths are kept for what comes after it.
     pub(crate) kept: u8,
-    // Whether it is only for where no list is found yet.
-    pub(crate) is_rescue: bool,
 }
 
 // What a search that settled a question showed.
@@ -57,6 +69,8 @@ pub(crate) struct Standing {
     pub(crate) given_up: Option<u32>,
     // Whether a table is to be made of what settles the question.
     pub(crate) has_table: bool,
+    // How many hundredths of its classes the last search from the board left open, at most 255.
+    pub(crate) open_share: u8,
     // How far they are.
     pub(crate) far: BestProgress,
 }
@@ -86,11 +100,12 @@ impl Standing {
             left,
             given_up: None,
             has_table,
+            open_share: 0,
             far: BestProgress::new(left),
         }
     }
 
-    // After a search of this stage, unless the question is settled, there is nothing to rescue, or all that is left is kept.
+    // After a search of this stage, unless the question is settled, nothing of its purpose is left, or all that is left is kept.
     pub(crate) fn weighed<G: Game + Drop, L: BestListener>(
         self,
         alloc: Global,
@@ -108,7 +123,7 @@ impl Standing {
         ensures heard { HearsTold L.hears question.now position.now listener.old listener.new }
     {
         let share = self.share(question.method().strategy.budget, stage.most, stage.kept);
-        if self.shown.is_some() || (stage.is_rescue && self.list.is_some()) {
+        if self.shown.is_some() || !self.wants(stage.purpose) {
             return Ok(self);
         }
         let Some(budget) = Budget::new(share) else {
@@ -119,7 +134,22 @@ impl Standing {
             budget,
             is_last: false,
         };
-        self.searched(alloc, question, position, plan, listener)
+        match stage.purpose {
+            Purpose::Look { .. } => self.looked(alloc, question, position, plan, listener),
+            Purpose::Rescue | Purpose::Shorten => self.searched(alloc, question, position, plan, listener),
+        }
+    }
+
+    // Whether something is left of a purpose.
+    fn wants(&self, purpose: Purpose) -> bool {
+        match purpose {
+            Purpose::Look {
+                least_open,
+                most_open,
+            } => self.list.is_none() && least_open <= self.open_share && self.open_share <= most_open,
+            Purpose::Rescue => self.list.is_none(),
+            Purpose::Shorten => true,
+        }
     }
 
     // After the last search, by weight 1 with all that is left, unless the question is settled.
@@ -177,17 +207,17 @@ impl Standing {
         Ok(self.after(attempt, far))
     }
 
-    // How many classes may be stored where they are at most so many tenths of the budget, and so many, or one class, are kept.
+    // How many classes may be stored where they are at most so many hundredths of the budget, and so many, or one class, are kept.
     pub(crate) fn share(&self, budget: Budget, most: u8, kept: u8) -> u32
         ensures most { 1 ≤ self.now.left → result + 1 ≤ self.now.left }
     {
-        let tenth = budget.get() / 10;
-        let kept = (tenth * u32::from(kept)).max(1);
-        self.left.saturating_sub(kept).min(tenth * u32::from(most))
+        let budget = budget.get();
+        let kept = (budget * u32::from(kept) / 100).max(1);
+        self.left.saturating_sub(kept).min(budget * u32::from(most) / 100)
     }
 
     // What the next search is to look for: a shorter list.
-    fn aim(&self, is_last: bool) -> Aim
+    pub(crate) fn aim(&self, is_last: bool) -> Aim
         requires few { IfSome self.now.list (λ moves. length moves ≤ MOST_MOVES) }
         ensures limit { result.limit ≡ limit_of self.now.list }
         ensures is_last { result.is_last ≡ is_last }
@@ -201,14 +231,15 @@ impl Standing {
     }
 
     // After a search by a weight and a share of what was left, which found and showed this.
-    fn after(self, attempt: Attempt, far: BestProgress) -> Self
+    pub(crate) fn after(self, attempt: Attempt, far: BestProgress) -> Self
         requires open { self.shown ≡ None }
         requires few { IfSome self.list (λ moves. length moves ≤ MOST_MOVES) }
         requires few_found { IfSome attempt.list (λ moves. length moves ≤ MOST_MOVES) }
         requires room { attempt.stored ≤ self.left }
         requires tabled { IsTrue self.has_table → IsTrue attempt.is_settled → IsSome attempt.table }
-        ensures stands { (q : Asked) (b : Board) (weight : Ratio) (share : ℕ) → Stands q b self → share ≤ self.left
-            → IsAttempt (with_share q weight share) b (limit_of self.list) attempt → IsFurther q.game b self.far far → Stands q b result }
+        ensures stands { (q : Asked) (kind : BoundKind) (b : Board) (weight : Ratio) (share : ℕ) → Stands q b self → share ≤ self.left
+            → IsAttempt (with_share q weight share) kind b (limit_of self.list) attempt
+            → IsFurther q.game b self.far far → Stands q b result }
         ensures left { result.left + attempt.stored ≡ self.left }
         ensures shown { IsTrue attempt.is_settled → IsSome result.shown }
         ensures has_table { result.has_table ≡ self.has_table }
@@ -227,6 +258,7 @@ impl Standing {
             is_settled,
             stored,
             given_up,
+            open_share,
         } = attempt;
         let list = newest(list, best);
         let far = far.after(shown, limit_of(&list));
@@ -236,6 +268,7 @@ impl Standing {
             left: left - stored,
             given_up: greater(most, given_up),
             has_table,
+            open_share,
             far,
         }
     }

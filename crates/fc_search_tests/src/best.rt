@@ -7,7 +7,7 @@ use crate::given::{bakers_game, board, dealt, expanded, free_cell, method, sure}
 use crate::plain::{self, Found};
 use crate::random::{Numbers, check_answer, random_board};
 use crate::shown::{check_table, check_wins};
-use fc_best::{Unheard, best};
+use fc_best::{BestListener, BestProgress, Unheard, best};
 use fc_moves::{Game, Kings};
 use fc_position::Position;
 use fc_search::{BoundKind, Expansion, Question, Verdict};
@@ -163,4 +163,50 @@ fn agrees_with_the_plain_search(rt: HostRuntime) {
         let kings = Kings::new(bakers_game(&rt, cells));
         compare(&rt, rt.alloc(), &kings, 1100 + seed);
     }
+}
+
+// Keeps what it heard last, and whether a floor or the length of a list got worse.
+#[derive(Drop)]
+struct Ear {
+    last: Option<BestProgress>,
+    has_got_worse: bool,
+}
+
+impl BestListener for Ear {
+    ghost hears = { λ _ _ _. Unit {0} };
+
+    fn hear(&mut self, far: BestProgress) {
+        if let Some(last) = self.last {
+            let is_shorter = far.shortest.unwrap_or(u32::MAX) <= last.shortest.unwrap_or(u32::MAX);
+            let is_worse = far.at_least < last.at_least || !is_shorter;
+            self.has_got_worse = self.has_got_worse || is_worse;
+        }
+        self.last = Some(far);
+    }
+}
+
+// What is heard last of a search of FreeCell by the clearing bound within so many classes; nothing heard before was better.
+fn heard_last(rt: &impl Abort, alloc: Global, start: &Position, classes: u32) -> BestProgress {
+    let game = free_cell(rt, 4);
+    assert!(rt; start.fits(game.cells()));
+    let question = Question::new(&game, method(rt, 2, 10, BoundKind::Clearing, classes));
+    let mut ear = Ear {
+        last: None,
+        has_got_worse: false,
+    };
+    let _ = sure(rt, best(alloc, &question, start, false, &mut ear));
+    assert!(rt; !ear.has_got_worse);
+    ear.last.expect(rt, "nothing heard")
+}
+
+#[test]
+fn searches_are_heard(rt: HostRuntime) {
+    let game = free_cell(&rt, 4);
+    let won = heard_last(&rt, rt.alloc(), &board(&rt, &game, TWO_KINGS), 100);
+    assert!(&rt; won.budget == 100 && won.shortest == Some(5) && won.at_least == 5);
+    let lost = heard_last(&rt, rt.alloc(), &board(&rt, &game, CLASSES_495), 1000);
+    assert!(&rt; lost.budget == 1000 && lost.shortest.is_none());
+    let deal = heard_last(&rt, rt.alloc(), &dealt(&rt, &game, 59), 10_000);
+    assert!(&rt; deal.shortest.is_some_and(|moves| 73 <= moves) && deal.at_least <= 73);
+    assert!(&rt; 0 < deal.classes && deal.classes <= 10_000 && 0 < deal.turns);
 }

@@ -5,6 +5,7 @@ use Rattle.fc_moves.specs.declared.steps.Move.{Move}
 use Rattle.fc_moves.specs.GameRules.{GameRules}
 use Rattle.fc_moves.specs.MoveText.{HasText}
 use Rattle.fc_moves.specs.Run.{CannotWin, ReachesMore, Wins}
+use Rattle.fc_bound.specs.declared.kinds.BoundKind.{BoundKind}
 use Rattle.fc_answers.specs.Answer.{IsBackedBelow, IsBackedWhole}
 use Rattle.fc_answers.specs.Table.{Listing}
 use Rattle.fc_answers.specs.declared.answers.TheConstants.{MOST_MOVES}
@@ -36,11 +37,12 @@ pub record IsGivenUp (g : GameRules) (b : Board) (ended : Ended) (told : ℕ) : 
   pub earned : NeedsMore ended.problem
   pub more : ReachesMore g b told
 
--- what a search of the question from the board, perhaps below a limit, has found and shown is so; and where it neither found a
--- list nor gave up, the question is settled, and it shows its limit, or that none wins where it has none
-pub record IsAttempt (q : Asked) (b : Board) (limit : Option ℕ) (attempt : Attempt) : Type 0 where
+-- what a search of the question by this kind of bound from the board, perhaps below a limit, has found and shown is so; and where it
+-- neither found a list nor gave up, the question is settled, and it shows its limit, or that none wins where it has none
+pub record IsAttempt (q : Asked) (kind : BoundKind) (b : Board) (limit : Option ℕ) (attempt : Attempt) : Type 0 where
   pub ended : Ended
   pub asked : IsOfQuestion q b ended
+  pub by_kind : ended.problem.method.bound ≡ kind
   pub list : IfSome attempt.list (IsGoodList q.game b)
   pub shown : IsShown q.game b attempt.shown
   pub table : IfSome attempt.table (IsTableOf q b attempt.shown)

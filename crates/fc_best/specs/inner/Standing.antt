@@ -3,8 +3,11 @@ use Rattle.std.specs.Prelude.{max, Bool, true, false, ◌≡◌, ◌⊎◌, ℕ,
 use Rattle.fc_position.specs.Board.{Board}
 use Rattle.fc_moves.specs.declared.steps.Move.{Move}
 use Rattle.fc_moves.specs.Run.{ReachesMore}
+use Rattle.fc_bound.specs.declared.kinds.BoundKind.{BoundKind}
+use Rattle.fc_bound.specs.declared.kinds.BoundKind.TheVariants.{Plain}
 use Rattle.fc_answers.specs.Table.{Listing}
 use Rattle.fc_best_first.specs.Limits.{Ratio}
+use Rattle.fc_best_first.specs.declared.strategies.Expansion.TheVariants.{Full}
 use Rattle.fc_best.specs.declared.listeners.BestProgress.{BestProgress}
 use Rattle.fc_best.specs.declared.standings.Shown.{Shown}
 use Rattle.fc_best.specs.declared.standings.Standing.{Standing}
@@ -64,6 +67,23 @@ with_share q weight share = record {
     strategy = record { weight = weight; expansion = q.method.strategy.expansion; budget = share };
   };
 }
+
+-- the question by the plain bound and full expansion, with a weight and a share of its budget
+abbrev pub looked_with : Asked → Ratio → ℕ → Asked
+looked_with q weight share = record {
+  game = q.game;
+  method = record {
+    rule = q.method.rule;
+    bound = Plain;
+    strategy = record { weight = weight; expansion = Full; budget = share };
+  };
+}
+
+-- the table of what was shown, under this kind of bound, where that is that none wins; else none
+abbrev pub lost_table : BoundKind → Option ℕ → Option Listing → Option Listing
+lost_table kind None (Some table) = Some (record { rule = table.rule; bound = kind; rows = table.rows })
+lost_table kind None None = None
+lost_table kind (Some floor) table = None
 
 -- the new list, or the old one where there is no new one
 abbrev pub newest : Option (List Move) → Option (List Move) → Option (List Move)

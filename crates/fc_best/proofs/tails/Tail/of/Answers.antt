@@ -19,5 +19,5 @@ returns g c =
       right = is_tail q b c.position_after-middle.result n c.args.last all c.split_at.result.0.now c.in_ok-attempt.attempt c.in_ok-list.list
           c.requires.good (c.split_at.ensures.front ∙ ap (λ l. take n l) c.as_slice.ensures.value) long
           (subst (λ x. Run x b c.split_at.result.0.now c.position_after-middle.result) c.game.ensures.value c.position_after-middle.ensures.there)
-          (subst (λ l. IsAttempt q c.position_after-middle.result l c.in_ok-attempt.attempt) c.below.ensures.limit c.in_ok-attempt.ensures.right) c.in_ok-list.ensures.value _ _;
+          (subst (λ l. IsAttempt q q.method.bound c.position_after-middle.result l c.in_ok-attempt.attempt) c.below.ensures.limit c.in_ok-attempt.ensures.right) c.in_ok-list.ensures.value _ _;
     }
