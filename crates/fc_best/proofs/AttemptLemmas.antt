@@ -95,7 +95,7 @@ pub attempted : (q : Asked) (b : Board) (limit : Option ℕ) (s : State) (list :
     → (list ≡ None → given_up ≡ None → IsTrue settled)
     → stored ≡ length s.store.stored → stored ≤ s.problem.method.strategy.budget
     → IsAttempt q q.method.bound b limit
-      (record { list = list; shown = shown; table = table; is_settled = settled; stored = stored; given_up = given_up; open_share = ajar })
+    (record { list = list; shown = shown; table = table; is_settled = settled; stored = stored; given_up = given_up; open_share = ajar })
 attempted q b limit s list shown table settled stored given_up ajar same ran done found told floor earned gave still backs searched all size most =
     let p = problem_below q b limit in
     record {
@@ -144,7 +144,7 @@ pub looked_attempt : (q : Asked) (b : Board) (weight : Ratio) (share : ℕ) (kin
     → kind ≡ q.method.bound → table ≡ lost_table kind one.shown one.table → (one.shown ≡ None → IsTrue one.is_settled → IsTrue settled)
     → IsAttempt (looked_with q weight share) Plain b None one
     → IsAttempt (with_share q weight share) Plain b None
-      (record { list = one.list; shown = one.shown; table = table; is_settled = settled; stored = one.stored; given_up = one.given_up; open_share = one.open_share })
+    (record { list = one.list; shown = one.shown; table = table; is_settled = settled; stored = one.stored; given_up = one.given_up; open_share = one.open_share })
 looked_attempt q b weight share kind one table settled same tabled all is = record {
   ended = is.ended;
   asked = record { game = is.asked.game; start = is.asked.start; rule = is.asked.rule; bound = inr is.by_kind; ran = is.asked.ran };

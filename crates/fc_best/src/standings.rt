@@ -136,7 +136,9 @@ impl Standing {
         };
         match stage.purpose {
             Purpose::Look { .. } => self.looked(alloc, question, position, plan, listener),
-            Purpose::Rescue | Purpose::Shorten => self.searched(alloc, question, position, plan, listener),
+            Purpose::Rescue | Purpose::Shorten => self.searched(
+                alloc, question, position, plan, listener,
+            ),
         }
     }
 
@@ -146,7 +148,9 @@ impl Standing {
             Purpose::Look {
                 least_open,
                 most_open,
-            } => self.list.is_none() && least_open <= self.open_share && self.open_share <= most_open,
+            } => self.list.is_none()
+                && least_open <= self.open_share
+                && self.open_share <= most_open,
             Purpose::Rescue => self.list.is_none(),
             Purpose::Shorten => true,
         }
@@ -213,7 +217,9 @@ impl Standing {
     {
         let budget = budget.get();
         let kept = (budget * u32::from(kept) / 100).max(1);
-        self.left.saturating_sub(kept).min(budget * u32::from(most) / 100)
+        self.left
+            .saturating_sub(kept)
+            .min(budget * u32::from(most) / 100)
     }
 
     // What the next search is to look for: a shorter list.

@@ -15,7 +15,7 @@ returns-clause-stands g c =
     let plan = c.args.plan in
     let none : c.args.self.list ≡ None = search rules in
     let one = look_found q c.looked_with-asked.result b plan.weight plan.budget c.args.self.list c.aim-aim.result.limit c.in_ok-attempt.attempt
-        c.looked_with-asked.ensures.value c.aim-aim.ensures.limit none c.in_ok-attempt.ensures.right in
+    c.looked_with-asked.ensures.value c.aim-aim.ensures.limit none c.in_ok-attempt.ensures.right in
     let made = c.by_bound-attempt.ensures.right q b plan.weight plan.budget (ap (λ m. m.bound) c.method.ensures.value) one in
     c.after.ensures.stands q Plain b plan.weight plan.budget c.requires.stands c.requires.room
     (subst (λ l. IsAttempt (with_share q plan.weight plan.budget) Plain b l c.by_bound-attempt.result) (sym (ap limit_of none)) made)
