@@ -1,5 +1,5 @@
 -- A list that wins, with a shorter tail.
-use Rattle.std.proofs.Common.{◌≡◌, ◌∙◌, inr, Bool, false, ℕ, ◌+◌, ◌<◌, ◌≤◌, Option, Some, None, List, [], ◌∷◌, ◌++◌, ◌-◌, length, take, drop, refl, sym, subst, ap, arith, append_assoc, get_or, add-one, drop-cons}
+use Rattle.std.proofs.Common.{◌≡◌, ◌∙◌, inr, Bool, ℕ, ◌+◌, ◌<◌, ◌≤◌, Option, Some, None, List, [], ◌∷◌, ◌++◌, ◌-◌, length, take, drop, refl, sym, subst, ap, arith, append_assoc, get_or, add-one, drop-cons}
 use Rattle.std.specs.Prelude.{IfSome, IsSome, All}
 use Rattle.std.proofs.lemmas.List.{length-append, length-take-le, take-append-drop}
 use Rattle.std.proofs.lemmas.List.Elements.{All-append, All-cons, All-nil, All-take}
