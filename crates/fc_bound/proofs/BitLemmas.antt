@@ -13,7 +13,8 @@ use Rattle.std.proofs.lemmas.Nat.Bits.{bit_at_and, bit_at_or, bit_at_ones, bit_a
 use Rattle.fc_cards.specs.Card.{rank, suit}
 use Rattle.fc_position.specs.Board.{last_of}
 use Rattle.fc_bound.specs.Bound.{is_lower, stands_in}
-use Rattle.fc_bound.specs.inner.Rows.{AreBits, HasLower, stands_among}
+use Rattle.fc_bound.specs.Rows.{AreBits, stands_among}
+use Rattle.fc_bound.specs.inner.Rows.{HasLower}
 use Rattle.fc_bound.proofs.AboveLemmas.{contains-stands, stands-contains}
 use Rattle.fc_bound.proofs.HeldLemmas.{found}
 
@@ -21,7 +22,7 @@ use Rattle.fc_bound.proofs.HeldLemmas.{found}
 abbrev is_right : List ℕ → ℕ → Bool
 is_right table c = agree_below (λ x. bit_at (get_or table c 0) x == 1) (λ x. is_lower x c) 52
 
-told : (n : ℕ) (t : Bool) → n < 2 → (n == 1) ≡ t → n ≡ cond t 1 0
+pub told : (n : ℕ) (t : Bool) → n < 2 → (n == 1) ≡ t → n ≡ cond t 1 0
 told n true small is = eqb-true n 1 is
 told n false small is = let other : n ≡ 1 → ⊥ = eqb-false n 1 is in omega (arith, small, other)
 
@@ -132,13 +133,13 @@ pub is_one : (t : Bool) → ◌≡◌ {A = ℕ} (cond t 1 0) 1 → t ≡ true
 is_one true e = refl
 is_one false e = absurd (omega arith)
 
-lower_parts : (c d : ℕ) → is_lower c d ≡ true → (suit d ≡ suit c) × (rank d < rank c)
+pub lower_parts : (c d : ℕ) → is_lower c d ≡ true → (suit d ≡ suit c) × (rank d < rank c)
 lower_parts c d low = go (suit d) (suit c) (rank d) (rank c) low
   where
     go : (s t q r : ℕ) → ((s == t) && nat_lt q r) ≡ true → (s ≡ t) × (q < r)
     go s t q r low = (grind (arith, nat_tests), grind (arith, nat_tests))
 
-lower_from : (c d : ℕ) → suit d ≡ suit c → rank d < rank c → is_lower c d ≡ true
+pub lower_from : (c d : ℕ) → suit d ≡ suit c → rank d < rank c → is_lower c d ≡ true
 lower_from c d suits ranks = go (suit d) (suit c) (rank d) (rank c) suits ranks
   where
     go : (s t q r : ℕ) → s ≡ t → q < r → ((s == t) && nat_lt q r) ≡ true

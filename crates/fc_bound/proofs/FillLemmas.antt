@@ -12,7 +12,7 @@ use Rattle.std.proofs.lemmas.Nat.Bits.{bit_at_and, bit_at_or, bit_at-lt}
 use Rattle.fc_position.specs.Board.{last_of, front_of, count_in_column}
 use Rattle.fc_bound.specs.Bound.{is_lower, stands_in, is_above_lower}
 use Rattle.fc_bound.specs.declared.rows.Row.{Row}
-use Rattle.fc_bound.specs.inner.Rows.{AreBits, AreWaiting, IsRow, no_row}
+use Rattle.fc_bound.specs.Rows.{AreBits, AreWaiting, IsRow, no_row}
 use Rattle.fc_bound.specs.Knots.{ends_with}
 use Rattle.fc_bound.proofs.AboveLemmas.{lower-more, not_true, stands-more, stands-counted, above-one, above-other, above-top}
 use Rattle.fc_bound.proofs.BitLemmas.{bits_or, either_bits, one_bit_is, last_of-push}

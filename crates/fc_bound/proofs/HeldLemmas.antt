@@ -47,7 +47,7 @@ any-set test (x ∷ xs) zero new same = ap (λ t. t || list_any test xs) same
 any-set test (x ∷ xs) (suc i) new same = ap (λ t. test x || t) (any-set test xs i new same)
 
 -- a card that is lifted or placed changes for no other card whether it is held back
-held-lifted : (b : Board) (from : Place) (u c : ℕ) → playable b from ≡ Some u → u ≢ c
+pub held-lifted : (b : Board) (from : Place) (u c : ℕ) → playable b from ≡ Some u → u ≢ c
     → is_held_back (lifted b from) c ≡ is_held_back b c
 held-lifted b (Column i) u c last other =
     any-set (is_above_lower c) b.columns i (front_of (column b i))

@@ -101,7 +101,7 @@ waits-where columns (Some u) waiting =
     (f.place, or-false (list_any (is_lower u) (get_or columns f.place [])) ∙ f.passes)
 
 -- where no column is loose, a column with a last card waits
-tight-waits : (columns : List (List ℕ)) (i : ℕ) → list_any (is_loose columns) columns ≡ false
+pub tight-waits : (columns : List (List ℕ)) (i : ℕ) → list_any (is_loose columns) columns ≡ false
     → has_last (last_of (get_or columns i [])) ≡ true → waits columns (last_of (get_or columns i [])) ≡ true
 tight-waits columns i tight some_last =
     let x : List ℕ = get_or columns i [] in

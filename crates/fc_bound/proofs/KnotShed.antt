@@ -32,7 +32,7 @@ front-less : (x : List ℕ) (b : Bool) → IsFront (cond b (front_of x) x) x
 front-less x true = (drop (length x - 1) x, sym (take-append-drop (length x - 1) x))
 front-less x false = ([], sym (append-nil x))
 
-shed-fronts : (test : List ℕ → Bool) (columns : List (List ℕ)) → AreFronts (shed test columns) columns
+pub shed-fronts : (test : List ℕ → Bool) (columns : List (List ℕ)) → AreFronts (shed test columns) columns
 shed-fronts test [] = tt
 shed-fronts test (x ∷ xs) = (front-less x (test x), shed-fronts test xs)
 

@@ -13,7 +13,8 @@ use Rattle.fc_position.specs.Position.{IsPosition}
 use Rattle.fc_position.proofs.BoardLemmas.{front_last, places_most}
 use Rattle.fc_bound.specs.Bound.{stands_in}
 use Rattle.fc_bound.specs.Clearing.{without}
-use Rattle.fc_bound.specs.inner.Rows.{left_of, left_in, AreBits, AreApart, stands_among}
+use Rattle.fc_bound.specs.Rows.{AreBits, stands_among}
+use Rattle.fc_bound.specs.inner.Rows.{left_of, left_in, AreApart}
 use Rattle.fc_bound.specs.Knots.{has_last, ends_with, shed, ends_among}
 use Rattle.fc_bound.proofs.AboveLemmas.{not_true, stands-counted}
 use Rattle.fc_bound.proofs.HeldLemmas.{found}

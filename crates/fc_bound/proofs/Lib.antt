@@ -9,6 +9,8 @@ pub mod ClearingTied
 pub mod CountLemmas
 pub mod LeftLemmas
 pub mod LooseLemmas
+pub mod LowKept
+pub mod LowLemmas
 pub mod FareLemmas
 pub mod FillLemmas
 pub mod HeldLemmas
@@ -28,6 +30,7 @@ pub mod PairLemmas
 pub mod RingCode
 pub mod RingLemmas
 pub mod ShedLemmas
+pub mod TableLemmas
 pub mod TakeLemmas
 pub mod TellLemmas
 pub mod WaitingLemmas

@@ -1,14 +1,14 @@
 -- Which last cards wait for a card beneath them, and which may leave at once.
-use Rattle.std.proofs.Common.{◌≡◌, ◌≢◌, ◌↔◌, ℕ, ◌-◌, ◌/◌, ◌^◌, ◌<◌, Bool, true, false, cond, min, max, bit_and, bit_or, Option, Some, None, List, [], ◌∷◌, ◌++◌, length, get_or, set, refl, sym, ◌∙◌, ap, ⊎_elim, true≢false, append_assoc, w64, arith}
+use Rattle.std.proofs.Common.{◌≡◌, ◌≢◌, ℕ, ◌-◌, ◌/◌, ◌^◌, ◌<◌, Bool, true, false, cond, min, max, bit_and, bit_or, Option, Some, None, List, [], ◌∷◌, ◌++◌, length, get_or, set, refl, sym, ◌∙◌, ap, ⊎_elim, true≢false, append_assoc, arith}
 use Rattle.std.specs.Prelude.{◌==◌, ◌&&◌, ◌||◌, not, nat_lt}
-use Rattle.std.specs.Int.{bit_at, bit_not}
+use Rattle.std.specs.Int.{bit_at}
 use Rattle.std.specs.List.{list_any}
 use Rattle.std.proofs.lemmas.Bool.{cases_eq, or_parts, eq-eqb}
 use Rattle.std.proofs.lemmas.Bool.Decides.{nat_tests}
 use Rattle.std.proofs.lemmas.List.{append-nil}
 use Rattle.std.proofs.lemmas.List.Folds.{list_any-append, list_any_at}
 use Rattle.std.proofs.lemmas.List.Sums.{sum_by-append, get_or-le-sum_by}
-use Rattle.std.proofs.lemmas.Nat.Bits.{bit_at_and, bit_at_or, bit_at_not, bit_at-lt, shr_and_one}
+use Rattle.std.proofs.lemmas.Nat.Bits.{bit_at_and, bit_at_or, bit_at-lt, shr_and_one}
 use Rattle.fc_cards.specs.Card.{rank, suit}
 use Rattle.fc_position.specs.Board.{Board, last_of, front_of, count_in_column}
 use Rattle.fc_position.specs.Position.{IsPosition}
@@ -16,13 +16,13 @@ use Rattle.fc_position.proofs.BoardLemmas.{front_last, last_counted, places_most
 use Rattle.fc_bound.specs.Bound.{is_lower, stands_in, is_above_lower}
 use Rattle.fc_bound.specs.Clearing.{waits}
 use Rattle.fc_bound.specs.declared.rows.Row.{Row}
-use Rattle.fc_bound.specs.inner.Rows.{left_of, left_in, AreWaiting, HasLower, Mark, IsLeft, stands_among, ends_in}
+use Rattle.fc_bound.specs.Rows.{AreWaiting, stands_among}
+use Rattle.fc_bound.specs.inner.Rows.{AreLow, left_of, left_in, Mark, IsLeft, ends_in}
 use Rattle.fc_bound.specs.Knots.{has_last, waits_in, waits_above, is_loose, ends_among}
 use Rattle.fc_bound.proofs.AboveLemmas.{and-false, and-true, or-false, not_true, stands-counted, above-one, above-other, above-top}
-use Rattle.fc_bound.proofs.BitLemmas.{is_one, either_bits, waits_bits, some_bit, no_bits}
+use Rattle.fc_bound.proofs.BitLemmas.{is_one, either_bits, some_bit, no_bits}
 use Rattle.fc_bound.proofs.HeldLemmas.{found}
 use Rattle.fc_bound.proofs.LeftLemmas.{has_last_is, left_rest, left_at, left_stands, stands_inside, same_column, last_stands, at_ends, last_is, same_test}
-use Rattle.fc_bound.proofs.TakeLemmas.{left_card}
 
 -- whether a last card is held back is told by the columns as they were at first
 pub above_rest : (u : ℕ) (cards rest : List ℕ) → stands_in rest u ≡ false → is_above_lower u (cards ++ rest) ≡ is_above_lower u cards
@@ -142,34 +142,29 @@ loose_end v x (Some u) bits last is =
     is_bit true = refl
     is_bit false = refl
 
-none_above : (n : ℕ) (t : Bool) → n < 2 → (n ≡ 1 → t ≡ true) → (t ≡ true → n ≡ 1) → 1 - n ≡ cond (not t) 1 0
+pub none_above : (n : ℕ) (t : Bool) → n < 2 → (n ≡ 1 → t ≡ true) → (t ≡ true → n ≡ 1) → 1 - n ≡ cond (not t) 1 0
 none_above n true small one two = let e = two refl in omega (arith, e)
 none_above n false small one two =
     ⊎_elim (λ e. absurd (true≢false (sym (one e)))) (λ ne. omega (arith, small, ne)) (cases_eq n 1)
 
-pub loose_mark : (b : Board) (rows : List Row) (held all lasts above : ℕ) → IsLeft b rows held all lasts → above < 2 ^ 64
-    → ((c : ℕ) → c < 64 → (bit_at above c ≡ 1) ↔ HasLower all c)
-    → Mark (bit_and lasts (bit_or held (bit_not w64 above))) (left_in all b.columns) (is_loose (left_in all b.columns))
-loose_mark b rows held all lasts above left fits is = record {
+pub loose_mark : (b : Board) (rows : List Row) (held all lasts lows : ℕ) → IsLeft b rows held all lasts → AreLow lows (left_in all b.columns)
+    → Mark (bit_and lasts (bit_or held lows)) (left_in all b.columns) (is_loose (left_in all b.columns))
+loose_mark b rows held all lasts lows left are = record {
   lasts = λ u set.
-      let both = sym (bit_at_and lasts (bit_or held (bit_not w64 above)) u) ∙ set in
+      let both = sym (bit_at_and lasts (bit_or held lows) u) ∙ set in
       is_one (ends_among (left_in all b.columns) u)
-      (sym (left.ends u) ∙ first_one (bit_at lasts u) (bit_at (bit_or held (bit_not w64 above)) u) both (bit_at-lt lasts u));
+      (sym (left.ends u) ∙ first_one (bit_at lasts u) (bit_at (bit_or held lows) u) both (bit_at-lt lasts u));
   each = λ k inside.
       let v : List (List ℕ) = left_in all b.columns in
       let x : List ℕ = get_or v k [] in
-      loose_end v x (last_of x) (bit_and lasts (bit_or held (bit_not w64 above))) refl (λ u last.
+      loose_end v x (last_of x) (bit_and lasts (bit_or held lows)) refl (λ u last.
       let ends = at_ends v k u last in
-      let below : u < 52 = left_card b all u left.whole ends in
-      let waits_now = waits_bits all v u left.stand in
-      let low : bit_at (bit_not w64 above) u ≡ cond (not (waits v (last_of x))) 1 0 =
-      bit_at_not w64 above u fits (omega (arith, below))
-      ∙ none_above (bit_at above u) (waits v (Some u)) (bit_at-lt above u)
-      (λ one. waits_now.0 ((is u (omega (arith, below))).0 one)) (λ waiting. (is u (omega (arith, below))).1 (waits_now.1 waiting))
-      ∙ ap (λ o. cond (not (waits v o)) 1 0) (sym last) in
-      bit_at_and lasts (bit_or held (bit_not w64 above)) u
-      ∙ ap (λ n. min n (bit_at (bit_or held (bit_not w64 above)) u)) (left.ends u ∙ ap (λ t. cond t 1 0) ends)
-      ∙ ap (min 1) (bit_at_or held (bit_not w64 above) u ∙ ap (λ n. max n (bit_at (bit_not w64 above) u)) (held_bit b rows held all lasts k u left last)
+      let stands : stands_among v u ≡ true = list_any_at (λ column. stands_in column u) v k [] inside (last_stands x u last) in
+      let low : bit_at lows u ≡ cond (not (waits v (last_of x))) 1 0 =
+      are u stands ∙ ap (λ o. cond (not (waits v o)) 1 0) (sym last) in
+      bit_at_and lasts (bit_or held lows) u
+      ∙ ap (λ n. min n (bit_at (bit_or held lows) u)) (left.ends u ∙ ap (λ t. cond t 1 0) ends)
+      ∙ ap (min 1) (bit_at_or held lows u ∙ ap (λ n. max n (bit_at lows u)) (held_bit b rows held all lasts k u left last)
       ∙ ap (max (cond (waits_above x) 1 0)) low
       ∙ either_bits (waits_above x) (not (waits v (last_of x))) (not (waits v (last_of x)) || waits_above x)
       (or_turned (not (waits v (last_of x))) (waits_above x)))

@@ -17,7 +17,8 @@ use Rattle.fc_position.proofs.BoardLemmas.{places_most}
 use Rattle.fc_bound.specs.Bound.{is_above_lower, stands_in}
 use Rattle.fc_bound.specs.declared.rows.Row.{Row}
 use Rattle.fc_bound.specs.Knots.{waits_above}
-use Rattle.fc_bound.specs.inner.Rows.{AreBits, IsLeft, left_of, left_in, stands_among, waiting_of, waiting_in}
+use Rattle.fc_bound.specs.Rows.{AreBits, stands_among}
+use Rattle.fc_bound.specs.inner.Rows.{IsLeft, left_of, left_in, waiting_of, waiting_in}
 use Rattle.fc_bound.proofs.AboveLemmas.{or-true, not_true, above-one, above-other, contains-stands, stands-counted, next_seen, next_once}
 use Rattle.fc_bound.proofs.BitLemmas.{last_of-push}
 use Rattle.fc_bound.proofs.CountLemmas.{count-but_one_of, count-of_two_of, count-none_of}

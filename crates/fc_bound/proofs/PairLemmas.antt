@@ -8,7 +8,8 @@ use Rattle.std.proofs.lemmas.Bool.Decides.{nat_tests}
 use Rattle.std.proofs.lemmas.List.Folds.{list_any_at}
 use Rattle.fc_position.specs.Board.{last_of}
 use Rattle.fc_cards.specs.Card.{all_cards}
-use Rattle.fc_bound.specs.inner.Rows.{AreApart, AreBits, Knotted, Mark, ends_in}
+use Rattle.fc_bound.specs.Rows.{AreBits}
+use Rattle.fc_bound.specs.inner.Rows.{AreApart, Knotted, Mark, ends_in}
 use Rattle.fc_bound.specs.Knots.{has_last, ends_with, waits_in, waits_above, is_loose, are_knotted, first_with, first_knotted, second_knotted, ends_among, is_among, ring, is_in_knot}
 use Rattle.fc_bound.proofs.AboveLemmas.{not_true, and-true}
 use Rattle.fc_bound.proofs.BitLemmas.{is_one, one_bit_is, bits_or}

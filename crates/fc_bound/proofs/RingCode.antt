@@ -1,22 +1,28 @@
 -- How the code finds a ring of last cards, going over them from the least on.
-use Rattle.std.proofs.Common.{◌≡◌, ℕ, ◌+◌, ◌-◌, ◌^◌, ◌<◌, ◌≤◌, zero, suc, Bool, true, false, cond, Option, Some, List, [], get_or, refl, sym, ◌∙◌, ap, ⊎_elim, true≢false, arith}
+use Rattle.std.proofs.Common.{◌≡◌, ℕ, ◌+◌, ◌-◌, ◌^◌, ◌<◌, ◌≤◌, bit_and, w64, zero, suc, Bool, true, false, cond, Option, Some, List, [], get_or, refl, sym, ◌∙◌, ap, subst, ⊎_elim, true≢false, arith}
 use Rattle.std.specs.Prelude.{◌==◌, ◌&&◌, not}
-use Rattle.std.specs.Int.{bit_at}
+use Rattle.std.specs.Int.{bit_at, bit_not}
 use Rattle.std.specs.List.{list_any, range_with_len}
 use Rattle.std.proofs.lemmas.Bool.{and_parts, and_from, and_right, cases_eq, cases_lt, eqb-true}
 use Rattle.std.proofs.lemmas.Bool.Decides.{nat_tests}
 use Rattle.std.proofs.lemmas.List.Folds.{list_any_at}
+use Rattle.std.proofs.lemmas.Nat.{and_le_l}
+use Rattle.std.proofs.lemmas.Nat.Bits.{bit_at_and, bit_at_not, bit_at_above, bit_at-lt, bit_at-zero}
 use Rattle.fc_cards.specs.Card.{all_cards}
-use Rattle.fc_position.specs.Board.{last_of}
-use Rattle.fc_bound.specs.inner.Rows.{AreBits, is_set}
+use Rattle.fc_position.specs.Board.{Board, last_of}
+use Rattle.fc_bound.specs.declared.rows.Row.{Row}
+use Rattle.fc_bound.specs.Rows.{AreBits, IsRow, no_row}
+use Rattle.fc_bound.specs.inner.Rows.{IsLeft, is_set, left_in}
 use Rattle.fc_bound.specs.Knots.{waits_in, ends_among, is_among, waits_among, is_astray, is_ring, all_but, leave_out, leave_out_each, ring}
 use Rattle.fc_bound.proofs.AboveLemmas.{not_true, and-true}
 use Rattle.fc_bound.proofs.BitLemmas.{is_one, gone, some_bit, no_bits}
+use Rattle.fc_bound.proofs.ClearingLemmas.{last_there}
 use Rattle.fc_bound.proofs.HeldLemmas.{found}
-use Rattle.fc_bound.proofs.LeftLemmas.{ends_at, same_test}
-use Rattle.fc_bound.proofs.LooseLemmas.{positive, not_zero}
+use Rattle.fc_bound.proofs.LeftLemmas.{ends_at, at_ends, same_test}
+use Rattle.fc_bound.proofs.LooseLemmas.{positive, not_zero, waits_now}
 use Rattle.fc_bound.proofs.RingLemmas.{among_is}
 use Rattle.fc_bound.proofs.ShedLemmas.{still, kept}
+use Rattle.fc_bound.proofs.TakeLemmas.{left_card, row_left}
 
 -- whether the one last card waits for a card of the other's column
 abbrev pub WaitsIn : List (List ℕ) → ℕ → ℕ → Bool → Type 0
@@ -34,25 +40,35 @@ set_among bits u o last set = ap (is_among (is_set bits)) last ∙ ap (λ (n : �
 among_set : (bits u : ℕ) (o : Option ℕ) → o ≡ Some u → is_among (is_set bits) o ≡ true → bit_at bits u ≡ 1
 among_set bits u o last among = eqb-true (bit_at bits u) 1 (ap (is_among (is_set bits)) (sym last) ∙ among)
 
-pub waits_some : (columns : List (List ℕ)) (bits u v : ℕ) → ends_among columns v ≡ true → bit_at bits v ≡ 1
-    → WaitsIn columns u v true → WaitsAmong columns u bits true
-waits_some columns bits u v ends set waits i last =
-    let e = ends_at columns v ends in
+-- a last card waits for one of a column that ends with one of these
+pub waits_some : (columns : List (List ℕ)) (bits i j v : ℕ) → last_of (get_or columns j []) ≡ Some v → bit_at bits v ≡ 1
+    → waits_in (get_or columns i []) (get_or columns j []) ≡ true → waits_among columns (is_set bits) (get_or columns i []) ≡ true
+waits_some columns bits i j v last set waits =
     let x : List ℕ = get_or columns i [] in
-    let y : List ℕ = get_or columns e.place [] in
-    list_any_at (λ other. is_among (is_set bits) (last_of other) && waits_in x other) columns e.place [] e.inside
-    (and_from (is_among (is_set bits) (last_of y)) (waits_in x y) (set_among bits v (last_of y) e.last set) (waits i e.place last e.last))
+    let y : List ℕ = get_or columns j [] in
+    list_any_at (λ other. is_among (is_set bits) (last_of other) && waits_in x other) columns j [] (last_there columns j v last)
+    (and_from (is_among (is_set bits) (last_of y)) (waits_in x y) (set_among bits v (last_of y) last set) waits)
 
-pub waits_none : (columns : List (List ℕ)) (bits u : ℕ) → ((w : ℕ) → bit_at bits w ≡ 1 → WaitsIn columns u w false)
-    → WaitsAmong columns u bits false
-waits_none columns bits u none i last =
+pub waits_where : (columns : List (List ℕ)) (bits i : ℕ) → waits_among columns (is_set bits) (get_or columns i []) ≡ true
+    → (j : ℕ) × (v : ℕ) × (last_of (get_or columns j []) ≡ Some v) × (bit_at bits v ≡ 1) × (waits_in (get_or columns i []) (get_or columns j []) ≡ true)
+waits_where columns bits i some =
     let x : List ℕ = get_or columns i [] in
-    not_true (waits_among columns (is_set bits) x) (λ some.
     let f = found (λ other. is_among (is_set bits) (last_of other) && waits_in x other) columns some in
     let y : List ℕ = get_or columns f.place [] in
     let both = and_parts (is_among (is_set bits) (last_of y)) (waits_in x y) f.passes in
     let (v, other) = among_is (is_set bits) (last_of y) both.0 in
-    true≢false (sym both.1 ∙ none v (among_set bits v (last_of y) other both.0) i f.place last other))
+    (f.place, v, other, among_set bits v (last_of y) other both.0, both.1)
+
+-- which last cards wait for a card of its column is told by a last card's row
+pub row_tells : (b : Board) (rows : List Row) (held all lasts : ℕ) (s : List (List ℕ)) (u v i j : ℕ) → IsLeft b rows held all lasts
+    → left_in all b.columns ≡ s → last_of (get_or s i []) ≡ Some u → last_of (get_or s j []) ≡ Some v
+    → bit_at (get_or rows v no_row).waiting u ≡ cond (waits_in (get_or s i []) (get_or s j [])) 1 0
+row_tells b rows held all lasts s u v i j left is one two =
+    let below = left_card b all u left.whole (ap (λ w. ends_among w u) is ∙ at_ends s i u one) in
+    let second : IsRow (get_or rows v no_row) (get_or s j []) =
+    subst (λ w. IsRow (get_or rows v no_row) (get_or w j [])) is
+    (row_left b rows held all lasts j v left (ap (λ w. last_of (get_or w j [])) is ∙ two)) in
+    waits_now (get_or rows v no_row).waiting u (get_or s j []) (get_or s i []) below second.waiting one
 
 -- where one of these waits for none of them, they are no ring
 pub no_ring : (columns : List (List ℕ)) (bits u : ℕ) → ends_among columns u ≡ true → bit_at bits u ≡ 1
@@ -91,6 +107,53 @@ ring_if columns bits fits lasts each =
     not_zero bits u (among_set bits u (last_of (get_or columns f.place [])) last f.passes)) in
     some ∙ sym (and-true (list_any (λ column. is_among (is_set bits) (last_of column)) columns))
     ∙ ap (λ t. list_any (λ column. is_among (is_set bits) (last_of column)) columns && not t) (sym none)
+
+-- these are a ring where all of them are among those that wait for a card of a column that ends with one of them
+pub ring_bits : (columns : List (List ℕ)) (bits waiting : ℕ) → bits < 2 ^ 64 → waiting < 2 ^ 64 → (bits ≡ 0 → ⊥)
+    → ((w : ℕ) → bit_at bits w ≡ 1 → ends_among columns w ≡ true)
+    → ((u i : ℕ) → last_of (get_or columns i []) ≡ Some u
+    → bit_at waiting u ≡ cond (waits_among columns (is_set bits) (get_or columns i [])) 1 0)
+    → (bit_and bits (bit_not w64 waiting) == 0) ≡ is_ring columns (is_set bits)
+ring_bits columns bits waiting fits small some lasts tells =
+    let astray : ℕ = bit_and bits (bit_not w64 waiting) in
+    ⊎_elim
+    (λ none.
+    let test : (astray == 0) ≡ true = grind (arith, nat_tests) in
+    let full : not (bits == 0) ≡ true = grind (arith, nat_tests) in
+    test ∙ sym full ∙ ring_if columns bits fits lasts (λ w set i last.
+    is_one (waits_among columns (is_set bits) (get_or columns i []))
+    (sym (tells w i last) ∙ bit_kept bits waiting w fits small set (ap (λ n. bit_at n w) none ∙ bit_at-zero w))))
+    (λ more.
+    let test : (astray == 0) ≡ false = grind (arith, nat_tests) in
+    let least = some_bit astray (omega (arith, more)) (omega (arith, and_le_l bits (bit_not w64 waiting), fits)) in
+    let u : ℕ = least.place in
+    let parts = bit_astray bits waiting u fits small least.set in
+    test ∙ sym (no_ring columns bits u (lasts u parts.0) parts.0 (λ i last.
+    not_true (waits_among columns (is_set bits) (get_or columns i [])) (λ waits.
+    let one = tells u i last ∙ ap (λ t. cond t 1 0) waits in omega (arith, one, parts.1)))))
+    (cases_eq astray 0)
+  where
+    below : (bits u : ℕ) → bits < 2 ^ 64 → bit_at bits u ≡ 1 → u < 64
+    below bits u fits set = ⊎_elim (λ lt. lt) (λ past. let none = bit_at_above bits 64 u fits past in absurd (omega (arith, set, none))) (cases_lt u 64)
+
+    bit_kept : (bits waiting u : ℕ) → bits < 2 ^ 64 → waiting < 2 ^ 64 → bit_at bits u ≡ 1 → bit_at (bit_and bits (bit_not w64 waiting)) u ≡ 0
+        → bit_at waiting u ≡ 1
+    bit_kept bits waiting u fits small set none =
+        let both = bit_at_and bits (bit_not w64 waiting) u in
+        let turned = bit_at_not w64 waiting u small (below bits u fits set) in
+        let lt = bit_at-lt waiting u in
+        omega (arith, set, none, both, turned, lt)
+
+    bit_astray : (bits waiting u : ℕ) → bits < 2 ^ 64 → waiting < 2 ^ 64 → bit_at (bit_and bits (bit_not w64 waiting)) u ≡ 1
+        → (bit_at bits u ≡ 1) × (bit_at waiting u ≡ 0)
+    bit_astray bits waiting u fits small set =
+        let both = bit_at_and bits (bit_not w64 waiting) u in
+        let one = bit_at-lt bits u in
+        let two = bit_at-lt (bit_not w64 waiting) u in
+        let first : bit_at bits u ≡ 1 = omega (arith, set, both, one, two) in
+        let turned = bit_at_not w64 waiting u small (below bits u fits first) in
+        let lt = bit_at-lt waiting u in
+        (first, omega (arith, set, both, turned, lt, one))
 
 -- to leave out a card that isn't there changes nothing
 left_none : (columns : List (List ℕ)) (set : ℕ → Bool) (u : ℕ) → set u ≡ false → leave_out columns u set ≡ set

@@ -12,7 +12,8 @@ use Rattle.fc_position.proofs.BoardLemmas.{front_last, places_most}
 use Rattle.fc_bound.specs.Bound.{stands_in}
 use Rattle.fc_bound.specs.Clearing.{without}
 use Rattle.fc_bound.specs.declared.rows.Row.{Row}
-use Rattle.fc_bound.specs.inner.Rows.{left_of, left_in, AreBits, IsRow, IsLeft, AreApart, stands_among, no_row}
+use Rattle.fc_bound.specs.Rows.{AreBits, IsRow, stands_among, no_row}
+use Rattle.fc_bound.specs.inner.Rows.{left_of, left_in, IsLeft, AreApart}
 use Rattle.fc_bound.specs.Knots.{ends_with, ends_among}
 use Rattle.fc_bound.proofs.AboveLemmas.{not_true, stands-counted, stands-other}
 use Rattle.fc_bound.proofs.BitLemmas.{either_bits}
@@ -21,7 +22,7 @@ use Rattle.fc_bound.proofs.ClearingLemmas.{last_there}
 use Rattle.fc_bound.proofs.LeftLemmas.{left_rest, left_front, left_at, left_stands, left_apart, IsWithout, same_bit, no_bit, stands_inside, same_column, last_stands, ends_last, last_ends, ends_at, at_ends, same_test, taken_without}
 
 -- which cards stand among the columns without a last card
-taken_stands : (v : List (List ℕ)) (i u c : ℕ) → last_of (get_or v i []) ≡ Some u → (c ≡ u → ⊥)
+pub taken_stands : (v : List (List ℕ)) (i u c : ℕ) → last_of (get_or v i []) ≡ Some u → (c ≡ u → ⊥)
     → stands_among (without v i) c ≡ stands_among v c
 taken_stands v i u c last other =
     any-set (λ column. stands_in column c) v i (front_of (get_or v i []))

@@ -41,7 +41,7 @@ waiting_low (suc high) n x low =
     omega (arith, here, waiting_low high n x (omega (arith, low)))
 
 -- a column that loses its last card
-waiting_front : (x : List ℕ) → waiting_of (length x) x ≡ cond (waits_above x) 1 0 + waiting_of (length (front_of x)) (front_of x)
+pub waiting_front : (x : List ℕ) → waiting_of (length x) x ≡ cond (waits_above x) 1 0 + waiting_of (length (front_of x)) (front_of x)
 waiting_front [] = refl
 waiting_front (d ∷ cards) =
     let x : List ℕ = d ∷ cards in

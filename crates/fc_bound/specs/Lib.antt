@@ -4,4 +4,5 @@ pub mod Kinds
 pub mod Knots
 pub mod Laws
 pub mod LowerBound
+pub mod Rows
 pub mod inner

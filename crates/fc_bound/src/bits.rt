@@ -2,6 +2,7 @@
 
 ghost use Rattle.std.specs.Prelude.{◌≡◌, ℕ, ◌<◌, ◌==◌, ◌↔◌, cond};
 ghost use Rattle.std.specs.Int.{bit_at};
+ghost use Rattle.fc_cards.specs.Card.{suit};
 ghost use Rattle.fc_bound.specs.Bound.{is_lower};
 ghost use Rattle.fc_bound.specs.inner.Rows.{HasLower};
 
@@ -89,6 +90,23 @@ pub(crate) fn higher_cards(index: u8) -> u64
     ensures value { (c : ℕ) → c < 52 → bit_at result c ≡ cond (is_lower c index) 1 0 }
 {
     HIGHER[index as usize]
+}
+
+// The bits of the cards of each suit.
+static SUITS: [u64; 4] = [
+    0x1_1111_1111_1111,
+    0x2_2222_2222_2222,
+    0x4_4444_4444_4444,
+    0x8_8888_8888_8888,
+];
+
+// The bits of all cards of the suit of the card with this number.
+#[inline]
+pub(crate) fn suit_cards(index: u8) -> u64
+    requires below { index < 52 }
+    ensures value { (c : ℕ) → c < 52 → bit_at result c ≡ cond (suit c == suit index) 1 0 }
+{
+    SUITS[index as usize % 4]
 }
 
 // The bits of all numbers that are greater than one of these by a multiple of four: of the cards that have a lower card of

@@ -1,14 +1,16 @@
-ghost use Rattle.std.specs.Prelude.{◌≡◌, ℕ, ◌<◌, ◌&&◌, false, true, [], Some, IfSome, IfNone, length, count_by, slice_index_or};
+ghost use Rattle.std.specs.Prelude.{◌≡◌, ℕ, ◌<◌, ◌&&◌, cond, false, true, [], Some, IfSome, IfNone, length, count_by, slice_index_or};
 ghost use Rattle.std.specs.Int.{bit_at};
 ghost use Rattle.std.specs.List.{list_any};
 ghost use Rattle.fc_position.specs.Board.{last_of};
 ghost use Rattle.fc_position.specs.Position.{IsPosition};
 ghost use Rattle.fc_bound.specs.Bound.{is_above_lower};
-ghost use Rattle.fc_bound.specs.Clearing.{without};
-ghost use Rattle.fc_bound.specs.inner.Rows.{AreBits, AreRows, Mark, AreApart, Knotted, stands_among, ends_in, is_set, waiting_in};
+ghost use Rattle.fc_cards.specs.Card.{suit};
+ghost use Rattle.fc_bound.specs.Clearing.{waits, without};
+ghost use Rattle.fc_bound.specs.Rows.{AreBits, AreRows, stands_among};
+ghost use Rattle.fc_bound.specs.inner.Rows.{Mark, AreApart, AreLow, Knotted, ends_in, is_set, waiting_in};
 ghost use Rattle.fc_bound.specs.Knots.{has_last, waits_in, waits_above, is_loose, are_knotted, waits_among, is_ring, ring, is_in_knot, shed, ends_among};
 
-use crate::bits::{above, least, remove};
+use crate::bits::{above, least, remove, suit_cards};
 use crate::rows::{Marks, Rows};
 use fc_position::Position;
 use std::marker::Model;
@@ -128,12 +130,61 @@ impl<'a> Left<'a> {
         self.held >> u & 1 != 0
     }
 
-    // The bits of the last cards that may leave at once.
+    // The bits of the cards that are left and wait for none, and perhaps of some that aren't left.
     #[inline]
-    fn loose(&self) -> u64
+    pub(crate) fn lows(&self) -> u64
+        ensures value { AreLow result self.now }
+    {
+        !above(self.all)
+    }
+
+    // The bits of the last cards that may leave at once, by those of the cards that wait for none.
+    #[inline]
+    fn loose(&self, lows: u64) -> u64
+        requires lows { AreLow lows self.now }
         ensures value { Mark result self.now (is_loose self.now) }
     {
-        self.lasts & (self.held | !above(self.all))
+        self.lasts & (self.held | lows)
+    }
+
+    // A last card that may leave at once, by the bits of the cards that wait for none.
+    #[inline]
+    pub(crate) fn first_loose(&self, lows: u64) -> Option<u8>
+        requires lows { AreLow lows self.now }
+        ensures last { IfSome result (λ u. ends_among self.now u ≡ true) }
+        ensures loose { IfSome result (λ u. (i : ℕ) → last_of (slice_index_or self.now i []) ≡ Some u
+            → is_loose self.now (slice_index_or self.now i []) ≡ true) }
+        ensures none { IfNone result (list_any (is_loose self.now) self.now ≡ false) }
+    {
+        let loose = self.loose(lows);
+        if loose == 0 {
+            return None;
+        }
+        Some(least(loose))
+    }
+
+    // The bit of the lowest card that is left of the suit of the card with this number, which waits for none.
+    #[inline]
+    fn lowest_of_suit(&self, u: u8) -> u64
+        requires below { u < 52 }
+        ensures low { (c : ℕ) → bit_at result c ≡ 1 → waits self.now (Some c) ≡ false }
+        ensures each { (c : ℕ) → stands_among self.now c ≡ true → suit c ≡ suit u → waits self.now (Some c) ≡ false → bit_at result c ≡ 1 }
+    {
+        let suit = self.all & suit_cards(u);
+        if suit == 0 { 0 } else { 1 << least(suit) }
+    }
+
+    // Takes out the last card with this number: the bits of the cards that wait for none afterwards, by those before. Only the lowest
+    // card of its suit may wait no more.
+    #[inline]
+    pub(crate) fn take_of(&mut self, u: u8, lows: u64) -> u64
+        requires last { ends_among self.old u ≡ true }
+        requires lows { AreLow lows self.old }
+        ensures value { (i : ℕ) → last_of (slice_index_or self.old i []) ≡ Some u → self.new ≡ without self.old i }
+        ensures lows { AreLow result self.new }
+    {
+        self.take(u);
+        lows | self.lowest_of_suit(u)
     }
 
     // Takes out the last cards that may leave at once: how many wait for a card beneath them, `None` where there is none.
@@ -145,7 +196,7 @@ impl<'a> Left<'a> {
         ensures none_loose { IfNone result (list_any (is_loose self.old) self.old ≡ false) }
         ensures same { IfNone result (self.new ≡ self.old) }
     {
-        let loose = self.loose();
+        let loose = self.loose(self.lows());
         if loose == 0 {
             return None;
         }
@@ -196,23 +247,21 @@ impl<'a> Left<'a> {
         None
     }
 
-    // Whether a last card waits for a card of a column that ends with one of these.
+    // The bits of the cards that wait for a card of a column that ends with one of these.
     #[inline]
-    fn waits_among(&self, u: u8, set: u64) -> bool
-        requires last { ends_among self.now u ≡ true }
+    fn waiting_among(&self, set: u64) -> u64
         requires lasts { (v : ℕ) → bit_at set v ≡ 1 → ends_among self.now v ≡ true }
-        ensures value { (i : ℕ) → last_of (slice_index_or self.now i []) ≡ Some u
-            → result ≡ waits_among self.now (is_set set) (slice_index_or self.now i []) }
+        ensures value { (u i : ℕ) → last_of (slice_index_or self.now i []) ≡ Some u
+            → bit_at result u ≡ cond (waits_among self.now (is_set set) (slice_index_or self.now i [])) 1 0 }
     {
+        let mut waiting = 0;
         let mut rest = set;
         while rest != 0 {
             let v = least(rest);
-            if self.waits_in(u, v) {
-                return true;
-            }
+            waiting |= self.rows[v as usize].waiting;
             rest = remove(rest, v);
         }
-        false
+        waiting
     }
 
     // Whether these last cards are a ring: each waits for a card of a column that ends with one of them.
@@ -221,15 +270,7 @@ impl<'a> Left<'a> {
         requires lasts { (u : ℕ) → bit_at set u ≡ 1 → ends_among self.now u ≡ true }
         ensures value { result ≡ is_ring self.now (is_set set) }
     {
-        let mut rest = set;
-        while rest != 0 {
-            let u = least(rest);
-            if !self.waits_among(u, set) {
-                return false;
-            }
-            rest = remove(rest, u);
-        }
-        set != 0
+        set != 0 && set & !self.waiting_among(set) == 0
     }
 
     // The bits of a ring of last cards: of all of them, each is left out, the least first, if a ring is left without it.

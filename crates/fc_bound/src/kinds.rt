@@ -2,11 +2,13 @@ ghost use Rattle.std.specs.Prelude.{◌≡◌, ◌+◌, ◌≤◌, IfSome};
 ghost use Rattle.fc_position.specs.Board.{lifted};
 ghost use Rattle.fc_position.specs.Position.{IsPosition};
 ghost use Rattle.fc_bound.specs.Kinds.{guide_of, low_of};
+ghost use Rattle.fc_bound.specs.Rows.{IsTableOf};
 
 use crate::bounds::{GREATEST_BOUND, bound, is_held_back};
 use crate::clearing::clearing_bound;
 use crate::counts::WholeCount;
-use crate::knots::{knot_bound, knot_bound_whole, knot_bound_within};
+use crate::knots::{knot_bound, knot_bound_by, knot_bound_whole, knot_bound_within};
+use crate::rows::ColumnTable;
 use fc_cards::Place;
 use fc_position::Position;
 
@@ -59,6 +61,19 @@ impl BoundKind {
         match self {
             BoundKind::Plain => WholeCount::at_once(bound(position)),
             BoundKind::Clearing => knot_bound_whole(position),
+        }
+    }
+
+    /// The same by the table of the position's columns.
+    #[inline]
+    pub fn guide_by(self, position: &Position, table: &ColumnTable) -> WholeCount
+        requires table { IsTableOf position.now.columns table.now }
+        ensures value { result.bound ≡ guide_of self position.now }
+        ensures whole { IsPosition position.now }
+    {
+        match self {
+            BoundKind::Plain => WholeCount::at_once(bound(position)),
+            BoundKind::Clearing => knot_bound_by(position, table),
         }
     }
 

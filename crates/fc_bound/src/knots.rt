@@ -3,22 +3,29 @@ ghost use Rattle.std.specs.List.{list_any};
 ghost use Rattle.fc_position.specs.Position.{IsPosition};
 ghost use Rattle.fc_bound.specs.Clearing.{cards_in};
 ghost use Rattle.fc_bound.specs.Knots.{is_loose, knot_count, knot_bound};
-ghost use Rattle.fc_bound.specs.inner.Rows.{waiting_in};
+ghost use Rattle.fc_bound.specs.Rows.{IsTableOf};
+ghost use Rattle.fc_bound.specs.inner.Rows.{AreLow, waiting_in};
 
 use crate::bounds::{GREATEST_BOUND, away};
 use crate::columns::Left;
 use crate::counts::WholeCount;
-use crate::rows::{blank, fill};
+use crate::rows::{ColumnTable, blank, fill};
 use fc_position::Position;
 
-// Takes out loose cards until no card is loose.
-#[inline]
-fn loosen(left: &mut Left<'_>)
+// Takes out loose cards, one at a time, until no card is loose: the bits of the cards that wait for none afterwards, by those before.
+#[inline(always)]
+fn loosen(left: &mut Left<'_>, lows: u64) -> u64
+    requires lows { AreLow lows left.old }
+    ensures lows { AreLow result left.new }
     ensures count { knot_count left.old + waiting_in left.new ≡ knot_count left.new + waiting_in left.old }
     ensures tight { list_any (is_loose left.new) left.new ≡ false }
     ensures fewer { cards_in left.new ≤ cards_in left.old }
 {
-    while left.take_loose().is_some() {}
+    let mut lows = lows;
+    while let Some(u) = left.first_loose(lows) {
+        lows = left.take_of(u, lows);
+    }
+    lows
 }
 
 // How many knots are met until no card is left, counted no further than asked: all of them where they are at most so many,
@@ -32,8 +39,10 @@ fn knots_within(left: &mut Left<'_>, most: u8) -> u8
     ensures greatest { result ≤ 52 }
 {
     let mut count = left.waiting();
+    // A knot's cards wait, and for cards that stay: who waits for none is the same without them.
+    let mut lows = left.lows();
     while count <= most {
-        loosen(left);
+        lows = loosen(left, lows);
         if !left.has_cards() {
             return count;
         }
@@ -70,10 +79,18 @@ pub(crate) fn knot_bound_whole(position: &Position) -> WholeCount
     ensures most { result.bound ≤ GREATEST_BOUND }
     ensures whole { IsPosition position.now }
 {
+    knot_bound_by(position, &ColumnTable::new(position))
+}
+
+// The same by the table of the position's columns.
+pub(crate) fn knot_bound_by(position: &Position, table: &ColumnTable) -> WholeCount
+    requires table { IsTableOf position.now.columns table.now }
+    ensures value { result.bound ≡ knot_bound position.now }
+    ensures most { result.bound ≤ GREATEST_BOUND }
+    ensures whole { IsPosition position.now }
+{
     let away = away(position);
-    let mut rows = blank();
-    let marks = fill(&mut rows, position);
-    let mut left = Left::new(position, &rows, marks);
+    let mut left = Left::new(position, &table.rows, table.marks);
     let waiting = left.waiting();
     let count = knot_count(&mut left);
     WholeCount {

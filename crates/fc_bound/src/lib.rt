@@ -12,6 +12,7 @@ pub use clearing::clearing_bound;
 pub use counts::WholeCount;
 pub use kinds::BoundKind;
 pub use knots::knot_bound;
+pub use rows::ColumnTable;
 
 mod bits;
 mod bounds;
@@ -22,3 +23,4 @@ mod kinds;
 mod knots;
 pub mod laws;
 mod rows;
+mod tables;

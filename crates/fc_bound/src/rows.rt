@@ -4,7 +4,7 @@ ghost use Rattle.fc_position.specs.Board.{count_in_column, last_of};
 ghost use Rattle.fc_position.specs.Position.{IsPosition};
 ghost use Rattle.fc_bound.specs.Bound.{stands_in, is_above_lower};
 ghost use Rattle.fc_bound.specs.Knots.{ends_with, ends_among};
-ghost use Rattle.fc_bound.specs.inner.Rows.{AreBits, IsRow, AreRows, no_row, stands_among};
+ghost use Rattle.fc_bound.specs.Rows.{AreBits, IsRow, AreRows, no_row, stands_among};
 
 use crate::bits::higher_cards;
 use fc_cards::Card;
@@ -27,6 +27,13 @@ pub(crate) struct Marks {
     pub(crate) all: u64,
     pub(crate) lasts: u64,
     pub(crate) held: u64,
+}
+
+/// What is looked up of a position's columns: which cards wait for which.
+#[derive(Drop)]
+pub struct ColumnTable {
+    pub(crate) rows: Rows,
+    pub(crate) marks: Marks,
 }
 
 // Rows with nothing in them, to be filled in their place.

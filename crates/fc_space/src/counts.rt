@@ -43,28 +43,23 @@ pub(crate) fn shift<G: Game>(
     }
 }
 
-// The bound of this kind of a position to which a card was moved, by the bound without the card, where that is known, and what is to
-// be remembered of it.
+// The bound of this kind of a position to which a card was moved, by the bound without the card, where that is known, or as it is
+// known itself: `None` where it has to be counted.
 #[inline(always)]
-pub(crate) fn count_of(
+pub(crate) fn seen_of(
     kind: BoundKind,
     position: &Position,
     to: Place,
     without: Option<u8>,
     known: Option<WholeCount>,
-) -> (WholeCount, Option<WholeCount>)
+) -> Option<WholeCount>
     requires without { IfSome without (λ less. less ≡ guide_of kind (lifted position.now to)) }
     requires known { IsWhole (guide_of kind position.now) known }
-    ensures count { result.0.bound ≡ guide_of kind position.now }
-    ensures whole { IsWhole (guide_of kind position.now) result.1 }
+    ensures count { IfSome result (λ count. count.bound ≡ guide_of kind position.now) }
     ensures position { IsPosition position.now }
 {
-    if let Some(bound) = kind.guide_with(position, to, without) {
-        return (WholeCount::by_ones(bound), known);
+    match kind.guide_with(position, to, without) {
+        Some(bound) => Some(WholeCount::by_ones(bound)),
+        None => known,
     }
-    if let Some(whole) = known {
-        return (whole, known);
-    }
-    let whole = kind.guide_whole(position);
-    (whole, Some(whole))
 }

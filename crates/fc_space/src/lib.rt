@@ -9,4 +9,5 @@ mod coded;
 mod counts;
 mod positions;
 mod remembered;
+mod walks;
 mod ways;

@@ -22,11 +22,11 @@ ghost use Rattle.fc_space.specs.inner.Remembered.{IsWhole, bound_by_code};
 ghost use Rattle.fc_bound.proofs.KindLemmas.{bounds_lower};
 
 use crate::coded::settle_coded;
-use crate::counts::{count_of, shift};
+use crate::counts::shift;
 use crate::remembered::{Remembered, places};
 use arrayvec::ArrayVec;
 use fc_best_first::{Child, Space};
-use fc_bound::{BoundKind, WholeCount};
+use fc_bound::{BoundKind, ColumnTable, WholeCount};
 use fc_canonical::list_distinct_moves;
 use fc_cards::Place;
 use fc_codes::{Code, Layout};
@@ -62,15 +62,18 @@ pub struct Positions<G: Game + Drop> {
 /// next one last.
 #[derive(Drop)]
 pub struct Children<G: Game + Drop> {
-    rules: ClassRules<G>,
-    layout: Layout,
-    position: Position,
-    code: Code,
-    bound: u8,
-    left: ArrayVec<Move, 132>,
+    pub(crate) rules: ClassRules<G>,
+    pub(crate) layout: Layout,
+    pub(crate) position: Position,
+    pub(crate) code: Code,
+    pub(crate) bound: u8,
+    pub(crate) left: ArrayVec<Move, 132>,
     // The move that led to the child that was told last, where no card went home, by the move or after it.
-    last: Option<Move>,
-    remembered: Remembered,
+    pub(crate) last: Option<Move>,
+    pub(crate) remembered: Remembered,
+    // What a count looks up of the position's columns, once one was asked for.
+    pub(crate) table: ColumnTable,
+    pub(crate) is_laid: bool,
 }
 
 impl<G: Game + Drop> Model for Children<G> {
@@ -82,6 +85,8 @@ impl<G: Game + Drop> Model for Children<G> {
     ghost use Rattle.fc_space.specs.inner.Children.{AreAllowed};
     ghost use Rattle.fc_space.specs.inner.Remembered.{AreUnder, bound_by_code};
     ghost use Rattle.fc_codes.specs.State.{IsCodeOf};
+    ghost use Rattle.std.specs.Prelude.{true};
+    ghost use Rattle.fc_bound.specs.Rows.{IsTableOf};
 
     ghost Value = { Left G };
 
@@ -89,7 +94,7 @@ impl<G: Game + Drop> Model for Children<G> {
 
     ghost invariant = { λ s. IsPositionOf (G.game s.rules.game) s.position × AreAllowed (G.game s.rules.game) s.position s.left.items
         × (s.bound ≡ guide_of s.rules.kind s.position) × NoneGoesHome s.rules.rule (G.game s.rules.game) s.position × IsCodeOf s.layout s.position s.code
-        × AreUnder (bound_by_code s.rules.kind s.layout) s.remembered };
+        × AreUnder (bound_by_code s.rules.kind s.layout) s.remembered × (s.is_laid ≡ true → IsTableOf s.position.columns s.table) };
 }
 
 impl<G: Game + Drop> Positions<G> {
@@ -136,6 +141,7 @@ impl<G: Game + Drop> Positions<G> {
         let remembered = Remembered::new(alloc, self.places)?;
         let position = self.position(code);
         let bound = self.rules.kind.guide(&position);
+        let table = ColumnTable::new(&position);
         Ok(Children {
             rules: ClassRules {
                 game: self.rules.game.copy(),
@@ -149,6 +155,8 @@ impl<G: Game + Drop> Positions<G> {
             left: ArrayVec::new(),
             last: None,
             remembered,
+            table,
+            is_laid: true,
         })
     }
 
@@ -165,6 +173,7 @@ impl<G: Game + Drop> Positions<G> {
         walk.position = position;
         walk.code = *code;
         walk.bound = bound;
+        walk.is_laid = false;
         list_distinct_moves(&self.rules.game, &walk.position, &mut walk.left);
         walk.last = None;
     }
@@ -241,7 +250,7 @@ fn settled_already<G: Game + Drop>(
 
 // The child to which a move leads, to a position with this code, made by moving the card forth and back; `None` where
 // cards go home, which can't be taken back. The position is as it was.
-fn child_by_shift<G: Game + Drop>(
+pub(crate) fn child_by_shift<G: Game + Drop>(
     rules: &ClassRules<G>,
     position: &mut Position,
     bound: u8,
@@ -268,7 +277,7 @@ fn child_by_shift<G: Game + Drop>(
 }
 
 // The child to which a move leads, to a position with this code, made on a copy of the position.
-fn child_by_copy<G: Game + Drop>(
+pub(crate) fn child_by_copy<G: Game + Drop>(
     rules: &ClassRules<G>,
     position: &Position,
     m: Move,
@@ -281,53 +290,6 @@ fn child_by_copy<G: Game + Drop>(
     let mut next = position.copy();
     apply(&rules.game, &mut next, m);
     settled(rules, next, code, 1)
-}
-
-impl<G: Game + Drop> Children<G> {
-    // The child to which a move leads, at which the walk stands from then on.
-    #[inline(always)]
-    fn step(&mut self, m: Move) -> Child<Code>
-        requires allowed { Allows (G.game self.old.game) self.old.position m }
-        ensures child { IsChildOf (frame_of (G.game self.old.game) self.old.rule self.old.kind self.old.start) self.old.position m result }
-        ensures at { StandsAt (frame_of (G.game self.old.game) self.old.rule self.old.kind self.old.start) self.old.position self.new.last result.key }
-        ensures same { (self.new.game ≡ self.old.game) × (self.new.rule ≡ self.old.rule) × (self.new.kind ≡ self.old.kind)
-            × (self.new.start ≡ self.old.start) × (self.new.position ≡ self.old.position) × (self.new.moves ≡ self.old.moves) }
-    {
-        let code = self.layout.moved(&self.code, &self.position, m);
-        match child_by_shift(&self.rules, &mut self.position, self.bound, m, code) {
-            Some(child) => {
-                self.last = Some(m);
-                child
-            }
-            None => {
-                self.last = None;
-                child_by_copy(&self.rules, &self.position, m, code)
-            }
-        }
-    }
-
-    // The bound of this kind, the walk's, of where a move leads that takes no card home, and what is to be remembered of it: nothing
-    // more where what the card adds is plain to see. The walk is as it was.
-    fn count_after(
-        &mut self,
-        kind: BoundKind,
-        m: Move,
-        known: Option<WholeCount>,
-    ) -> (WholeCount, Option<WholeCount>)
-        requires kind { kind ≡ self.old.kind }
-        requires allowed { Allows (G.game self.old.game) self.old.position m }
-        requires away { m.to ≢ Home }
-        requires known { (z : Board) → Step (G.game self.old.game) self.old.position m z → IsWhole (guide_of kind z) known }
-        ensures count { (z : Board) → Step (G.game self.old.game) self.old.position m z → result.0.bound ≡ guide_of kind z }
-        ensures whole { (z : Board) → Step (G.game self.old.game) self.old.position m z → IsWhole (guide_of kind z) result.1 }
-        ensures same { self.new ≡ self.old }
-    {
-        let without = kind.guide_without(&self.position, m.from, self.bound);
-        apply(&self.rules.game, &mut self.position, m);
-        let counted = count_of(kind, &self.position, m.to, without, known);
-        self.position.shift(m.to, m.from);
-        counted
-    }
 }
 
 impl<G: Game + Drop> Space<Code> for Positions<G> {

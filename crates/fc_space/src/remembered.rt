@@ -38,14 +38,14 @@ impl Model for Remembered {
 }
 
 // How many places a walk's table has in a search by a method: by partial expansion and the clearing bound, which takes long to
-// count and is asked of many classes again and again, a power of two, about half as many as classes may be stored; else none.
+// count and is asked of many classes again and again, a power of two, about as many as classes may be stored; else none.
 pub(crate) fn places(method: &Method) -> usize
-    ensures most { result ≤ 2 ^ 17 }
+    ensures most { result ≤ 2 ^ 18 }
 {
     match (method.bound, method.strategy.expansion) {
         (BoundKind::Clearing, Expansion::Partial) => {
-            let half = method.strategy.budget.get() / 2;
-            half.next_power_of_two().clamp(1 << 10, 1 << 17) as usize
+            let budget = method.strategy.budget.get();
+            budget.next_power_of_two().clamp(1 << 10, 1 << 18) as usize
         }
         _ => 0,
     }

@@ -1,12 +1,14 @@
 -- What is left of columns while cards are taken out of them, as bits of cards.
-use Rattle.std.specs.Prelude.{◌≡◌, ℕ, zero, suc, ◌+◌, ◌-◌, ◌*◌, ◌<◌, ◌≤◌, ◌==◌, ◌&&◌, Bool, true, false, cond, length, take, map, List, [], ◌∷◌, Option, Some, None, slice_index_or, sum_by}
+use Rattle.std.specs.Prelude.{◌≡◌, ℕ, zero, suc, ◌+◌, ◌-◌, ◌*◌, ◌<◌, ◌≤◌, ◌==◌, ◌&&◌, Bool, true, false, not, cond, length, take, map, List, [], ◌∷◌, Option, Some, None, slice_index_or, sum_by}
 use Rattle.std.specs.Int.{bit_at}
 use Rattle.std.specs.List.{list_any}
-use Rattle.fc_position.specs.Board.{Board, last_of, front_of}
+use Rattle.fc_position.specs.Board.{Board, last_of}
 use Rattle.fc_position.specs.Position.{IsPosition}
 use Rattle.fc_bound.specs.declared.rows.Row.{Row}
-use Rattle.fc_bound.specs.Bound.{is_lower, stands_in, is_above_lower}
-use Rattle.fc_bound.specs.Knots.{has_last, ends_with, waits_above, are_knotted, ends_among}
+use Rattle.fc_bound.specs.Bound.{is_above_lower}
+use Rattle.fc_bound.specs.Clearing.{waits}
+use Rattle.fc_bound.specs.Knots.{has_last, waits_above, are_knotted, ends_among}
+use Rattle.fc_bound.specs.Rows.{AreBits, AreRows, stands_among}
 
 -- the cards of a column up to the first whose bit is not set
 abbrev pub left_of : ℕ → List ℕ → List ℕ
@@ -17,21 +19,9 @@ left_of bits (c ∷ cards) = cond (bit_at bits c == 1) (c ∷ left_of bits cards
 abbrev pub left_in : ℕ → List (List ℕ) → List (List ℕ)
 left_in bits columns = map (left_of bits) columns
 
--- the bits of the numbers that pass a test
-abbrev pub AreBits : ℕ → (ℕ → Bool) → Type 0
-AreBits bits test = (x : ℕ) → bit_at bits x ≡ cond (test x) 1 0
-
--- the bits of cards that wait for one of these: a lower card of their own suit is among these
-abbrev pub AreWaiting : ℕ → List ℕ → Type 0
-AreWaiting bits cards = (c : ℕ) → c < 52 → bit_at bits c ≡ cond (list_any (is_lower c) cards) 1 0
-
 -- a number that is less by a multiple of four has its bit set
 abbrev pub HasLower : ℕ → ℕ → Type 0
 HasLower bits c = (k : ℕ) × (0 < k) × (4 * k ≤ c) × (bit_at bits (c - 4 * k) ≡ 1)
-
--- the card stands in one of the columns
-abbrev pub stands_among : List (List ℕ) → ℕ → Bool
-stands_among columns c = list_any (λ column. stands_in column c) columns
 
 -- the bit of a number is set
 abbrev pub is_set : ℕ → ℕ → Bool
@@ -52,24 +42,14 @@ pub record Mark (bits : ℕ) (columns : List (List ℕ)) (test : List ℕ → Bo
 abbrev pub AreApart : List (List ℕ) → Type 0
 AreApart columns = (i k u : ℕ) → last_of (slice_index_or columns i []) ≡ Some u → last_of (slice_index_or columns k []) ≡ Some u → i ≡ k
 
+-- the bits tell of each card that stands in the columns whether it waits for none
+abbrev pub AreLow : ℕ → List (List ℕ) → Type 0
+AreLow bits columns = (c : ℕ) → stands_among columns c ≡ true → bit_at bits c ≡ cond (not (waits columns (Some c))) 1 0
+
 -- whether columns that end with these cards are knotted
 abbrev pub Knotted : List (List ℕ) → ℕ → ℕ → Bool → Type 0
 Knotted columns u v so = (i j : ℕ) → last_of (slice_index_or columns i []) ≡ Some u → last_of (slice_index_or columns j []) ≡ Some v
     → are_knotted (slice_index_or columns i []) (slice_index_or columns j []) ≡ so
-
--- what is read past the end of rows
-abbrev pub no_row : Row
-no_row = record { waiting = 0; beneath = 0 }
-
--- what is known of the last one of these cards of a column
-pub record IsRow (row : Row) (cards : List ℕ) : Type 0 where
-  pub waiting : AreWaiting row.waiting cards
-  pub beneath : AreBits row.beneath (λ c. ends_with c (last_of (front_of cards)))
-
--- the rows of each number of each column's lowest cards, by their last one
-abbrev pub AreRows : List (List ℕ) → List Row → Type 0
-AreRows columns rows = (i h u : ℕ) → last_of (take h (slice_index_or columns i [])) ≡ Some u
-    → IsRow (slice_index_or rows u no_row) (take h (slice_index_or columns i []))
 
 -- these cards are left of a position's columns, and these are the last ones
 pub record IsLeft (b : Board) (rows : List Row) (held all lasts : ℕ) : Type 0 where

@@ -1,11 +1,12 @@
-use Rattle.std.proofs.Common.{◌≡◌, true, sym, ◌∙◌, ap, arith}
+use Rattle.std.proofs.Common.{◌≡◌, true, sym, ◌∙◌, ap, subst, arith}
 use Rattle.std.specs.List.{list_any}
 use Rattle.fc_position.specs.Board.{last_of}
 use Rattle.fc_bound.specs.Clearing.{cards_in}
 use Rattle.fc_bound.specs.Knots.{has_last, is_in_knot, knot_count, shed}
-use Rattle.fc_bound.specs.inner.Rows.{ends_in, waiting_in}
+use Rattle.fc_bound.specs.inner.Rows.{AreLow, ends_in, waiting_in}
 use Rattle.fc_bound.proofs.KnotSteps.{count_is, knots_few, shed_knot}
 use Rattle.fc_bound.proofs.LeftLemmas.{shed_same}
+use Rattle.fc_bound.proofs.LowKept.{low_kept}
 use Rattle.fc_bound.proofs.WaitingLemmas.{count_knot, count_none, waiting_counts, waiting_tight}
 use Rattle.fc_bound.proofs.knots.knots_within.Goals as goal
 
@@ -15,8 +16,8 @@ returns-then-not-has_cards-clause-lower c =
 
 pub returns-then-not-has_cards-clause-exact : goal.returns-then-not-has_cards-clause-exact
 returns-then-not-has_cards-clause-exact c = λ _.
-    let none = count_none c.loosen.new.left c.loosen.ensures.tight (sym c.has_cards.ensures.value ∙ c.if-not-has_cards.true) in
-    omega (arith, c.loop-count.invariant.counts, c.loosen.ensures.count, none.0, none.1)
+    let none = count_none c.loosen-lows.new.left c.loosen-lows.ensures.tight (sym c.has_cards.ensures.value ∙ c.if-not-has_cards.true) in
+    omega (arith, c.loop-count.invariant.counts, c.loosen-lows.ensures.count, none.0, none.1)
 
 pub returns-then-not-has_cards-clause-greatest : goal.returns-then-not-has_cards-clause-greatest
 returns-then-not-has_cards-clause-greatest c =
@@ -44,24 +45,25 @@ overflow_add-count c =
 
 pub loop-count-smaller : goal.loop-count-smaller
 loop-count-smaller c =
-    let v = c.loosen.new.left in
+    let v = c.loosen-lows.new.left in
     let taken : c.shed.new.self ≡ shed (is_in_knot v) v =
     c.shed.ensures.value ∙ shed_same (λ x. ends_in c.knot-knot.result (last_of x)) (is_in_knot v) v c.knot-knot.ensures.value.each in
-    omega (arith, c.loosen.ensures.fewer, shed_knot v (sym c.has_cards.ensures.value ∙ c.if-not-has_cards.false), ap cards_in taken)
+    omega (arith, c.loosen-lows.ensures.fewer, shed_knot v (sym c.has_cards.ensures.value ∙ c.if-not-has_cards.false), ap cards_in taken)
 
 pub loop-count-preserved : goal.loop-count-preserved
 loop-count-preserved c =
-    let v = c.loosen.new.left in
+    let v = c.loosen-lows.new.left in
     let taken : c.shed.new.self ≡ shed (is_in_knot v) v =
     c.shed.ensures.value ∙ shed_same (λ x. ends_in c.knot-knot.result (last_of x)) (is_in_knot v) v c.knot-knot.ensures.value.each in
     let some_last : list_any (λ column. has_last (last_of column)) v ≡ true = sym c.has_cards.ensures.value ∙ c.if-not-has_cards.false in
     record {
+      low = subst (AreLow c.loosen-lows.result) (sym taken) (low_kept v c.loosen-lows.result (is_in_knot v) c.loosen-lows.ensures.tight c.loosen-lows.ensures.lows);
       counts = omega (
         arith,
         c.loop-count.invariant.counts,
-        c.loosen.ensures.count,
-        count_knot v c.loosen.ensures.tight some_last,
-        waiting_tight v c.loosen.ensures.tight,
+        c.loosen-lows.ensures.count,
+        count_knot v c.loosen-lows.ensures.tight some_last,
+        waiting_tight v c.loosen-lows.ensures.tight,
         ap knot_count taken,
         ap waiting_in taken,
       );

@@ -6,7 +6,7 @@ use Rattle.std.proofs.lemmas.List.Folds.{list_any_more}
 use Rattle.fc_position.specs.Board.{column, count_in_column, last_of}
 use Rattle.fc_bound.specs.Bound.{is_above_lower, stands_in}
 use Rattle.fc_bound.specs.Knots.{ends_with, ends_among}
-use Rattle.fc_bound.specs.inner.Rows.{AreBits, IsRow, no_row, stands_among}
+use Rattle.fc_bound.specs.Rows.{AreBits, IsRow, no_row, stands_among}
 use Rattle.fc_bound.proofs.AboveLemmas.{not_true}
 use Rattle.fc_bound.proofs.BitLemmas.{bits_or}
 use Rattle.fc_bound.proofs.FillLemmas.{stands_take}

@@ -3,7 +3,7 @@ use Rattle.std.specs.List.{list_any}
 use Rattle.fc_position.specs.Board.{last_of}
 use Rattle.fc_bound.specs.Bound.{is_above_lower}
 use Rattle.fc_bound.specs.Knots.{ends_among}
-use Rattle.fc_bound.specs.inner.Rows.{AreBits, IsRow, no_row, stands_among}
+use Rattle.fc_bound.specs.Rows.{AreBits, IsRow, no_row, stands_among}
 use Rattle.fc_bound.proofs.rows.fill.Given as goal
 
 abbrev pub invariant-loop-i : goal.invariant-loop-i

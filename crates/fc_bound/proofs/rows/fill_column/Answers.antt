@@ -4,7 +4,7 @@ use Rattle.fc_position.specs.Board.{last_of, count_in_column}
 use Rattle.fc_bound.specs.Bound.{is_above_lower, stands_in}
 use Rattle.fc_bound.specs.declared.rows.Row.{Row}
 use Rattle.fc_bound.specs.Knots.{ends_with}
-use Rattle.fc_bound.specs.inner.Rows.{AreBits, AreWaiting, no_row}
+use Rattle.fc_bound.specs.Rows.{AreBits, AreWaiting, no_row}
 use Rattle.fc_bound.proofs.AboveLemmas.{next_seen, next_once, contains-stands}
 use Rattle.fc_bound.proofs.FillLemmas.{not_yet, stand_more, end_one, waiting_more, above_more, row_next, each_more, each_all}
 use Rattle.fc_bound.proofs.rows.fill_column.Goals as goal

@@ -2,7 +2,7 @@ use Rattle.std.proofs.Common.{◌≡◌, ℕ, ◌≤◌, false, Some, length, ta
 use Rattle.fc_position.specs.Board.{last_of}
 use Rattle.fc_bound.specs.Bound.{stands_in, is_above_lower}
 use Rattle.fc_bound.specs.Knots.{ends_with}
-use Rattle.fc_bound.specs.inner.Rows.{AreBits, AreWaiting, IsRow, no_row}
+use Rattle.fc_bound.specs.Rows.{AreBits, AreWaiting, IsRow, no_row}
 use Rattle.fc_bound.proofs.rows.fill_column.Given as goal
 
 abbrev pub invariant-loop-card : goal.invariant-loop-card

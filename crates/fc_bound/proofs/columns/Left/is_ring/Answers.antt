@@ -1,19 +1,8 @@
-use Rattle.std.proofs.Common.{sym, ◌∙◌}
-use Rattle.fc_bound.proofs.BitLemmas.{no_bits}
-use Rattle.fc_bound.proofs.RingCode.{no_ring, ring_if}
+use Rattle.fc_bound.proofs.RingCode.{ring_bits}
 use Rattle.fc_bound.proofs.columns.Left.is_ring.Goals as goal
 
-pub returns-then-not-waits_among : goal.returns-then-not-waits_among
-returns-then-not-waits_among c =
-    let u = c.least-u.result in
-    let set = c.loop-rest.invariant.some u c.least-u.ensures.set in
-    record {
-      value = sym (no_ring c.args.self.now c.args.set u (c.requires.lasts u set) set
-          (λ i last. sym (c.waits_among.ensures.value i last) ∙ c.if-not-waits_among.true));
-    }
-
-pub returns : goal.returns
-returns c = record {
-  value = ring_if c.args.self.now c.args.set c.ranges.set.fits c.requires.lasts
-      (λ w set. c.loop-rest.invariant.each w set (no_bits c.loop-rest.rest w c.loop-rest-test.false));
+pub returns-then-set-ne0 : goal.returns-then-set-ne0
+returns-then-set-ne0 c = record {
+  value = ring_bits c.args.self.now c.args.set c.waiting_among.result c.ranges.set.fits c.waiting_among.type_inv c.if-set-ne0.true c.requires.lasts
+      c.waiting_among.ensures.value;
 }

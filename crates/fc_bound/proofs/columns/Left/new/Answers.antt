@@ -1,6 +1,6 @@
 use Rattle.std.proofs.Common.{sym, subst}
 use Rattle.fc_bound.specs.Knots.{ends_among}
-use Rattle.fc_bound.specs.inner.Rows.{AreBits, stands_among}
+use Rattle.fc_bound.specs.Rows.{AreBits, stands_among}
 use Rattle.fc_bound.proofs.LeftLemmas.{left_whole}
 use Rattle.fc_bound.proofs.columns.Left.new.Goals as goal
 

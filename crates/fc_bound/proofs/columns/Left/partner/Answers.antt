@@ -4,7 +4,7 @@ use Rattle.std.specs.Int.{bit_at}
 use Rattle.std.proofs.lemmas.Nat.Bits.{bit_at_and, bit_at-lt}
 use Rattle.fc_position.specs.Board.{last_of}
 use Rattle.fc_bound.specs.Knots.{ends_among, waits_in}
-use Rattle.fc_bound.specs.inner.Rows.{IsRow, no_row}
+use Rattle.fc_bound.specs.Rows.{IsRow, no_row}
 use Rattle.fc_bound.proofs.AboveLemmas.{and-false, not_true}
 use Rattle.fc_bound.proofs.LooseLemmas.{waits_now}
 use Rattle.fc_bound.proofs.TakeLemmas.{left_card, row_left}

@@ -5,7 +5,8 @@ use Rattle.std.proofs.lemmas.Nat.Bits.{bit_at_or}
 use Rattle.fc_position.specs.Board.{last_of}
 use Rattle.fc_bound.specs.Clearing.{without}
 use Rattle.fc_bound.specs.Knots.{ends_among}
-use Rattle.fc_bound.specs.inner.Rows.{AreApart, left_of, no_row}
+use Rattle.fc_bound.specs.Rows.{no_row}
+use Rattle.fc_bound.specs.inner.Rows.{AreApart, left_of}
 use Rattle.fc_bound.proofs.TakeLemmas.{left_card, left_less}
 use Rattle.fc_bound.proofs.LeftLemmas.{left_apart, taken_without}
 use Rattle.fc_bound.proofs.columns.Left.take.Goals as goal

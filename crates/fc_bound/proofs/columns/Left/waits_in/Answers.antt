@@ -1,7 +1,7 @@
 use Rattle.std.proofs.Common.{[], get_or, ap, subst, ◌∙◌, arith}
 use Rattle.fc_position.specs.Board.{last_of}
 use Rattle.fc_bound.specs.Knots.{ends_among}
-use Rattle.fc_bound.specs.inner.Rows.{IsRow, no_row}
+use Rattle.fc_bound.specs.Rows.{IsRow, no_row}
 use Rattle.fc_bound.proofs.LooseLemmas.{waits_bit}
 use Rattle.fc_bound.proofs.TakeLemmas.{left_card, row_left}
 use Rattle.fc_bound.proofs.columns.Left.waits_in.Goals as goal

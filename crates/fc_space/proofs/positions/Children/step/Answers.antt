@@ -1,8 +1,9 @@
-use Rattle.std.proofs.Common.{◌≡◌, Some, sym, subst}
+use Rattle.std.proofs.Common.{◌≡◌, true, Some, sym, subst}
 use Rattle.fc_moves.specs.GameRules.{IsPositionOf}
 use Rattle.fc_moves.specs.Step.{Allows}
 use Rattle.fc_home.specs.Settles.{NoneGoesHome}
 use Rattle.fc_bound.specs.Kinds.{guide_of}
+use Rattle.fc_bound.specs.Rows.{IsTableOf}
 use Rattle.fc_codes.specs.State.{IsCodeOf}
 use Rattle.fc_space.specs.Children.{frame_of, IsChildOf, StandsAt}
 use Rattle.fc_space.specs.inner.Codes.{IsCodeAfter}
@@ -20,6 +21,7 @@ invariant_of-self g c =
       subst (NoneGoesHome inner.rules.rule rules) same c.self.invariant.3,
       subst (λ b. IsCodeOf inner.layout b inner.code) same c.self.invariant.4,
       c.self.invariant.5,
+      subst (λ b. inner.is_laid ≡ true → IsTableOf b.columns inner.table) same c.self.invariant.6,
     )
 
 pub invariant_of-self-in-None : goal.invariant_of-self-in-None
@@ -33,6 +35,7 @@ invariant_of-self-in-None g c =
       subst (NoneGoesHome inner.rules.rule rules) same c.self.invariant.3,
       subst (λ b. IsCodeOf inner.layout b inner.code) same c.self.invariant.4,
       c.self.invariant.5,
+      subst (λ b. inner.is_laid ≡ true → IsTableOf b.columns inner.table) same c.self.invariant.6,
     )
 
 pub returns-in-Some-clause-child : goal.returns-in-Some-clause-child

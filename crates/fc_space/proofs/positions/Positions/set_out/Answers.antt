@@ -34,7 +34,7 @@ invariant_of-walk g c =
       subst (NoneGoesHome w.rule w.game) same (none_goes w.rule w.game (board_of_code w.start x) reached.1),
       subst (λ b. IsCodeOf w.start b x) same valid.coded,
     ) in
-    (kept.0, kept.1, kept.2, kept.3, kept.4, c.walk.invariant.5)
+    (kept.0, kept.1, kept.2, kept.3, kept.4, c.walk.invariant.5, λ laid. absurd (cc laid))
 
 pub returns : goal.returns
 returns g c =

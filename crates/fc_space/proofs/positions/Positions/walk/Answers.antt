@@ -36,6 +36,7 @@ invariant_of-result g c =
       subst (λ r. NoneGoesHome own.rules.rule r c.position-position.result) (sym c.copy.ensures.value) settled,
       subst (λ s. IsCodeOf s c.position-position.result x) start coded,
       c.in_ok-remembered.ensures.under (bound_by_code own.rules.kind c.copy-2.result),
+      λ _. c.new-table.ensures.table,
     )
 
 pub returns-clause-owned : goal.returns-clause-owned

@@ -33,4 +33,5 @@ invariant_of-walk g c =
       c.note.ensures.under (bound_by_code inner.rules.kind inner.layout) kept.5
           (subst (λ (u : Frame). count ≤ bound_by_code u.kind u.start c.args.code.now) (sym here) lower)
           (subst (λ (u : Frame). IsWhole (bound_by_code u.kind u.start c.args.code.now) known) (sym here) c.count-known.ensures.whole),
+      kept.6,
     )

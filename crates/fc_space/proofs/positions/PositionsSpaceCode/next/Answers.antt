@@ -17,6 +17,7 @@ invariant_of-walk-2 g c =
       c.walk.invariant.3,
       c.walk.invariant.4,
       c.walk.invariant.5,
+      c.walk.invariant.6,
     )
 
 pub step-requires : goal.step-requires

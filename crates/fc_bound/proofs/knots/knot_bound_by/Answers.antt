@@ -6,7 +6,7 @@ use Rattle.fc_bound.specs.Knots.{knot_count, knot_bound}
 use Rattle.fc_bound.specs.inner.Rows.{waiting_in}
 use Rattle.fc_bound.proofs.CountLemmas.{count-most}
 use Rattle.fc_bound.proofs.WaitingLemmas.{waiting_counts}
-use Rattle.fc_bound.proofs.knots.knot_bound_whole.Goals as goal
+use Rattle.fc_bound.proofs.knots.knot_bound_by.Goals as goal
 
 pub knot_count-count-requires : goal.knot_count-count-requires
 knot_count-count-requires c =

@@ -1,0 +1,69 @@
+use Rattle.std.proofs.Common.{◌≡◌, sym, subst, ap, ◌∙◌}
+use Rattle.fc_position.specs.Board.{Board, lifted}
+use Rattle.fc_moves.specs.GameRules.{IsPositionOf}
+use Rattle.fc_moves.specs.Step.{Allows}
+use Rattle.fc_canonical.proofs.BackLemmas.{taken_back}
+use Rattle.fc_home.specs.Settles.{NoneGoesHome}
+use Rattle.fc_bound.specs.Kinds.{guide_of}
+use Rattle.fc_bound.specs.Rows.{IsTableOf}
+use Rattle.fc_codes.specs.State.{IsCodeOf}
+use Rattle.fc_space.specs.Children.{Left}
+use Rattle.fc_space.proofs.TableLemmas.{columns_lifted}
+use Rattle.fc_space.proofs.positions.Children.count_whole.Goals as goal
+
+pub put-requires : goal.put-requires
+put-requires g c =
+    let inner = c.self.inside in
+    record {
+      table = subst (λ v. IsTableOf v c.lift.new.self)
+          (columns_lifted (g.G.Game.game inner.rules.game) inner.position c.apply.new.position c.args.m c.apply.ensures.step c.requires.away)
+          c.lift.ensures.table;
+    }
+
+pub shift-requires : goal.shift-requires
+shift-requires g c =
+    let back = taken_back (g.G.Game.game c.self.inside.rules.game) c.self.inside.position c.apply.new.position c.args.m c.apply.ensures.step
+    c.requires.away in
+    record { moves = (c.apply.ensures.step.card, back.there, back.receives) }
+
+pub put-requires-2 : goal.put-requires-2
+put-requires-2 g c =
+    let inner = c.self.inside in
+    let rules = g.G.Game.game inner.rules.game in
+    let back = taken_back rules inner.position c.apply.new.position c.args.m c.apply.ensures.step c.requires.away in
+    let same = sym (c.shift.ensures.after c.apply.ensures.step.card back.there ∙ back.back) in
+    record {
+      table = subst (λ b. IsTableOf (lifted b c.args.m.from).columns c.lift-2.new.self) same
+          (subst (λ v. IsTableOf v c.lift-2.new.self)
+          (sym (columns_lifted rules inner.position c.apply.new.position c.args.m c.apply.ensures.step c.requires.away)) c.lift-2.ensures.table);
+    }
+
+pub invariant_of-self : goal.invariant_of-self
+invariant_of-self g c =
+    let inner = c.self.inside in
+    let rules = g.G.Game.game inner.rules.game in
+    let back = taken_back rules inner.position c.apply.new.position c.args.m c.apply.ensures.step c.requires.away in
+    let same = sym (c.shift.ensures.after c.apply.ensures.step.card back.there ∙ back.back) in (
+      subst (IsPositionOf rules) same c.self.invariant.0,
+      λ m there. subst (λ b. Allows rules b m) same (c.self.invariant.1 m there),
+      subst (λ b. inner.bound ≡ guide_of inner.rules.kind b) same c.self.invariant.2,
+      subst (NoneGoesHome inner.rules.rule rules) same c.self.invariant.3,
+      subst (λ b. IsCodeOf inner.layout b inner.code) same c.self.invariant.4,
+      c.self.invariant.5,
+      λ _. c.put-2.ensures.table,
+    )
+
+pub returns-clause-same : goal.returns-clause-same
+returns-clause-same g c =
+    let inner = c.self.inside in
+    let back = taken_back (g.G.Game.game inner.rules.game) inner.position c.apply.new.position c.args.m c.apply.ensures.step c.requires.away in
+    let view : Board → Left g.row.G.Denot = λ b. record {
+      game = inner.rules.game;
+      rule = inner.rules.rule;
+      kind = inner.rules.kind;
+      start = inner.layout;
+      position = b;
+      moves = inner.left.items;
+      last = inner.last;
+    } in
+    ap view (c.shift.ensures.after c.apply.ensures.step.card back.there ∙ back.back) ∙ c.self.view_is
