@@ -1,8 +1,8 @@
 -- The position that is built from what was gathered is the board that the code spells.
-use Rattle.std.proofs.Common.{◌≡◌, ℕ, zero, suc, ◌+◌, ◌-◌, ◌<◌, ◌≤◌, ◌⊎◌, Bool, true, false, Option, Some, None, List, [], ◌∷◌, ◌++◌, length, map, replicate, set, get_or, take, cond, eqb, refl, sym, ◌∙◌, ap, inl, inr, ⊎_elim, arith}
+use Rattle.std.proofs.Common.{◌≡◌, ℕ, zero, suc, ◌+◌, ◌-◌, ◌<◌, ◌≤◌, ◌⊎◌, Bool, true, false, Option, Some, None, List, [], ◌∷◌, ◌++◌, length, map, replicate, set, get_or, take, cond, eqb, refl, sym, ◌∙◌, ap, inl, inr, ⊎_elim, arith, drop}
 use Rattle.std.specs.Prelude.{All, filter}
 use Rattle.std.specs.List.{range_with_len}
-use Rattle.std.proofs.lemmas.List.{length-append, length-map, length-take-le, take_more, map-append, map-set}
+use Rattle.std.proofs.lemmas.List.{length-drop, take_all, drop_more, length-append, length-map, length-take-le, take_more, map-append, map-set}
 use Rattle.std.proofs.lemmas.List.Elements.{All-head, All-tail, All-filter, All-from_get_or}
 use Rattle.std.proofs.lemmas.List.FromFn.{get_or-range_with_len, length-range_with_len}
 use Rattle.arrayvec.specs.ArrayVec.{ArrayVec}
@@ -13,6 +13,8 @@ use Rattle.fc_canonical.proofs.KeyLemmas.{same_board}
 use Rattle.fc_codes.specs.State.{IsCodeOf}
 use Rattle.fc_codes.specs.Spelled.{seat, lying_on, grown, filled, deepest_cards, cell_cards, home_cards, board_of_code}
 use Rattle.fc_codes.specs.declared.seats.Seats.{Seats}
+use Rattle.fc_codes.specs.inner.Beneath.{card_at}
+use Rattle.fc_codes.specs.inner.Bits.{cards_of}
 use Rattle.fc_codes.specs.inner.Seats.{AreSeatsOf}
 use Rattle.fc_codes.proofs.GrownLemmas.{last_passing}
 use Rattle.fc_codes.proofs.FilledLemmas.{filled_at, filled_push}
@@ -30,6 +32,11 @@ few_deepest s b code ps pb k =
     let cards = deepest_cards s code in
     let few = few_filled 8 [] (map (λ c. grown (lying_on s code) 52 (Some c)) cards) eight in
     omega (arith, few, length-map cards (λ c. grown (lying_on s code) 52 (Some c)))
+
+pub few_bits : (s : Board) (code : List ℕ) (seats : Seats) → AreSeatsOf s code seats → length (deepest_cards s code) ≤ 8
+    → length (cards_of seats.deepest) ≤ 8
+unfolding deepest_cards
+few_bits s code seats told few = let same = ap length told.deepest in omega (arith, same, few)
 
 pub few_in_cells : (s b : Board) (code : List ℕ) → IsPosition s → IsPosition b → IsCodeOf s b code → length (cell_cards code) ≤ 4
 unfolding board_of_code
@@ -85,14 +92,14 @@ cards_below p = All-filter p (λ c. c < 52) (range_with_len 0 52) (range_below 5
 
 -- the board that is built is the one that the code spells
 pub built_is : (s : Board) (code : List ℕ) (seats : Seats) (columns : List (ArrayVec ℕ)) (cells : List (Option ℕ))
-    → AreSeatsOf s code all_cards seats
+    → AreSeatsOf s code seats
     → map (λ v. v.items) columns
-    ≡ filled 8 [] (map (λ c. grown (λ x. get_or seats.above x None) 52 (Some c)) seats.deepest.items)
+    ≡ filled 8 [] (map (λ c. grown (card_at seats.above) 52 (Some c)) (cards_of seats.deepest))
     → cells ≡ filled 4 None (map (λ (c : ℕ). Some c) seats.cells.items)
     → board_of columns cells seats.homes ≡ board_of_code s code
 unfolding board_of_code deepest_cards cell_cards home_cards lying_on
 built_is s code seats columns cells g one two =
-    let next = λ (x : ℕ). get_or seats.above x None in
+    let next = card_at seats.above in
     let deepest = filter (λ c. eqb (seat s code c) 52) all_cards in
     let each : (c : ℕ) → c < 52 → grown next 52 (Some c) ≡ grown (lying_on s code) 52 (Some c) = λ c below.
     grown_same next (lying_on s code) 52 (Some c) g.above (lying_below s code) (λ d e. let same : c ≡ d = cc in omega (arith, below, same)) in
@@ -129,3 +136,15 @@ columns_more vs g cards i c v e inside few at made =
     map-set (λ (w : ArrayVec ℕ). w.items) vs i v ∙ ap (λ l. set l i v.items) e ∙ ap (set (filled 8 [] (map g (take i cards))) i) made
     ∙ filled_push 8 [] (map g (take i cards)) (g c) i (taken_long g cards i inside) (omega arith)
     ∙ ap (filled 8 []) (sym next)
+
+-- what is left of a list tells what of it was taken
+pub taken_next : (cards : List ℕ) (i c : ℕ) (rest : List ℕ) → drop i cards ≡ c ∷ rest
+    → (i < length cards) × (c ≡ get_or cards i c) × (rest ≡ drop (i + 1) cards)
+taken_next cards i c rest e =
+    let long = ap length e in
+    let inside : i < length cards = omega (arith, length-drop i cards, long) in
+    let both : c ∷ rest ≡ get_or cards i c ∷ drop (i + 1) cards = sym e ∙ drop_more cards i c inside in
+    (inside, cc, cc)
+
+pub taken_whole : (cards : List ℕ) (i : ℕ) → drop i cards ≡ [] → take i cards ≡ cards
+taken_whole cards i e = let none = ap length e in take_all i cards (omega (arith, length-drop i cards, none))

@@ -42,13 +42,13 @@ one_passing test o (suc n) a y past below passes fails =
 abbrev lies : Board → List ℕ → ℕ → ℕ → Bool
 lies s code x c = eqb (seat s code c) x
 
-lying_none : (s : Board) (code : List ℕ) (x n : ℕ) → n ≡ 52 → ((z : ℕ) → z < 52 → seat s code z ≢ x) → lying_on s code x ≡ None
+pub lying_none : (s : Board) (code : List ℕ) (x n : ℕ) → n ≡ 52 → ((z : ℕ) → z < 52 → seat s code z ≢ x) → lying_on s code x ≡ None
 unfolding lying_on all_cards
 lying_none s code x n e fails =
     ap (λ m. last_passing (lies s code x) None (range_with_len 0 m)) (sym e)
     ∙ none_passing (lies s code x) None n 0 (λ z low high. let ne = fails z (omega (arith, e, high)) in grind (arith, nat_tests))
 
-lying_one : (s : Board) (code : List ℕ) (x n y : ℕ) → n ≡ 52 → y < 52 → seat s code y ≡ x
+pub lying_one : (s : Board) (code : List ℕ) (x n y : ℕ) → n ≡ 52 → y < 52 → seat s code y ≡ x
     → ((z : ℕ) → z < 52 → seat s code z ≡ x → z ≡ y) → lying_on s code x ≡ Some y
 unfolding lying_on all_cards
 lying_one s code x n y e below at only =

@@ -1,6 +1,9 @@
+pub mod ApartLemmas
 pub mod BeneathLemmas
+pub mod BitLemmas
 pub mod BuiltLemmas
 pub mod ClassLemmas
+pub mod DigitLemmas
 pub mod FilledLemmas
 pub mod GatherLemmas
 pub mod GrownLemmas
@@ -9,10 +12,13 @@ pub mod LandedLemmas
 pub mod LawLemmas
 pub mod ListedLemmas
 pub mod MovedLemmas
+pub mod PassedLemmas
 pub mod SeatLemmas
 pub mod SpelledLemmas
 pub mod StandLemmas
 pub mod StartLemmas
 pub mod StateLemmas
 pub mod ToldLemmas
+pub mod TurnLemmas
+pub mod WalkLemmas
 pub mod WordLemmas

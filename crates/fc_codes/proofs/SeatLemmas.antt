@@ -12,10 +12,10 @@ use Rattle.fc_codes.proofs.StandLemmas.{stands_once, where_is, not_in_cell, not_
 use Rattle.fc_codes.proofs.BeneathLemmas.{last_or, last_or-push, ends, beneath-stands}
 
 -- by a card's rank and another's suit it is told which card one rank higher is meant
-next_card : (c l : ℕ) → rank c + 1 ≡ rank l → c / 4 * 4 + (4 + suit l) ≡ l
+pub next_card : (c l : ℕ) → rank c + 1 ≡ rank l → c / 4 * 4 + (4 + suit l) ≡ l
 next_card c l higher = omega (arith, higher)
 
-seat_above : (start c k : ℕ) → seat_of start c (4 + k) ≡ c / 4 * 4 + (4 + k)
+pub seat_above : (start c k : ℕ) → seat_of start c (4 + k) ≡ c / 4 * 4 + (4 + k)
 seat_above start c k = grind (arith, nat_tests)
 
 no_push : (w : List ℕ) (l : ℕ) → [] ≡ w ++ l ∷ [] → ⊥

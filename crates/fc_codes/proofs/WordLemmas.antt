@@ -3,11 +3,12 @@ use Rattle.std.proofs.Common.{◌≡◌, ◌≢◌, ℕ, zero, suc, ◌+◌, ◌
 use Rattle.std.specs.Prelude.{nat_eq}
 use Rattle.std.specs.Cmp.{unsigned_Decides}
 use Rattle.std.specs.Cmp.Lexicographic.{pointwise, pointwise_decides}
-use Rattle.std.proofs.lemmas.List.{get_or-set_same, get_or-set_other, length-set, ext_get_or}
+use Rattle.std.proofs.lemmas.List.{get_or-set_same, get_or-set_other, length-set, ext_get_or, get_or_past}
 use Rattle.std.proofs.lemmas.Nat.{and_mask, mul-le, shr_le, shr_split, shl_whole}
-use Rattle.std.proofs.lemmas.Bool.{cases_eq}
+use Rattle.std.proofs.lemmas.Bool.{cases_eq, cases_lt}
 use Rattle.fc_codes.specs.Words.{digit, read_state, unpacked, word_of, words_of}
 use Rattle.fc_codes.specs.inner.Words.{with_number, AreWords}
+use Rattle.fc_codes.proofs.DigitLemmas.{digit_past}
 use Rattle.fc_codes.specs.inner.Packing.{place_value, digit-suc, unpacked-at, length-unpacked, words_back, words_told}
 
 pub digit_masked : (w i : ℕ) → bit_and (w / 2 ^ (3 * i)) 7 ≡ digit w i
@@ -189,3 +190,24 @@ compared words others h i =
     let u = pointwise_decides unsigned_Decides (unpacked words) (unpacked others) in
     same_tests (pointwise nat_eq words others) (pointwise nat_eq (unpacked words) (unpacked others))
     (λ e. u.1 (ap unpacked (w.0 e))) (λ e. w.1 (words_told words others h i (u.0 e)))
+
+-- a word of three tells the states of its cards, and no more
+pub word_fits : (words : List ℕ) (k : ℕ) → AreWords words → k < 3 → get_or words k 0 < 2 ^ 63
+word_fits words zero h below = h.first
+word_fits words (suc zero) h below = h.second
+word_fits words (suc (suc zero)) h below = let few = h.third in omega (arith, few)
+word_fits words (suc (suc (suc k))) h below = absurd (omega arith)
+
+pub word_state : (words : List ℕ) (k i : ℕ) → AreWords words → k < 3 → i < 21
+    → digit (get_or words k 0) i ≡ get_or (unpacked words) (21 * k + i) 0
+word_state words k i h below few =
+    let word : (21 * k + i) / 21 ≡ k = omega (arith, few) in
+    let rest : (21 * k + i) % 21 ≡ i = omega (arith, few) in
+    ⊎_elim
+    (λ inside. ap (λ n. digit (get_or words n 0) i) (sym word) ∙ ap (λ n. digit (get_or words ((21 * k + i) / 21) 0) n) (sym rest)
+    ∙ sym (unpacked-at words (21 * k + i) inside))
+    (λ past. let last : k ≡ 2 = omega (arith, past, below, few) in
+    let small : get_or words k 0 < 2 ^ (3 * 10) = subst (λ n. get_or words n 0 < 2 ^ 30) (sym last) h.third in
+    digit_past (get_or words k 0) 10 i small (omega (arith, past, last))
+    ∙ sym (get_or_past (unpacked words) (21 * k + i) 0 (omega (arith, length-unpacked words, past))))
+    (cases_lt (21 * k + i) 52)

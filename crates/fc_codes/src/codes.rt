@@ -130,7 +130,8 @@ impl Code {
     #[inline]
     pub(crate) fn word(&self, index: u8) -> u64
         requires there { index < 3 }
-        ensures value { (place : ℕ) → place < 21 → 21 * index + place < 52 → digit result place ≡ slice_index self.now (21 * index + place) }
+        ensures value { (place : ℕ) → place < 21 → digit result place ≡ slice_index self.now (21 * index + place) }
+        ensures small { result < 2 ^ 63 }
     {
         self.words[index as usize]
     }
@@ -161,13 +162,15 @@ impl Code {
     }
 }
 
-// The number, 0 to 7, at one of the 21 places of a word.
+// How many of the numbers of a word are 0 before the first that isn't.
 #[inline]
-pub(crate) fn state_at(word: u64, place: u8) -> u8
-    requires place { place < 21 }
-    ensures value { result ≡ digit word place }
+pub(crate) fn unmoved_before(word: u64) -> u8
+    requires some { 0 < word }
+    ensures below { result < 22 }
+    ensures unmoved { (i : ℕ) → i < result → digit word i ≡ 0 }
+    ensures moved { digit word result ≡ 0 → ⊥ }
 {
-    (word >> (3 * place) & 7) as u8
+    word.trailing_zeros() as u8 / 3
 }
 
 // The word with another number, 0 to 7, at one of its 21 places.

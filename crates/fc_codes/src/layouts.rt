@@ -1,31 +1,29 @@
-ghost use Rattle.std.specs.Prelude.{◌≡◌, ℕ, ◌+◌, ◌*◌, ◌<◌, ◌≤◌, Some, IfSome, IfNone, List, [], length, slice_index};
-ghost use Rattle.std.specs.List.{range_with_len};
-ghost use Rattle.fc_cards.specs.Card.{all_cards};
+ghost use Rattle.std.specs.Prelude.{◌≡◌, ℕ, ◌+◌, ◌*◌, ◌<◌, ◌≤◌, ◌==◌, if◌then◌else◌, Some, IfSome, IfNone, List, [], length, slice_index};
+ghost use Rattle.std.specs.Int.{bit_at};
 ghost use Rattle.fc_position.specs.Board.{Board, column, last_of};
 ghost use Rattle.fc_position.specs.Position.{IsPosition};
 ghost use Rattle.fc_codes.specs.Moved.{Moves};
-ghost use Rattle.fc_codes.specs.Spelled.{under, beneath, seat_of, deepest_cards, cell_cards, board_of_code};
+ghost use Rattle.fc_codes.specs.Spelled.{under, board_of_code};
 ghost use Rattle.fc_codes.specs.State.{IsStateOf, IsCodeOf};
 ghost use Rattle.fc_codes.specs.inner.Landed.{table_state, card_state, IsCellState, IsHomeState, IsOver, TellsCards};
-ghost use Rattle.fc_codes.specs.inner.Seats.{AreSeatsOf};
+ghost use Rattle.fc_codes.specs.inner.Seats.{AreSeatsOf, AreSeatsUntil};
 
-use crate::codes::{Code, state_at};
-use crate::seats::{Seats, cells_with, fill_columns};
+use crate::codes::{Code, unmoved_before};
+use crate::seats::{NOTHING, Seats, TABLE, cells_with, fill_columns, with_card};
 use fc_cards::{Card, Place};
 use fc_moves::Move;
 use fc_position::Position;
 use std::marker::Model;
-
-// What a card lies on that lies on no card: the table, or nothing at all.
-const TABLE: u8 = 52;
-
-const NOTHING: u8 = 53;
 
 /// What lay beneath each card in the position that a search starts from. Contracts see it as that position's board.
 #[derive(Drop)]
 pub struct Layout {
     start: Position,
     beneath: [u8; 52],
+    // for each card the number of the card that lay on it at the start, or 53; the last two are of no card
+    above: [u8; 54],
+    // the bits of the cards that lay deepest at the start
+    deepest: u64,
 }
 
 impl Model for Layout {
@@ -36,7 +34,7 @@ impl Model for Layout {
 
     ghost view = { λ l. l.start };
 
-    ghost invariant = { λ l. IsTableOf l.start l.beneath };
+    ghost invariant = { λ l. IsTableOf l.start l.beneath l.above l.deepest };
 }
 
 impl Layout {
@@ -52,6 +50,8 @@ impl Layout {
         Layout {
             start: start.copy(),
             beneath,
+            above: cards_above(&beneath),
+            deepest: cards_on_table(&beneath),
         }
     }
 
@@ -62,6 +62,8 @@ impl Layout {
         Layout {
             start: self.start.copy(),
             beneath: self.beneath,
+            above: self.above,
+            deepest: self.deepest,
         }
     }
 
@@ -209,53 +211,41 @@ impl Layout {
         let _start = &self.start;
         let seats = self.seats(code);
         let mut columns = Default::default();
-        fill_columns(seats.deepest.as_slice(), &seats.above, &mut columns);
+        fill_columns(seats.deepest, &seats.above, &mut columns);
         Position::of_parts(columns, cells_with(seats.cells.as_slice()), seats.homes)
     }
 
-    // What the cards lie on by a code.
+    // What the cards lie on by a code: what they lay on at the start, but for those that moved.
     fn seats(&self, code: &Code) -> Seats
-        requires columns { length (deepest_cards self.now code.now) ≤ 8 }
-        requires cells { length (cell_cards code.now) ≤ 4 }
-        ensures value { AreSeatsOf self.now code.now all_cards result }
+        requires code { (b : Board) × IsPosition b × IsCodeOf self.now b code.now }
+        ensures value { AreSeatsOf self.now code.now result }
     {
-        let mut seats = Seats::new();
-        self.put_word(code, 0, 21, &mut seats);
-        self.put_word(code, 1, 21, &mut seats);
-        self.put_word(code, 2, 10, &mut seats);
+        let mut seats = Seats::unmoved(&self.above, self.deepest);
+        self.move_word(code, 0, &mut seats);
+        self.move_word(code, 1, &mut seats);
+        self.move_word(code, 2, &mut seats);
         seats
     }
 
-    // Adds what the cards lie on whose states stand in a word of a code, so many of them.
+    // Moves the cards whose states stand in a word of a code, over those before them. Most have the state 0 and are passed.
     #[inline]
-    fn put_word(&self, code: &Code, index: u8, count: u8, seats: &mut Seats)
-        requires columns { length (deepest_cards self.now code.now) ≤ 8 }
-        requires cells { length (cell_cards code.now) ≤ 4 }
-        requires count { count ≤ 21 }
-        requires room { 21 * index + count ≤ 52 }
-        requires before { AreSeatsOf self.now code.now (range_with_len 0 (21 * index)) seats.old }
-        ensures value { AreSeatsOf self.now code.now (range_with_len 0 (21 * index + count)) seats.new }
+    fn move_word(&self, code: &Code, index: u8, seats: &mut Seats)
+        requires code { (b : Board) × IsPosition b × IsCodeOf self.now b code.now }
+        requires index { index < 3 }
+        requires before { AreSeatsUntil self.now code.now (21 * index) seats.old }
+        ensures value { AreSeatsUntil self.now code.now (21 * index + 21) seats.new }
     {
-        let word = code.word(index);
-        for place in 0..count {
-            if let Some(card) = Card::from_index(21 * index + place) {
-                let state = state_at(word, place);
-                seats.put(card, state, self.seat(card, state));
+        let mut rest = code.word(index);
+        let mut next = 21 * index;
+        while rest != 0 {
+            let passed = unmoved_before(rest);
+            let states = rest >> (3 * passed);
+            if let Some(card) = Card::from_index(next + passed) {
+                seats.leave(card, self.beneath[card.index() as usize]);
+                seats.put(card, (states & 7) as u8);
             }
-        }
-    }
-
-    // What a card with this state lies on.
-    #[inline]
-    fn seat(&self, card: Card, state: u8) -> u8
-        requires below { state < 8 }
-        ensures value { result ≡ seat_of (beneath self.now card) card state }
-    {
-        match state {
-            0 => self.beneath[card.index() as usize],
-            1 | 2 => NOTHING,
-            3 => TABLE,
-            _ => card.index() / 4 * 4 + state,
+            rest = states >> 3;
+            next += passed + 1;
         }
     }
 }
@@ -300,4 +290,33 @@ fn with_homes(start: &Position, code: Code) -> Code
         }
     }
     code
+}
+
+// For each card the card that lies on it.
+fn cards_above(beneath: &[u8; 52]) -> [u8; 54]
+    requires below { (c : ℕ) → c < 52 → slice_index beneath.now c < 54 }
+    requires apart { (c d : ℕ) → c < 52 → d < 52 → slice_index beneath.now c < 52
+        → slice_index beneath.now c ≡ slice_index beneath.now d → c ≡ d }
+    ensures count { length result ≡ 54 }
+    ensures there { (x : ℕ) → x < 52 → slice_index result x < 52 → slice_index beneath.now (slice_index result x) ≡ x }
+    ensures lies { (c : ℕ) → c < 52 → slice_index beneath.now c < 52 → slice_index result (slice_index beneath.now c) ≡ c }
+{
+    let mut above = [NOTHING; 54];
+    for card in 0..52 {
+        above[beneath[card as usize] as usize] = card;
+    }
+    above
+}
+
+// The bits of the cards that lie on the table.
+fn cards_on_table(beneath: &[u8; 52]) -> u64
+    ensures value { (c : ℕ) → c < 52 → bit_at result c ≡ (if slice_index beneath.now c == 52 then 1 else 0) }
+{
+    let mut deepest = 0;
+    for index in 0..52_u8 {
+        if beneath[index as usize] == TABLE {
+            deepest = with_card(deepest, index);
+        }
+    }
+    deepest
 }

@@ -1,14 +1,23 @@
-use Rattle.std.proofs.Common.{length, ap, refl}
-use Rattle.fc_codes.proofs.GatherLemmas.{gather_none, gather_all, none_above}
+use Rattle.std.proofs.Common.{sym, subst, arith}
+use Rattle.fc_position.specs.Position.{IsPosition}
+use Rattle.fc_codes.specs.inner.Beneath.{AreSeatsAtStart}
+use Rattle.fc_codes.proofs.PassedLemmas.{seats_told}
+use Rattle.fc_codes.proofs.TurnLemmas.{none_moved}
 use Rattle.fc_codes.proofs.layouts.Layout.seats.Goals as goal
 
-pub put_word-requires-clause-before : goal.put_word-requires-clause-before
-put_word-requires-clause-before c =
-    let new = c.new-seats.ensures in
-    gather_none c.args.self.now c.args.code.now c.new-seats.result (none_above c.new-seats.result.above 52 new.above)
-    (ap length new.above) new.deepest new.cells new.homes
+pub move_word-requires-clause-before : goal.move_word-requires-clause-before
+move_word-requires-clause-before c =
+    let new = c.unmoved-seats in
+    none_moved c.args.self.now c.args.code.now new.result
+    (subst (λ l. AreSeatsAtStart c.args.self.now l new.result.deepest) (sym new.ensures.above)
+    (subst (AreSeatsAtStart c.args.self.now c.self.inside.above) (sym new.ensures.deepest)
+    (subst (λ s. AreSeatsAtStart s c.self.inside.above c.self.inside.deepest) c.self.view_is c.self.invariant.over)))
+    new.ensures.cells new.ensures.homes
 
 pub returns : goal.returns
-returns c = record {
-  value = gather_all c.args.self.now c.args.code.now 52 c.put_word-3.new.seats refl c.put_word-3.ensures.value;
-}
+returns c =
+    let (b, p, k) = c.requires.code in
+    record {
+      value = seats_told c.args.self.now b c.args.code.now (subst IsPosition c.self.view_is c.self.invariant.whole) p k 63
+          c.move_word-3.new.seats (omega arith) c.move_word-3.ensures.value;
+    }
