@@ -38,11 +38,20 @@ empty_columns (v ∷ vs) all =
     ∙ ap (λ l. [] ∷ l) (empty_columns vs (All-tail (λ (w : ArrayVec ℕ). length w.items ≡ 0) v vs all))
 
 -- a column that grows: a card, and the rest
-pub grown_some : (next : ℕ → Option ℕ) (n m c : ℕ) (front : List ℕ) → n ≡ suc m
+grown_some : (next : ℕ → Option ℕ) (n m c : ℕ) (front : List ℕ) → n ≡ suc m
     → (front ++ c ∷ []) ++ grown next m (next c) ≡ front ++ grown next n (Some c)
 unfolding grown
 grown_some next n m c front e =
     append_assoc front (c ∷ []) (grown next m (next c)) ∙ ap (λ k. front ++ grown next k (Some c)) (sym e)
+
+pub grown_next : (next : ℕ → Option ℕ) (c : ℕ) (front cards : List ℕ) (o : Option ℕ) → cards ≡ front ++ c ∷ [] → length front < 52
+    → o ≡ next c → cards ++ grown next (52 - length cards) o ≡ front ++ grown next (52 - length front) (Some c)
+grown_next next c front cards o more inside told =
+    let long = ap length more in
+    let left : 52 - length front ≡ suc (52 - length cards) = omega (arith, long, length_push front c, inside) in
+    ap (λ l. l ++ grown next (52 - length cards) o) more
+    ∙ ap (λ p. (front ++ c ∷ []) ++ grown next (52 - length cards) p) told
+    ∙ grown_some next (52 - length front) (52 - length cards) c front left
 
 pub grown_end : (next : ℕ → Option ℕ) (n : ℕ) (card : Option ℕ) (front : List ℕ) → n ≡ 0 → front ++ grown next n card ≡ front
 unfolding grown

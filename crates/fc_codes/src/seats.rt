@@ -78,11 +78,15 @@ impl Seats {
         ensures homes { self.new.homes ≡ (if state == 1
             then slice_set self.old.homes (suit card) (slice_index self.old.homes (suit card) + 1) else self.old.homes) }
     {
-        match state {
-            1 => self.homes[card.suit().index() as usize] += 1,
-            2 => self.cells.push(card),
-            3 => self.deepest = with_card(self.deepest, card.index()),
-            _ => self.above[(card.index() / 4 * 4 + state) as usize] = card.index(),
+        // Most cards that move come onto others.
+        if state > 3 {
+            self.above[(card.index() / 4 * 4 + state) as usize] = card.index();
+        } else if state == 3 {
+            self.deepest = with_card(self.deepest, card.index());
+        } else if state == 2 {
+            self.cells.push(card);
+        } else {
+            self.homes[card.suit().index() as usize] += 1;
         }
     }
 }
@@ -116,6 +120,7 @@ fn least_card(bits: u64) -> Option<Card>
 }
 
 // Puts columns that begin with these cards into empty ones: on each card lies the one that is told above it.
+#[inline(always)]
 pub(crate) fn fill_columns(deepest: u64, above: &[u8; 54], columns: &mut [ArrayVec<Card, 52>; 8])
     requires few { length (cards_of deepest) ≤ 8 }
     requires count { length above.now ≡ 54 }
@@ -140,11 +145,13 @@ fn grow(deepest: Card, above: &[u8; 54], column: &mut ArrayVec<Card, 52>)
     requires empty { column.old.items ≡ [] }
     ensures value { column.new.items ≡ grown (λ x. card_at above.now x) 52 (Some deepest) }
 {
-    let mut next = Some(deepest);
-    for _ in 0..52_u8 {
-        let Some(card) = next else { return };
-        column.push(card);
-        next = Card::from_index(above[card.index() as usize]);
+    let mut next = deepest;
+    while column.len() < 52 {
+        column.push(next);
+        let Some(card) = Card::from_index(above[next.index() as usize]) else {
+            return;
+        };
+        next = card;
     }
 }
 
