@@ -26,7 +26,7 @@ not_less a b o h =
 -- an entry that is no less in the heap comes first
 first-from_cmp : (entry other : Entry) → is_lt (entry_cmp entry other) ≡ false → ComesFirst entry other
 first-from_cmp entry other h =
-    let by_node = nat_cmp entry.node other.node in
+    let by_node = nat_cmp other.node entry.node in
     let by_stamp = ordering_then (nat_cmp entry.stamp other.stamp) by_node in
     let by_tie = ordering_then (nat_cmp other.tie entry.tie) by_stamp in
     ⊎_elim (λ less. inl less)
