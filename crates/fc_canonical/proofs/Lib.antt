@@ -13,4 +13,5 @@ pub mod SetLemmas
 pub mod SizeLemmas
 pub mod SortLemmas
 pub mod SpelledLemmas
+pub mod TakerLemmas
 pub mod WrittenLemmas

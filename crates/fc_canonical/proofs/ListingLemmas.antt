@@ -17,7 +17,7 @@ use Rattle.fc_moves.specs.GameRules.{GameRules, IsGame, IsPair, Stands, Opens}
 use Rattle.fc_moves.specs.MoveText.{IsThere, IsSource}
 use Rattle.fc_moves.specs.Step.{Joins, Takes, place_number, move_number}
 use Rattle.fc_moves.proofs.StepLemmas.{allowed_has_text, source_is_there, place_once, place_most, move_same}
-use Rattle.fc_canonical.specs.inner.Distinct.{HasNoHost, IsCellOf, IsOpening, GoesTo, IsFirstCell, IsFirstColumn, ListsDistinctBelow, IsListed, IsLaterLone, IsLoneBelow, Stays}
+use Rattle.fc_canonical.specs.inner.Distinct.{IsCellOf, IsOpening, GoesTo, IsFirstCell, IsFirstColumn, ListsDistinctBelow, IsListed, IsLaterLone, IsLoneBelow, Stays}
 use Rattle.fc_canonical.proofs.ListedLemmas.{first_once, empty_or_not, no_last, joins_empty, allows_to, moves_on}
 
 -- what was read as the last card of a column is its last
@@ -126,22 +126,17 @@ column_below (Column i) there low = (i, low, refl)
 column_below (Cell i) there low = absurd (omega (arith, low))
 column_below Home there low = absurd (omega (arith, low))
 
--- where no column's last card is one rank higher, and the card opens no column, all columns are passed over
-pub columns_pass : (g : GameRules) (b : Board) (from : Place) (u : ℕ) (ms : List Move) → IsPosition b → IsGame g
-    → IsSource from → playable b from ≡ Some u → IsOpening g b from None → HasNoHost b u
+-- where the card is listed to no column, all columns are passed over
+pub columns_pass : (g : GameRules) (b : Board) (from : Place) (ms : List Move) → IsPosition b → IsSource from
+    → ((j : ℕ) → j < 8 → IsListed g b (record { from = from; to = Column j }) → ⊥)
     → ListsDistinctBelow g b (place_number from * 13) ms → ListsDistinctBelow g b (place_number from * 13 + 8) ms
-columns_pass g b from u ms p game source there told none lists =
+columns_pass g b from ms p source none lists =
     lists_past g b (place_number from * 13) 8 ms lists (λ o other low high.
     let at = between g b from 0 8 o p source (omega arith) other (omega (arith, low)) (omega (arith, high)) in
     let is = column_below o.to at.there (omega (arith, at.high)) in
     let m : Move = record { from = from; to = Column is.0 } in
     let same : o ≡ m = move_same o m at.source is.2 in
-    let ok : IsListed g b m = subst (IsListed g b) same other in
-    let card : ok.allowed.1.card ≡ u = let e = ok.allowed.1.playable in cc in
-    ⊎_elim (λ (empty, _). let some = (told is.0 empty).1 ok in absurd (cc some))
-    (λ (l, last, stands). let (k, below, e) = subst (λ c. Stands g c l) card stands in
-    none is.0 l is.1 last (subst IsPair e (game.pairs k (u, l) below)).2)
-    ok.allowed.1.takes.1)
+    none is.0 is.1 (subst (IsListed g b) same other))
 
 -- the cells' turn: the move to one is added, or there is none
 a_cell : (g : GameRules) (b : Board) (from : Place) (held : Option ℕ) (o : Move) → IsPosition b → IsSource from

@@ -1,4 +1,5 @@
-ghost use Rattle.std.specs.Prelude.{true, false, slice_index_or, ◌≡◌, ℕ, ◌+◌, ◌*◌, ◌<◌, ◌≤◌, ◌↔◌, IsTrue, Some, None, length};
+ghost use Rattle.std.specs.Prelude.{slice_index_or, ◌≡◌, ℕ, ◌+◌, ◌*◌, ◌<◌, ◌≤◌, ◌↔◌, IsTrue, IfSome, IfNone, Some, None, length};
+ghost use Rattle.std.specs.Int.{bit_at};
 ghost use Rattle.arrayvec.specs.ArrayVec.{array_vec_len};
 ghost use Rattle.fc_cards.specs.declared.places.Place.TheVariants.{Column, Cell};
 ghost use Rattle.fc_cards.specs.Card.{rank};
@@ -6,7 +7,7 @@ ghost use Rattle.fc_position.specs.Board.{Board, playable, column, last_of};
 ghost use Rattle.fc_position.specs.Position.{IsPosition};
 ghost use Rattle.fc_moves.specs.Step.{place_number};
 ghost use Rattle.fc_canonical.specs.Distinct.{ListsClasses, AreFirst, AreInOrder};
-ghost use Rattle.fc_canonical.specs.inner.Distinct.{HasNoHost, TellRanks, IsCellOf, IsOpening, GoesTo, IsFirstCell, IsFirstColumn, ListsDistinctBelow, IsListed, IsLaterLone, IsLoneBelow, IsLone};
+ghost use Rattle.fc_canonical.specs.inner.Distinct.{TellLasts, HaveHosts, IsCellOf, IsOpening, GoesTo, IsFirstCell, IsFirstColumn, ListsDistinctBelow, IsListed, IsLaterLone, IsLoneBelow, IsLone};
 
 use arrayvec::ArrayVec;
 use fc_cards::{Card, Place};
@@ -35,48 +36,50 @@ pub fn list_distinct_moves<G: Game>(game: &G, position: &Position, list: &mut Ar
     let _home = position.playable(Place::Home);
     let column = first_empty_column(position);
     let cell = first_empty_cell(game, position);
-    let ranks = ranks_of_lasts(position);
+    let mut lasts = [0; 15];
+    note_lasts(&mut lasts, position);
     list.clear();
-    list_from_columns(game, position, &ranks, column, cell, list);
-    list_from_cells(game, position, &ranks, column, list);
+    list_from_columns(game, position, &lasts, column, cell, list);
+    list_from_cells(game, position, &lasts, column, list);
 }
 
-// Of each rank whether a column's last card has it.
-type Ranks = [bool; 15];
+// Of each rank the columns whose last card has it, as bits.
+type Lasts = [u8; 15];
 
-// The ranks of the columns' last cards.
+// Notes the rank of each column's last card.
 #[inline(always)]
-fn ranks_of_lasts(position: &Position) -> Ranks
-    ensures ranks { TellRanks position.now 8 result }
-    ensures count { length result ≡ 15 }
+fn note_lasts(lasts: &mut Lasts, position: &Position)
+    requires count { length lasts.old ≡ 15 }
+    ensures lasts { TellLasts position.now 8 lasts.new }
+    ensures count { length lasts.new ≡ 15 }
 {
-    let mut ranks = [false; 15];
     for j in 0..8 {
-        note_last(&mut ranks, position.column(j));
-    }
-    ranks
-}
-
-// Notes the rank of the last card, if there is one.
-#[inline]
-fn note_last(ranks: &mut Ranks, cards: &[Card])
-    requires count { length ranks.old ≡ 15 }
-    ensures last { (l : ℕ) → last_of cards.now ≡ Some l → slice_index_or ranks.new (rank l) false ≡ true }
-    ensures kept { (r : ℕ) → slice_index_or ranks.old r false ≡ true → slice_index_or ranks.new r false ≡ true }
-    ensures count { length ranks.new ≡ 15 }
-{
-    if let Some(card) = cards.last() {
-        ranks[card.rank() as usize] = true;
+        note_last(lasts, j, position.column(j));
     }
 }
 
-// Whether a column's last card is one rank higher than this one.
-#[inline]
-fn has_host(ranks: &Ranks, card: Card) -> bool
-    requires count { length ranks.now ≡ 15 }
-    ensures none { (b : Board) → TellRanks b 8 ranks.now → result ≡ false → HasNoHost b card }
+// Notes the rank of the last card of the column with this number, if there is one.
+#[inline(always)]
+fn note_last(lasts: &mut Lasts, j: u8, cards: &[Card])
+    requires there { j < 8 }
+    requires count { length lasts.old ≡ 15 }
+    ensures last { (l : ℕ) → last_of cards.now ≡ Some l → bit_at (slice_index_or lasts.new (rank l) 0) j ≡ 1 }
+    ensures kept { (r i : ℕ) → bit_at (slice_index_or lasts.old r 0) i ≡ 1 → bit_at (slice_index_or lasts.new r 0) i ≡ 1 }
+    ensures count { length lasts.new ≡ 15 }
 {
-    ranks[card.rank() as usize + 1]
+    let Some(card) = cards.last() else {
+        return;
+    };
+    lasts[card.rank() as usize] |= 1 << j;
+}
+
+// The columns whose last card is one rank higher than this one, as bits.
+#[inline(always)]
+fn hosts_of(lasts: &Lasts, card: Card) -> u8
+    requires count { length lasts.now ≡ 15 }
+    ensures hosts { (b : Board) → TellLasts b 8 lasts.now → HaveHosts b card result }
+{
+    lasts[card.rank() as usize + 1]
 }
 
 // The first column that holds no card.
@@ -108,13 +111,13 @@ fn first_empty_cell<G: Game>(game: &G, position: &Position) -> Option<u8>
 fn list_from_columns<G: Game>(
     game: &G,
     position: &Position,
-    ranks: &Ranks,
+    lasts: &Lasts,
     column: Option<u8>,
     cell: Option<u8>,
     list: &mut ArrayVec<Move, 132>,
 )
     requires whole { IsPosition position.now }
-    requires ranks { TellRanks position.now 8 ranks.now × (length ranks.now ≡ 15) }
+    requires lasts { TellLasts position.now 8 lasts.now × (length lasts.now ≡ 15) }
     requires column { IsFirstColumn position.now column }
     requires cell { IsFirstCell position.now (G.game game.now).cells cell }
     requires empty { array_vec_len list.old ≡ 0 }
@@ -128,7 +131,7 @@ fn list_from_columns<G: Game>(
             let source = Source {
                 from,
                 card: *card,
-                has_host: has_host(ranks, *card),
+                hosts: hosts_of(lasts, *card),
             };
             list_from(game, position, &source, opening, cell, list);
         }
@@ -139,12 +142,12 @@ fn list_from_columns<G: Game>(
 fn list_from_cells<G: Game>(
     game: &G,
     position: &Position,
-    ranks: &Ranks,
+    lasts: &Lasts,
     column: Option<u8>,
     list: &mut ArrayVec<Move, 132>,
 )
     requires whole { IsPosition position.now }
-    requires ranks { TellRanks position.now 8 ranks.now × (length ranks.now ≡ 15) }
+    requires lasts { TellLasts position.now 8 lasts.now × (length lasts.now ≡ 15) }
     requires column { IsFirstColumn position.now column }
     requires before { ListsDistinctBelow (G.game game.now) position.now (8 * 13) list.old.items }
     requires room { array_vec_len list.old ≤ 80 }
@@ -157,7 +160,7 @@ fn list_from_cells<G: Game>(
             let source = Source {
                 from,
                 card,
-                has_host: has_host(ranks, card),
+                hosts: hosts_of(lasts, card),
             };
             list_from(game, position, &source, opening, None, list);
         }
@@ -220,12 +223,12 @@ fn is_lone<G: Game>(game: &G, cards: &[Card]) -> bool
     }
 }
 
-// A playable card, its place, and whether some column's last card is one rank higher: on no other a card stands.
+// A playable card, its place, and the columns, as bits, whose last card is one rank higher: on no other a card stands.
 #[derive(Clone, Copy)]
 struct Source {
     from: Place,
     card: Card,
-    has_host: bool,
+    hosts: u8,
 }
 
 // Lists the moves of the card, after those of the cards of the places before it.
@@ -240,7 +243,7 @@ fn list_from<G: Game>(
 )
     requires whole { IsPosition position.now }
     requires card { playable position.now source.now.from ≡ Some source.now.card }
-    requires host { source.now.has_host ≡ false → HasNoHost position.now source.now.card }
+    requires hosts { HaveHosts position.now source.now.card source.now.hosts }
     requires opening { IsOpening (G.game game.now) position.now source.now.from opening }
     requires cell { IsCellOf (G.game game.now) position.now source.now.from cell }
     requires before { ListsDistinctBelow (G.game game.now) position.now (place_number source.now.from * 13) list.old.items }
@@ -259,7 +262,7 @@ fn list_from<G: Game>(
     list_to_home(game, position, source.from, source.card, list);
 }
 
-// Lists the moves of the card to columns, which aren't looked at where none can take it: most cards have no host.
+// Lists the moves of the card to columns, of which those are looked at that may take it: most cards have no such.
 #[inline(always)]
 fn list_to_columns<G: Game>(
     game: &G,
@@ -270,42 +273,61 @@ fn list_to_columns<G: Game>(
 )
     requires whole { IsPosition position.now }
     requires card { playable position.now source.now.from ≡ Some source.now.card }
-    requires host { source.now.has_host ≡ false → HasNoHost position.now source.now.card }
+    requires hosts { HaveHosts position.now source.now.card source.now.hosts }
     requires opening { IsOpening (G.game game.now) position.now source.now.from opening }
     requires before { ListsDistinctBelow (G.game game.now) position.now (place_number source.now.from * 13) list.old.items }
     requires room { array_vec_len list.old + 8 ≤ 132 }
     ensures after { ListsDistinctBelow (G.game game.now) position.now (place_number source.now.from * 13 + 8) list.new.items }
     ensures count { array_vec_len list.new ≤ array_vec_len list.old + 8 }
 {
-    if !source.has_host && opening.is_none() {
+    let takers = takers_of(source, opening);
+    if takers == 0 {
         return;
     }
-    list_to_each_column(game, position, source.from, source.card, opening, list);
+    for j in 0..8 {
+        if takers >> j & 1 != 0 {
+            list_to_column(game, position, source, opening, j, list);
+        }
+    }
 }
 
-// Lists the moves of the card to columns, each of which is looked at.
+// The columns that may take the card, as bits: all where it opens one, which it seldom does, else its hosts.
 #[inline(always)]
-fn list_to_each_column<G: Game>(
+fn takers_of(source: &Source, opening: Option<u8>) -> u8
+    ensures some { IfSome opening (λ _. result ≡ 255) }
+    ensures none { IfNone opening (result ≡ source.now.hosts) }
+{
+    match opening {
+        Some(_) => 255,
+        None => source.hosts,
+    }
+}
+
+// Lists the move of the card to one column.
+#[inline(always)]
+fn list_to_column<G: Game>(
     game: &G,
     position: &Position,
-    from: Place,
-    card: Card,
+    source: &Source,
     opening: Option<u8>,
+    j: u8,
     list: &mut ArrayVec<Move, 132>,
 )
     requires whole { IsPosition position.now }
-    requires card { playable position.now from ≡ Some card }
-    requires opening { IsOpening (G.game game.now) position.now from opening }
-    requires before { ListsDistinctBelow (G.game game.now) position.now (place_number from * 13) list.old.items }
-    requires room { array_vec_len list.old + 8 ≤ 132 }
-    ensures after { ListsDistinctBelow (G.game game.now) position.now (place_number from * 13 + 8) list.new.items }
-    ensures count { array_vec_len list.new ≤ array_vec_len list.old + 8 }
+    requires there { j < 8 }
+    requires card { playable position.now source.now.from ≡ Some source.now.card }
+    requires opening { IsOpening (G.game game.now) position.now source.now.from opening }
+    requires before { ListsDistinctBelow (G.game game.now) position.now (place_number source.now.from * 13 + j) list.old.items }
+    requires room { array_vec_len list.old < 132 }
+    ensures after { ListsDistinctBelow (G.game game.now) position.now (place_number source.now.from * 13 + (j + 1)) list.new.items }
+    ensures count { array_vec_len list.new ≤ array_vec_len list.old + 1 }
 {
-    for j in 0..8 {
-        if goes_to(game, position.column(j), card, opening == Some(j)) {
-            let to = Place::Column(j);
-            list.push(Move { from, to });
-        }
+    if goes_to(game, position.column(j), source.card, opening == Some(j)) {
+        let to = Place::Column(j);
+        list.push(Move {
+            from: source.from,
+            to,
+        });
     }
 }
 

@@ -1,5 +1,6 @@
 -- Which moves from a position lead to boards of one class, and which of them is listed, within the crate.
-use Rattle.std.specs.Prelude.{◌≡◌, ◌+◌, ◌<◌, ◌⊎◌, ◌↔◌, ℕ, Bool, true, false, Option, Some, None, length, List, [], ◌∷◌, Contains, slice_index_or}
+use Rattle.std.specs.Prelude.{◌≡◌, ◌+◌, ◌<◌, ◌⊎◌, ◌↔◌, ℕ, Option, Some, None, length, List, [], ◌∷◌, Contains, slice_index_or}
+use Rattle.std.specs.Int.{bit_at}
 use Rattle.fc_cards.specs.Card.{rank}
 use Rattle.fc_cards.specs.declared.places.Place.{Place}
 use Rattle.fc_cards.specs.declared.places.Place.TheVariants.{Column, Cell, Home}
@@ -69,13 +70,17 @@ abbrev pub IsOpening : GameRules → Board → Place → Option ℕ → Type 0
 IsOpening g b from opening = (j : ℕ) → column b j ≡ []
     → (opening ≡ Some j) ↔ IsListed g b (record { from = from; to = Column j })
 
--- these tell of each rank whether a column's last card has it: of some such ranks, at least of those of the first n columns
-abbrev pub TellRanks : Board → ℕ → List Bool → Type 0
-TellRanks b n ranks = (j l : ℕ) → j < n → last_of (column b j) ≡ Some l → slice_index_or ranks (rank l) false ≡ true
+-- these have, at each rank, a bit set for each of the first n columns whose last card has it
+abbrev pub TellLasts : Board → ℕ → List ℕ → Type 0
+TellLasts b n lasts = (j l : ℕ) → j < n → last_of (column b j) ≡ Some l → bit_at (slice_index_or lasts (rank l) 0) j ≡ 1
 
--- no column's last card is one rank higher than the card
-abbrev pub HasNoHost : Board → ℕ → Type 0
-HasNoHost b u = (j l : ℕ) → j < 8 → last_of (column b j) ≡ Some l → rank u + 1 ≡ rank l → ⊥
+-- each column whose last card is one rank higher than the card has its bit set
+abbrev pub HaveHosts : Board → ℕ → ℕ → Type 0
+HaveHosts b u hosts = (j l : ℕ) → j < 8 → last_of (column b j) ≡ Some l → rank u + 1 ≡ rank l → bit_at hosts j ≡ 1
+
+-- each column to which the move of the place's card is listed has its bit set
+abbrev pub HaveTakers : GameRules → Board → Place → ℕ → Type 0
+HaveTakers g b from takers = (j : ℕ) → j < 8 → IsListed g b (record { from = from; to = Column j }) → bit_at takers j ≡ 1
 
 -- the number is that of the cell to which the move of the place's card is listed, if it is
 abbrev pub IsCellOf : GameRules → Board → Place → Option ℕ → Type 0
