@@ -1,17 +1,18 @@
 -- What a card adds to the bound that a search goes by, and that a move changes the bound by its card alone.
-use Rattle.std.proofs.Common.{◌≡◌, ◌≢◌, ℕ, ◌+◌, ◌-◌, ◌<◌, ◌≤◌, true, cond, List, [], ◌∷◌, ◌++◌, length, get_or, set, refl, sym, ◌∙◌, ap, arith}
+use Rattle.std.proofs.Common.{◌≡◌, ◌≢◌, ℕ, ◌+◌, ◌-◌, ◌<◌, ◌≤◌, true, cond, List, [], ◌∷◌, ◌++◌, length, get_or, set, Some, refl, sym, ◌∙◌, ap, subst, arith}
 use Rattle.std.specs.Prelude.{count_by, nat_lt, slice_index}
 use Rattle.std.specs.List.{list_any}
 use Rattle.std.proofs.lemmas.List.{get_or-set_same, length-set, length_push, set-set, set-get_or, take_at}
 use Rattle.fc_cards.specs.Card.{rank, suit, all_cards}
 use Rattle.fc_cards.specs.declared.places.Place.{Place}
 use Rattle.fc_cards.specs.declared.places.Place.TheVariants.{Column, Cell, Home}
-use Rattle.fc_position.specs.Board.{Board, column, lifted, placed, front_of}
+use Rattle.fc_position.specs.Board.{Board, column, lifted, placed, front_of, last_of}
 use Rattle.fc_position.specs.Position.{IsPosition}
 use Rattle.fc_position.proofs.BoardLemmas.{cards_most}
 use Rattle.fc_moves.specs.declared.steps.Move.{Move}
 use Rattle.fc_moves.specs.GameRules.{GameRules}
-use Rattle.fc_moves.specs.Step.{Step, Takes}
+use Rattle.fc_moves.proofs.StepLemmas.{other_column}
+use Rattle.fc_moves.specs.Step.{Step, Takes, Joins}
 use Rattle.fc_bound.specs.declared.kinds.BoundKind.{BoundKind}
 use Rattle.fc_bound.specs.declared.kinds.BoundKind.TheVariants.{Plain, Clearing}
 use Rattle.fc_bound.specs.Bound.{bound, is_above_lower, is_away, is_lower, PlayableIsHeldBack}
@@ -19,11 +20,12 @@ use Rattle.fc_bound.specs.Clearing.{waits, without, cards_in}
 use Rattle.fc_bound.specs.Kinds.{guide_of}
 use Rattle.fc_bound.specs.Knots.{knot_bound, knot_count, waits_above}
 use Rattle.fc_bound.proofs.AboveLemmas.{or-false}
+use Rattle.fc_bound.proofs.BitLemmas.{last_of-push}
 use Rattle.fc_bound.proofs.CountLemmas.{count-most}
-use Rattle.fc_bound.proofs.HeldLemmas.{bound_small}
+use Rattle.fc_bound.proofs.HeldLemmas.{bound_small, step_position}
 use Rattle.fc_bound.proofs.KnotSteps.{above_loose, count_is, knots_few}
 use Rattle.fc_bound.proofs.KnotTaken.{loose_first}
-use Rattle.fc_bound.proofs.MovedLemmas.{held-last}
+use Rattle.fc_bound.proofs.MovedLemmas.{held-last, lower-push}
 
 -- the bound of a position fits a byte with room to spare
 pub guide_small : (kind : BoundKind) (b : Board) → IsPosition b → guide_of kind b ≤ 104
@@ -92,3 +94,22 @@ guide_lifted kind g b z m step away =
     go (Cell j) takes away =
         let x : Board = lifted b m.from in guide_same kind x (lifted (placed x step.card (Cell j)) (Cell j)) refl refl
     go Home takes away = absurd (away refl)
+
+-- a card that was put on a column is held back where a lower one of its suit stood there
+held_put : (b z : Board) (from : Place) (j u : ℕ) → IsPosition z → z ≡ placed (lifted b from) u (Column j) → Joins from (Column j)
+    → j < length b.columns → list_any (is_lower u) (column b j) ≡ true → PlayableIsHeldBack z (Column j)
+held_put b z from j u p after joins inside lower =
+    let x : Board = lifted b from in
+    let there : column z j ≡ column b j ++ u ∷ [] =
+    ap (λ (y : Board). column y j) after
+    ∙ get_or-set_same x.columns j (column x j ++ u ∷ []) [] (omega (arith, inside, long_lifted b from))
+    ∙ ap (λ (cards : List ℕ). cards ++ u ∷ []) (other_column b from j joins) in
+    let last : last_of (column z j) ≡ Some u = ap last_of there ∙ last_of-push (column b j) u in
+    (u, last, held-last z j u p last ∙ ap (list_any (is_lower u)) there ∙ lower-push u (column b j) ∙ lower)
+
+pub held_there : (g : GameRules) (b z : Board) (m : Move) (j u : ℕ) (step : Step g b m z) → IsPosition b → step.card ≡ u → m.to ≡ Column j
+    → list_any (is_lower u) (column b j) ≡ true → PlayableIsHeldBack z (Column j)
+held_there g b z m j u step p is at lower =
+    held_put b z m.from j u (step_position g b z m p step)
+    (step.after ∙ ap (λ (t : Place). placed (lifted b m.from) step.card t) at ∙ ap (λ (c : ℕ). placed (lifted b m.from) c (Column j)) is)
+    (subst (Joins m.from) at step.joins) (subst (Takes g b step.card) at step.takes).0 lower

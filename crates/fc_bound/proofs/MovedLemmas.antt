@@ -33,7 +33,7 @@ any_only test (x ∷ xs) (suc i) inside others =
     ∙ any_only test xs i (omega (arith, inside)) (λ k other within. others (suc k) (λ e. other (omega (arith, e))) (omega (arith, within)))
 
 -- a card is no lower than itself
-lower-push : (u : ℕ) (cards : List ℕ) → list_any (is_lower u) (cards ++ u ∷ []) ≡ list_any (is_lower u) cards
+pub lower-push : (u : ℕ) (cards : List ℕ) → list_any (is_lower u) (cards ++ u ∷ []) ≡ list_any (is_lower u) cards
 lower-push u [] = grind (arith, nat_tests)
 lower-push u (d ∷ cards) = ap (λ t. is_lower u d || t) (lower-push u cards)
 

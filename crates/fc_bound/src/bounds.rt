@@ -1,6 +1,6 @@
-ghost use Rattle.std.specs.Prelude.{◌≡◌, ℕ, ◌≤◌, ◌↔◌, IsTrue, count_by};
+ghost use Rattle.std.specs.Prelude.{◌≡◌, ℕ, ◌≤◌, ◌↔◌, IsTrue, count_by, true};
 ghost use Rattle.std.specs.List.{list_any};
-ghost use Rattle.fc_position.specs.Board.{count_in_column};
+ghost use Rattle.fc_position.specs.Board.{column, count_in_column};
 ghost use Rattle.fc_position.specs.Position.{IsPosition};
 ghost use Rattle.fc_cards.specs.Card.{all_cards};
 ghost use Rattle.fc_bound.specs.Bound.{bound, is_above_lower, is_away, is_lower, PlayableIsHeldBack};
@@ -43,6 +43,14 @@ fn has_lower(cards: &[Card], card: Card) -> bool
     ensures value { result ≡ list_any (is_lower card) cards.now }
 {
     cards.iter().any(|lower| lower.suit() == card.suit() && lower.rank() < card.rank())
+}
+
+// Whether a card would stand above a lower card of its own suit on a column, where it isn't there yet.
+#[inline]
+pub(crate) fn is_above(position: &Position, i: u8, card: Card) -> bool
+    ensures value { IsTrue result → list_any (is_lower card) (column position.now i) ≡ true }
+{
+    i < 8 && has_lower(position.column(i), card)
 }
 
 /// Whether the playable card of a place stands above a lower card of its own suit in its column; not where there is no

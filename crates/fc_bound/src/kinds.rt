@@ -1,15 +1,20 @@
-ghost use Rattle.std.specs.Prelude.{◌≡◌, ◌+◌, ◌≤◌, IfSome};
-ghost use Rattle.fc_position.specs.Board.{lifted};
+ghost use Rattle.std.specs.Prelude.{◌≡◌, ◌≢◌, ◌+◌, ◌≤◌, IfSome};
+ghost use Rattle.fc_cards.specs.declared.places.Place.TheVariants.{Home};
+ghost use Rattle.fc_position.specs.Board.{Board, lifted};
 ghost use Rattle.fc_position.specs.Position.{IsPosition};
+ghost use Rattle.fc_moves.specs.declared.steps.Move.{Move};
+ghost use Rattle.fc_moves.specs.GameRules.{GameRules};
+ghost use Rattle.fc_moves.specs.Step.{Step};
 ghost use Rattle.fc_bound.specs.Kinds.{guide_of, low_of};
 ghost use Rattle.fc_bound.specs.Rows.{IsTableOf};
 
-use crate::bounds::{GREATEST_BOUND, bound, is_held_back};
+use crate::bounds::{GREATEST_BOUND, bound, is_above, is_held_back};
 use crate::clearing::clearing_bound;
 use crate::counts::WholeCount;
 use crate::knots::{knot_bound, knot_bound_by, knot_bound_whole, knot_bound_within};
 use crate::rows::ColumnTable;
-use fc_cards::Place;
+use fc_cards::{Card, Place};
+use fc_moves::Move;
 use fc_position::Position;
 
 /// The lower bound that a search goes by and a table is closed by.
@@ -91,29 +96,33 @@ impl BoundKind {
         }
     }
 
-    /// The bound by which a search of this kind goes of a position without the playable card of a place, by the bound with it,
-    /// where that is plain to see.
-    pub fn guide_without(self, position: &Position, from: Place, bound: u8) -> Option<u8>
-        requires bound { bound ≡ guide_of self position.now }
-        ensures value { IfSome result (λ less. less ≡ guide_of self (lifted position.now from)) }
+    // What a card adds to the bound by which a search of this kind goes at the place to which a move takes it, where that is plain to
+    // see: `None` where it would have to be counted.
+    fn fare_there(self, position: &Position, card: Card, to: Place) -> Option<u8>
+        ensures fare { IfSome result (λ fare. (g : GameRules) (z : Board) (m : Move) (step : Step g position.now m z) → step.card ≡ card → m.to ≡ to
+            → guide_of self z ≡ fare + guide_of self (lifted z to)) }
+        ensures most { IfSome result (λ fare. fare ≤ 1) }
         ensures whole { IsPosition position.now }
     {
-        let fare = self.fare(position, from)?;
-        Some(bound - fare)
-    }
-
-    /// The bound by which a search of this kind goes, where the bound without the playable card of a place is known, and what the
-    /// card adds is plain to see: it isn't counted.
-    pub fn guide_with(self, position: &Position, to: Place, without: Option<u8>) -> Option<u8>
-        requires without { IfSome without (λ less. less ≡ guide_of self (lifted position.now to)) }
-        ensures value { IfSome result (λ bound. bound ≡ guide_of self position.now) }
-        ensures whole { IsPosition position.now }
-    {
-        let fare = self.fare(position, to);
-        match (without, fare) {
-            (Some(less), Some(fare)) => Some(less + fare),
+        let _cell = position.cell(0);
+        match (to, self) {
+            (Place::Column(i), BoundKind::Clearing) if is_above(position, i, card) => Some(1),
+            (Place::Cell(_), BoundKind::Clearing) => Some(0),
             _ => None,
         }
+    }
+
+    /// The bound by which a search of this kind goes of where a move leads that takes no card home, by the bound of where it is made,
+    /// where that is plain to see: it isn't counted.
+    pub fn guide_after(self, position: &Position, m: Move, bound: u8) -> Option<u8>
+        requires bound { bound ≡ guide_of self position.now }
+        ensures value { IfSome result (λ after. (g : GameRules) (z : Board) → Step g position.now m z → m.to ≢ Home → after ≡ guide_of self z) }
+        ensures whole { IsPosition position.now }
+    {
+        let card = position.playable(m.from)?;
+        let fare = self.fare(position, m.from)?;
+        let more = self.fare_there(position, card, m.to)?;
+        Some(bound - fare + more)
     }
 
     /// The bound by which a table of this kind is closed, at most 104: the plain bound, or the clearing bound.

@@ -1,15 +1,17 @@
 -- After a move to a column or a cell from a settled position, only the card that lay below the one that moved can go home.
-use Rattle.std.proofs.Common.{◌≡◌, ◌≢◌, ℕ, ◌⊎◌, Some, None, [], ◌∷◌, ◌++◌, refl, sym, ◌∙◌, ap, subst, inl, inr, ⊎_elim, arith}
+use Rattle.std.proofs.Common.{◌≡◌, ◌≢◌, ℕ, zero, suc, Bool, false, ◌⊎◌, Some, None, List, [], ◌∷◌, ◌++◌, refl, sym, ◌∙◌, ap, subst, inl, inr, ⊎_elim, arith}
+use Rattle.std.specs.Prelude.{IsTrue}
 use Rattle.std.proofs.lemmas.Bool.{cases_eq}
-use Rattle.std.proofs.lemmas.List.{get_or-set_other}
+use Rattle.std.proofs.lemmas.List.{get_or-set_other, get_or-set_same}
 use Rattle.fc_cards.specs.declared.places.Place.{Place}
 use Rattle.fc_cards.specs.declared.places.Place.TheVariants.{Column, Cell, Home}
-use Rattle.fc_position.specs.Board.{Board, column, playable, lifted, placed, last_of, front_of}
-use Rattle.fc_position.proofs.BoardLemmas.{homes-lifted}
+use Rattle.fc_position.specs.Board.{Board, column, playable, lifted, placed, last_of, front_of, IsNext}
+use Rattle.fc_position.proofs.BoardLemmas.{homes-lifted, column_there, cell_there}
 use Rattle.fc_moves.specs.declared.steps.Move.{Move}
 use Rattle.fc_moves.specs.GameRules.{GameRules}
-use Rattle.fc_moves.specs.Step.{Step}
+use Rattle.fc_moves.specs.Step.{Step, Joins}
 use Rattle.fc_home.specs.HomeRule.{GoesHome}
+use Rattle.fc_home.proofs.RuleLemmas.{free_next}
 use Rattle.fc_home.specs.Settles.{NoneGoesHome, Settles}
 use Rattle.fc_space.specs.inner.Children.{OthersStay}
 use Rattle.fc_canonical.proofs.BackLemmas.{taken_back}
@@ -66,6 +68,44 @@ others_stay rule g b c m step not_home none other d apart there goes =
     (sym (playable-lifted b m.from other apart) ∙ sym (playable-placed (lifted b m.from) u m.to other ne)
     ∙ sym (ap (λ x. playable x other) step.after) ∙ there) before)
     (places other m.to)
+
+-- a move leads to another place
+apart : (from to : Place) → Joins from to → from ≢ to
+apart (Column i) (Column j) joins = λ e. joins (sym (cc e))
+apart (Column i) (Cell j) joins = λ e. cc e
+apart (Column i) Home joins = λ e. cc e
+apart (Cell i) (Column j) joins = λ e. cc e
+apart (Cell i) (Cell j) joins = absurd joins
+apart (Cell i) Home joins = λ e. cc e
+apart Home to joins = absurd joins
+
+-- what lies beneath the playable card of a place
+pub beneath_column : (b : Board) (i u : ℕ) → playable b (Column i) ≡ Some u
+    → playable (lifted b (Column i)) (Column i) ≡ last_of (front_of (column b i))
+beneath_column b i u last = ap last_of (get_or-set_same b.columns i (front_of (column b i)) [] (column_there b i u last))
+
+pub beneath_cell : (b : Board) (i u d : ℕ) → playable b (Cell i) ≡ Some u → playable (lifted b (Cell i)) (Cell i) ≡ Some d → ⊥
+beneath_cell b i u d held there =
+    let none = sym (get_or-set_same b.cells i None None (cell_there b i u held)) ∙ there in cc none
+
+-- a card that goes home by a rule is next
+goes_next : (rule : ℕ) (g : GameRules) (homes : List ℕ) (c : ℕ) → GoesHome rule g homes c → IsNext homes c
+goes_next zero g homes c goes = absurd goes
+goes_next (suc zero) g homes c goes = goes.0
+goes_next (suc (suc more)) g homes c goes = free_next g homes c goes
+
+-- where the card beneath the one that moves isn't next, it doesn't go home after the move
+pub beneath_stays : (rule : ℕ) (g : GameRules) (b c : Board) (m : Move) (t : Bool) (step : Step g b m c) → m.to ≢ Home
+    → ((d : ℕ) → playable (lifted b m.from) m.from ≡ Some d → IsNext b.homes d → IsTrue t) → t ≡ false
+    → (d : ℕ) × (playable c m.from ≡ Some d) × GoesHome rule g c.homes d → ⊥
+beneath_stays rule g b c m t step not_home next fails (d, there, goes) =
+    let u = step.card in
+    let counts : c.homes ≡ b.homes = ap (λ (x : Board). x.homes) step.after ∙ homes_kept b m.from u m.to not_home in
+    let before : GoesHome rule g b.homes d = subst (λ h. GoesHome rule g h d) counts goes in
+    let beneath : playable (lifted b m.from) m.from ≡ Some d =
+    sym (playable-placed (lifted b m.from) u m.to m.from (apart m.from m.to step.joins))
+    ∙ sym (ap (λ x. playable x m.from) step.after) ∙ there in
+    cc (sym fails ∙ next d beneath (goes_next rule g b.homes d before))
 
 -- where the card of that place stays too, the position is settled
 pub settled_here : (rule : ℕ) (g : GameRules) (b : Board) (from : Place) → OthersStay rule g b from

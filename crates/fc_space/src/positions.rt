@@ -1,8 +1,7 @@
-ghost use Rattle.std.specs.Prelude.{◌≡◌, ◌≢◌, ◌≤◌, ℕ, IfOk, IfSome, List, None, Some, length, reverse};
-ghost use Rattle.fc_position.specs.Board.{Board, lifted};
+ghost use Rattle.std.specs.Prelude.{◌≡◌, ◌≤◌, ℕ, IfOk, IfSome, List, None, Some, length, reverse};
+ghost use Rattle.fc_position.specs.Board.{Board};
 ghost use Rattle.fc_position.specs.Position.{Fits, IsPosition};
 ghost use Rattle.fc_moves.specs.GameRules.{IsPositionOf};
-ghost use Rattle.fc_cards.specs.declared.places.Place.TheVariants.{Home};
 ghost use Rattle.fc_moves.specs.Step.{Allows, Step};
 ghost use Rattle.fc_codes.specs.State.{IsCodeOf};
 ghost use Rattle.fc_codes.specs.Spelled.{board_of_code};
@@ -16,13 +15,13 @@ ghost use Rattle.fc_classes.specs.Classes.{classes};
 ghost use Rattle.fc_classes.proofs.NamingLemmas.{codes_name};
 ghost use Rattle.fc_classes.proofs.TableLemmas.{lawful};
 ghost use Rattle.fc_space.specs.Children.{frame_of, IsWalkIn, IsSettledChild, IsChildOf, AreChildrenBy, StandsAt};
-ghost use Rattle.fc_space.specs.inner.Children.{OthersStay, classes_in};
+ghost use Rattle.fc_space.specs.inner.Children.{classes_in};
 ghost use Rattle.fc_space.specs.inner.Codes.{IsCodeAfter};
 ghost use Rattle.fc_space.specs.inner.Remembered.{IsWhole, bound_by_code};
 ghost use Rattle.fc_bound.proofs.KindLemmas.{bounds_lower};
 
 use crate::coded::settle_coded;
-use crate::counts::shift;
+use crate::counts::{child_shifted, frees_next};
 use crate::remembered::{Remembered, places};
 use arrayvec::ArrayVec;
 use fc_best_first::{Child, Space};
@@ -30,7 +29,7 @@ use fc_bound::{BoundKind, ColumnTable, WholeCount};
 use fc_canonical::list_distinct_moves;
 use fc_cards::Place;
 use fc_codes::{Code, Layout};
-use fc_home::{HomeRule, goes_home_from};
+use fc_home::HomeRule;
 use fc_methods::Method;
 use fc_moves::{Game, Move, apply};
 use fc_position::Position;
@@ -160,22 +159,24 @@ impl<G: Game + Drop> Positions<G> {
         })
     }
 
-    // Begins a walk of this space anew at a class that was reached, whose position and bound are these.
-    fn set_out(&self, code: &Code, position: Position, bound: u8, walk: &mut Children<G>)
+    // Begins a walk of this space anew at a class that was reached. Its bound, which is counted where it isn't known.
+    fn set_out(&self, code: &Code, bound: Option<u8>, walk: &mut Children<G>) -> u8
         requires owned { IsWalkIn G.game (frame_of (G.game self.now.rules.game) self.now.rules.rule self.now.rules.kind self.now.start) walk.old }
         requires reached { (d : ℕ) × Reached (classes_in (frame_of (G.game self.now.rules.game) self.now.rules.rule self.now.rules.kind self.now.start)) code.now d }
-        requires position { position ≡ board_of_code self.now.start code.now }
-        requires bound { bound ≡ guide_of self.now.rules.kind position }
+        requires bound { IfSome bound (λ known. known ≡ guide_of self.now.rules.kind (board_of_code self.now.start code.now)) }
         ensures owned { IsWalkIn G.game (frame_of (G.game self.now.rules.game) self.now.rules.rule self.now.rules.kind self.now.start) walk.new }
         ensures children { (children : List (Child (List ℕ))) → AreChildrenBy (frame_of (G.game walk.new.game) walk.new.rule walk.new.kind walk.new.start) walk.new.position (reverse walk.new.moves) children
             → AreChildren (classes_in (frame_of (G.game self.now.rules.game) self.now.rules.rule self.now.rules.kind self.now.start)) code.now children }
+        ensures bound { result ≡ guide_of self.now.rules.kind (board_of_code self.now.start code.now) }
     {
-        walk.position = position;
+        walk.position = self.position(code);
+        let bound = told_or_counted(self.rules.kind, &walk.position, bound);
         walk.code = *code;
         walk.bound = bound;
         walk.is_laid = false;
         list_distinct_moves(&self.rules.game, &walk.position, &mut walk.left);
         walk.last = None;
+        bound
     }
 
     // The bound of the class with this code, at which a walk of this space stands: what is told of it, by which it is counted no
@@ -199,10 +200,31 @@ impl<G: Game + Drop> Positions<G> {
             (Some(m), _) => walk.count_after(self.rules.kind, m, known),
             (None, Some(whole)) => (whole, known),
             (None, None) => {
-                let whole = self.rules.kind.guide_whole(&self.position(code));
+                let whole = self.count_anew(code);
                 (whole, Some(whole))
             }
         }
+    }
+
+    // The bound of the class with this code, counted to its end. Few are counted so: apart from the others it costs them nothing.
+    #[inline(never)]
+    fn count_anew(&self, code: &Code) -> WholeCount
+        requires code { IsCodeIn self.now.start (G.game self.now.rules.game) code.now }
+        ensures value { result.bound ≡ bound_by_code self.now.rules.kind self.now.start code.now }
+    {
+        self.rules.kind.guide_whole(&self.position(code))
+    }
+}
+
+// The bound of a position, which is counted where it isn't told.
+#[inline(always)]
+fn told_or_counted(kind: BoundKind, position: &Position, told: Option<u8>) -> u8
+    requires told { IfSome told (λ bound. bound ≡ guide_of kind position.now) }
+    ensures value { result ≡ guide_of kind position.now }
+{
+    match told {
+        Some(bound) => bound,
+        None => kind.guide(position),
     }
 }
 
@@ -225,31 +247,9 @@ fn settled<G: Game + Drop>(
     }
 }
 
-// The class to which a card moved from this place led, where none goes home after it: only the card that lay below it can.
-fn settled_already<G: Game + Drop>(
-    rules: &ClassRules<G>,
-    position: &Position,
-    from: Place,
-    bound: Option<u8>,
-    code: Code,
-) -> Option<Child<Code>>
-    requires bound { IfSome bound (λ b. b ≡ guide_of rules.now.kind position.now) }
-    requires others { OthersStay rules.now.rule (G.game rules.now.game) position.now from }
-    ensures settled { (s : Board) → IsCodeOf s position.now code → IfSome result (IsSettledChild (frame_of (G.game rules.now.game) rules.now.rule rules.now.kind s) position.now 1) }
-    ensures own { IfSome result (λ child. child.key ≡ code) }
-{
-    if goes_home_from(&rules.game, position, rules.rule, from) {
-        return None;
-    }
-    Some(Child {
-        key: code,
-        cost: 1,
-        bound,
-    })
-}
-
-// The child to which a move leads, to a position with this code, made by moving the card forth and back; `None` where
-// cards go home, which can't be taken back. The position is as it was.
+// The child to which a move leads, to a position with this code, without a copy of the position; `None` where cards go home,
+// which can't be taken back. The position is as it was.
+#[inline(always)]
 pub(crate) fn child_by_shift<G: Game + Drop>(
     rules: &ClassRules<G>,
     position: &mut Position,
@@ -270,10 +270,16 @@ pub(crate) fn child_by_shift<G: Game + Drop>(
     if m.to == Place::Home {
         return None;
     }
-    let bound = shift(&rules.game, rules.kind, position, bound, m);
-    let child = settled_already(rules, position, m.from, bound, code);
-    position.shift(m.to, m.from);
-    child
+    // The clearing bound isn't told: nothing is asked of where the move leads but whether the card beneath goes home.
+    if rules.kind == BoundKind::Clearing && !frees_next(position, m.from) {
+        let bound = None;
+        return Some(Child {
+            key: code,
+            cost: 1,
+            bound,
+        });
+    }
+    child_shifted(rules, position, bound, m, code)
 }
 
 // The child to which a move leads, to a position with this code, made on a copy of the position.
@@ -320,30 +326,28 @@ impl<G: Game + Drop> Space<Code> for Positions<G> {
     }
 
     fn bound_within(&self, walk: &mut Children<G>, code: &Code, most: u8) -> u8 {
-        if let Some(count) = walk.remembered.get(code, most) {
+        let place = walk.remembered.place(code);
+        let (told, known) = walk.remembered.get(place, code, most);
+        if let Some(count) = told {
             return count;
         }
-        let known = walk.remembered.whole(code);
         let (whole, known) = self.count(walk, code, known);
         let count = whole.within(most);
         // Else the class is stored, with its bound, and isn't asked again.
         if most < count {
-            walk.remembered.note(code, most, count, known);
+            walk.remembered.note(place, code, most, count, known);
         }
         count
     }
 
     #[inline(always)]
     fn visit(&self, code: &Code, walk: &mut Children<G>) -> u8 {
-        let position = self.position(code);
-        let bound = self.rules.kind.guide(&position);
-        self.set_out(code, position, bound, walk);
-        bound
+        self.set_out(code, None, walk)
     }
 
     #[inline(always)]
     fn revisit(&self, code: &Code, bound: u8, walk: &mut Children<G>) {
-        self.set_out(code, self.position(code), bound, walk);
+        let _bound = self.set_out(code, Some(bound), walk);
     }
 
     #[inline(always)]

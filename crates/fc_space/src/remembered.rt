@@ -1,7 +1,7 @@
 //! What was counted of bounds, as far as a table of a fixed size remembers it: a class that was put off is met again, from the
 //! same class or from another, and most often its bound is past what is asked again.
 
-ghost use Rattle.std.specs.Prelude.{◌≡◌, ◌^◌, ◌<◌, ◌≤◌, ℕ, List, [], length, IfOk, IfNone, IfSome};
+ghost use Rattle.std.specs.Prelude.{◌≡◌, ◌^◌, ◌<◌, ◌≤◌, ℕ, List, length, IfOk, IfSome};
 ghost use Rattle.fc_space.specs.inner.Remembered.{AreUnder, IsWhole};
 
 use fc_bound::WholeCount;
@@ -69,59 +69,74 @@ impl Remembered {
 
     // The place of a code, where there are places.
     #[inline]
-    fn place(&self, code: &Code) -> Option<usize>
-        ensures within { IfSome result (λ place. place < length self.now) }
-        ensures none { IfNone result (self.now ≡ []) }
+    pub(crate) fn place(&self, code: &Code) -> usize
+        ensures within { 0 < length self.now → result < length self.now }
     {
-        let greatest = self.places.len().checked_sub(1)?;
+        let Some(greatest) = self.places.len().checked_sub(1) else {
+            return 0;
+        };
         let mut hasher = FoldHasher::default();
         code.hash(&mut hasher);
-        Some(hasher.finish() as usize & greatest)
+        hasher.finish() as usize & greatest
     }
 
-    // What counting the bound of the class with this code, no further than asked, gives, where it is past that and is remembered: the
-    // same as when it was counted no further than a number that isn't greater.
+    // What is remembered at this place, the code's, of the bound of the class with this code: what counting it no further than asked
+    // gives, where it is past that, the same as when it was counted no further than a number that isn't greater; and the count to
+    // its end.
     #[inline]
-    pub(crate) fn get(&self, code: &Code, most: u8) -> Option<u8>
-        ensures past { IfSome result (λ count. most < count) }
-        ensures under { (bound : List ℕ → ℕ) → AreUnder bound self.now → IfSome result (λ count. count ≤ bound code.now) }
+    pub(crate) fn get(
+        &self,
+        place: usize,
+        code: &Code,
+        most: u8,
+    ) -> (Option<u8>, Option<WholeCount>)
+        ensures past { IfSome result.0 (λ count. most < count) }
+        ensures under { (bound : List ℕ → ℕ) → AreUnder bound self.now → IfSome result.0 (λ count. count ≤ bound code.now) }
+        ensures whole { (bound : List ℕ → ℕ) → AreUnder bound self.now → IsWhole (bound code.now) result.1 }
     {
-        let counted = self.places[self.place(code)?];
-        if counted.code == *code && counted.most <= most && most < counted.count {
-            Some(counted.count)
-        } else {
-            None
+        match self.places.get(place) {
+            Some(counted) if counted.code == *code => (counted.past(most), counted.whole),
+            _ => (None, None),
         }
     }
 
-    // The count of the bound of the class with this code to its end, if it is remembered.
+    // Notes at a place, the code's, what counting the bound of the class with this code, no further than asked, gave, and the count to
+    // its end, if there was one.
     #[inline]
-    pub(crate) fn whole(&self, code: &Code) -> Option<WholeCount>
-        ensures whole { (bound : List ℕ → ℕ) → AreUnder bound self.now → IsWhole (bound code.now) result }
-    {
-        let counted = self.places[self.place(code)?];
-        if counted.code == *code {
-            counted.whole
-        } else {
-            None
-        }
-    }
-
-    // Notes what counting the bound of the class with this code, no further than asked, gave, and the count to its end, if there
-    // was one.
-    #[inline]
-    pub(crate) fn note(&mut self, code: &Code, most: u8, count: u8, whole: Option<WholeCount>)
+    pub(crate) fn note(
+        &mut self,
+        place: usize,
+        code: &Code,
+        most: u8,
+        count: u8,
+        whole: Option<WholeCount>,
+    )
         ensures under { (bound : List ℕ → ℕ) → AreUnder bound self.old → count ≤ bound code.now → IsWhole (bound code.now) whole
             → AreUnder bound self.new }
         ensures size { length self.new ≡ length self.old }
     {
-        if let Some(place) = self.place(code) {
+        if place < self.places.len() {
             self.places[place] = Counted {
                 code: *code,
                 most,
                 count,
                 whole,
             };
+        }
+    }
+}
+
+impl Counted {
+    // The number, where a count no further than asked gives it and it is past that.
+    #[inline]
+    fn past(&self, most: u8) -> Option<u8>
+        ensures past { IfSome result (λ count. most < count) }
+        ensures value { IfSome result (λ count. count ≡ self.now.count) }
+    {
+        if self.most <= most && most < self.count {
+            Some(self.count)
+        } else {
+            None
         }
     }
 }

@@ -9,7 +9,6 @@ ghost use Rattle.fc_bound.specs.Rows.{IsTableOf};
 ghost use Rattle.fc_space.specs.Children.{frame_of, IsChildOf, StandsAt};
 ghost use Rattle.fc_space.specs.inner.Remembered.{IsWhole};
 
-use crate::counts::seen_of;
 use crate::positions::{Children, child_by_copy, child_by_shift};
 use fc_best_first::Child;
 use fc_bound::{BoundKind, ColumnTable, WholeCount};
@@ -56,12 +55,11 @@ impl<G: Game + Drop> Children<G> {
         ensures whole { (z : Board) → Step (G.game self.old.game) self.old.position m z → IsWhole (guide_of kind z) result.1 }
         ensures same { self.new ≡ self.old }
     {
-        let without = kind.guide_without(&self.position, m.from, self.bound);
-        apply(&self.rules.game, &mut self.position, m);
-        let seen = seen_of(kind, &self.position, m.to, without, known);
-        self.position.shift(m.to, m.from);
-        match seen {
-            Some(count) => (count, known),
+        if let Some(bound) = kind.guide_after(&self.position, m, self.bound) {
+            return (WholeCount::by_ones(bound), known);
+        }
+        match known {
+            Some(whole) => (whole, known),
             None => {
                 let whole = self.count_whole(kind, m);
                 (whole, Some(whole))

@@ -7,8 +7,8 @@ use Rattle.fc_space.specs.inner.Remembered.{IsWhole}
 use Rattle.fc_space.proofs.ChildLemmas.{IsFrame, reached_code, stands_guide}
 use Rattle.fc_space.proofs.positions.Positions.count.Goals as goal
 
-pub position-requires : goal.position-requires
-position-requires g c =
+pub count_anew-whole-requires : goal.count_anew-whole-requires
+count_anew-whole-requires g c =
     let own = c.args.self.now in
     let w = frame_of (g.G.Game.game own.rules.game) own.rules.rule own.rules.kind own.start in
     let f : IsFrame w = record { sound = g.met.G.Game.sound own.rules.game; fits = own.fits } in

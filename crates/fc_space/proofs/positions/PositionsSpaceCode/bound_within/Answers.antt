@@ -1,4 +1,4 @@
-use Rattle.std.proofs.Common.{◌≡◌, ◌≤◌, sym, subst, ap, ◌∙◌}
+use Rattle.std.proofs.Common.{◌≡◌, ◌≤◌, IfSome, sym, subst, ap, ◌∙◌}
 use Rattle.fc_space.specs.Children.{Frame, frame_of}
 use Rattle.fc_space.specs.inner.Remembered.{IsWhole, bound_by_code}
 use Rattle.fc_space.proofs.positions.PositionsSpaceCode.bound_within.Goals as goal
@@ -10,8 +10,8 @@ count-known-requires-clause-known g c =
     let inner = c.walk.inside in
     let v = frame_of (g.G.Game.game inner.rules.game) inner.rules.rule inner.rules.kind inner.layout in
     let here : v ≡ w = ap (λ s. frame_of (g.G.Game.game s.game) s.rule s.kind s.start) c.walk.view_is ∙ c.requires.owned in
-    subst (λ (u : Frame). IsWhole (bound_by_code u.kind u.start c.args.code.now) c.whole-known.result) here
-    (c.whole-known.ensures.whole (bound_by_code inner.rules.kind inner.layout) c.walk.invariant.5)
+    subst (λ (u : Frame). IsWhole (bound_by_code u.kind u.start c.args.code.now) c.get-told.result.1) here
+    (c.get-told.ensures.whole (bound_by_code inner.rules.kind inner.layout) c.walk.invariant.5)
 
 pub invariant_of-walk : goal.invariant_of-walk
 invariant_of-walk g c =
@@ -35,3 +35,14 @@ invariant_of-walk g c =
           (subst (λ (u : Frame). IsWhole (bound_by_code u.kind u.start c.args.code.now) known) (sym here) c.count-known.ensures.whole),
       kept.6,
     )
+
+pub returns-in-Some-clause-under : goal.returns-in-Some-clause-under
+returns-in-Some-clause-under g c =
+    let own = c.args.self.now in
+    let w = frame_of (g.G.Game.game own.rules.game) own.rules.rule own.rules.kind own.start in
+    let inner = c.walk.inside in
+    let v = frame_of (g.G.Game.game inner.rules.game) inner.rules.rule inner.rules.kind inner.layout in
+    let here : v ≡ w = ap (λ s. frame_of (g.G.Game.game s.game) s.rule s.kind s.start) c.walk.view_is ∙ c.requires.owned in
+    subst (λ o. IfSome o (λ count. count ≤ bound_by_code own.rules.kind own.start c.args.code.now)) c.in-Some.is
+    (subst (λ (u : Frame). IfSome c.get-told.result.0 (λ count. count ≤ bound_by_code u.kind u.start c.args.code.now)) here
+    (c.get-told.ensures.under (bound_by_code inner.rules.kind inner.layout) c.walk.invariant.5))

@@ -1,7 +1,7 @@
 use Rattle.std.proofs.Common.{refl}
 use Rattle.fc_home.proofs.RuleLemmas.{refuted}
 use Rattle.fc_space.proofs.StayLemmas.{settled_here}
-use Rattle.fc_space.proofs.positions.settled_already.Goals as goal
+use Rattle.fc_space.proofs.counts.settled_already.Goals as goal
 
 pub returns-clause-settled : goal.returns-clause-settled
 returns-clause-settled g c =
