@@ -1,6 +1,7 @@
 -- The position that is built from what was gathered is the board that the code spells.
 use Rattle.std.proofs.Common.{◌≡◌, ℕ, zero, suc, ◌+◌, ◌-◌, ◌<◌, ◌≤◌, ◌⊎◌, Bool, true, false, Option, Some, None, List, [], ◌∷◌, ◌++◌, length, map, replicate, set, get_or, take, cond, eqb, refl, sym, ◌∙◌, ap, inl, inr, ⊎_elim, arith, drop}
 use Rattle.std.specs.Prelude.{All, filter}
+use Rattle.std.specs.Int.{bit_at}
 use Rattle.std.specs.List.{range_with_len}
 use Rattle.std.proofs.lemmas.List.{length-drop, take_all, drop_more, length-append, length-map, length-take-le, take_more, map-append, map-set}
 use Rattle.std.proofs.lemmas.List.Elements.{All-head, All-tail, All-filter, All-from_get_or}
@@ -16,6 +17,7 @@ use Rattle.fc_codes.specs.declared.seats.Seats.{Seats}
 use Rattle.fc_codes.specs.inner.Beneath.{card_at}
 use Rattle.fc_codes.specs.inner.Bits.{cards_of}
 use Rattle.fc_codes.specs.inner.Seats.{AreSeatsOf}
+use Rattle.fc_codes.proofs.BitLemmas.{least_first}
 use Rattle.fc_codes.proofs.GrownLemmas.{last_passing}
 use Rattle.fc_codes.proofs.FilledLemmas.{filled_at, filled_push}
 use Rattle.fc_codes.proofs.LawLemmas.{is_spelled}
@@ -138,13 +140,30 @@ columns_more vs g cards i c v e inside few at made =
     ∙ ap (filled 8 []) (sym next)
 
 -- what is left of a list tells what of it was taken
-pub taken_next : (cards : List ℕ) (i c : ℕ) (rest : List ℕ) → drop i cards ≡ c ∷ rest
+taken_next : (cards : List ℕ) (i c : ℕ) (rest : List ℕ) → drop i cards ≡ c ∷ rest
     → (i < length cards) × (c ≡ get_or cards i c) × (rest ≡ drop (i + 1) cards)
 taken_next cards i c rest e =
     let long = ap length e in
     let inside : i < length cards = omega (arith, length-drop i cards, long) in
     let both : c ∷ rest ≡ get_or cards i c ∷ drop (i + 1) cards = sym e ∙ drop_more cards i c inside in
     (inside, cc, cc)
+
+-- the least card of what is left is the next one
+pub record NextCard (cards : List ℕ) (i bits rest card : ℕ) : Type 0 where
+  pub inside : i < length cards
+  pub at : card ≡ get_or cards i card
+  pub left : cards_of rest ≡ drop (i + 1) cards
+  pub fewer : length (cards_of rest) < length (cards_of bits)
+
+pub next_card_is : (cards : List ℕ) (i bits rest card index : ℕ) → cards_of bits ≡ drop i cards → index ≡ card → index < 52
+    → bit_at bits card ≡ 1 → ((d : ℕ) → d < card → bit_at bits d ≡ 0)
+    → ((d : ℕ) → bit_at rest d ≡ cond (eqb d index) 0 (bit_at bits d)) → NextCard cards i bits rest card
+next_card_is cards i bits rest card index left same below set least without =
+    let gone : (d : ℕ) → bit_at rest d ≡ cond (eqb d card) 0 (bit_at bits d) = λ d.
+    without d ∙ ap (λ k. cond (eqb d k) 0 (bit_at bits d)) same in
+    let first = least_first bits rest card (omega (arith, below, same)) set least gone in
+    let next = taken_next cards i card (cards_of rest) (sym left ∙ first) in
+    record { inside = next.0; at = next.1; left = next.2; fewer = let long = ap length first in omega (arith, long) }
 
 pub taken_whole : (cards : List ℕ) (i : ℕ) → drop i cards ≡ [] → take i cards ≡ cards
 taken_whole cards i e = let none = ap length e in take_all i cards (omega (arith, length-drop i cards, none))

@@ -120,7 +120,7 @@ fn least_card(bits: u64) -> Option<Card>
 }
 
 // Puts columns that begin with these cards into empty ones: on each card lies the one that is told above it.
-#[inline(always)]
+#[inline]
 pub(crate) fn fill_columns(deepest: u64, above: &[u8; 54], columns: &mut [ArrayVec<Card, 52>; 8])
     requires few { length (cards_of deepest) ≤ 8 }
     requires count { length above.now ≡ 54 }
@@ -130,12 +130,11 @@ pub(crate) fn fill_columns(deepest: u64, above: &[u8; 54], columns: &mut [ArrayV
         ≡ filled 8 [] (map (λ c. grown (λ x. card_at above.now x) 52 (Some c)) (cards_of deepest)) }
 {
     let mut rest = deepest;
-    for i in 0..8_u8 {
-        let Some(card) = least_card(rest) else {
-            return;
-        };
+    let mut i = 0;
+    while let Some(card) = least_card(rest) {
         rest = without_card(rest, card.index());
-        grow(card, above, &mut columns[i as usize]);
+        grow(card, above, &mut columns[i]);
+        i += 1;
     }
 }
 
