@@ -15,7 +15,7 @@ use fc_moves::Move;
 use fc_position::Position;
 use std::marker::Model;
 
-/// What lay beneath each card in the position that a search starts from. Contracts see it as that position's board.
+/// What lay beneath each card and on it in the position that a search starts from. Contracts see it as that position's board.
 #[derive(Drop)]
 pub struct Layout {
     start: Position,
