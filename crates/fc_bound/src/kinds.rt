@@ -119,8 +119,8 @@ impl BoundKind {
         ensures value { IfSome result (λ after. (g : GameRules) (z : Board) → Step g position.now m z → m.to ≢ Home → after ≡ guide_of self z) }
         ensures whole { IsPosition position.now }
     {
-        let card = position.playable(m.from)?;
         let fare = self.fare(position, m.from)?;
+        let card = position.playable(m.from)?;
         let more = self.fare_there(position, card, m.to)?;
         Some(bound - fare + more)
     }
