@@ -1,3 +1,4 @@
+pub mod PlaceLemmas
 pub mod QueueLemmas
 pub mod StackLemmas
 pub mod TieLemmas

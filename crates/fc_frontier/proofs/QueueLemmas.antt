@@ -146,25 +146,25 @@ taken-all P None old new order all = subst (All P) order all
 taken-all P (Some p) old new order all = All-tail P p new (subst (All P) order all)
 
 -- a pair of the near ones goes among them, one of the far ones behind them
-pub pushed-near : (p : ℕ × ℕ) (near far new : List (ℕ × ℕ)) → p.0 < 1024 → All (λ q. 1024 ≤ q.0) far
+pub pushed-near : (limit : ℕ) (p : ℕ × ℕ) (near far new : List (ℕ × ℕ)) → p.0 < limit → All (λ q. limit ≤ q.0) far
     → new ≡ inserted p near → new ++ far ≡ inserted p (near ++ far)
-pushed-near p near far new below from is =
+pushed-near limit p near far new below from is =
     ap (λ front. front ++ far) is
-    ∙ sym (inserted-in_front p near far (All-weaker (λ q. 1024 ≤ q.0) (λ q. p.0 ≤ q.0) (λ q h. omega arith) far from))
+    ∙ sym (inserted-in_front p near far (All-weaker (λ q. limit ≤ q.0) (λ q. p.0 ≤ q.0) (λ q h. omega arith) far from))
 
-pub pushed-far : (p : ℕ × ℕ) (near far new : List (ℕ × ℕ)) → 1024 ≤ p.0 → All (λ q. q.0 < 1024) near
+pub pushed-far : (limit : ℕ) (p : ℕ × ℕ) (near far new : List (ℕ × ℕ)) → limit ≤ p.0 → All (λ q. q.0 < limit) near
     → new ≡ inserted p far → near ++ new ≡ inserted p (near ++ far)
-pushed-far p near far new from below is =
+pushed-far limit p near far new below from is =
     ap (λ back. near ++ back) is
-    ∙ sym (inserted-behind p near far (All-weaker (λ q. q.0 < 1024) (λ q. q.0 < p.0) (λ q h. omega arith) near below))
+    ∙ sym (inserted-behind p near far (All-weaker (λ q. q.0 < limit) (λ q. q.0 < p.0) (λ q h. omega arith) near from))
 
 -- a pair of least f of the near ones has the least f of all
-pub near-least : (p : ℕ × ℕ) (near far rest : List (ℕ × ℕ)) → near ≡ p ∷ rest → All (λ q. q.0 < 1024) near
-    → All (λ q. 1024 ≤ q.0) far → IsLeast p near → IsLeast p (near ++ far)
-near-least p near far rest is below from least =
-    let small : p.0 < 1024 = All-head (λ q. q.0 < 1024) p rest (subst (All (λ q. q.0 < 1024)) is below) in
+pub near-least : (limit : ℕ) (p : ℕ × ℕ) (near far rest : List (ℕ × ℕ)) → near ≡ p ∷ rest → All (λ q. q.0 < limit) near
+    → All (λ q. limit ≤ q.0) far → IsLeast p near → IsLeast p (near ++ far)
+near-least limit p near far rest is below from least =
+    let small : p.0 < limit = All-head (λ q. q.0 < limit) p rest (subst (All (λ q. q.0 < limit)) is below) in
     All-append (λ q. p.0 ≤ q.0) near far least
-    (All-weaker (λ q. 1024 ≤ q.0) (λ q. p.0 ≤ q.0) (λ q h. omega arith) far from)
+    (All-weaker (λ q. limit ≤ q.0) (λ q. p.0 ≤ q.0) (λ q h. omega arith) far from)
 
 -- two pairs that differ are told apart by their tests
 apart_test : (a b c d : ℕ) → (a ≡ c → b ≡ d → ⊥) → ◌≡◌ {A = ℕ} (cond ((a == c) && (b == d)) 1 0) 0

@@ -1,15 +1,14 @@
 -- Lemmas on stacks of nodes, seen as a queue.
-use Rattle.std.proofs.Common.{◌≡◌, ℕ, ◌+◌, ◌<◌, ◌≤◌, zero, suc, List, [], ◌∷◌, ◌++◌, length, get_or, set, take, refl, sym, ◌∙◌, ap, subst, ⊎_elim, arith}
-use Rattle.std.specs.Prelude.{All, Err, Ok, OnErr, Result, false, map, nat_eq, reverse, sum_by, true, vec_len}
+use Rattle.std.proofs.Common.{◌≡◌, ℕ, ◌+◌, ◌<◌, ◌≤◌, max, zero, suc, List, [], ◌∷◌, ◌++◌, length, get_or, set, take, refl, sym, ◌∙◌, ap, subst, ⊎_elim, arith}
+use Rattle.std.specs.Prelude.{All, Err, Ok, OnErr, Result, map, reverse, sum_by, vec_len}
 use Rattle.std.specs.Global.{Vec}
-use Rattle.std.proofs.lemmas.List.{get_or-map, get_or_past, get_or-set_other, set-get_or, length-set, map-set, length-append, length-map, length-reverse, reverse-append}
+use Rattle.std.proofs.lemmas.List.{get_or-map, map_push, get_or-set_other, set-get_or, length-set, map-set, length-append, length-map, length-reverse, reverse-append}
 use Rattle.std.proofs.lemmas.List.Sums.{sum_by-cons, sum_by_more}
 use Rattle.std.proofs.lemmas.Bool.{cases_lt}
-use Rattle.std.proofs.lemmas.Bool.Decides.{nat_tests}
 use Rattle.std.proofs.lemmas.List.Elements.{All-nil, All-append, All-map, All-weaker}
 use Rattle.fc_frontier.specs.Queue.{IsLeast, inserted}
 use Rattle.fc_frontier.specs.Stack.{nodes_of}
-use Rattle.fc_frontier.specs.inner.Stack.{AreStacks, stacked, stack_pairs}
+use Rattle.fc_frontier.specs.inner.Stack.{AreStacks, HasGrown, stacked, stack_pairs}
 use Rattle.fc_frontier.proofs.QueueLemmas.{inserted-behind, inserted-least}
 
 -- a node on top comes first
@@ -110,10 +109,10 @@ nodes_of-set stacks i v = map-set (λ stack. stack.items) stacks i v
 
 -- the stacks after one of them changed, which is none of those that must be empty
 pub changed : (stacks : List (Vec ℕ)) (place first : ℕ) (new : Vec ℕ)
-    → (0 < length (nodes_of stacks) → length (nodes_of stacks) ≡ 1024) → ((k : ℕ) → k < first → get_or (nodes_of stacks) k [] ≡ []) → first ≤ place
+    → length (nodes_of stacks) ≤ 524288 → ((k : ℕ) → k < first → get_or (nodes_of stacks) k [] ≡ []) → first ≤ place
     → AreStacks (nodes_of (set stacks place new)) first
-changed stacks place first new whole empty before = rw (nodes_of-set stacks place new) (record {
-  whole = λ some. omega (arith, length-set (nodes_of stacks) place new.items, whole);
+changed stacks place first new few empty before = rw (nodes_of-set stacks place new) (record {
+  few = omega (arith, length-set (nodes_of stacks) place new.items);
   empty = λ k below. get_or-set_other (nodes_of stacks) place k new.items [] (λ e. omega arith) ∙ empty k below;
 })
 
@@ -160,34 +159,34 @@ length-more stacks i v below is =
     sum_by_more length (nodes_of stacks) i [] (omega (arith, length-nodes_of stacks))
     ∙ ap (λ nodes. sum_by length (take i (nodes_of stacks)) + length nodes) (nodes_at stacks i v below is)
 
--- stacks that are there, and are these pairs
-pub record AreReady (stacks : List (Vec ℕ)) (first : ℕ) (queue : List (ℕ × ℕ)) : Type 0 where
-  pub are : AreStacks (nodes_of stacks) first
-  pub count : length stacks ≡ 1024
-  pub same : stacked 0 (nodes_of stacks) ≡ queue
+-- an empty stack more, behind
+stacked-more : (f : ℕ) (stacks : List (List ℕ)) → stacked f (stacks ++ [] ∷ []) ≡ stacked f stacks
+stacked-more f [] = refl
+stacked-more f (nodes ∷ stacks) = ap (λ rest. stack_pairs f nodes ++ rest) (stacked-more (f + 1) stacks)
 
--- stacks that were made in place of none
-pub made_ready : (made old : List (Vec ℕ)) (first n : ℕ) (queue : List (ℕ × ℕ)) → length made ≡ 1024
-    → All (λ nodes. nodes ≡ []) (nodes_of made) → n ≡ length old → nat_eq n 0 ≡ true → stacked 0 (nodes_of old) ≡ queue
-    → AreReady made first queue
-made_ready made old first n queue count empty is none same =
-    let each : (k : ℕ) → get_or (nodes_of made) k [] ≡ [] = λ k. ⊎_elim (empty k [])
-    (λ past. get_or_past (nodes_of made) k [] past) (cases_lt k (length (nodes_of made))) in
-    let few : length old ≤ 0 = grind (arith, nat_tests) in
-    record {
-      are = record { whole = λ some. omega (arith, length-nodes_of made); empty = λ k below. each k };
-      count = count;
-      same = stacked-empty 0 (nodes_of made) (λ k below. each k)
-          ∙ sym (stacked-empty 0 (nodes_of old) (λ k below. absurd (omega (arith, length-nodes_of old)))) ∙ same;
-    }
+nodes-more : (stacks : List (List ℕ)) (k : ℕ) → get_or (stacks ++ [] ∷ []) k [] ≡ get_or stacks k []
+nodes-more [] zero = refl
+nodes-more [] (suc k) = refl
+nodes-more (nodes ∷ stacks) zero = refl
+nodes-more (nodes ∷ stacks) (suc k) = nodes-more stacks k
 
--- stacks that were there
-pub kept_ready : (old : List (Vec ℕ)) (first n : ℕ) (queue : List (ℕ × ℕ)) → AreStacks (nodes_of old) first → n ≡ length old
-    → nat_eq n 0 ≡ false → stacked 0 (nodes_of old) ≡ queue → AreReady old first queue
-kept_ready old first n queue are is some same = record {
-  are = are;
-  count = let many : 0 < length old = grind (arith, nat_tests) in omega (arith, are.whole, length-nodes_of old);
-  same = same;
+pub grown-more : (old : List (List ℕ)) (stacks new : List (Vec ℕ)) (made : Vec ℕ) → HasGrown old (nodes_of stacks)
+    → new ≡ stacks ++ made ∷ [] → made.items ≡ [] → HasGrown old (nodes_of new)
+grown-more old stacks new made grown is empty =
+    let more : nodes_of new ≡ nodes_of stacks ++ [] ∷ [] =
+    ap nodes_of is ∙ map_push (λ stack. stack.items) stacks made ∙ ap (λ nodes. nodes_of stacks ++ nodes ∷ []) empty in
+    subst (HasGrown old) (sym more) (record {
+      same = stacked-more 0 (nodes_of stacks) ∙ grown.same;
+      nodes = λ k. nodes-more (nodes_of stacks) k ∙ grown.nodes k;
+    })
+
+-- the stacks after there were made as many as a place wants
+pub grown_are : (old new : Vec (Vec ℕ)) (first place : ℕ) → AreStacks (nodes_of old.items) first
+    → HasGrown (nodes_of old.items) (nodes_of new.items) → vec_len new ≤ max (vec_len old) (place + 1) → place < 524288
+    → AreStacks (nodes_of new.items) first
+grown_are old new first place are grown most near = record {
+  few = omega (arith, length-nodes_of old.items, length-nodes_of new.items, old.ok.0, new.ok.0, are.few);
+  empty = λ k below. grown.nodes k ∙ are.empty k below;
 }
 
 -- what holds anyway holds at an error

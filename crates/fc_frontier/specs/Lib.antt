@@ -1,5 +1,6 @@
 pub mod Either
 pub mod Laws
+pub mod Place
 pub mod Queue
 pub mod Stack
 pub mod Tie

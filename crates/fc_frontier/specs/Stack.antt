@@ -1,4 +1,4 @@
--- Stacks of nodes, one for each f, as a queue.
+-- Stacks of nodes, one for each place, as a queue.
 use Rattle.std.specs.Prelude.{ℕ, map, List}
 use Rattle.std.specs.Global.{Vec}
 

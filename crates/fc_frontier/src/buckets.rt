@@ -3,14 +3,17 @@ ghost use Rattle.fc_frontier.specs.Queue.{Adds, IsLeast, inserted};
 
 use crate::frontiers::{Frontier, Full};
 use crate::lists::ListFrontier;
-use crate::stacks::{STACKS, Stacks};
+use crate::stacks::Stacks;
 use crate::walks::Pairs;
 use std::alloc::Global;
 use std::marker::Model;
 
+// A stack may stand for each f below this number.
+const STACKS: u32 = 1024;
+
 /// A stack of nodes for each `f` below 1,024, and one plain list for greater `f`, which is searched only where all stacks
-/// are empty. The stacks are made at the first push that needs one; which of them may be the first that isn't empty is
-/// kept, so that taking a pair doesn't walk over all of them.
+/// are empty. A stack is made where a push wants it; which of them may be the first that isn't empty is kept, so that taking
+/// a pair doesn't walk over all of them.
 ///
 /// Contracts see its pairs in the order in which they will be taken: by rising `f`, and of equal `f` the pair that was
 /// pushed last comes first. A search of real deals stores about half as many classes so as with the oldest first.
@@ -72,6 +75,6 @@ impl Frontier for BucketFrontier {
     }
 
     fn iter(&self) -> Pairs<'_> {
-        Pairs::new(self.near.as_slice(), self.far.as_slice())
+        Pairs::of_stacks(1, self.near.as_slice(), self.far.as_slice(), &[])
     }
 }

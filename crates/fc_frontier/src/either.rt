@@ -5,18 +5,21 @@ ghost use Rattle.fc_frontier.specs.Either.{GoesIn, GoesOut, pairs_of_either};
 
 use crate::buckets::BucketFrontier;
 use crate::frontiers::{Frontier, Full};
+use crate::tie_buckets::TieBucketFrontier;
 use crate::ties::TieFrontier;
 use crate::walks::Pairs;
 use std::alloc::Global;
 
-/// The queue that a search wants: buckets of `f`, or, where it tells ties, a heap by `f` and tie. So searches of both kinds
-/// are of one type.
+/// The queue that a search wants: buckets of `f`, or, where it tells ties, a heap by `f` and tie, or buckets of both where `f`
+/// is small. So searches of all kinds are of one type.
 #[derive(Debug, Drop)]
 pub enum EitherFrontier {
     /// Of equal `f` the newest comes first.
     Buckets(BucketFrontier),
     /// Of equal `f` the least tie comes first.
     Ties(TieFrontier),
+    /// Of equal `f` the least tie comes first, and of equal ties the newest, for small `f`.
+    SmallTies(TieBucketFrontier),
 }
 
 impl Frontier for EitherFrontier {
@@ -38,6 +41,14 @@ impl Frontier for EitherFrontier {
         EitherFrontier::Ties(TieFrontier::new(alloc))
     }
 
+    fn with_small_ties(alloc: Global) -> Self
+        ensures empty { pairs_of_either result ≡ [] }
+
+        ensures kind { result ≡ EitherFrontier.SmallTies [] }
+    {
+        EitherFrontier::SmallTies(TieBucketFrontier::new(alloc))
+    }
+
     fn push(&mut self, f: u32, node: u32) -> Result<(), Full>
         ensures added { OnOk result (Adds (pairs_of_either self.old) (pairs_of_either self.new) (f, node)) }
         ensures refused { OnErr result (self.new ≡ self.old) }
@@ -56,6 +67,7 @@ impl Frontier for EitherFrontier {
         match self {
             EitherFrontier::Buckets(queue) => queue.push(f, node),
             EitherFrontier::Ties(queue) => queue.push_tied(f, tie, node),
+            EitherFrontier::SmallTies(queue) => queue.push_tied(f, tie, node),
         }
     }
 
@@ -70,6 +82,7 @@ impl Frontier for EitherFrontier {
         match self {
             EitherFrontier::Buckets(queue) => queue.pop_least(),
             EitherFrontier::Ties(queue) => queue.pop_least(),
+            EitherFrontier::SmallTies(queue) => queue.pop_least(),
         }
     }
 
@@ -77,6 +90,7 @@ impl Frontier for EitherFrontier {
         match self {
             EitherFrontier::Buckets(queue) => queue.len(),
             EitherFrontier::Ties(queue) => queue.len(),
+            EitherFrontier::SmallTies(queue) => queue.len(),
         }
     }
 
@@ -84,6 +98,7 @@ impl Frontier for EitherFrontier {
         match self {
             EitherFrontier::Buckets(queue) => queue.iter(),
             EitherFrontier::Ties(queue) => queue.iter(),
+            EitherFrontier::SmallTies(queue) => queue.iter(),
         }
     }
 }

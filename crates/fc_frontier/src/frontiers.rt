@@ -41,6 +41,14 @@ pub trait Frontier: Sized {
         Self::new(alloc)
     }
 
+    /// An empty queue for pairs that are pushed with their ties and have a small `f`, which a queue of more than one kind may
+    /// choose by. Takes no memory yet.
+    fn with_small_ties(alloc: Global) -> Self
+        ensures empty { pairs result ≡ [] }
+    {
+        Self::with_ties(alloc)
+    }
+
     /// Puts in one pair. At `Full` a growth was refused, and the pairs are as they were.
     fn push(&mut self, f: u32, node: u32) -> Result<(), Full>
         ensures added { OnOk result (Adds (pairs self.old) (pairs self.new) (f, node)) }

@@ -2,14 +2,16 @@
 //! f is taken next.
 //!
 //! A caller needs the trait alone, which sees a queue as its pairs, each as often as it stands there. The queues say more.
-//! Of equal f `ListFrontier` and `BucketFrontier` give the pair that was pushed last, and `TieFrontier` the one of least
-//! tie, and of equal ties the one that was pushed last. `EitherFrontier` is one of the last two.
+//! Of equal f `ListFrontier` and `BucketFrontier` give the pair that was pushed last, and `TieFrontier` and
+//! `TieBucketFrontier` the one of least tie, and of equal ties the one that was pushed last. `EitherFrontier` is one of the
+//! last three.
 #![tactic(auto)]
 
 pub use buckets::BucketFrontier;
 pub use either::EitherFrontier;
 pub use frontiers::{Frontier, Full};
 pub use lists::ListFrontier;
+pub use tie_buckets::TieBucketFrontier;
 pub use ties::TieFrontier;
 pub use walks::Pairs;
 
@@ -19,6 +21,8 @@ mod frontiers;
 pub mod laws;
 mod lists;
 mod stacks;
+mod tie_buckets;
+mod tie_lists;
 mod tied_pairs;
 mod ties;
 mod walks;

@@ -1,21 +1,20 @@
-ghost use Rattle.std.specs.Prelude.{◌≡◌, ℕ, ◌+◌, ◌^◌, ◌<◌, ◌≤◌, ◌↔◌, List, [], ◌∷◌, ◌++◌, length, option_to_list, slice_index_or, vec_len, All, IsNone, IfOk, IfSome, OnOk, OnErr};
+ghost use Rattle.std.specs.Prelude.{◌≡◌, ℕ, ◌+◌, ◌^◌, ◌<◌, ◌≤◌, ◌↔◌, List, [], ◌∷◌, ◌++◌, length, option_to_list, slice_index_or, vec_len, max, IsNone, IfSome, OnOk, OnErr};
 ghost use Rattle.std.specs.List.Sorted.{IsPermutation};
 ghost use Rattle.fc_frontier.specs.Queue.{IsLeast, inserted};
 ghost use Rattle.fc_frontier.specs.Stack.{nodes_of};
 ghost use Rattle.fc_frontier.specs.Walk.{walked};
+ghost use Rattle.fc_frontier.specs.inner.Stack.{HasGrown};
 
 use crate::frontiers::Full;
 use std::alloc::Global;
 use std::marker::Model;
 
-// How many stacks there are, once there are any: one for each f below this number.
-pub const STACKS: u32 = 1024;
-
-// A stack of nodes for each f below 1,024, seen as the pairs in the order in which they will be taken: by rising f, and
-// of equal f the pair that was pushed last first.
+// A stack of nodes for each place below 524,288, made where a push wants it, seen as the pairs of a place and a node in the
+// order in which they will be taken: by rising place, and at equal places the pair that was pushed last first. A place is an f,
+// or an f with a tie.
 #[derive(Debug, Drop)]
 pub struct Stacks {
-    // None before the first push.
+    // As many as the greatest place wanted, none before the first push.
     stacks: Vec<Vec<u32>>,
     // All stacks before this one are empty.
     first: usize,
@@ -34,16 +33,17 @@ impl Model for Stacks {
     ghost invariant = { λ s. AreStacks (nodes_of s.stacks.items) s.first };
 }
 
-// All stacks, each empty.
-fn empty_stacks(alloc: Global) -> Result<Vec<Vec<u32>>, Full>
-    ensures count { IfOk result (λ stacks. vec_len stacks ≡ 1024) }
-    ensures empty { IfOk result (λ stacks. All (λ nodes. nodes ≡ []) (nodes_of stacks.items)) }
+// Makes empty stacks until there are so many.
+fn grow(stacks: &mut Vec<Vec<u32>>, count: usize) -> Result<(), Full>
+    ensures grown { HasGrown (nodes_of stacks.old.items) (nodes_of stacks.new.items) }
+    ensures enough { OnOk result (count ≤ vec_len stacks.new) }
+    ensures most { vec_len stacks.new ≤ max (vec_len stacks.old) count }
 {
-    let mut stacks = Vec::with_capacity(alloc, STACKS as usize)?;
-    for _ in 0..STACKS {
+    let alloc = *stacks.allocator();
+    for _ in stacks.len()..count {
         stacks.push(Vec::new(alloc))?;
     }
-    Ok(stacks)
+    Ok(())
 }
 
 // The place of the first stack from a place on that isn't empty, the number of the stacks where all are.
@@ -71,16 +71,14 @@ impl Stacks {
         }
     }
 
-    // Puts the pair before all of equal f.
-    pub fn push(&mut self, f: u32, node: u32) -> Result<(), Full>
-        requires near { f < 1024 }
-        ensures order { OnOk result (self.new ≡ inserted (f, node) self.old) }
+    // Puts the pair before all of equal places.
+    pub fn push(&mut self, place: u32, node: u32) -> Result<(), Full>
+        requires near { place < 524288 }
+        ensures order { OnOk result (self.new ≡ inserted (place, node) self.old) }
         ensures refused { OnErr result (self.new ≡ self.old) }
     {
-        if self.stacks.is_empty() {
-            self.stacks = empty_stacks(*self.stacks.allocator())?;
-        }
-        let place = f as usize;
+        let place = place as usize;
+        grow(&mut self.stacks, place + 1)?;
         let stack = &mut self.stacks[place];
         stack.push(node)?;
         self.first = self.first.min(place);
@@ -111,10 +109,10 @@ impl Stacks {
         total
     }
 
-    // The stacks, the one for f 0 first.
+    // The stacks, the one of place 0 first.
     pub fn as_slice(&self) -> &[Vec<u32>]
         ensures items { IsPermutation (walked 0 (nodes_of result.now)) self.now }
-        ensures most { length result.now ≤ 1024 }
+        ensures most { length result.now ≤ 524288 }
     {
         self.stacks.as_slice()
     }

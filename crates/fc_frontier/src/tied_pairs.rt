@@ -3,6 +3,7 @@ ghost use Rattle.std.proofs.Common.{rules};
 ghost use Rattle.std.specs.Cmp.{partial_order_from_own_ties};
 ghost use Rattle.std.specs.Cmp.Rules.{comparing};
 ghost use Rattle.std.specs.Ordering.{as_partial_cmp};
+ghost use Rattle.fc_frontier.specs.Place.{place_of};
 ghost use Rattle.fc_frontier.specs.Tie.{pair_of};
 ghost use Rattle.fc_frontier.specs.inner.Tie.{entry_cmp, entry_eq};
 
@@ -48,6 +49,13 @@ impl TiedPair {
         ensures value { result ≡ pair_of self.now }
     {
         ((self.number >> 96) as u32, (self.number % (1 << 32)) as u32)
+    }
+
+    // Of which f and tie it is, as one number: 256 f and the tie.
+    pub fn place(&self) -> u64
+        ensures value { result ≡ place_of self.now.f self.now.tie }
+    {
+        256 * (self.number >> 96) as u64 + (self.number >> 64) as u64 % (1 << 32)
     }
 }
 

@@ -84,6 +84,6 @@ impl Frontier for TieFrontier {
     }
 
     fn iter(&self) -> Pairs<'_> {
-        Pairs::of_tied(self.heap.as_slice())
+        Pairs::of_stacks(1, &[], &[], self.heap.as_slice())
     }
 }

@@ -1,5 +1,6 @@
-ghost use Rattle.std.specs.Prelude.{◌≡◌, ◌+◌, ◌≤◌, [], ◌∷◌, ◌++◌, length};
+ghost use Rattle.std.specs.Prelude.{◌≡◌, ◌+◌, ◌<◌, ◌≤◌, [], ◌∷◌, ◌++◌, length};
 ghost use Rattle.std.specs.Iterator.{YieldsFirst, item_count};
+ghost use Rattle.fc_frontier.specs.Place.{pairs_at};
 ghost use Rattle.fc_frontier.specs.Stack.{nodes_of};
 ghost use Rattle.fc_frontier.specs.Tie.{pairs_of};
 ghost use Rattle.fc_frontier.specs.Walk.{walked};
@@ -16,40 +17,44 @@ pub struct Pairs<'a> {
     tied: &'a [TiedPair],
 }
 
-// Nodes of one f, and the stacks of the f that follow it.
+// Nodes of one place, and the stacks of the places that follow it.
 #[derive(Debug, Drop)]
 struct Near<'a> {
-    f: u32,
+    // How many places each f has.
+    ties: u32,
+    place: u32,
     nodes: &'a [u32],
     stacks: &'a [Vec<u32>],
 }
 
 impl<'a> Model for Pairs<'a> {
-    ghost use Rattle.std.specs.Prelude.{ℕ, ◌+◌, ◌≤◌, List, ◌∷◌, ◌++◌, length};
+    ghost use Rattle.std.specs.Prelude.{ℕ, ◌+◌, ◌<◌, ◌≤◌, List, ◌∷◌, ◌++◌, length};
+    ghost use Rattle.fc_frontier.specs.Place.{pairs_at};
     ghost use Rattle.fc_frontier.specs.Stack.{nodes_of};
     ghost use Rattle.fc_frontier.specs.Tie.{pairs_of};
     ghost use Rattle.fc_frontier.specs.Walk.{walked};
 
     ghost Value = { List (ℕ × ℕ) };
 
-    ghost view = { λ s. walked s.near.f (s.near.nodes.now ∷ nodes_of s.near.stacks.now) ++ s.far.now ++ pairs_of s.tied.now };
+    ghost view = { λ s. pairs_at s.near.ties (walked s.near.place (s.near.nodes.now ∷ nodes_of s.near.stacks.now)) ++ s.far.now ++ pairs_of s.tied.now };
 
-    ghost invariant = { λ s. s.near.f + length s.near.stacks.now ≤ 1024 };
+    ghost invariant = { λ s. (0 < s.near.ties) × (s.near.place + length s.near.stacks.now ≤ 524288) };
 }
 
 impl<'a> Near<'a> {
-    // Goes on to the first f that has a node left, if any has.
+    // Goes on to the first place that has a node left, if any has.
     fn skip(&mut self)
-        requires room { self.old.f + length self.old.stacks.now ≤ 1024 }
-        ensures same { walked self.new.f (self.new.nodes.now ∷ nodes_of self.new.stacks.now) ≡ walked self.old.f (self.old.nodes.now ∷ nodes_of self.old.stacks.now) }
-        ensures room { self.new.f + length self.new.stacks.now ≤ 1024 }
+        requires room { self.old.place + length self.old.stacks.now ≤ 524288 }
+        ensures same { walked self.new.place (self.new.nodes.now ∷ nodes_of self.new.stacks.now) ≡ walked self.old.place (self.old.nodes.now ∷ nodes_of self.old.stacks.now) }
+        ensures ties { self.new.ties ≡ self.old.ties }
+        ensures room { self.new.place + length self.new.stacks.now ≤ 524288 }
         ensures end { self.new.nodes.now ≡ [] → self.new.stacks.now ≡ [] }
     {
         while self.nodes.is_empty() {
             let Some((nodes, stacks)) = self.stacks.split_first() else {
                 return;
             };
-            self.f += 1;
+            self.place += 1;
             self.nodes = nodes.as_slice();
             self.stacks = stacks;
         }
@@ -63,36 +68,33 @@ impl<'a> Pairs<'a> {
         requires room { length stacks.now ≤ 1024 }
         ensures items { result ≡ walked 0 (nodes_of stacks.now) ++ far.now }
     {
-        let near = match stacks.split_first() {
-            Some((nodes, stacks)) => Near {
-                f: 0,
-                nodes: nodes.as_slice(),
-                stacks,
-            },
-            None => Near {
-                f: 0,
-                nodes: &[],
-                stacks,
-            },
-        };
-        Pairs {
-            near,
-            far,
-            tied: &[],
-        }
+        Pairs::of_stacks(1, stacks, far, &[])
     }
 
-    // The pairs of a queue that keeps all of them with their ties.
-    pub(crate) fn of_tied(tied: &'a [TiedPair]) -> Pairs<'a>
-        ensures items { result ≡ pairs_of tied.now }
+    // The pairs of a queue that keeps a stack of nodes for each place from 0 on, where each f has so many places, and other
+    // pairs in a list, alone or with their ties.
+    pub(crate) fn of_stacks(
+        ties: u32,
+        stacks: &'a [Vec<u32>],
+        far: &'a [(u32, u32)],
+        tied: &'a [TiedPair],
+    ) -> Pairs<'a>
+        requires ties { 0 < ties }
+        requires room { length stacks.now ≤ 524288 }
+        ensures items { result ≡ pairs_at ties (walked 0 (nodes_of stacks.now)) ++ far.now ++ pairs_of tied.now }
     {
+        let (nodes, stacks) = match stacks.split_first() {
+            Some((nodes, others)) => (nodes.as_slice(), others),
+            None => (&[][..], stacks),
+        };
         Pairs {
             near: Near {
-                f: 0,
-                nodes: &[],
-                stacks: &[],
+                ties,
+                place: 0,
+                nodes,
+                stacks,
             },
-            far: &[],
+            far,
             tied,
         }
     }
@@ -109,7 +111,7 @@ impl<'a> Iterator for Pairs<'a> {
         self.near.skip();
         if let Some((node, nodes)) = self.near.nodes.split_first() {
             self.near.nodes = nodes;
-            return Some((self.near.f, *node));
+            return Some((self.near.place / self.near.ties, *node));
         }
         if let Some((pair, far)) = self.far.split_first() {
             self.far = far;

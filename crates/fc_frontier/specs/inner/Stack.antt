@@ -1,16 +1,21 @@
--- Stacks of nodes, one for each f, as a queue, within the crate.
-use Rattle.std.specs.Prelude.{◌≡◌, ℕ, ◌+◌, ◌<◌, length, reverse, map, List, [], ◌∷◌, ◌++◌, slice_index_or}
+-- Stacks of nodes, one for each place, as a queue, within the crate.
+use Rattle.std.specs.Prelude.{◌≡◌, ℕ, ◌+◌, ◌<◌, ◌≤◌, length, reverse, map, List, [], ◌∷◌, ◌++◌, slice_index_or}
 
--- a stack of nodes of one f as a queue: the top comes first
+-- a stack of nodes at one place as a queue: the top comes first
 abbrev pub stack_pairs : ℕ → List ℕ → List (ℕ × ℕ)
-stack_pairs f nodes = map (λ node. (f, node)) (reverse nodes)
+stack_pairs place nodes = map (λ node. (place, node)) (reverse nodes)
 
--- stacks for f, f + 1 and so on as a queue
+-- stacks for a place, the next one and so on as a queue
 abbrev pub stacked : ℕ → List (List ℕ) → List (ℕ × ℕ)
-stacked f [] = []
-stacked f (nodes ∷ stacks) = stack_pairs f nodes ++ stacked (f + 1) stacks
+stacked place [] = []
+stacked place (nodes ∷ stacks) = stack_pairs place nodes ++ stacked (place + 1) stacks
 
--- every stack before the first one named is empty, and where there are stacks there are 1024
+-- there may be more stacks behind the old ones, and those are empty
+pub record HasGrown (old new : List (List ℕ)) : Type 0 where
+  pub same : stacked 0 new ≡ stacked 0 old
+  pub nodes : (k : ℕ) → slice_index_or new k [] ≡ slice_index_or old k []
+
+-- every stack before the first one named is empty, and there are at most 524288 stacks
 pub record AreStacks (stacks : List (List ℕ)) (first : ℕ) : Type 0 where
-  pub whole : 0 < length stacks → length stacks ≡ 1024
+  pub few : length stacks ≤ 524288
   pub empty : (k : ℕ) → k < first → slice_index_or stacks k [] ≡ []

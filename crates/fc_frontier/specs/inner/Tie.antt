@@ -3,6 +3,7 @@ use Rattle.std.specs.Prelude.{ℕ, ◌-◌, ◌/◌, ◌%◌, ◌^◌, Bool, Lis
 use Rattle.std.specs.BinaryHeap.{IsHeap}
 use Rattle.std.specs.declared.cmp.Ordering.{Ordering}
 use Rattle.std.specs.Ordering.{eq_of_both, flip_args, nat_cmp, on, then_cmp}
+use Rattle.fc_frontier.specs.Place.{place_of}
 use Rattle.fc_frontier.specs.Tie.{Entry, IsOlder}
 
 -- the entry for which a number stands, of 32 bits for each of the four, where the lesser of two numbers comes first
@@ -13,6 +14,10 @@ entry_of n = record {
   stamp = 2 ^ 32 - 1 - n / 2 ^ 32 % 2 ^ 32;
   node = n % 2 ^ 32;
 }
+
+-- the place and the node of an entry
+abbrev pub placed : Entry → ℕ × ℕ
+placed entry = (place_of entry.f entry.tie, entry.node)
 
 -- how entries compare: the greater one has a lesser f, or the same f and a lesser tie, or the same f and tie and a greater stamp;
 -- of equal stamps, a lesser node

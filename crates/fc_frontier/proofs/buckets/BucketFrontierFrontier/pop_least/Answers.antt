@@ -20,5 +20,5 @@ invariant_of-self-in-None c = (
 
 pub returns-in-Some-clause-least : goal.returns-in-Some-clause-least
 returns-in-Some-clause-least c = subst (IsLeast c.in-Some.pair) c.self.view_is
-    (near-least c.in-Some.pair c.self.inside.near c.self.inside.far c.pop_least.new.self c.in-Some.ensures.order
+    (near-least 1024 c.in-Some.pair c.self.inside.near c.self.inside.far c.pop_least.new.self c.in-Some.ensures.order
     c.self.invariant.0 c.self.invariant.1 c.in-Some.ensures.least)

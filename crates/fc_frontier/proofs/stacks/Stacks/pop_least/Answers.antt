@@ -29,7 +29,7 @@ within c = omega (arith, c.in_ok-get_mut.ensures.variant.0 refl, c.self.inside.s
 
 pub invariant_of-self-2 : goal.invariant_of-self-2
 invariant_of-self-2 c = changed c.self.inside.stacks.items c.first_full-self-inside.result c.first_full-self-inside.result
-    c.pop.new.self c.self.invariant.whole (empty c) (omega arith)
+    c.pop.new.self c.self.invariant.few (empty c) (omega arith)
 
 pub returns-clause-order : goal.returns-clause-order
 returns-clause-order c = sym c.self.view_is

@@ -5,9 +5,10 @@ use Rattle.fc_frontier.proofs.walks.Near.skip.Given as goal
 
 abbrev pub invariant-loop-nodes : goal.invariant-loop-nodes
 invariant-loop-nodes l = record {
-  same : walked l.self.f (l.self.nodes.now ∷ nodes_of l.self.stacks.now)
-      ≡ walked l.initial.self.f (l.initial.self.nodes.now ∷ nodes_of l.initial.self.stacks.now);
-  room : l.self.f + length l.self.stacks.now ≤ 1024;
+  same : walked l.self.place (l.self.nodes.now ∷ nodes_of l.self.stacks.now)
+      ≡ walked l.initial.self.place (l.initial.self.nodes.now ∷ nodes_of l.initial.self.stacks.now);
+  ties : l.self.ties ≡ l.initial.self.ties;
+  room : l.self.place + length l.self.stacks.now ≤ 524288;
 }
 
 abbrev pub decreases-loop-nodes : goal.decreases-loop-nodes
