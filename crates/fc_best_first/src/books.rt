@@ -92,8 +92,8 @@ impl<K: ExactKey, F: Frontier + Drop> Model for Book<K, F> {
 
 impl<K: ExactKey, F: Frontier + Drop> Book<K, F> {
     /// Nothing stored and nothing open, for a search by this strategy. By partial expansion, of equal f the least bound is to be
-    /// taken first, where the queue tells ties; and by tenths too, where f is greater than buckets want it. Takes no memory
-    /// yet.
+    /// taken first, where the queue tells ties; and by tenths too, where f is greater than a queue without ties wants it.
+    /// Takes no memory yet.
     pub fn new(alloc: Global, strategy: &Strategy) -> Self
         ensures stored { result.stored ≡ [] }
         ensures waiting { result.waiting ≡ [] }
@@ -101,9 +101,10 @@ impl<K: ExactKey, F: Frontier + Drop> Book<K, F> {
     {
         Book {
             table: IndexMap::new(alloc),
-            queue: match (strategy.expansion, strategy.weight.parts()) {
-                (Expansion::Full, 1) => F::new(alloc),
-                (Expansion::Partial, 1) => F::with_small_ties(alloc),
+            queue: match strategy.expansion {
+                Expansion::Full if strategy.weight.parts() == 1 => F::new(alloc),
+                // By greater weights f has gaps, which buckets have to walk over.
+                Expansion::Partial if strategy.weight.times() <= 2 => F::with_small_ties(alloc),
                 _ => F::with_ties(alloc),
             },
             openings: Vec::new(alloc),
