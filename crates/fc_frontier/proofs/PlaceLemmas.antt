@@ -9,8 +9,8 @@ use Rattle.fc_frontier.specs.Place.{TakesFirst, pair_at, pairs_at, place_of}
 use Rattle.fc_frontier.specs.Queue.{Adds, IsLeast, in_order, inserted}
 use Rattle.fc_frontier.specs.Tie.{Entry, pair_of, pairs_of}
 use Rattle.fc_frontier.specs.inner.Queue.{IsPlaceOfNext}
-use Rattle.fc_frontier.specs.inner.Tie.{placed}
-use Rattle.fc_frontier.proofs.QueueLemmas.{first-added, in_order-least, in_order-permuted, in_order-remove, inserted-adds_to}
+use Rattle.fc_frontier.specs.inner.Tie.{placed_of}
+use Rattle.fc_frontier.proofs.QueueLemmas.{in_order-least, in_order-permuted, in_order-remove, inserted-adds_to}
 use Rattle.fc_frontier.proofs.WalkLemmas.{both_walked}
 
 -- where each f has one place, that is the f
@@ -46,11 +46,6 @@ put-adds f tie node old new small is =
     subst (λ (p : ℕ × ℕ). Adds (pairs_at 256 old) (pairs_at 256 new) p) (pair_at-place f tie node small)
     (IsPermutation-map (pair_at 256) ((place_of f tie, node) ∷ old) new (inserted-adds_to (place_of f tie, node) old new is))
 
--- the first pair was one pair more
-pub first-adds : (pair : ℕ × ℕ) (old new : List (ℕ × ℕ)) → TakesFirst pair old new → Adds (pairs_at 256 new) (pairs_at 256 old) pair
-first-adds pair old new takes = first-added pair (pairs_at 256 old) (pairs_at 256 new)
-    (ap (pairs_at 256) takes.order ∙ ap (λ p. p ∷ pairs_at 256 new) (sym takes.is))
-
 -- what holds of the nodes holds of those that are left
 pub first-all : (P : ℕ × ℕ → Type 0) (r : Option (ℕ × ℕ)) (old new : List (ℕ × ℕ)) → IfSome r (λ pair. TakesFirst pair old new)
     → IfNone r (new ≡ old) → All P old → All P new
@@ -65,10 +60,10 @@ least-pair node nodes least =
 
 -- the place of the entry that is next, among their places
 pub next-placed : (entries : List Entry) (place : ℕ) → place < length entries
-    → ((k : ℕ) (d : Entry) → k < length entries → (placed (slice_index_or entries place d)).0 ≤ (placed (slice_index_or entries k d)).0)
+    → ((k : ℕ) (d : Entry) → k < length entries → (placed_of (slice_index_or entries place d)).0 ≤ (placed_of (slice_index_or entries k d)).0)
     → ((k : ℕ) (d : Entry) → place < k → k < length entries
-    → (placed (slice_index_or entries place d)).0 < (placed (slice_index_or entries k d)).0)
-    → IsPlaceOfNext (map placed entries) place
+    → (placed_of (slice_index_or entries place d)).0 < (placed_of (slice_index_or entries k d)).0)
+    → IsPlaceOfNext (map placed_of entries) place
 next-placed entries place within least last = record {
   within = omega (arith, size);
   least = λ k d below. let inside : k < length entries = omega (arith, size) in
@@ -80,69 +75,69 @@ next-placed entries place within least last = record {
     none : Entry
     none = record { f = 0; tie = 0; stamp = 0; node = 0 }
 
-    size : length (map placed entries) ≡ length entries
-    size = length-map entries placed
+    size : length (map placed_of entries) ≡ length entries
+    size = length-map entries placed_of
 
-    at : (k : ℕ) (d : ℕ × ℕ) → k < length entries → get_or (map placed entries) k d ≡ placed (get_or entries k none)
-    at k d below = get_or-map placed entries k none d below
+    at : (k : ℕ) (d : ℕ × ℕ) → k < length entries → get_or (map placed_of entries) k d ≡ placed_of (get_or entries k none)
+    at k d below = get_or-map placed_of entries k none d below
 
 -- the entry at a place, and its place
 at-placed : (entries : List Entry) (place : ℕ) (entry : Entry) → place < length entries → entry ≡ slice_index_or entries place entry
-    → placed entry ≡ slice_index_or (map placed entries) place (placed entry)
-at-placed entries place entry below is = ap placed is ∙ sym (get_or-map placed entries place entry (placed entry) below)
+    → placed_of entry ≡ slice_index_or (map placed_of entries) place (placed_of entry)
+at-placed entries place entry below is = ap placed_of is ∙ sym (get_or-map placed_of entries place entry (placed_of entry) below)
 
-remove-placed : (entries : List Entry) (place : ℕ) → remove (map placed entries) place ≡ map placed (remove entries place)
+remove-placed : (entries : List Entry) (place : ℕ) → remove (map placed_of entries) place ≡ map placed_of (remove entries place)
 remove-placed entries place =
-    ap (λ front. front ++ drop (suc place) (map placed entries)) (take-map placed place entries)
-    ∙ ap (λ back. map placed (take place entries) ++ back) (drop-map placed (suc place) entries)
-    ∙ sym (map-append placed (take place entries) (drop (suc place) entries))
+    ap (λ front. front ++ drop (suc place) (map placed_of entries)) (take-map placed_of place entries)
+    ∙ ap (λ back. map placed_of (take place entries) ++ back) (drop-map placed_of (suc place) entries)
+    ∙ sym (map-append placed_of (take place entries) (drop (suc place) entries))
 
 -- the pair of an entry is that at its place
-pair_at-placed : (entry : Entry) → entry.tie < 256 → pair_at 256 (placed entry) ≡ pair_of entry
+pair_at-placed : (entry : Entry) → entry.tie < 256 → pair_at 256 (placed_of entry) ≡ pair_of entry
 pair_at-placed entry small = pair_at-place entry.f entry.tie entry.node small
 
 -- an entry that was taken was the first
-within : (entries : List Entry) (place : ℕ) → IsPlaceOfNext (map placed entries) place → place < length entries
-within entries place next = omega (arith, next.within, length-map entries placed)
+within : (entries : List Entry) (place : ℕ) → IsPlaceOfNext (map placed_of entries) place → place < length entries
+within entries place next = omega (arith, next.within, length-map entries placed_of)
 
 tie-small : (entries : List Entry) (place : ℕ) (entry : Entry) → All (λ entry. entry.tie < 256) entries
-    → IsPlaceOfNext (map placed entries) place → entry ≡ slice_index_or entries place entry → entry.tie < 256
+    → IsPlaceOfNext (map placed_of entries) place → entry ≡ slice_index_or entries place entry → entry.tie < 256
 tie-small entries place entry small next is = subst (λ (e : Entry). e.tie < 256) (sym is)
     (All-get_or (λ entry. entry.tie < 256) entries place entry (within entries place next) small)
 
 pub next-taken : (entries left : List Entry) (place : ℕ) (entry : Entry) (pair : ℕ × ℕ) (queue : List (ℕ × ℕ))
-    → All (λ entry. entry.tie < 256) entries → IsPlaceOfNext (map placed entries) place
+    → All (λ entry. entry.tie < 256) entries → IsPlaceOfNext (map placed_of entries) place
     → entry ≡ slice_index_or entries place entry → pair ≡ pair_of entry → left ≡ remove entries place
-    → in_order (map placed entries) ≡ queue → TakesFirst pair queue (in_order (map placed left))
+    → in_order (map placed_of entries) ≡ queue → TakesFirst pair queue (in_order (map placed_of left))
 next-taken entries left place entry pair queue small next is of rest view = record {
-  placed = placed entry;
+  placed = placed_of entry;
   is = of ∙ sym (pair_at-placed entry (tie-small entries place entry small next is));
   order = sym view
-      ∙ in_order-remove (map placed entries) place (placed entry) next (at-placed entries place entry (within entries place next) is)
-      ∙ ap (λ others. placed entry ∷ in_order others) (remove-placed entries place ∙ ap (map placed) (sym rest));
+      ∙ in_order-remove (map placed_of entries) place (placed_of entry) next (at-placed entries place entry (within entries place next) is)
+      ∙ ap (λ others. placed_of entry ∷ in_order others) (remove-placed entries place ∙ ap (map placed_of) (sym rest));
 }
 
 pub next-least : (entries : List Entry) (place : ℕ) (entry : Entry) (pair : ℕ × ℕ) (queue : List (ℕ × ℕ))
-    → All (λ entry. entry.tie < 256) entries → IsPlaceOfNext (map placed entries) place
+    → All (λ entry. entry.tie < 256) entries → IsPlaceOfNext (map placed_of entries) place
     → entry ≡ slice_index_or entries place entry → pair ≡ pair_of entry
-    → in_order (map placed entries) ≡ queue → IsLeast pair (pairs_at 256 queue)
+    → in_order (map placed_of entries) ≡ queue → IsLeast pair (pairs_at 256 queue)
 next-least entries place entry pair queue small next is of view =
     subst (λ (p : ℕ × ℕ). IsLeast p (pairs_at 256 queue))
     (pair_at-placed entry (tie-small entries place entry small next is) ∙ sym of)
-    (least-pair (placed entry) queue (subst (IsLeast (placed entry)) view
-    (in_order-least (map placed entries) place (placed entry) next (at-placed entries place entry (within entries place next) is))))
+    (least-pair (placed_of entry) queue (subst (IsLeast (placed_of entry)) view
+    (in_order-least (map placed_of entries) place (placed_of entry) next (at-placed entries place entry (within entries place next) is))))
 
 -- the pairs of entries are those of their places
-pairs_at-placed : (entries : List Entry) → All (λ entry. entry.tie < 256) entries → pairs_at 256 (map placed entries) ≡ pairs_of entries
+pairs_at-placed : (entries : List Entry) → All (λ entry. entry.tie < 256) entries → pairs_at 256 (map placed_of entries) ≡ pairs_of entries
 pairs_at-placed [] small = refl
 pairs_at-placed (e ∷ es) small =
-    ap (λ p. p ∷ pairs_at 256 (map placed es)) (pair_at-placed e (All-head (λ entry. entry.tie < 256) e es small))
+    ap (λ p. p ∷ pairs_at 256 (map placed_of es)) (pair_at-placed e (All-head (λ entry. entry.tie < 256) e es small))
     ∙ ap (λ rest. pair_of e ∷ rest) (pairs_at-placed es (All-tail (λ entry. entry.tie < 256) e es small))
 
 pub entries-permuted : (entries read : List Entry) (queue : List (ℕ × ℕ)) → read ≡ entries → All (λ entry. entry.tie < 256) entries
-    → in_order (map placed entries) ≡ queue → IsPermutation (pairs_of read) (pairs_at 256 queue)
+    → in_order (map placed_of entries) ≡ queue → IsPermutation (pairs_of read) (pairs_at 256 queue)
 entries-permuted entries read queue is small view =
     subst (λ es. IsPermutation (pairs_of es) (pairs_at 256 queue)) (sym is)
     (subst (λ ps. IsPermutation ps (pairs_at 256 queue)) (pairs_at-placed entries small)
-    (subst (λ q. IsPermutation (pairs_at 256 (map placed entries)) (pairs_at 256 q)) view
-    (IsPermutation-map (pair_at 256) (map placed entries) (in_order (map placed entries)) (in_order-permuted (map placed entries)))))
+    (subst (λ q. IsPermutation (pairs_at 256 (map placed_of entries)) (pairs_at 256 q)) view
+    (IsPermutation-map (pair_at 256) (map placed_of entries) (in_order (map placed_of entries)) (in_order-permuted (map placed_of entries)))))

@@ -4,7 +4,7 @@ ghost use Rattle.fc_frontier.specs.Place.{TakesFirst, pairs_at, place_of};
 ghost use Rattle.fc_frontier.specs.Queue.{IsLeast, inserted};
 ghost use Rattle.fc_frontier.specs.Tie.{pairs_of};
 ghost use Rattle.fc_frontier.specs.inner.Queue.{IsPlaceOfNext};
-ghost use Rattle.fc_frontier.specs.inner.Tie.{placed};
+ghost use Rattle.fc_frontier.specs.inner.Tie.{placed_of};
 
 use crate::frontiers::Full;
 use crate::tied_pairs::TiedPair;
@@ -22,18 +22,18 @@ pub struct TieList {
 impl Model for TieList {
     ghost use Rattle.std.specs.Prelude.{ℕ, ◌<◌, List, map, All};
     ghost use Rattle.fc_frontier.specs.Queue.{in_order};
-    ghost use Rattle.fc_frontier.specs.inner.Tie.{placed};
+    ghost use Rattle.fc_frontier.specs.inner.Tie.{placed_of};
 
     ghost Value = { List (ℕ × ℕ) };
 
-    ghost view = { λ s. in_order (map placed s.entries.items) };
+    ghost view = { λ s. in_order (map placed_of s.entries.items) };
 
     ghost invariant = { λ s. All (λ entry. entry.tie < 256) s.entries.items };
 }
 
 // Where the pair stands that is taken next: the last one at the least place.
 fn next_of(entries: &[TiedPair]) -> Option<usize>
-    ensures place { MatchOption result (entries.now ≡ []) (λ i. IsPlaceOfNext (map placed entries.now) i) }
+    ensures place { MatchOption result (entries.now ≡ []) (λ i. IsPlaceOfNext (map placed_of entries.now) i) }
 {
     if entries.is_empty() {
         return None;

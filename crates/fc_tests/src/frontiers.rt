@@ -2,7 +2,9 @@
 
 use crate::given::sure;
 use crate::queues::OldestFirst;
-use fc_frontier::{BucketFrontier, EitherFrontier, Frontier, ListFrontier, TieFrontier};
+use fc_frontier::{
+    BucketFrontier, EitherFrontier, Frontier, ListFrontier, TieBucketFrontier, TieFrontier,
+};
 use std::alloc::Global;
 use std::process::Abort;
 
@@ -51,6 +53,7 @@ fn a_pair_of_least_f_comes_first(rt: HostRuntime) {
     least_comes_first::<BucketFrontier>(&rt, rt.alloc());
     least_comes_first::<OldestFirst>(&rt, rt.alloc());
     least_comes_first::<TieFrontier>(&rt, rt.alloc());
+    least_comes_first::<TieBucketFrontier>(&rt, rt.alloc());
     least_comes_first::<EitherFrontier>(&rt, rt.alloc());
 }
 
@@ -79,7 +82,48 @@ fn stacks_end_at_1023(rt: HostRuntime) {
     ends_of_the_stacks::<BucketFrontier>(&rt, rt.alloc());
     ends_of_the_stacks::<ListFrontier>(&rt, rt.alloc());
     ends_of_the_stacks::<TieFrontier>(&rt, rt.alloc());
+    ends_of_the_stacks::<TieBucketFrontier>(&rt, rt.alloc());
     ends_of_the_stacks::<EitherFrontier>(&rt, rt.alloc());
+}
+
+// The greatest f that has stacks by ties and the least that has none, the least and the greatest tie of each, and one f and
+// tie twice in the stacks and behind them.
+fn ends_of_the_stacks_by_ties<F: Frontier + Drop>(rt: &impl Abort, mut queue: F) {
+    let tied = [
+        (2048, 255, 1),
+        (2047, 0, 2),
+        (4294967295, 255, 3),
+        (2048, 0, 4),
+        (2047, 255, 5),
+        (2048, 0, 6),
+        (2047, 255, 7),
+        (0, 0, 8),
+    ];
+    for (f, tie, node) in &tied {
+        put_tied(rt, &mut queue, *f, *tie, *node);
+    }
+    comes_in_order(
+        rt,
+        &mut queue,
+        &[
+            (0, 8),
+            (2047, 2),
+            (2047, 7),
+            (2047, 5),
+            (2048, 6),
+            (2048, 4),
+            (2048, 1),
+            (4294967295, 3),
+        ],
+    );
+}
+
+#[test]
+fn stacks_by_ties_end_at_2047(rt: HostRuntime) {
+    ends_of_the_stacks_by_ties(&rt, TieFrontier::new(rt.alloc()));
+    ends_of_the_stacks_by_ties(&rt, TieBucketFrontier::new(rt.alloc()));
+    ends_of_the_stacks_by_ties(&rt, EitherFrontier::with_ties(rt.alloc()));
+    ends_of_the_stacks_by_ties(&rt, EitherFrontier::with_small_ties(rt.alloc()));
 }
 
 // Of equal f the pair that was pushed last comes first, in the stacks and behind them; a pair stands there as often as
@@ -121,6 +165,7 @@ fn of_equal_f_the_newest_comes_first(rt: HostRuntime) {
     newest_comes_first::<BucketFrontier>(&rt, rt.alloc());
     newest_comes_first::<ListFrontier>(&rt, rt.alloc());
     newest_comes_first::<TieFrontier>(&rt, rt.alloc());
+    newest_comes_first::<TieBucketFrontier>(&rt, rt.alloc());
     newest_comes_first::<EitherFrontier>(&rt, rt.alloc());
 }
 
@@ -135,7 +180,9 @@ fn a_new_queue_is_empty(rt: HostRuntime) {
     check_empty(&rt, ListFrontier::new(rt.alloc()));
     check_empty(&rt, BucketFrontier::new(rt.alloc()));
     check_empty(&rt, TieFrontier::new(rt.alloc()));
+    check_empty(&rt, TieBucketFrontier::new(rt.alloc()));
     check_empty(&rt, EitherFrontier::with_ties(rt.alloc()));
+    check_empty(&rt, EitherFrontier::with_small_ties(rt.alloc()));
 }
 
 // Pairs with ties: the greatest f and the greatest tie among them, one pair twice, and f of 1,024 and more.
@@ -160,8 +207,8 @@ fn fill_with_ties<F: Frontier + Drop>(rt: &impl Abort, mut queue: F) -> F {
 }
 
 // Of equal f the pair of least tie comes first, and of equal ties the one that was pushed last.
-fn least_tie_comes_first<F: Frontier + Drop>(rt: &impl Abort, alloc: Global) {
-    let mut queue = fill_with_ties(rt, F::with_ties(alloc));
+fn least_tie_comes_first<F: Frontier + Drop>(rt: &impl Abort, queue: F) {
+    let mut queue = fill_with_ties(rt, queue);
     assert!(rt; queue.pop_least() == Some((69, 8)));
     assert!(rt; queue.pop_least() == Some((70, 6)));
     // A push is one with the tie 0.
@@ -188,8 +235,11 @@ fn least_tie_comes_first<F: Frontier + Drop>(rt: &impl Abort, alloc: Global) {
 
 #[test]
 fn of_equal_f_the_least_tie_comes_first(rt: HostRuntime) {
-    least_tie_comes_first::<TieFrontier>(&rt, rt.alloc());
-    least_tie_comes_first::<EitherFrontier>(&rt, rt.alloc());
+    least_tie_comes_first(&rt, TieFrontier::with_ties(rt.alloc()));
+    least_tie_comes_first(&rt, TieBucketFrontier::with_ties(rt.alloc()));
+    least_tie_comes_first(&rt, TieBucketFrontier::with_small_ties(rt.alloc()));
+    least_tie_comes_first(&rt, EitherFrontier::with_ties(rt.alloc()));
+    least_tie_comes_first(&rt, EitherFrontier::with_small_ties(rt.alloc()));
 }
 
 // A queue that has no use for ties gives of equal f the newest, whatever its tie is.
@@ -237,5 +287,7 @@ fn each_pair_is_walked_over(rt: HostRuntime) {
     walks_over_all(&rt, ListFrontier::new(rt.alloc()));
     walks_over_all(&rt, TieFrontier::new(rt.alloc()));
     walks_over_all(&rt, EitherFrontier::new(rt.alloc()));
+    walks_over_all(&rt, TieBucketFrontier::new(rt.alloc()));
     walks_over_all(&rt, EitherFrontier::with_ties(rt.alloc()));
+    walks_over_all(&rt, EitherFrontier::with_small_ties(rt.alloc()));
 }

@@ -16,8 +16,8 @@ entry_of n = record {
 }
 
 -- the place and the node of an entry
-abbrev pub placed : Entry → ℕ × ℕ
-placed entry = (place_of entry.f entry.tie, entry.node)
+abbrev pub placed_of : Entry → ℕ × ℕ
+placed_of entry = (place_of entry.f entry.tie, entry.node)
 
 -- how entries compare: the greater one has a lesser f, or the same f and a lesser tie, or the same f and tie and a greater stamp;
 -- of equal stamps, a lesser node
