@@ -1,14 +1,13 @@
 -- Columns as bits: those whose last card has a rank, and those that may take a card.
-use Rattle.std.proofs.Common.{◌≡◌, ℕ, ◌+◌, ◌*◌, ◌%◌, ◌^◌, ◌<◌, max, bit_or, Option, Some, None, IfSome, IfNone, List, length, get_or, set, sym, ◌∙◌, ap, subst, ⊎_elim, w8, arith}
+use Rattle.std.proofs.Common.{◌≡◌, ℕ, ◌*◌, ◌%◌, ◌^◌, ◌<◌, max, bit_or, Option, Some, None, IfSome, IfNone, List, length, get_or, set, sym, ◌∙◌, ap, subst, ⊎_elim, w8, arith}
 use Rattle.std.specs.Int.{bit_at}
 use Rattle.std.proofs.lemmas.Bool.{cases_eq}
 use Rattle.std.proofs.lemmas.List.{get_or-set_same, get_or-set_other}
 use Rattle.std.proofs.lemmas.Nat.Bits.{bit_at_or, bit_at-lt, bit_at_ones, bit_at_set_same}
-use Rattle.fc_cards.specs.Card.{rank}
 use Rattle.fc_cards.specs.declared.places.Place.{Place}
 use Rattle.fc_position.specs.Board.{Board, playable}
 use Rattle.fc_moves.specs.GameRules.{GameRules, IsGame, IsPair, Stands}
-use Rattle.fc_canonical.specs.inner.Distinct.{TellLasts, HaveHosts, HaveTakers, IsOpening}
+use Rattle.fc_canonical.specs.inner.Distinct.{HaveHosts, HaveTakers, IsOpening}
 
 -- a bit that is set stays so where others are set
 pub bit_kept : (n m i : ℕ) → bit_at n i ≡ 1 → bit_at (bit_or n m) i ≡ 1
@@ -35,11 +34,6 @@ noted_kept lasts r m there q i is =
     ∙ bit_kept (get_or lasts r 0) m i (ap (λ k. bit_at (get_or lasts k 0) i) (sym same) ∙ is))
     (λ other. ap (λ n. bit_at n i) (get_or-set_other lasts r q new 0 other) ∙ is)
     (cases_eq q r)
-
--- the columns that are noted at the rank above the card's have its hosts
-pub hosts_noted : (b : Board) (lasts : List ℕ) (u : ℕ) → TellLasts b 8 lasts → HaveHosts b u (get_or lasts (rank u + 1) 0)
-hosts_noted b lasts u told j l below last higher =
-    ap (λ r. bit_at (get_or lasts r 0) j) higher ∙ told j l below last
 
 -- where a card opens no column, its hosts have all columns to which it is listed; else all columns have them
 pub have_takers : (g : GameRules) (b : Board) (from : Place) (u hosts takers : ℕ) (opening : Option ℕ) → IsGame g

@@ -2,11 +2,11 @@
 use Rattle.std.proofs.Common.{◌≡◌, ◌≢◌, ℕ, zero, suc, Bool, false, ◌⊎◌, Some, None, List, [], ◌∷◌, ◌++◌, refl, sym, ◌∙◌, ap, subst, inl, inr, ⊎_elim, arith}
 use Rattle.std.specs.Prelude.{IsTrue}
 use Rattle.std.proofs.lemmas.Bool.{cases_eq}
-use Rattle.std.proofs.lemmas.List.{get_or-set_other, get_or-set_same}
+use Rattle.std.proofs.lemmas.List.{get_or-set_other}
 use Rattle.fc_cards.specs.declared.places.Place.{Place}
 use Rattle.fc_cards.specs.declared.places.Place.TheVariants.{Column, Cell, Home}
 use Rattle.fc_position.specs.Board.{Board, column, playable, lifted, placed, last_of, front_of, IsNext}
-use Rattle.fc_position.proofs.BoardLemmas.{homes-lifted, column_there, cell_there}
+use Rattle.fc_position.proofs.BoardLemmas.{homes-lifted}
 use Rattle.fc_moves.specs.declared.steps.Move.{Move}
 use Rattle.fc_moves.specs.GameRules.{GameRules}
 use Rattle.fc_moves.specs.Step.{Step, Joins}
@@ -78,15 +78,6 @@ apart (Cell i) (Column j) joins = λ e. cc e
 apart (Cell i) (Cell j) joins = absurd joins
 apart (Cell i) Home joins = λ e. cc e
 apart Home to joins = absurd joins
-
--- what lies beneath the playable card of a place
-pub beneath_column : (b : Board) (i u : ℕ) → playable b (Column i) ≡ Some u
-    → playable (lifted b (Column i)) (Column i) ≡ last_of (front_of (column b i))
-beneath_column b i u last = ap last_of (get_or-set_same b.columns i (front_of (column b i)) [] (column_there b i u last))
-
-pub beneath_cell : (b : Board) (i u d : ℕ) → playable b (Cell i) ≡ Some u → playable (lifted b (Cell i)) (Cell i) ≡ Some d → ⊥
-beneath_cell b i u d held there =
-    let none = sym (get_or-set_same b.cells i None None (cell_there b i u held)) ∙ there in cc none
 
 -- a card that goes home by a rule is next
 goes_next : (rule : ℕ) (g : GameRules) (homes : List ℕ) (c : ℕ) → GoesHome rule g homes c → IsNext homes c
