@@ -12,5 +12,6 @@ mod looks;
 mod relays;
 mod schedule;
 mod shortenings;
+mod stages;
 mod standings;
 mod tails;

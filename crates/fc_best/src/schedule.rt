@@ -8,94 +8,13 @@ ghost use Rattle.fc_best.specs.Best.{IsBestAnswer};
 ghost use Rattle.fc_best.specs.Watch.{HearsTold, HearsToEnd};
 
 use crate::listeners::BestListener;
-use crate::standings::{Purpose, Stage, Standing};
+use crate::stages::{Stage, stages_within};
+use crate::standings::Standing;
 use fc_answers::Answer;
 use fc_methods::Question;
 use fc_moves::Game;
 use fc_position::Position;
 use std::alloc::{AllocError, Global};
-
-// The searches before the last one. First a look; where it leaves few classes open the board may be lost, so a longer one, the more so
-// the fewer there are, and by a lower weight, which reaches all that can be reached in fewer turns. Then by weight 2, where so much is
-// left; where no list is found by then, by 3, and where that gives up too by 7 with all that is left, which finds most of the others;
-// then shorter ones, as long as enough is left for the last search.
-static STAGES: [Stage; 10] = [
-    Stage {
-        purpose: Purpose::Look {
-            least_open: 0,
-            most_open: u8::MAX,
-        },
-        weight_tenths: 30,
-        most: 12,
-        kept: 0,
-    },
-    Stage {
-        purpose: Purpose::Look {
-            least_open: 28,
-            most_open: 44,
-        },
-        weight_tenths: 30,
-        most: 18,
-        kept: 0,
-    },
-    Stage {
-        purpose: Purpose::Look {
-            least_open: 28,
-            most_open: 34,
-        },
-        weight_tenths: 30,
-        most: 68,
-        kept: 0,
-    },
-    Stage {
-        purpose: Purpose::Look {
-            least_open: 20,
-            most_open: 27,
-        },
-        weight_tenths: 20,
-        most: 70,
-        kept: 0,
-    },
-    Stage {
-        purpose: Purpose::Look {
-            least_open: 0,
-            most_open: 19,
-        },
-        weight_tenths: 10,
-        most: 70,
-        kept: 0,
-    },
-    Stage {
-        purpose: Purpose::Shorten,
-        weight_tenths: 20,
-        most: 25,
-        kept: 30,
-    },
-    Stage {
-        purpose: Purpose::Rescue,
-        weight_tenths: 30,
-        most: 30,
-        kept: 0,
-    },
-    Stage {
-        purpose: Purpose::Rescue,
-        weight_tenths: 70,
-        most: 100,
-        kept: 0,
-    },
-    Stage {
-        purpose: Purpose::Shorten,
-        weight_tenths: 15,
-        most: 100,
-        kept: 30,
-    },
-    Stage {
-        purpose: Purpose::Shorten,
-        weight_tenths: 13,
-        most: 100,
-        kept: 40,
-    },
-];
 
 /// The best answer for a position that fits the question's game: a list that wins and a number of moves that no list that wins is
 /// below, a shortest list where they meet, that none wins, or, where no list was found, that the searches gave up. They go by the
@@ -145,8 +64,36 @@ fn after_stages<G: Game + Drop, L: BestListener>(
     ensures heard { HearsTold L.hears question.now position.now listener.old listener.new }
 {
     let mut after = standing;
-    for stage in &STAGES {
-        after = after.weighed(alloc, question, position, *stage, listener)?;
+    for stage in stages_within(question.method().strategy.budget.get()) {
+        after = after_stage(alloc, question, position, after, *stage, listener)?;
+    }
+    Ok(after)
+}
+
+// After the searches of a stage, each for a shorter list than the one before.
+fn after_stage<G: Game + Drop, L: BestListener>(
+    alloc: Global,
+    question: &Question<G>,
+    position: &Position,
+    standing: Standing,
+    stage: Stage,
+    listener: &mut L,
+) -> Result<Standing, AllocError>
+    requires fits { Fits question.now.game.cells position.now }
+    requires stands { Stands question.now position.now standing }
+    requires left { 1 ≤ standing.left }
+    ensures stands { IfOk result (Stands question.now position.now) }
+    ensures left { IfOk result (λ after. 1 ≤ after.left) }
+    ensures has_table { IfOk result (λ after. after.has_table ≡ standing.has_table) }
+    ensures heard { HearsTold L.hears question.now position.now listener.old listener.new }
+{
+    let mut after = standing;
+    for _ in 0..stage.times {
+        let before = after.far.shortest;
+        after = after.weighed(alloc, question, position, stage, listener)?;
+        if after.far.shortest == before {
+            return Ok(after);
+        }
     }
     Ok(after)
 }

@@ -9,6 +9,7 @@ ghost use Rattle.fc_methods.specs.Method.{Asked};
 ghost use Rattle.fc_best.specs.inner.Standing.{with_share, Stands};
 ghost use Rattle.fc_best.specs.inner.Tail.{IsTail};
 
+use crate::stages::tails_above;
 use crate::standings::{Plan, Standing, asked_with, limit_of, newest};
 use crate::tails::Tail;
 use fc_methods::{Budget, Question, Weight};
@@ -73,12 +74,12 @@ impl Standing {
         ensures right { IfOk result (λ tail. IfSome tail (λ found. (weight : Ratio) × (share : ℕ) × (share + 1 ≤ self.now.left)
             × IsTail (with_share question.now weight share) position.now found)) }
     {
-        let budget = question.method().strategy.budget;
-        let share = self.share(budget, 100, 10).min(budget.get() / TAIL_SHARE);
+        let whole = question.method().strategy.budget;
+        let share = self.share(whole, 100, 10).min(whole.get() / TAIL_SHARE);
         let (Some(list), Some(budget), None) = (&self.list, Budget::new(share), &self.shown) else {
             return Ok(None);
         };
-        if list.len() < last as usize {
+        if list.len() < last as usize || !self.is_above(tails_above(whole.get())) {
             return Ok(None);
         }
         let plan = Plan {

@@ -17,35 +17,12 @@ ghost use Rattle.fc_best.specs.inner.Watch.{IsFurther};
 use crate::attempts::{Aim, Attempt};
 use crate::listeners::{BestListener, BestProgress};
 use crate::relays::attempt_after;
+use crate::stages::{Purpose, Stage};
 use fc_answers::{Answer, MoveList, Table, Verdict};
 use fc_methods::{Budget, Method, Question, Strategy, Weight};
 use fc_moves::Game;
 use fc_position::Position;
 use std::alloc::{AllocError, Global};
-
-// What a stage is for.
-#[derive(Clone, Copy)]
-pub(crate) enum Purpose {
-    // To show soon that none wins, or to find any list: by the plain bound, storing all children, which takes least time for a class.
-    // Only where the last search left so many hundredths of its classes open.
-    Look { least_open: u8, most_open: u8 },
-    // To find any list where none is found.
-    Rescue,
-    // To find a shorter list.
-    Shorten,
-}
-
-// A stage before the last search.
-#[derive(Clone, Copy)]
-pub(crate) struct Stage {
-    pub(crate) purpose: Purpose,
-    // How many tenths as much as a cost its bound counts.
-    pub(crate) weight_tenths: u8,
-    // How many hundredths of the budget it may store at most.
-    pub(crate) most: u8,
-    // How many hundredths are kept for what comes after it.
-    pub(crate) kept: u8,
-}
 
 // What a search that settled a question showed.
 #[derive(Drop)]
@@ -136,7 +113,7 @@ impl Standing {
         };
         match stage.purpose {
             Purpose::Look { .. } => self.looked(alloc, question, position, plan, listener),
-            Purpose::Rescue | Purpose::Shorten => self.searched(
+            Purpose::Rescue | Purpose::Shorten { .. } => self.searched(
                 alloc, question, position, plan, listener,
             ),
         }
@@ -152,7 +129,15 @@ impl Standing {
                 && least_open <= self.open_share
                 && self.open_share <= most_open,
             Purpose::Rescue => self.list.is_none(),
-            Purpose::Shorten => true,
+            Purpose::Shorten { above } => self.is_above(above),
+        }
+    }
+
+    // Whether the best list has more than so many moves above the floor that is shown, or there is none.
+    pub(crate) fn is_above(&self, above: u8) -> bool {
+        match self.far.shortest {
+            Some(moves) => moves.saturating_sub(self.far.at_least) > u32::from(above),
+            None => true,
         }
     }
 
