@@ -227,8 +227,8 @@ static THOROUGH: [Stage; 12] = [
     },
 ];
 
-// The least budget of which a hundredth is enough for a search.
-const THOROUGH_BUDGET: u32 = 1_000_000;
+// The least budget within which these answer no less than the others: a hundredth of it is enough for a search.
+const THOROUGH_BUDGET: u32 = 2_000_000;
 
 // The stages within a budget.
 pub(crate) fn stages_within(budget: u32) -> &'static [Stage] {
