@@ -5,7 +5,7 @@ use Rattle.fc_best.proofs.schedule.after_stages.Goals as goal
 pub returns-in_err-after-clause-heard : goal.returns-in_err-after-clause-heard
 returns-in_err-after-clause-heard g c =
     hears_more c.args.question.now c.args.position.now g.L.BestListener.hears c.args.listener.now c.loop-stage.listener
-    c.weighed.new.listener c.loop-stage.invariant.3 c.weighed.ensures.heard
+    c.after_stage.new.listener c.loop-stage.invariant.3 c.after_stage.ensures.heard
 
 pub loop-stage-preserved : goal.loop-stage-preserved
 loop-stage-preserved g c = (
@@ -13,5 +13,5 @@ loop-stage-preserved g c = (
   c.in_ok-after.ensures.left,
   c.in_ok-after.ensures.has_table ∙ c.loop-stage.invariant.2,
   hears_more c.args.question.now c.args.position.now g.L.BestListener.hears c.args.listener.now c.loop-stage.listener
-      c.weighed.new.listener c.loop-stage.invariant.3 c.weighed.ensures.heard,
+      c.after_stage.new.listener c.loop-stage.invariant.3 c.after_stage.ensures.heard,
 )
