@@ -1,24 +1,33 @@
 -- A board as it is drawn: rows of entries, each of three letters but for what colours it.
-use Rattle.std.specs.Prelude.{ℕ, zero, suc, ◌+◌, ◌*◌, ◌&&◌, Bool, cond, List, [], ◌∷◌, ◌++◌, Option, Some, None, max, take, length, codes, slice_get}
+use Rattle.std.specs.Prelude.{ℕ, zero, suc, ◌+◌, ◌*◌, ◌&&◌, ◌==◌, Bool, cond, List, [], ◌∷◌, ◌++◌, Option, Some, None, max, take, length, codes, slice_get}
 use Rattle.std.specs.List.{flat_map}
 use Rattle.fc_cards.specs.Card.{is_red}
 use Rattle.fc_cards.specs.Texts.{card_text}
 use Rattle.fc_position.specs.Board.{Board, home}
+use Rattle.fc_show.specs.declared.styles.Style.{Style}
 
--- a card has a blank before it; where colours are shown, what a terminal takes for red stands around one of a red suit
-abbrev pub card_entry : Bool → ℕ → List ℕ
-card_entry is_coloured c =
-    32 ∷ cond (is_coloured && is_red c) (27 ∷ codes "[31m" ++ card_text c ++ 27 ∷ codes "[0m") (card_text c)
+-- before a card stands a blank, or a mark where it is the one that is marked
+abbrev pub mark_of : Option ℕ → ℕ → ℕ
+mark_of None c = 32
+mark_of (Some marked) c = cond (marked == c) 62 32
+
+-- a card as it is shown: where colours are, what a terminal takes for red stands around one of a red suit
+abbrev pub card_shown : Bool → ℕ → List ℕ
+card_shown is_coloured c = cond (is_coloured && is_red c) (27 ∷ codes "[31m" ++ card_text c ++ 27 ∷ codes "[0m") (card_text c)
+
+-- a card with what stands before it
+abbrev pub card_entry : Style → ℕ → List ℕ
+card_entry style c = mark_of style.marked c ∷ card_shown style.is_coloured c
 
 -- a cell or a foundation without a card is a dash
-abbrev pub held_entry : Bool → Option ℕ → List ℕ
-held_entry is_coloured None = codes "  -"
-held_entry is_coloured (Some c) = card_entry is_coloured c
+abbrev pub held_entry : Style → Option ℕ → List ℕ
+held_entry style None = codes "  -"
+held_entry style (Some c) = card_entry style c
 
 -- where a column has no card, nothing is drawn
-abbrev pub place_entry : Bool → Option ℕ → List ℕ
-place_entry is_coloured None = codes "   "
-place_entry is_coloured (Some c) = card_entry is_coloured c
+abbrev pub place_entry : Style → Option ℕ → List ℕ
+place_entry style None = codes "   "
+place_entry style (Some c) = card_entry style c
 
 -- the top card of a foundation with n cards of a suit
 abbrev pub top_card : ℕ → ℕ → Option ℕ
@@ -38,20 +47,20 @@ abbrev pub top_names : ℕ → List ℕ
 top_names n = names_row (take n (codes "abcd")) ++ (codes "   " ++ names_row (codes "CDHS"))
 
 -- what the game's cells hold
-abbrev pub cells_row : Bool → ℕ → Board → List ℕ
-cells_row is_coloured n b = flat_map (held_entry is_coloured) (take n b.cells)
+abbrev pub cells_row : Style → ℕ → Board → List ℕ
+cells_row style n b = flat_map (held_entry style) (take n b.cells)
 
 -- the top cards of the foundations
-abbrev pub foundations_row : Bool → Board → List ℕ
-foundations_row is_coloured b = flat_map (λ s. held_entry is_coloured (top_card s (home b s))) (0 ∷ 1 ∷ 2 ∷ 3 ∷ [])
+abbrev pub foundations_row : Style → Board → List ℕ
+foundations_row style b = flat_map (λ s. held_entry style (top_card s (home b s))) (0 ∷ 1 ∷ 2 ∷ 3 ∷ [])
 
 -- the cells and the foundations side by side
-abbrev pub top_row : Bool → ℕ → Board → List ℕ
-top_row is_coloured n b = cells_row is_coloured n b ++ (codes "   " ++ foundations_row is_coloured b)
+abbrev pub top_row : Style → ℕ → Board → List ℕ
+top_row style n b = cells_row style n b ++ (codes "   " ++ foundations_row style b)
 
 -- one card of each column, the deepest ones in the first row
-abbrev pub row : Bool → List (List ℕ) → ℕ → List ℕ
-row is_coloured columns i = flat_map (λ cards. place_entry is_coloured (slice_get cards i)) columns
+abbrev pub row : Style → List (List ℕ) → ℕ → List ℕ
+row style columns i = flat_map (λ cards. place_entry style (slice_get cards i)) columns
 
 -- how many cards the longest column has
 abbrev pub height : List (List ℕ) → ℕ
@@ -63,15 +72,15 @@ abbrev pub ended : List ℕ → List ℕ
 ended line = line ++ 10 ∷ []
 
 -- what stands above the columns: the cells and the foundations, an empty line, and the names of the columns
-abbrev pub top : Bool → ℕ → Board → List ℕ
-top is_coloured n b = ended (top_names n)
-    ++ (ended (top_row is_coloured n b) ++ (ended [] ++ ended (names_row (codes "12345678"))))
+abbrev pub top : Style → ℕ → Board → List ℕ
+top style n b = ended (top_names n)
+    ++ (ended (top_row style n b) ++ (ended [] ++ ended (names_row (codes "12345678"))))
 
 -- so many rows of the columns, those from this one on
-abbrev pub rows : Bool → List (List ℕ) → ℕ → ℕ → List ℕ
-rows is_coloured columns i zero = []
-rows is_coloured columns i (suc count) = ended (row is_coloured columns i) ++ rows is_coloured columns (i + 1) count
+abbrev pub rows : Style → List (List ℕ) → ℕ → ℕ → List ℕ
+rows style columns i zero = []
+rows style columns i (suc count) = ended (row style columns i) ++ rows style columns (i + 1) count
 
 -- the board of a game with n cells: what stands above the columns, and the columns
-abbrev pub drawing : Bool → ℕ → Board → List ℕ
-drawing is_coloured n b = top is_coloured n b ++ rows is_coloured b.columns 0 (height b.columns)
+abbrev pub drawing : Style → ℕ → Board → List ℕ
+drawing style n b = top style n b ++ rows style b.columns 0 (height b.columns)

@@ -5,6 +5,7 @@ ghost use Rattle.fc_position.specs.Position.{Fits};
 ghost use Rattle.fc_show.specs.Drawing.{cells_row, drawing, ended, foundations_row, height, row, top, top_card, top_names, top_row};
 
 use crate::entries::{push, push_held, push_names, push_place};
+use crate::styles::Style;
 use arrayvec::ArrayVec;
 use fc_cards::{Card, Suit};
 use fc_position::Position;
@@ -17,16 +18,15 @@ pub type Drawing = ArrayVec<u8, MOST_BYTES>;
 
 /// The drawing of a position that fits a game with so many cells, at most four: the game's cells by their names and the
 /// top cards of the foundations, an empty line, and the columns by their numbers, each going downward from its deepest card.
-/// Cards of red suits are in red where colours are shown, as terminals take it.
-pub fn draw(position: &Position, cells: u8, is_coloured: bool) -> Drawing
+pub fn draw(position: &Position, cells: u8, style: &Style) -> Drawing
     requires game { cells ≤ 4 }
     requires fits { Fits cells position.now }
-    ensures value { result.items ≡ drawing is_coloured cells position.now }
+    ensures value { result.items ≡ drawing style.now cells position.now }
 {
     let mut text = ArrayVec::new();
-    push_top(&mut text, position, cells, is_coloured);
+    push_top(&mut text, position, cells, style);
     for i in 0..height(position) {
-        push_row(&mut text, position, i, is_coloured);
+        push_row(&mut text, position, i, style);
     }
     text
 }
@@ -44,14 +44,14 @@ fn height(position: &Position) -> usize
 }
 
 // Appends what stands above the columns, and their names.
-fn push_top(text: &mut Drawing, position: &Position, cells: u8, is_coloured: bool)
+fn push_top(text: &mut Drawing, position: &Position, cells: u8, style: &Style)
     requires game { cells ≤ 4 }
     requires room { length text.old.items + 154 ≤ 8192 }
-    ensures text { text.new.items ≡ text.old.items ++ top is_coloured cells position.now }
+    ensures text { text.new.items ≡ text.old.items ++ top style.now cells position.now }
     ensures within { length text.new.items ≤ length text.old.items + 154 }
 {
     push_top_names(text, cells);
-    push_top_row(text, position, cells, is_coloured);
+    push_top_row(text, position, cells, style);
     push(text, b"\n");
     push_names(text, b"12345678");
     push(text, b"\n");
@@ -71,40 +71,40 @@ fn push_top_names(text: &mut Drawing, cells: u8)
 }
 
 // Appends what the game's cells hold and the top cards of the foundations.
-fn push_top_row(text: &mut Drawing, position: &Position, cells: u8, is_coloured: bool)
+fn push_top_row(text: &mut Drawing, position: &Position, cells: u8, style: &Style)
     requires game { cells ≤ 4 }
     requires room { length text.old.items + 100 ≤ 8192 }
-    ensures text { text.new.items ≡ text.old.items ++ ended (top_row is_coloured cells position.now) }
+    ensures text { text.new.items ≡ text.old.items ++ ended (top_row style.now cells position.now) }
     ensures within { length text.new.items ≤ length text.old.items + 100 }
 {
-    push_cells(text, position, cells, is_coloured);
+    push_cells(text, position, cells, style);
     push(text, b"   ");
-    push_foundations(text, position, is_coloured);
+    push_foundations(text, position, style);
     push(text, b"\n");
 }
 
 // Appends what the game's cells hold.
-fn push_cells(text: &mut Drawing, position: &Position, cells: u8, is_coloured: bool)
+fn push_cells(text: &mut Drawing, position: &Position, cells: u8, style: &Style)
     requires game { cells ≤ 4 }
     requires room { length text.old.items + 48 ≤ 8192 }
-    ensures text { text.new.items ≡ text.old.items ++ cells_row is_coloured cells position.now }
+    ensures text { text.new.items ≡ text.old.items ++ cells_row style.now cells position.now }
     ensures within { length text.new.items ≤ length text.old.items + 48 }
 {
     for i in 0..cells {
-        push_held(text, is_coloured, position.cell(i));
+        push_held(text, style, position.cell(i));
     }
 }
 
 // Appends the top cards of the foundations.
-fn push_foundations(text: &mut Drawing, position: &Position, is_coloured: bool)
+fn push_foundations(text: &mut Drawing, position: &Position, style: &Style)
     requires room { length text.old.items + 48 ≤ 8192 }
-    ensures text { text.new.items ≡ text.old.items ++ foundations_row is_coloured position.now }
+    ensures text { text.new.items ≡ text.old.items ++ foundations_row style.now position.now }
     ensures within { length text.new.items ≤ length text.old.items + 48 }
 {
-    push_held(text, is_coloured, top_card(position, Suit::C));
-    push_held(text, is_coloured, top_card(position, Suit::D));
-    push_held(text, is_coloured, top_card(position, Suit::H));
-    push_held(text, is_coloured, top_card(position, Suit::S));
+    push_held(text, style, top_card(position, Suit::C));
+    push_held(text, style, top_card(position, Suit::D));
+    push_held(text, style, top_card(position, Suit::H));
+    push_held(text, style, top_card(position, Suit::S));
 }
 
 // The top card of a foundation.
@@ -115,13 +115,13 @@ fn top_card(position: &Position, suit: Suit) -> Option<Card>
 }
 
 // Appends one card of each column.
-fn push_row(text: &mut Drawing, position: &Position, i: usize, is_coloured: bool)
+fn push_row(text: &mut Drawing, position: &Position, i: usize, style: &Style)
     requires room { length text.old.items + 97 ≤ 8192 }
-    ensures text { text.new.items ≡ text.old.items ++ ended (row is_coloured position.now.columns i) }
+    ensures text { text.new.items ≡ text.old.items ++ ended (row style.now position.now.columns i) }
     ensures within { length text.new.items ≤ length text.old.items + 97 }
 {
     for column in 0..8 {
-        push_place(text, is_coloured, position.column(column), i);
+        push_place(text, style, position.column(column), i);
     }
     push(text, b"\n");
 }

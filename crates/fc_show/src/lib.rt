@@ -3,6 +3,10 @@
 #![tactic(auto)]
 
 pub use drawings::{Drawing, MOST_BYTES, draw};
+pub use inks::card_shown;
+pub use styles::Style;
 
 mod drawings;
 mod entries;
+mod inks;
+mod styles;

@@ -8,7 +8,7 @@ loop-i-preserved c =
     let columns = c.args.position.now.columns in
     record {
       text =
-          rows_more _ _ _ c.args.is_coloured columns c.loop-i.i (height columns) (omega arith)
+          rows_more _ _ _ c.args.style.now columns c.loop-i.i (height columns) (omega arith)
           c.loop-i.invariant.text c.push_row.ensures.text;
       within = omega arith;
     }
