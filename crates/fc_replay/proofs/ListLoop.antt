@@ -11,7 +11,8 @@ use Rattle.fc_moves.specs.Step.{Step, Allows}
 use Rattle.fc_moves.proofs.StepLemmas.{step_once}
 use Rattle.fc_replay.specs.declared.pages.Page.{Page}
 use Rattle.fc_replay.specs.Page.{page_text, pages_text}
-use Rattle.fc_replay.specs.Played.{PlaysAs, Passes, sink_change}
+use Rattle.fc_replay.specs.Telling.{told_move}
+use Rattle.fc_replay.specs.Played.{PlaysAs, Passes, board_after, sink_change}
 use Rattle.fc_replay.proofs.PageLemmas.{pages_text-append, front_of_more}
 use Rattle.fc_replay.proofs.PlayLemmas.{passes_append, passed_length, run_passes}
 use Rattle.fc_replay.proofs.ReplayLoop.{Course, Sheets, course_next, sheets_next, sheets_failed}
@@ -21,7 +22,7 @@ pub record OnTheWay (page : Page) (g : GameRules) (start : Board) (all left : Li
   pub moves : List Move
   pub boards : List Board
   pub course : Course g start moves boards steps here
-  pub sheets : Sheets page g moves boards old new before after
+  pub sheets : Sheets page g start moves boards old new before after
   pub parts : moves ++ left ≡ all
   pub end : Board
   pub run : Run g here left end
@@ -50,7 +51,7 @@ next_parts moves left more all m parts first = append_assoc moves (m ∷ []) mor
 -- the next move was made, and its page is written
 pub way_next : (page : Page) (g : GameRules) (start : Board) (all left more : List Move) (steps : ℕ) (here next : Board) (old new newer : Option (List ℕ)) (before after later : Bool) (m : Move) (n : ℕ)
     → OnTheWay page g start all left steps here old new before after → left ≡ m ∷ more → Step g here m next
-    → n ≡ g.cells → TakesBytes new newer (page_text page n (steps + 1) m next) → after ≡ false → later ≡ false
+    → n ≡ g.cells → TakesBytes new newer (page_text page n (told_move (steps + 1) here m) next) → after ≡ false → later ≡ false
     → OnTheWay page g start all more (steps + 1) next old newer before later
 way_next page g start all left more steps here next old new newer before after later m n way first step cells taken sound still = record {
   moves = way.moves ++ m ∷ [];
@@ -65,7 +66,7 @@ way_next page g start all left more steps here next old new newer before after l
 -- the sink failed at the page of the next move
 pub way_failed : (page : Page) (g : GameRules) (start : Board) (all left more : List Move) (steps : ℕ) (here next : Board) (old new newer : Option (List ℕ)) (before after : Bool) (m : Move) (n : ℕ) (fault : Failed)
     → OnTheWay page g start all left steps here old new before after → left ≡ m ∷ more → Step g here m next
-    → n ≡ g.cells → TakesFront new newer (page_text page n (steps + 1) m next)
+    → n ≡ g.cells → TakesFront new newer (page_text page n (told_move (steps + 1) here m) next)
     → PlaysAs page g start all (sink_change old newer) (Err fault)
 way_failed page g start all left more steps here next old new newer before after m n fault way first step cells taken =
     let moves = way.moves ++ m ∷ [] in
@@ -77,15 +78,15 @@ way_failed page g start all left more steps here next old new newer before after
     passes_append g start moves more boards others.0 course.passed (subst (λ b. Passes g b more others.0) course.place others.1) in
     let whole : moves ++ more ≡ all = next_parts way.moves left more all m way.parts first in
     let text =
-    pages_text-append page g.cells 1 (1 + length moves) moves more boards others.0 (passed_length g start moves boards course.passed) refl in
-    let front : TakesFront old newer (pages_text page g.cells 1 (moves ++ more) (boards ++ others.0)) =
+    pages_text-append page g.cells 1 (1 + length moves) start moves more boards others.0 (passed_length g start moves boards course.passed) refl in
+    let front : TakesFront old newer (pages_text page g.cells 1 start (moves ++ more) (boards ++ others.0)) =
     subst (TakesFront old newer) (sym text)
-    (front_of_more old newer (pages_text page g.cells 1 moves boards) (pages_text page g.cells (1 + length moves) more others.0)
+    (front_of_more old newer (pages_text page g.cells 1 start moves boards) (pages_text page g.cells (1 + length moves) (board_after start boards) more others.0)
     (sheets_failed page g start way.moves way.boards steps here next old new newer before after m n way.course way.sheets cells taken)) in
     record {
       boards = boards ++ others.0;
       passed = subst (λ ms. Passes g start ms (boards ++ others.0)) whole passed;
-      written = subst (λ ms. TakesFront old newer (pages_text page g.cells 1 ms (boards ++ others.0))) whole front;
+      written = subst (λ ms. TakesFront old newer (pages_text page g.cells 1 start ms (boards ++ others.0))) whole front;
       count = tt;
       won = tt;
     }

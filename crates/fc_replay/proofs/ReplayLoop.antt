@@ -15,6 +15,7 @@ use Rattle.fc_replay.specs.declared.faults.ReplayFault.TheVariants.{BadMove, Not
 use Rattle.fc_replay.specs.declared.pages.Page.{Page}
 use Rattle.fc_replay.specs.declared.replays.Ended.{Ended}
 use Rattle.fc_replay.specs.Page.{page_text, pages_text}
+use Rattle.fc_replay.specs.Telling.{told_move}
 use Rattle.fc_replay.specs.Token.{is_gap, move_tokens, SpellsMove, IsNoMove}
 use Rattle.fc_replay.specs.Played.{Passes, Plays, SpellMoves, StopsAt, IsNotAllowed, ReplaysAs, BeginsWithStep, board_after, sink_change}
 use Rattle.fc_text.proofs.PartLemmas.{length-tokens_between}
@@ -42,14 +43,14 @@ course_next g start moves boards steps here next m course step = record {
 }
 
 -- the pages of moves were written to a sink that hasn't failed meanwhile; one that had failed took nothing
-pub record Sheets (page : Page) (g : GameRules) (moves : List Move) (boards : List Board) (old new : Option (List ℕ)) (before after : Bool) : Type 0 where
-  pub taken : TakesBytes old new (pages_text page g.cells 1 moves boards)
+pub record Sheets (page : Page) (g : GameRules) (start : Board) (moves : List Move) (boards : List Board) (old new : Option (List ℕ)) (before after : Bool) : Type 0 where
+  pub taken : TakesBytes old new (pages_text page g.cells 1 start moves boards)
   pub same : after ≡ before
   pub idle : IsTrue before → moves ≡ []
   pub unmoved : IsTrue before → Stays old new
 
-pub sheets_none : (page : Page) (g : GameRules) (held : Option (List ℕ)) (failed : Bool) → Sheets page g [] [] held held failed failed
-sheets_none page g held failed = record {
+pub sheets_none : (page : Page) (g : GameRules) (start : Board) (held : Option (List ℕ)) (failed : Bool) → Sheets page g start [] [] held held failed failed
+sheets_none page g start held failed = record {
   taken = TakesBytes-none held;
   same = refl;
   idle = λ _. refl;
@@ -59,23 +60,26 @@ sheets_none page g held failed = record {
 -- the page of the next step, as it stands behind those so far
 next_page : (page : Page) (g : GameRules) (start : Board) (moves : List Move) (boards : List Board) (steps : ℕ) (here next : Board) (m : Move) (n : ℕ)
     → Course g start moves boards steps here → n ≡ g.cells
-    → pages_text page g.cells 1 moves boards ++ page_text page n (steps + 1) m next
-    ≡ pages_text page g.cells 1 (moves ++ m ∷ []) (boards ++ next ∷ [])
+    → pages_text page g.cells 1 start moves boards ++ page_text page n (told_move (steps + 1) here m) next
+    ≡ pages_text page g.cells 1 start (moves ++ m ∷ []) (boards ++ next ∷ [])
 next_page page g start moves boards steps here next m n course cells =
-    ap (λ text. pages_text page g.cells 1 moves boards ++ text)
-    (ap (λ k. page_text page k (steps + 1) m next) cells ∙ sym (append-nil (page_text page g.cells (steps + 1) m next)))
-    ∙ sym (pages_text-append page g.cells 1 (steps + 1) moves (m ∷ []) boards (next ∷ [])
+    let last = board_after start boards in
+    let text = page_text page g.cells (told_move (steps + 1) last m) next in
+    ap (λ t. pages_text page g.cells 1 start moves boards ++ t)
+    (ap (λ k. page_text page k (told_move (steps + 1) here m) next) cells
+    ∙ ap (λ b. page_text page g.cells (told_move (steps + 1) b m) next) course.place ∙ sym (append-nil text))
+    ∙ sym (pages_text-append page g.cells 1 (steps + 1) start moves (m ∷ []) boards (next ∷ [])
     (passed_length g start moves boards course.passed) (omega (arith, course.count)))
 
 pub sheets_next : (page : Page) (g : GameRules) (start : Board) (moves : List Move) (boards : List Board) (steps : ℕ) (here next : Board) (old new newer : Option (List ℕ)) (before after later : Bool) (m : Move) (n : ℕ)
-    → Course g start moves boards steps here → Sheets page g moves boards old new before after → n ≡ g.cells
-    → TakesBytes new newer (page_text page n (steps + 1) m next) → after ≡ false → later ≡ false
-    → Sheets page g (moves ++ m ∷ []) (boards ++ next ∷ []) old newer before later
+    → Course g start moves boards steps here → Sheets page g start moves boards old new before after → n ≡ g.cells
+    → TakesBytes new newer (page_text page n (told_move (steps + 1) here m) next) → after ≡ false → later ≡ false
+    → Sheets page g start (moves ++ m ∷ []) (boards ++ next ∷ []) old newer before later
 sheets_next page g start moves boards steps here next old new newer before after later m n course sheets cells taken sound still =
     let fails : IsTrue before → ⊥ = λ t. absurd (false≢true (sym sound ∙ sheets.same ∙ t)) in
     record {
       taken = subst (TakesBytes old newer) (next_page page g start moves boards steps here next m n course cells)
-          (TakesBytes-both old new newer (pages_text page g.cells 1 moves boards) (page_text page n (steps + 1) m next) sheets.taken taken);
+          (TakesBytes-both old new newer (pages_text page g.cells 1 start moves boards) (page_text page n (told_move (steps + 1) here m) next) sheets.taken taken);
       same = still ∙ sym sound ∙ sheets.same;
       idle = λ t. absurd (fails t);
       unmoved = λ t. absurd (fails t);
@@ -83,12 +87,12 @@ sheets_next page g start moves boards steps here next old new newer before after
 
 -- the sink failed at the page of the next step
 pub sheets_failed : (page : Page) (g : GameRules) (start : Board) (moves : List Move) (boards : List Board) (steps : ℕ) (here next : Board) (old new newer : Option (List ℕ)) (before after : Bool) (m : Move) (n : ℕ)
-    → Course g start moves boards steps here → Sheets page g moves boards old new before after → n ≡ g.cells
-    → TakesFront new newer (page_text page n (steps + 1) m next)
-    → TakesFront old newer (pages_text page g.cells 1 (moves ++ m ∷ []) (boards ++ next ∷ []))
+    → Course g start moves boards steps here → Sheets page g start moves boards old new before after → n ≡ g.cells
+    → TakesFront new newer (page_text page n (told_move (steps + 1) here m) next)
+    → TakesFront old newer (pages_text page g.cells 1 start (moves ++ m ∷ []) (boards ++ next ∷ []))
 sheets_failed page g start moves boards steps here next old new newer before after m n course sheets cells taken =
     subst (TakesFront old newer) (next_page page g start moves boards steps here next m n course cells)
-    (takes_then_front old new newer (pages_text page g.cells 1 moves boards) (page_text page n (steps + 1) m next) sheets.taken taken)
+    (takes_then_front old new newer (pages_text page g.cells 1 start moves boards) (page_text page n (told_move (steps + 1) here m) next) sheets.taken taken)
 
 -- the moves are those of the tokens at the front of a text, and the others are left
 pub record Spelled (text rest : List ℕ) (moves : List Move) : Type 0 where
@@ -176,7 +180,7 @@ pub record SoFar (page : Page) (g : GameRules) (start : Board) (text rest : List
   pub boards : List Board
   pub course : Course g start moves boards steps here
   pub spelled : Spelled text rest moves
-  pub sheets : Sheets page g moves boards old new before after
+  pub sheets : Sheets page g start moves boards old new before after
 
 pub so_none : (page : Page) (g : GameRules) (start here : Board) (text rest : List ℕ) (held : Option (List ℕ)) (failed : Bool)
     → rest ≡ text → here ≡ start → IsPositionOf g here → SoFar page g start text rest 0 here held held failed failed
@@ -185,13 +189,13 @@ so_none page g start here text rest held failed e same position = record {
   boards = [];
   course = course_none g start here same position;
   spelled = spelled_none text rest e;
-  sheets = sheets_none page g held failed;
+  sheets = sheets_none page g start held failed;
 }
 
 -- the next token has played too, and its page is written
 pub so_next : (page : Page) (g : GameRules) (start : Board) (text rest more : List ℕ) (steps : ℕ) (here next : Board) (old new newer : Option (List ℕ)) (before after later : Bool) (token : List ℕ) (m : Move) (n : ℕ)
     → SoFar page g start text rest steps here old new before after → move_tokens rest ≡ token ∷ move_tokens more
-    → SpellsMove token m → Step g here m next → n ≡ g.cells → TakesBytes new newer (page_text page n (steps + 1) m next)
+    → SpellsMove token m → Step g here m next → n ≡ g.cells → TakesBytes new newer (page_text page n (told_move (steps + 1) here m) next)
     → after ≡ false → later ≡ false → SoFar page g start text more (steps + 1) next old newer before later
 so_next page g start text rest more steps here next old new newer before after later token m n so first spells step cells taken sound still = record {
   moves = so.moves ++ m ∷ [];
@@ -254,7 +258,7 @@ so_all page g start text rest steps here old new before after won so none is = r
 -- the sink failed at the page of the next token
 pub so_failed : (page : Page) (g : GameRules) (start : Board) (text rest more : List ℕ) (steps : ℕ) (here next : Board) (old new newer : Option (List ℕ)) (before after : Bool) (token : List ℕ) (m : Move) (n : ℕ)
     → SoFar page g start text rest steps here old new before after → move_tokens rest ≡ token ∷ move_tokens more
-    → SpellsMove token m → Step g here m next → n ≡ g.cells → TakesFront new newer (page_text page n (steps + 1) m next)
+    → SpellsMove token m → Step g here m next → n ≡ g.cells → TakesFront new newer (page_text page n (told_move (steps + 1) here m) next)
     → ReplaysAs page g start (move_tokens text) (sink_change old newer) (Err Write)
 so_failed page g start text rest more steps here next old new newer before after token m n so first spells step cells taken =
     let course = course_next g start so.moves so.boards steps here next m so.course step in

@@ -1,4 +1,5 @@
 pub mod Laws
 pub mod Page
 pub mod Played
+pub mod Telling
 pub mod Token

@@ -110,7 +110,7 @@ pub record ReplaysAs (page : Page) (g : GameRules) (b : Board) (tokens : List (L
   pub spelled : SpellMoves (take (length moves) tokens) moves
   pub passed : Passes g b moves boards
   pub ends : Ends g b tokens boards (counted result)
-  pub written : Writes sink.old sink.new (pages_text page g.cells 1 moves boards) (counted result)
+  pub written : Writes sink.old sink.new (pages_text page g.cells 1 b moves boards) (counted result)
   pub won : IfOk result (λ ended. IsTrue ended.is_won ↔ IsWon (board_after b boards))
 
 -- the moves were made: the boards after them, that their pages were written, or a front of them where the sink failed,
@@ -118,7 +118,7 @@ pub record ReplaysAs (page : Page) (g : GameRules) (b : Board) (tokens : List (L
 pub record PlaysAs (page : Page) (g : GameRules) (b : Board) (moves : List Move) (sink : SinkChange) (result : Result Ended Failed) : Type 0 where
   pub boards : List Board
   pub passed : Passes g b moves boards
-  pub written : MatchResult result (λ _. TakesBytes sink.old sink.new (pages_text page g.cells 1 moves boards)) (λ _. TakesFront sink.old sink.new (pages_text page g.cells 1 moves boards))
+  pub written : MatchResult result (λ _. TakesBytes sink.old sink.new (pages_text page g.cells 1 b moves boards)) (λ _. TakesFront sink.old sink.new (pages_text page g.cells 1 b moves boards))
   pub count : IfOk result (λ ended. ended.moves ≡ length moves)
   pub won : IfOk result (λ ended. IsTrue ended.is_won ↔ IsWon (board_after b boards))
 

@@ -7,6 +7,7 @@ pub use pages::Page;
 pub use plays::play;
 pub use replays::{Ended, replay, replay_as};
 pub use stops::{Stop, first_stop};
+pub use tellings::ToldMove;
 pub use tokens::MoveGaps;
 
 mod faults;
@@ -15,4 +16,5 @@ mod pages;
 mod plays;
 mod replays;
 mod stops;
+mod tellings;
 mod tokens;

@@ -3,54 +3,82 @@ ghost use Rattle.fc_io.specs.Moves.{Stays, TakesBytes, TakesFront};
 ghost use Rattle.fc_position.specs.Position.{Fits};
 ghost use Rattle.fc_moves.specs.MoveText.{HasText};
 ghost use Rattle.fc_replay.specs.Page.{header, page_text};
+ghost use Rattle.fc_replay.specs.declared.pages.Page.TheVariants.{Drawn};
 
+use crate::tellings::{ToldMove, words_line};
 use arrayvec::ArrayVec;
 use fc_io::{Failed, Sink, write_all};
 use fc_moves::{Move, move_text};
 use fc_position::Position;
-use fc_show::draw;
+use fc_show::{Style, draw};
 use fc_text::print_board;
 use itoa::Buffer;
 
-/// What is written of a step.
+/// What is written of a move.
 #[derive(Clone, Copy, Debug, PartialEq, Eq)]
 pub enum Page {
     /// The text of the board after it.
     Board,
-    /// A line with its number and its move, and the same text.
+    /// A line with its number and its letters, and the same text.
     Numbered,
-    /// The same line, the drawing of the board after it, and an empty line.
-    Drawn,
-    /// The same with red suits in red, as terminals show it.
-    Coloured,
+    /// A line with its number and the move in words; red suits in red, as terminals show it, or not.
+    Words(bool),
+    /// The same line, the drawing of the board after it, in which the card that moved is marked, and an empty line.
+    Drawn(bool),
 }
 
-// Writes what is to be written of a step, by its number, its move, and the position after it, which fits a game with so
-// many cells.
+// Writes what is to be written of a move, as it is told from the board before it, and the position after it, which fits a
+// game with so many cells.
 pub(crate) fn write_page<K: Sink>(
     page: Page,
     cells: u8,
-    step: u32,
-    m: Move,
+    told: &ToldMove,
     position: &Position,
     sink: &mut K,
 ) -> Result<(), Failed>
     requires game { cells ≤ 4 }
     requires fits { Fits cells position.now }
-    requires has_text { HasText m }
-    ensures front { TakesFront (K.held sink.old) (K.held sink.new) (page_text page cells step m position.now) }
-    ensures whole { OnOk result (TakesBytes (K.held sink.old) (K.held sink.new) (page_text page cells step m position.now)) }
+    requires has_text { HasText told.now.m }
+    ensures front { TakesFront (K.held sink.old) (K.held sink.new) (page_text page cells told.now position.now) }
+    ensures whole { OnOk result (TakesBytes (K.held sink.old) (K.held sink.new) (page_text page cells told.now position.now)) }
     ensures fault { IsErr result ↔ IsTrue (K.has_failed sink.new) }
     ensures stays { IsTrue (K.has_failed sink.old) → IsErr result }
     ensures unmoved { IsTrue (K.has_failed sink.old) → Stays (K.held sink.old) (K.held sink.new) }
 {
-    let header = header(step, m);
     match page {
         Page::Board => write_all(sink, print_board(position, cells).as_bytes()),
-        Page::Numbered => write_both(sink, &header, print_board(position, cells).as_bytes()),
-        Page::Drawn => write_drawing(sink, &header, &draw(position, cells, false)),
-        Page::Coloured => write_drawing(sink, &header, &draw(position, cells, true)),
+        Page::Numbered => {
+            let header = header(told.number, told.m);
+            write_both(sink, &header, print_board(position, cells).as_bytes())
+        }
+        Page::Words(is_coloured) => write_all(sink, &words_line(told, is_coloured)),
+        Page::Drawn(is_coloured) => write_drawn(is_coloured, cells, told, position, sink),
     }
+}
+
+// Writes the line of a move in words, and the drawing of the position after it.
+fn write_drawn<K: Sink>(
+    is_coloured: bool,
+    cells: u8,
+    told: &ToldMove,
+    position: &Position,
+    sink: &mut K,
+) -> Result<(), Failed>
+    requires game { cells ≤ 4 }
+    requires fits { Fits cells position.now }
+    requires has_text { HasText told.now.m }
+    ensures front { TakesFront (K.held sink.old) (K.held sink.new) (page_text (Drawn is_coloured) cells told.now position.now) }
+    ensures whole { OnOk result (TakesBytes (K.held sink.old) (K.held sink.new) (page_text (Drawn is_coloured) cells told.now position.now)) }
+    ensures fault { IsErr result ↔ IsTrue (K.has_failed sink.new) }
+    ensures stays { IsTrue (K.has_failed sink.old) → IsErr result }
+    ensures unmoved { IsTrue (K.has_failed sink.old) → Stays (K.held sink.old) (K.held sink.new) }
+{
+    let style = Style {
+        is_coloured,
+        marked: told.card,
+    };
+    let line = words_line(told, is_coloured);
+    write_drawing(sink, &line, &draw(position, cells, &style))
 }
 
 // The line of a step.

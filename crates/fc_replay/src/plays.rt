@@ -7,6 +7,7 @@ ghost use Rattle.fc_replay.specs.Played.{PlaysAs, sink_change};
 
 use crate::pages::{Page, write_page};
 use crate::replays::Ended;
+use crate::tellings::ToldMove;
 use fc_io::{Failed, Sink};
 use fc_moves::{Game, Move, apply};
 use fc_position::Position;
@@ -37,8 +38,9 @@ pub fn play<G: Game, K: Sink>(
     let mut steps = 0;
     for m in moves {
         steps += 1;
+        let told = ToldMove::of(steps, &board, *m);
         apply(game, &mut board, *m);
-        write_page(page, game.cells(), steps, *m, &board, sink)?;
+        write_page(page, game.cells(), &told, &board, sink)?;
     }
     Ok(Ended {
         moves: steps,

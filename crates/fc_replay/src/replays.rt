@@ -6,6 +6,7 @@ ghost use Rattle.fc_replay.specs.Played.{Replays, ReplaysAs, BeginsWithStep, sin
 
 use crate::faults::ReplayFault;
 use crate::pages::{Page, write_page};
+use crate::tellings::ToldMove;
 use crate::tokens::{MoveGaps, read_token};
 use fc_io::Sink;
 use fc_moves::{Game, allows, apply};
@@ -87,8 +88,9 @@ pub fn replay_as<G: Game, K: Sink>(
         if !allows(game, &board, m) {
             return Err(ReplayFault::NotAllowed(steps));
         }
+        let told = ToldMove::of(steps, &board, m);
         apply(game, &mut board, m);
-        write_page(page, game.cells(), steps, m, &board, sink)?;
+        write_page(page, game.cells(), &told, &board, sink)?;
     }
     Ok(Ended {
         moves: steps,
