@@ -3,7 +3,7 @@ use Rattle.std.specs.Prelude.{◌≡◌, ℕ, true, false, List, IsTrue}
 use Rattle.fc_io.specs.Moves.{TakesBytes, TakesFront}
 use Rattle.fc_position.specs.Board.{Board}
 use Rattle.fc_text.specs.Printed.{board_text}
-use Rattle.fc_show.specs.Drawing.{drawing}
+use Rattle.fc_show.specs.Drawing.{drawing, unmarked}
 use Rattle.fc_board_runs.specs.declared.showing.Look.{Look}
 use Rattle.fc_board_runs.specs.declared.showing.Look.TheVariants.{Drawn, Coloured, Text}
 use Rattle.fc_board_runs.specs.declared.faults.Output.TheVariants.{Answer as of_answer}
@@ -13,8 +13,8 @@ use Rattle.fc_board_runs.specs.Devices.{Device}
 
 -- what shows a board of a game with n cells: its drawing, without or with colours, or its text
 abbrev pub shown : Look → ℕ → Board → List ℕ
-shown Drawn n b = drawing false n b
-shown Coloured n b = drawing true n b
+shown Drawn n b = drawing (unmarked false) n b
+shown Coloured n b = drawing (unmarked true) n b
 shown Text n b = board_text n b
 
 -- the sink took what shows a board

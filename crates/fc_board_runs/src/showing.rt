@@ -10,7 +10,7 @@ use crate::faults::{Output, ProgramFault};
 use fc_io::{Failed, Sink, write_all};
 use fc_moves::Game;
 use fc_position::Position;
-use fc_show::draw;
+use fc_show::{Style, draw};
 use fc_text::print_board;
 
 /// How a board is shown.
@@ -60,8 +60,8 @@ fn write_look<K: Sink>(
     ensures fault { IsErr result ↔ IsTrue (K.has_failed out.new) }
 {
     match look {
-        Look::Drawn => write_all(out, draw(position, cells, false).as_slice()),
-        Look::Coloured => write_all(out, draw(position, cells, true).as_slice()),
+        Look::Drawn => write_all(out, draw(position, cells, &Style::unmarked(false)).as_slice()),
+        Look::Coloured => write_all(out, draw(position, cells, &Style::unmarked(true)).as_slice()),
         Look::Text => write_all(out, print_board(position, cells).as_bytes()),
     }
 }

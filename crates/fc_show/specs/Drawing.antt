@@ -6,6 +6,10 @@ use Rattle.fc_cards.specs.Texts.{card_text}
 use Rattle.fc_position.specs.Board.{Board, home}
 use Rattle.fc_show.specs.declared.styles.Style.{Style}
 
+-- no card is marked
+abbrev pub unmarked : Bool → Style
+unmarked is_coloured = record { is_coloured = is_coloured; marked = None }
+
 -- before a card stands a blank, or a mark where it is the one that is marked
 abbrev pub mark_of : Option ℕ → ℕ → ℕ
 mark_of None c = 32

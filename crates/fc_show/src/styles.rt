@@ -1,5 +1,5 @@
 ghost use Rattle.std.specs.Prelude.{◌≡◌};
-ghost use Rattle.fc_show.specs.Drawing.{mark_of};
+ghost use Rattle.fc_show.specs.Drawing.{mark_of, unmarked};
 
 use fc_cards::Card;
 
@@ -13,11 +13,15 @@ pub struct Style {
 }
 
 impl Style {
-    /// No colours, and no mark.
-    pub const PLAIN: Style = Style {
-        is_coloured: false,
-        marked: None,
-    };
+    /// Without a mark, in colours or not.
+    pub fn unmarked(is_coloured: bool) -> Style
+        ensures value { result ≡ unmarked is_coloured }
+    {
+        Style {
+            is_coloured,
+            marked: None,
+        }
+    }
 
     // What stands before a card.
     pub(crate) fn mark_of(&self, card: Card) -> u8

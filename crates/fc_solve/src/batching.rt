@@ -1,9 +1,9 @@
 //! `batch`: several numbered deals are solved.
 ghost use Rattle.std.specs.Prelude.{◌≤◌};
 
-use crate::endings::{Ending, of_run};
+use crate::endings::Ending;
 use crate::games::InGame;
-use fc_io::ToWriter;
+use crate::outputs::Out;
 use fc_methods::{Method, Question};
 use fc_moves::Game;
 use fc_runs::{run_batch, run_batch_by, run_best_batch, run_best_table, run_table};
@@ -12,19 +12,21 @@ use fc_words::{BatchSearch, BatchWords};
 impl InGame for BatchWords {
     fn perform<G: Game + Drop>(&self, rt: &HostRuntime, game: &G) -> Result<u8, Ending> {
         let (from, to) = (self.from, self.to);
-        let (alloc, mut out) = (rt.alloc(), ToWriter::new(rt.stdout()));
+        let (alloc, mut out) = (rt.alloc(), Out::new(rt));
         let Some(method) = method_of(&self.search) else {
             // (a fault of the numbers is told before the budget's)
             let (rule, budget) = limits_of(&self.search);
-            return of_run(run_batch(alloc, game, rule, from, to, budget, &mut out));
+            let ran = run_batch(alloc, game, rule, from, to, budget, &mut out);
+            return out.end_of(ran);
         };
         let question = Question::new(game, method);
-        of_run(match (self.search, self.is_table) {
+        let ran = match (self.search, self.is_table) {
             (BatchSearch::By(_), false) => run_batch_by(alloc, &question, from, to, &mut out),
             (BatchSearch::By(_), true) => run_table(alloc, &question, from, to, &mut out),
             (BatchSearch::Best(_), false) => run_best_batch(alloc, &question, from, to, &mut out),
             (BatchSearch::Best(_), true) => run_best_table(alloc, &question, from, to, &mut out),
-        })
+        };
+        out.end_of(ran)
     }
 }
 

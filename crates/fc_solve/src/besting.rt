@@ -2,17 +2,18 @@
 ghost use Rattle.fc_moves.specs.GameRules.{IsPositionOf};
 
 use crate::boards::{create, find_board, read_start};
-use crate::endings::{Ending, of_run};
+use crate::endings::Ending;
 use crate::games::InGame;
-use crate::pages::best_in_pages;
+use crate::forms::{LONGEST_ANSWER, Manner, tell_held};
+use crate::outputs::Out;
 use crate::solving::tell_advice;
-use crate::watching::{AfterLine, BestTeller, Line};
-use fc_io::ToWriter;
-use fc_methods::Question;
+use crate::watching::{BestTeller, Line};
+use fc_io::{ToArray, ToWriter};
+use fc_methods::{Budget, Question};
 use fc_moves::Game;
 use fc_position::Position;
 use fc_runs::{ProgramFault, run_best};
-use fc_words::BestWords;
+use fc_words::{BestWords, MovesForm};
 use std::fs::File;
 use std::io::IsTerminal;
 
@@ -31,7 +32,8 @@ impl InGame for BestWords<'_> {
         let start = read_start(rt, source, game.cells())?;
         let line = Line::new(rt, deal);
         let status = answer_from(rt, self, &Question::new(game, method), &start, cert, &line)?;
-        if status == 2 && !self.is_quiet && rt.stderr().is_terminal() {
+        let has_room = method.strategy.budget < Budget::MOST;
+        if status == 2 && has_room && !self.is_quiet && rt.stderr().is_terminal() {
             tell_advice(rt, "a greater --budget", deal);
         }
         Ok(status)
@@ -51,22 +53,32 @@ fn answer_from<G: Game + Drop>(
 {
     let mut cert = cert;
     let mut teller = BestTeller::new(line, rt.stderr().is_terminal() && !words.is_quiet);
-    let ran = if words.has_boards {
-        best_in_pages(rt, question, start, cert.as_mut(), &mut teller)
-    } else {
-        let mut out = AfterLine::new(line, ToWriter::new(rt.stdout()));
-        run_best(
+    if let MovesForm::Letters = words.form {
+        let mut out = Out::after(rt, line);
+        let ran = run_best(
             rt.alloc(),
             question,
             start,
             &mut out,
             cert.as_mut(),
             &mut teller,
-        )
-    };
-    line.clear();
-    if words.has_stats {
-        teller.tell_stats();
+        );
+        line.clear();
+        teller.tell_stats(words.has_stats, out.front());
+        return out.end_of(ran);
     }
-    of_run(ran)
+    let mut answer = ToArray::<LONGEST_ANSWER>::new();
+    let ran = run_best(
+        rt.alloc(),
+        question,
+        start,
+        &mut answer,
+        cert.as_mut(),
+        &mut teller,
+    );
+    line.clear();
+    let manner = Manner::new(rt, words.form, words.colours);
+    let told = tell_held(rt, question.game(), start, ran, answer.held(), manner);
+    teller.tell_stats(words.has_stats, answer.held());
+    told
 }

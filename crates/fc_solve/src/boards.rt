@@ -2,47 +2,62 @@
 ghost use Rattle.std.specs.Prelude.{◌≤◌, IfOk, IfSome};
 ghost use Rattle.fc_position.specs.Position.{Fits};
 
-use crate::endings::{Ending, tell_of_board, tell_of_file, tell_of_length, tell_of_reading};
+use crate::endings::{
+    Ending, tell_of_board, tell_of_file, tell_of_length, tell_of_reading, tell_of_rows,
+};
+use crate::lengths::note_lengths;
 use fc_deal::deal;
 use fc_io::{FromReader, FromSlice, ReadFault};
 use fc_plain::PlainText;
 use fc_position::Position;
+use fc_rows::columns_of_rows;
 use fc_runs::{Input, Output, ProgramFault, read_position};
-use fc_words::{BoardWord, is_number};
+use fc_words::{BoardWord, BoardWords, is_number};
 use std::fs::{self, File};
 use std::io::IsTerminal;
 
-/// Where a board comes from.
+/// Where a board comes from, and how its text is to be read.
 #[derive(Drop)]
-pub enum BoardSource<'a> {
-    /// The numbered deal.
+pub struct BoardSource<'a> {
+    place: BoardPlace<'a>,
+    is_in_rows: bool,
+}
+
+// Where a board comes from.
+#[derive(Drop)]
+enum BoardPlace<'a> {
+    // The numbered deal.
     Deal(u32),
-    /// A file, and its path.
+    // A file, and its path.
     File(FromReader<File>, &'a str),
-    /// Standard input.
+    // Standard input.
     Input,
 }
 
 impl BoardSource<'_> {
     /// The number of the deal, if it is one.
     pub fn deal(&self) -> Option<u32> {
-        match self {
-            BoardSource::Deal(number) => Some(*number),
+        match self.place {
+            BoardPlace::Deal(number) => Some(number),
             _ => None,
         }
     }
 }
 
-/// Where the board comes from that a word names; a file is opened.
-pub fn find_board<'a>(rt: &HostRuntime, word: &BoardWord<'a>) -> Result<BoardSource<'a>, Ending> {
-    match *word {
-        BoardWord::Deal(number) => Ok(BoardSource::Deal(number)),
-        BoardWord::Input => Ok(BoardSource::Input),
+/// Where the board comes from that the words name; a file is opened.
+pub fn find_board<'a>(rt: &HostRuntime, words: &BoardWords<'a>) -> Result<BoardSource<'a>, Ending> {
+    let place = match words.word {
+        BoardWord::Deal(number) => BoardPlace::Deal(number),
+        BoardWord::Input => BoardPlace::Input,
         BoardWord::Named(word) => match number_of(rt, word) {
-            Some(number) => Ok(BoardSource::Deal(number)),
-            None => Ok(BoardSource::File(open(rt, word, Input::Board)?, word)),
+            Some(number) => BoardPlace::Deal(number),
+            None => BoardPlace::File(open(rt, word, Input::Board)?, word),
         },
-    }
+    };
+    Ok(BoardSource {
+        place,
+        is_in_rows: words.is_in_rows,
+    })
 }
 
 // The number that a word is, if no file has that name.
@@ -58,13 +73,20 @@ pub fn read_start(rt: &HostRuntime, source: BoardSource<'_>, cells: u8) -> Resul
     requires cells { cells ≤ 4 }
     ensures fits { IfOk result (Fits cells) }
 {
-    match source {
-        BoardSource::Deal(number) => match deal_for(number, cells) {
+    let is_in_rows = source.is_in_rows;
+    match source.place {
+        BoardPlace::Deal(number) => match deal_for(number, cells) {
             Some(start) => Ok(start),
             None => Err(Ending::Fault(ProgramFault::Number(number))),
         },
-        BoardSource::File(file, path) => read_file(rt, file, path, cells),
-        BoardSource::Input => read_input(rt, cells),
+        BoardPlace::File(file, path) => {
+            let text = read_file(rt, file, path)?;
+            read_text(rt, text.bytes(), is_in_rows, cells)
+        }
+        BoardPlace::Input => {
+            let text = read_input(rt)?;
+            read_text(rt, text.bytes(), is_in_rows, cells)
+        }
     }
 }
 
@@ -76,41 +98,52 @@ fn deal_for(number: u32, cells: u8) -> Option<Position>
     deal(number)
 }
 
-// The board of a file.
-fn read_file(
-    rt: &HostRuntime,
-    file: FromReader<File>,
-    path: &str,
-    cells: u8,
-) -> Result<Position, Ending>
-    requires cells { cells ≤ 4 }
-    ensures fits { IfOk result (Fits cells) }
-{
+// The text of a file, made plain.
+fn read_file(rt: &HostRuntime, file: FromReader<File>, path: &str) -> Result<PlainText, Ending> {
     let mut file = file;
     match PlainText::read(&mut file) {
-        Ok(text) => read_text(rt, text.bytes(), cells),
+        Ok(text) => Ok(text),
         Err(ReadFault::Failed) => Err(tell_of_reading(rt, Input::Board, path)),
         Err(fault) => Err(unread(rt, fault)),
     }
 }
 
-// The board of standard input.
-fn read_input(rt: &HostRuntime, cells: u8) -> Result<Position, Ending>
-    requires cells { cells ≤ 4 }
-    ensures fits { IfOk result (Fits cells) }
-{
+// The text of standard input, made plain.
+fn read_input(rt: &HostRuntime) -> Result<PlainText, Ending> {
     let input = rt.stdin();
     if input.is_terminal() {
         let _told = eprintln!(rt; "fc_solve: reading a board; Ctrl-D ends it");
     }
     match PlainText::read(&mut FromReader::new(input)) {
-        Ok(text) => read_text(rt, text.bytes(), cells),
+        Ok(text) => Ok(text),
         Err(fault) => Err(unread(rt, fault)),
     }
 }
 
 // The board of a text that was made plain.
-fn read_text(rt: &HostRuntime, text: &[u8], cells: u8) -> Result<Position, Ending>
+fn read_text(
+    rt: &HostRuntime,
+    text: &[u8],
+    is_in_rows: bool,
+    cells: u8,
+) -> Result<Position, Ending>
+    requires cells { cells ≤ 4 }
+    ensures fits { IfOk result (Fits cells) }
+{
+    if is_in_rows {
+        let columns = match columns_of_rows(text) {
+            Ok(columns) => columns,
+            Err(fault) => return Err(tell_of_rows(rt, fault)),
+        };
+        return read_columns(rt, columns.bytes(), cells);
+    }
+    let start = read_columns(rt, text, cells)?;
+    note_lengths(rt, &start, text, cells);
+    Ok(start)
+}
+
+// The board of a text in columns.
+fn read_columns(rt: &HostRuntime, text: &[u8], cells: u8) -> Result<Position, Ending>
     requires cells { cells ≤ 4 }
     ensures fits { IfOk result (Fits cells) }
 {

@@ -1,11 +1,13 @@
 //! `check`: a certificate is checked for a board.
 
 use crate::boards::{find_board, open, read_start};
-use crate::endings::{Ending, of_run};
+use crate::endings::{Ending, tell};
 use crate::games::InGame;
-use fc_io::ToWriter;
+use crate::outputs::Out;
+use fc_cert::CertFault;
+use fc_checker::CheckFault;
 use fc_moves::Game;
-use fc_runs::{Input, run_check_of};
+use fc_runs::{Input, ProgramFault, run_check_of};
 use fc_words::CheckWords;
 
 impl InGame for CheckWords<'_> {
@@ -14,7 +16,48 @@ impl InGame for CheckWords<'_> {
         // (a file that can't be opened is told before the board is read)
         let mut cert = open(rt, self.cert, Input::Cert)?;
         let start = read_start(rt, source, game.cells())?;
-        let mut out = ToWriter::new(rt.stdout());
-        of_run(run_check_of(rt.alloc(), game, &start, &mut cert, &mut out))
+        let mut out = Out::new(rt);
+        match run_check_of(rt.alloc(), game, &start, &mut cert, &mut out) {
+            Ok(status) => Ok(status),
+            Err(ProgramFault::Cert(fault)) => {
+                let status = tell(rt, &ProgramFault::Cert(fault));
+                let reason = reason_of(fault);
+                let _told = eprintln!(rt; "fc_solve: {reason}");
+                Err(Ending::Told(status))
+            }
+            Err(fault) => Err(out.ending_of(fault)),
+        }
+    }
+}
+
+// What it means that a certificate is refused.
+fn reason_of(fault: CheckFault) -> &'static str {
+    match fault {
+        CheckFault::Form(fault) => reason_of_form(fault),
+        CheckFault::OtherGame => {
+            "it is of another game, or of another number of cells: --game, --kings and --cells say which"
+        }
+        CheckFault::NotAllowed(_) => {
+            "the rules don't allow the move of this step: another board, or a changed certificate?"
+        }
+        CheckFault::NotHome => "its moves leave cards that aren't home: another board, or a changed certificate?",
+        CheckFault::StartOpen => {
+            "its table doesn't list the board that the search began with: another board, or a cut certificate?"
+        }
+        CheckFault::WonListed(_) => "a board that its table lists, the records counted from 0, is won already",
+        CheckFault::Open(_) => {
+            "from a board of its table, the records counted from 0, a move leads to one that it doesn't list"
+        }
+        CheckFault::Memory => "there was too little memory to check it",
+    }
+}
+
+// What it means that bytes don't have the form of a certificate.
+fn reason_of_form(fault: CertFault) -> &'static str {
+    match fault {
+        CertFault::BadMagic => "this is no certificate: one begins with FCC1, FCC2 or FCC3",
+        CertFault::Short => "it ends too soon: it was cut, or not written to its end",
+        CertFault::Trailing => "something stands behind its end",
+        _ => "its bytes aren't those of a certificate: they were changed",
     }
 }

@@ -2,6 +2,7 @@
 //! which tells where it lies and why. Where a line can't be written, the status still tells the fault.
 
 use crate::notes::add_note;
+use fc_rows::RowFault;
 use fc_runs::{Input, ProgramFault};
 use fc_text::BoardFault;
 use std::alloc::AllocError;
@@ -78,14 +79,6 @@ pub fn tell_of_length(rt: &HostRuntime) -> Ending {
     Ending::Told(status)
 }
 
-/// Ends as a run did.
-pub fn of_run(ran: Result<u8, ProgramFault>) -> Result<u8, Ending> {
-    match ran {
-        Ok(status) => Ok(status),
-        Err(fault) => Err(Ending::Fault(fault)),
-    }
-}
-
 // What is said of a text with nothing in it.
 const NO_BOARD: &str = "the board is empty: its text has nothing but blanks";
 
@@ -101,3 +94,17 @@ pub fn tell_of_board(rt: &HostRuntime, fault: ProgramFault, text: &[u8], cells: 
     }
     Ending::Told(status)
 }
+
+/// Says what is wrong with a board's text in rows.
+pub fn tell_of_rows(rt: &HostRuntime, fault: RowFault) -> Ending {
+    match fault {
+        RowFault::TooLong => tell_of_length(rt),
+        RowFault::BadHead(_) | RowFault::LongRow(_) | RowFault::ShortRow(_) => {
+            let _told = eprintln!(rt; "fc_solve: board: {fault}");
+            Ending::Told(BAD_BOARD)
+        }
+    }
+}
+
+// The status of a board that isn't one.
+const BAD_BOARD: u8 = 3;

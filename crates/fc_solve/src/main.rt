@@ -7,10 +7,13 @@ mod boards;
 mod checking;
 mod dealing;
 mod endings;
+mod entries;
+mod forms;
 mod games;
+mod lengths;
 mod moves;
 mod notes;
-mod pages;
+mod outputs;
 mod replaying;
 mod showing;
 mod shown;
@@ -62,12 +65,14 @@ fn follow_words(rt: &HostRuntime) -> Result<u8, Ending> {
     }
 }
 
-// Whether the first word is a board's: a number, `-`, or a file that is there and is no subcommand's name.
+// Whether the words are of a board alone: the first is a number, `-`, an option that doesn't ask for help or the version, or
+// no subcommand's name and the path of a file, which is there or looks like one.
 fn names_board(rt: &HostRuntime, word: &str) -> bool {
-    if is_number(word) || word == "-" {
-        return true;
+    if word.starts_with("-") {
+        return !matches!(word, "-h" | "--help" | "-V" | "--version");
     }
-    !word.starts_with("-") && !is_subcommand(word) && fs::metadata(rt, word).is_ok()
+    let is_path = word.bytes().any(|byte| byte == b'.' || byte == b'/');
+    is_number(word) || (!is_subcommand(word) && (is_path || fs::metadata(rt, word).is_ok()))
 }
 
 // Ends where the words ask for nothing that can be done, or for help.

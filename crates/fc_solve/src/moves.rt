@@ -11,6 +11,7 @@ use fc_replay::{Ended, MoveGaps, ReplayFault, Stop, first_stop};
 use fc_runs::{Input, LONGEST_MOVES, ProgramFault};
 use fc_text::Tokens;
 use fc_words::MovesWord;
+use std::alloc::{AllocError, Global};
 use std::fs::File;
 
 /// Where a list of moves comes from.
@@ -54,6 +55,48 @@ pub fn without_answer(text: &[u8]) -> &[u8] {
     match text.iter().position(|byte| *byte == b'\n') {
         Some(end) => &text[end..],
         None => &[],
+    }
+}
+
+/// The moves that a text tells in words, a line each, as `solve --words` and `--boards` do, by two letters each; `None` where
+/// no line does.
+///
+/// # Errors
+/// Want of memory.
+pub fn told_moves(alloc: Global, text: &[u8]) -> Result<Option<Vec<u8>>, AllocError> {
+    let mut list = Vec::new(alloc);
+    for line in text.split(|byte| *byte == b'\n') {
+        if let Some([from, to]) = letters_of(line) {
+            list.extend_from_slice(&[from, to, b' '])?;
+        }
+    }
+    Ok(if list.is_empty() { None } else { Some(list) })
+}
+
+// The two letters of a move that a line tells in words: its number, its card, `from`, a kind of place and its name, and, last,
+// the name of the place where it goes.
+fn letters_of(line: &[u8]) -> Option<[u8; 2]> {
+    let mut tokens = Tokens::new(line, MoveGaps);
+    let number = tokens.next()?;
+    let _card = tokens.next()?;
+    if !number.ends_with(b".") || tokens.next()? != b"from" {
+        return None;
+    }
+    let _kind = tokens.next()?;
+    let from = letter_of(tokens.next()?)?;
+    let mut last = tokens.next()?;
+    for token in tokens {
+        last = token;
+    }
+    Some([from, letter_of(last)?])
+}
+
+// The letter of a place by its name.
+fn letter_of(name: &[u8]) -> Option<u8> {
+    match name {
+        [letter] => Some(*letter),
+        b"home" => Some(b'h'),
+        _ => None,
     }
 }
 

@@ -3,12 +3,13 @@ ghost use Rattle.fc_position.specs.Position.{Fits};
 ghost use Rattle.fc_moves.specs.GameRules.{IsPositionOf};
 
 use crate::boards::{find_board, read_start};
-use crate::endings::{Ending, tell};
+use crate::endings::Ending;
 use crate::games::InGame;
 use crate::moves::{
-    find_moves, read_moves, tell_end, tell_entry, tell_stop, without_answer, without_rulers,
+    find_moves, read_moves, tell_end, tell_entry, tell_stop, told_moves, without_answer, without_rulers,
 };
-use fc_io::{FromSlice, ToWriter};
+use crate::outputs::Out;
+use fc_io::FromSlice;
 use fc_moves::Game;
 use fc_position::Position;
 use fc_replay::Page;
@@ -45,8 +46,12 @@ fn replay_moves<G: Game>(
 ) -> Result<u8, Ending>
     requires fits { Fits (G.game game.now).cells start.now }
 {
-    let list = without_answer(text);
-    let mut out = ToWriter::new(rt.stdout());
+    let told = told_moves(rt.alloc(), text)?;
+    let list = match &told {
+        Some(list) => list.as_slice(),
+        None => without_answer(text),
+    };
+    let mut out = Out::new(rt);
     let mut moves = FromSlice::new(list);
     match run_replay_as(rt.alloc(), game, start, &mut moves, page, &mut out) {
         Ok(ended) => {
@@ -54,7 +59,7 @@ fn replay_moves<G: Game>(
             Ok(0)
         }
         Err(fault) => {
-            let status = tell(rt, &fault);
+            let status = out.tell(&fault);
             if let ProgramFault::Moves(_) = fault {
                 tell_stop(rt, game, start, list);
             }
@@ -73,8 +78,8 @@ fn replay_sequences<G: Game>(
 ) -> Result<u8, Ending>
     requires position { IsPositionOf (G.game game.now) start.now }
 {
-    let list = without_rulers(text);
-    let mut out = ToWriter::new(rt.stdout());
+    let list = without_rulers(without_answer(text));
+    let mut out = Out::new(rt);
     let mut entries = FromSlice::new(list);
     match run_replay_sequences(rt.alloc(), game, start, &mut entries, page, &mut out) {
         Ok(ended) => {
@@ -82,7 +87,7 @@ fn replay_sequences<G: Game>(
             Ok(0)
         }
         Err(fault) => {
-            let status = tell(rt, &fault);
+            let status = out.tell(&fault);
             tell_entry(rt, fault, list);
             Err(Ending::Told(status))
         }

@@ -1,9 +1,9 @@
 //! `show`: a board is drawn.
 
 use crate::boards::{find_board, read_start};
-use crate::endings::{Ending, of_run};
+use crate::endings::Ending;
 use crate::games::InGame;
-use fc_io::ToWriter;
+use crate::outputs::Out;
 use fc_moves::Game;
 use fc_runs::{Look, run_show};
 use fc_words::ShowWords;
@@ -14,11 +14,13 @@ impl InGame for ShowWords<'_> {
         let start = read_start(rt, find_board(rt, &self.board)?, game.cells())?;
         let look = if self.is_plain {
             Look::Text
-        } else if rt.stdout().is_terminal() {
+        } else if self.colours.are_shown(rt.stdout().is_terminal()) {
             Look::Coloured
         } else {
             Look::Drawn
         };
-        of_run(run_show(game, look, &start, &mut ToWriter::new(rt.stdout())))
+        let mut out = Out::new(rt);
+        let ran = run_show(game, look, &start, &mut out);
+        out.end_of(ran)
     }
 }

@@ -1,18 +1,18 @@
 //! `solve`: a board is solved, and it is told how far the search is.
-ghost use Rattle.fc_position.specs.Position.{Fits};
 ghost use Rattle.fc_moves.specs.GameRules.{IsPositionOf};
 
 use crate::boards::{create, find_board, read_start};
-use crate::endings::{Ending, of_run};
+use crate::endings::Ending;
 use crate::games::InGame;
-use crate::pages::solve_in_pages;
-use crate::watching::{AfterLine, Line, Teller};
-use fc_io::ToWriter;
-use fc_methods::{BoundKind, Method, Question, Weight};
+use crate::forms::{LONGEST_ANSWER, Manner, tell_held};
+use crate::outputs::Out;
+use crate::watching::{Line, Teller};
+use fc_io::{ToArray, ToWriter};
+use fc_methods::{BoundKind, Budget, Method, Question};
 use fc_moves::Game;
 use fc_position::Position;
 use fc_runs::{ProgramFault, run_solve_by};
-use fc_words::SolveWords;
+use fc_words::{MovesForm, SolveWords};
 use std::fs::File;
 use std::io::IsTerminal;
 
@@ -38,7 +38,7 @@ impl InGame for SolveWords<'_> {
     }
 }
 
-// Searches, and tells on a line how far the search is.
+// Searches, tells on a line how far the search is, and writes the answer.
 fn search_from<G: Game + Drop>(
     rt: &HostRuntime,
     words: &SolveWords<'_>,
@@ -51,24 +51,34 @@ fn search_from<G: Game + Drop>(
 {
     let mut cert = cert;
     let mut teller = Teller::new(line, rt.stderr().is_terminal() && !words.is_quiet);
-    let ran = if words.has_boards {
-        solve_in_pages(rt, question, start, cert.as_mut(), &mut teller)
-    } else {
-        let mut out = AfterLine::new(line, ToWriter::new(rt.stdout()));
-        run_solve_by(
+    if let MovesForm::Letters = words.form {
+        let mut out = Out::after(rt, line);
+        let ran = run_solve_by(
             rt.alloc(),
             question,
             start,
             &mut out,
             cert.as_mut(),
             &mut teller,
-        )
-    };
-    line.clear();
-    if words.has_stats {
-        teller.tell_stats();
+        );
+        line.clear();
+        teller.tell_stats(words.has_stats, out.front());
+        return out.end_of(ran);
     }
-    of_run(ran)
+    let mut answer = ToArray::<LONGEST_ANSWER>::new();
+    let ran = run_solve_by(
+        rt.alloc(),
+        question,
+        start,
+        &mut answer,
+        cert.as_mut(),
+        &mut teller,
+    );
+    line.clear();
+    let manner = Manner::new(rt, words.form, words.colours);
+    let told = tell_held(rt, question.game(), start, ran, answer.held(), manner);
+    teller.tell_stats(words.has_stats, answer.held());
+    told
 }
 
 // Says on standard error what to try after giving up, if there is anything.
@@ -86,13 +96,21 @@ pub fn tell_advice(rt: &HostRuntime, advice: &str, deal: Option<u32>) {
     };
 }
 
-// What to try after giving up, if there is anything.
+// What would help after giving up and isn't asked for yet, if there is anything.
 fn advice_for(method: Method) -> Option<&'static str> {
-    match method.bound {
-        BoundKind::Plain => Some("--bound clearing, --within 2, or a greater --budget"),
-        BoundKind::Clearing if method.strategy.weight == Weight::ONE => {
-            Some("--within 2, or a greater --budget")
+    let strategy = method.strategy;
+    let is_near = strategy.weight.times() < 2 * strategy.weight.parts();
+    let has_room = strategy.budget < Budget::MOST;
+    match (method.bound, is_near, has_room) {
+        (BoundKind::Plain, true, true) => {
+            Some("--bound clearing, --within 2, or a greater --budget")
         }
-        BoundKind::Clearing => None,
+        (BoundKind::Plain, true, false) => Some("--bound clearing, or --within 2"),
+        (BoundKind::Plain, false, true) => Some("--bound clearing, or a greater --budget"),
+        (BoundKind::Plain, false, false) => Some("--bound clearing"),
+        (BoundKind::Clearing, true, true) => Some("--within 2, or a greater --budget"),
+        (BoundKind::Clearing, true, false) => Some("--within 2"),
+        (BoundKind::Clearing, false, true) => Some("a greater --budget"),
+        (BoundKind::Clearing, false, false) => None,
     }
 }

@@ -2,7 +2,7 @@
 //! asked for, by a line of numbers. Where a line can't be written, the search goes on.
 
 use fc_best::{BestListener, BestProgress};
-use fc_io::{Failed, Sink};
+use fc_plain::read_count;
 use fc_search::{Listener, Progress};
 use std::cell::Cell;
 
@@ -44,18 +44,19 @@ impl<'a> Line<'a> {
         }
     }
 
+    // (at its end the line begins again, so that a prompt doesn't stand behind it where the program is broken off)
     // Writes the line over: how full a search is, and its floor.
     fn show_kept(&self, classes: usize, budget: u32, at_least: u32) {
         self.begin();
         let _told = eprint!(self.rt;
-            "{classes} of {budget} positions kept, at least {at_least} moves"
+            "{classes} of {budget} positions kept, at least {at_least} moves\r"
         );
     }
 
     // Writes the line over: how many moves the best list so far has, and the floor.
     fn show_best(&self, moves: u32, at_least: u32) {
         self.begin();
-        let _told = eprint!(self.rt; "best so far {moves}, at least {at_least}");
+        let _told = eprint!(self.rt; "best so far {moves}, at least {at_least}\r");
     }
 
     // Ends a run with a line of numbers.
@@ -89,18 +90,14 @@ impl<'a> Teller<'a> {
         }
     }
 
-    /// Takes the line away, if it is there.
-    pub fn clear(&self) {
-        self.line.clear();
-    }
-
-    /// The line of numbers of what was heard last.
-    pub fn tell_stats(&self) {
-        let Some(far) = self.last else {
+    /// Where it is asked for, the line of numbers of what was heard last, with the floor that the answer tells, if it does.
+    pub fn tell_stats(&self, is_asked_for: bool, answer: &[u8]) {
+        let (true, Some(far)) = (is_asked_for, self.last) else {
             return;
         };
+        let floor = floor_told(answer).unwrap_or(far.at_least);
         self.line
-            .tell_stats(far.classes, far.turns, far.most_open, far.at_least);
+            .tell_stats(far.classes, far.turns, far.most_open, floor);
     }
 }
 
@@ -137,17 +134,14 @@ impl<'a> BestTeller<'a> {
         }
     }
 
-    /// Takes the line away, if it is there.
-    pub fn clear(&self) {
-        self.line.clear();
-    }
-
-    /// The line of numbers of all searches together.
-    pub fn tell_stats(&self) {
-        let Some(far) = self.last else {
+    /// Where it is asked for, the line of numbers of all searches together, with the floor that the answer tells, if it does.
+    pub fn tell_stats(&self, is_asked_for: bool, answer: &[u8]) {
+        let (true, Some(far)) = (is_asked_for, self.last) else {
             return;
         };
-        self.line.tell_stats(far.classes as usize, far.turns, far.most_open, far.at_least);
+        let floor = floor_told(answer).unwrap_or(far.at_least);
+        self.line
+            .tell_stats(far.classes as usize, far.turns, far.most_open, floor);
     }
 
     // Whether the line is to be written, first after so many turns: where the best list or the floor changed, or after so many
@@ -187,31 +181,12 @@ impl BestListener for BestTeller<'_> {
     }
 }
 
-/// Where an answer is written once the line is taken away.
-#[derive(Drop)]
-pub struct AfterLine<'a, K: Sink + Drop> {
-    line: &'a Line<'a>,
-    out: K,
-}
-
-impl<'a, K: Sink + Drop> AfterLine<'a, K> {
-    /// What is written goes to this sink.
-    pub fn new(line: &'a Line<'a>, out: K) -> Self {
-        AfterLine { line, out }
+// The number of moves below which an answer's first line says that no list wins.
+fn floor_told(answer: &[u8]) -> Option<u32> {
+    let line = answer.split(|byte| *byte == b'\n').next()?;
+    if !line.starts_with(b"shortest ") && !line.starts_with(b"won ") {
+        return None;
     }
-}
-
-impl<K: Sink + Drop> Sink for AfterLine<'_, K> {
-    ghost held = { λ s. K.held s.out };
-
-    ghost has_failed = { λ s. K.has_failed s.out };
-
-    fn write(&mut self, piece: &[u8]) -> Result<usize, Failed> {
-        self.line.clear();
-        self.out.write(piece)
-    }
-
-    fn failed(&self) -> bool {
-        self.out.failed()
-    }
+    let number = line.rsplit(|byte| *byte == b' ').next()?;
+    read_count(number)
 }

@@ -4,7 +4,7 @@ use crate::boards::{LOCKED, TWO_KINGS};
 use crate::given::board;
 use fc_deal::deal;
 use fc_position::Position;
-use fc_show::draw;
+use fc_show::{Style, draw};
 use std::process::Abort;
 
 // A position in a game with so many cells is drawn like this.
@@ -12,7 +12,7 @@ fn check_drawing(rt: &impl Abort, position: &Position, cells: u8, is_coloured: b
     let is_fit = position.fits(cells) && cells <= 4;
     assert!(rt; is_fit, "a board of the game");
     assert!(rt;
-        draw(position, cells, is_coloured).as_slice() == text.as_bytes(),
+        draw(position, cells, &Style::unmarked(is_coloured)).as_slice() == text.as_bytes(),
         "another drawing"
     );
 }

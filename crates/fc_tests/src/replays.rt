@@ -267,7 +267,7 @@ fn a_list_that_plays_has_no_stop(rt: HostRuntime) {
     };
     assert!(rt; refusal_of(&game, &start, first).is_none());
     let mut out = ToArray::<10>::new();
-    let none = play(&game, &start, &[], Page::Drawn, &mut out);
+    let none = play(&game, &start, &[], Page::Drawn(false), &mut out);
     let ended = Ended {
         moves: 0,
         is_won: false,

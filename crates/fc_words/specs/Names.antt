@@ -1,9 +1,11 @@
 -- What is called by which name.
-use Rattle.std.specs.Prelude.{ℕ, List, codes}
+use Rattle.std.specs.Prelude.{ℕ, Bool, true, false, List, codes}
 use Rattle.fc_bound.specs.declared.kinds.BoundKind.{BoundKind}
 use Rattle.fc_bound.specs.declared.kinds.BoundKind.TheVariants.{Plain, Clearing}
 use Rattle.fc_best_first.specs.declared.strategies.Expansion.{Expansion}
 use Rattle.fc_best_first.specs.declared.strategies.Expansion.TheVariants.{Full, Partial}
+use Rattle.fc_words.specs.declared.forms.Colours.{Colours}
+use Rattle.fc_words.specs.declared.forms.Colours.TheVariants.{Auto, Always, Never}
 use Rattle.fc_words.specs.declared.games.GameName.{GameName}
 use Rattle.fc_words.specs.declared.games.GameName.TheVariants.{FreeCell, Bakers}
 use Rattle.fc_words.specs.declared.tasks.Task.{Task}
@@ -28,6 +30,18 @@ expansion_name Partial = codes "partial"
 abbrev pub usual_expansion : BoundKind → Expansion
 usual_expansion Plain = Full
 usual_expansion Clearing = Partial
+
+-- the name of a choice of colours
+abbrev pub colours_name : Colours → List ℕ
+colours_name Auto = codes "auto"
+colours_name Always = codes "always"
+colours_name Never = codes "never"
+
+-- whether red suits are in red, on a terminal or not
+abbrev pub are_shown : Colours → Bool → Bool
+are_shown Auto is_terminal = is_terminal
+are_shown Always is_terminal = true
+are_shown Never is_terminal = false
 
 -- the name of a subcommand
 abbrev pub task_name : Task → List ℕ

@@ -11,7 +11,7 @@ use Rattle.fc_words.specs.declared.options.TheConstants.{MOST_CELLS}
 
 -- a replay doesn't read both the board and the moves from standard input
 abbrev pub HasOneInput : ReplayWords → Type 0
-HasOneInput words = words.board ≡ Input → words.moves ≡ moves.Input → ⊥
+HasOneInput words = words.board.word ≡ Input → words.moves ≡ moves.Input → ⊥
 
 -- a game has four cells at most, and no command reads two things from standard input
 abbrev pub IsSound : Command → Type 0

@@ -3,6 +3,7 @@ ghost use Rattle.fc_methods.specs.declared.methods.Method.{Method};
 ghost use Rattle.fc_best_first.specs.Limits.{IsBudget};
 ghost use Rattle.fc_words.specs.Best.{best_method};
 
+use crate::forms::{Colours, MovesForm};
 use crate::games::GameName;
 use fc_methods::{BoundKind, Budget, Expansion, HomeRule, Method, Strategy, Weight};
 
@@ -45,6 +46,15 @@ pub enum BoardWord<'a> {
     Named(&'a str),
     /// Standard input.
     Input,
+}
+
+/// A board, and how its text is to be read.
+#[derive(Clone, Copy)]
+pub struct BoardWords<'a> {
+    /// What names it.
+    pub word: BoardWord<'a>,
+    /// Whether its text has the rows across the table, and not the columns.
+    pub is_in_rows: bool,
 }
 
 /// What names a list of moves.
@@ -138,21 +148,25 @@ pub struct DealWords {
 #[derive(Clone, Copy)]
 pub struct ShowWords<'a> {
     pub game: GameWords,
-    pub board: BoardWord<'a>,
+    pub board: BoardWords<'a>,
     /// Whether the board's text is printed, and no drawing.
     pub is_plain: bool,
+    /// When red suits are drawn in red.
+    pub colours: Colours,
 }
 
 /// The words of `best`.
 #[derive(Clone, Copy)]
 pub struct BestWords<'a> {
     pub game: GameWords,
-    pub board: BoardWord<'a>,
+    pub board: BoardWords<'a>,
     pub search: BestSearchWords,
     /// The file that takes the certificate, if one is asked for.
     pub cert: Option<&'a str>,
-    /// Whether the board is drawn after each move.
-    pub has_boards: bool,
+    /// How the moves are told.
+    pub form: MovesForm,
+    /// When red suits are in red, in words and in drawings.
+    pub colours: Colours,
     /// Whether a line of numbers ends the searches.
     pub has_stats: bool,
     /// Whether nothing is said on a terminal but the answer.
@@ -163,12 +177,14 @@ pub struct BestWords<'a> {
 #[derive(Clone, Copy)]
 pub struct SolveWords<'a> {
     pub game: GameWords,
-    pub board: BoardWord<'a>,
+    pub board: BoardWords<'a>,
     pub search: SearchWords,
     /// The file that takes the certificate, if one is asked for.
     pub cert: Option<&'a str>,
-    /// Whether the board is drawn after each move.
-    pub has_boards: bool,
+    /// How the moves are told.
+    pub form: MovesForm,
+    /// When red suits are in red, in words and in drawings.
+    pub colours: Colours,
     /// Whether a line of numbers ends the search.
     pub has_stats: bool,
     /// Whether nothing is said of how far the search is.
@@ -179,7 +195,7 @@ pub struct SolveWords<'a> {
 #[derive(Clone, Copy)]
 pub struct CheckWords<'a> {
     pub game: GameWords,
-    pub board: BoardWord<'a>,
+    pub board: BoardWords<'a>,
     /// The file of the certificate.
     pub cert: &'a str,
 }
@@ -188,7 +204,7 @@ pub struct CheckWords<'a> {
 #[derive(Clone, Copy)]
 pub struct ReplayWords<'a> {
     pub game: GameWords,
-    pub board: BoardWord<'a>,
+    pub board: BoardWords<'a>,
     pub moves: MovesWord<'a>,
     /// Whether the number and the move stand above each board.
     pub is_numbered: bool,

@@ -1,5 +1,5 @@
 //! Laws of the names.
-ghost use Rattle.fc_words.specs.Laws.{BoundsHaveTheirOwnNames, ExpansionsHaveTheirOwnNames, GamesHaveTheirOwnNames, TasksHaveTheirOwnNames};
+ghost use Rattle.fc_words.specs.Laws.{BoundsHaveTheirOwnNames, ColoursHaveTheirOwnNames, ExpansionsHaveTheirOwnNames, GamesHaveTheirOwnNames, TasksHaveTheirOwnNames};
 
 /// No two games have one name.
 pub fn games_have_their_own_names()
@@ -14,6 +14,11 @@ pub fn bounds_have_their_own_names()
 /// No two expansions have one name.
 pub fn expansions_have_their_own_names()
     ensures { ExpansionsHaveTheirOwnNames }
+{}
+
+/// No two choices of colours have one name.
+pub fn colours_have_their_own_names()
+    ensures { ColoursHaveTheirOwnNames }
 {}
 
 /// No two subcommands have one name.

@@ -5,11 +5,12 @@
 pub use alone::{is_number, is_subcommand, mean_board};
 pub use bounds::{bound_name, bound_of_name};
 pub use commands::{
-    BatchSearch, BatchWords, BestSearchWords, BestWords, BoardWord, CheckWords, Command, DealWords,
+    BatchSearch, BatchWords, BestSearchWords, BestWords, BoardWord, BoardWords, CheckWords, Command, DealWords,
     GameWords, MovesWord, ReplayWords, SearchWords, ShowWords, SolveWords,
 };
 pub use expansions::{expansion_name, expansion_of_name, usual_expansion};
 pub use faults::WordsFault;
+pub use forms::{Colours, MovesForm};
 pub use games::GameName;
 pub use reading::read;
 pub use tasks::Task;
@@ -20,6 +21,7 @@ mod bounds;
 mod commands;
 mod expansions;
 mod faults;
+mod forms;
 mod games;
 pub mod laws;
 mod options;

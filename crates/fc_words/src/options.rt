@@ -4,9 +4,10 @@
 ghost use Rattle.std.specs.Prelude.{◌≤◌, IfSome};
 
 use crate::bounds::{BOUND_NAMES, bound_of_name};
-use crate::commands::{BestSearchWords, BoardWord, GameWords, MovesWord, SearchWords};
+use crate::commands::{BestSearchWords, BoardWord, BoardWords, GameWords, MovesWord, SearchWords};
 use crate::expansions::{EXPANSION_NAMES, expansion_of_name, usual_expansion};
 use crate::faults::WordsFault;
+use crate::forms::{COLOURS_NAMES, Colours, MovesForm};
 use crate::games::GameName;
 use crate::weights::weight_of;
 use clap::ArgMatches;
@@ -34,8 +35,8 @@ pub(crate) enum Kind {
     },
     /// A flag.
     Flag,
-    /// A flag in place of the options that say how to search.
-    FlagInPlaceOfSearch,
+    /// A flag in place of the words of these names.
+    FlagInPlaceOf(&'static [&'static str]),
     /// An option with the number of a deal, in place of the word of this name.
     DealInPlaceOf(&'static str),
     /// The number of a deal, which must stand there.
@@ -202,7 +203,12 @@ pub(crate) fn best_search(words: &ArgMatches<'_>) -> Result<BestSearchWords, Wor
 
 const BOARD: &str = "BOARD";
 
-const BOARD_HELP: &str = "A file, - for standard input, or the number of a deal";
+const BOARD_HELP: &str = "A file, - for standard input, or the number of a deal. A board's text
+has a line a column, the deepest card first; a card is its rank,
+A 2 to 9 T J Q K, and its suit, C D H S: `4S TD 9C`. An empty line
+is an empty column. What is home and in the cells may be told too:
+`Foundations: H-J C-K D-K S-J` and `Freecells: KH QS`. A `#` begins
+a comment. With --rows a line is a row across the columns instead";
 
 /// `[BOARD]`.
 pub(crate) const OPTIONAL_BOARD: Word = Word {
@@ -225,20 +231,80 @@ pub(crate) const DEAL: Word = Word {
     help: "The numbered deal in place of BOARD, 1 to 1000000",
 };
 
+pub(crate) const ROWS: Word = Word {
+    name: "rows",
+    kind: Kind::Flag,
+    help: "Reads BOARD in rows across the table, as `show` draws it",
+};
+
 /// The board that `--deal N` or `[BOARD]` names: standard input where neither is there.
-pub(crate) fn optional_board<'a>(words: &ArgMatches<'a>) -> BoardWord<'a> {
-    match words.get_one::<u32>(DEAL.name) {
+pub(crate) fn optional_board<'a>(words: &ArgMatches<'a>) -> BoardWords<'a> {
+    let word = match words.get_one::<u32>(DEAL.name) {
         Some(number) => BoardWord::Deal(number),
-        None => needed_board(words).unwrap_or(BoardWord::Input),
+        None => board_word(words).unwrap_or(BoardWord::Input),
+    };
+    BoardWords {
+        word,
+        is_in_rows: words.get_flag(ROWS.name),
     }
 }
 
 /// The board that `BOARD` names.
-pub(crate) fn needed_board<'a>(words: &ArgMatches<'a>) -> Option<BoardWord<'a>> {
+pub(crate) fn needed_board<'a>(words: &ArgMatches<'a>) -> Option<BoardWords<'a>> {
+    Some(BoardWords {
+        word: board_word(words)?,
+        is_in_rows: words.get_flag(ROWS.name),
+    })
+}
+
+// What names the board, where `BOARD` does.
+fn board_word<'a>(words: &ArgMatches<'a>) -> Option<BoardWord<'a>> {
     match words.get_str(BOARD)? {
         "-" => Some(BoardWord::Input),
         word => Some(BoardWord::Named(word)),
     }
+}
+
+pub(crate) const BOARDS: Word = Word {
+    name: "boards",
+    kind: Kind::FlagInPlaceOf(&["words", "sequences"]),
+    help: "Tells the moves in words, and draws the board after each",
+};
+
+pub(crate) const WORDS: Word = Word {
+    name: "words",
+    kind: Kind::FlagInPlaceOf(&["boards", "sequences"]),
+    help: "Tells the moves in words, a line each",
+};
+
+pub(crate) const IN_SEQUENCES: Word = Word {
+    name: "sequences",
+    kind: Kind::FlagInPlaceOf(&["boards", "words"]),
+    help: "Joins moves that carry several cards, as a player's hand does",
+};
+
+/// How the moves of an answer are to be told.
+pub(crate) fn form(words: &ArgMatches<'_>) -> MovesForm {
+    if words.get_flag(BOARDS.name) {
+        MovesForm::Boards
+    } else if words.get_flag(WORDS.name) {
+        MovesForm::Words
+    } else if words.get_flag(IN_SEQUENCES.name) {
+        MovesForm::Sequences
+    } else {
+        MovesForm::Letters
+    }
+}
+
+pub(crate) const COLOR: Word = Word {
+    name: "color",
+    kind: Kind::Name(&COLOURS_NAMES),
+    help: "When red suits are in red: auto (on a terminal), always or never",
+};
+
+/// When red suits are to be in red.
+pub(crate) fn colours(words: &ArgMatches<'_>) -> Option<Colours> {
+    Colours::of_name(words.get_str(COLOR.name)?)
 }
 
 pub(crate) const MOVES: Word = Word {

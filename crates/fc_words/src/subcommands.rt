@@ -10,8 +10,9 @@ use crate::commands::{
 };
 use crate::faults::WordsFault;
 use crate::options::{
-    BOUND, BUDGET, CELLS, DEAL, EXPAND, GAME, KINGS, Kind, MOVES, NEEDED_BOARD, OPTIONAL_BOARD,
-    RULE, WITHIN, Word, best_search, game, moves, needed_board, optional_board, search,
+    BOARDS, BOUND, BUDGET, CELLS, COLOR, DEAL, EXPAND, GAME, IN_SEQUENCES, KINGS, Kind, MOVES,
+    NEEDED_BOARD, OPTIONAL_BOARD, ROWS, RULE, WITHIN, WORDS, Word, best_search, colours, form,
+    game, moves, needed_board, optional_board, search,
 };
 use crate::tasks::Task;
 use clap::ArgMatches;
@@ -61,7 +62,7 @@ pub(crate) fn deal(words: &ArgMatches<'_>) -> Option<DealWords> {
 static SHOWING: Subcommand = Subcommand {
     about: "Draws a board as it is read, its columns downward, to see that it is the one you mean",
     after_help: "Example: fc_solve show 617",
-    words: &[PLAIN, GAME, KINGS, CELLS, DEAL, OPTIONAL_BOARD],
+    words: &[PLAIN, COLOR, GAME, KINGS, CELLS, DEAL, ROWS, OPTIONAL_BOARD],
 };
 
 const PLAIN: Word = Word {
@@ -78,6 +79,7 @@ pub(crate) fn show<'a>(words: &ArgMatches<'a>) -> Option<ShowWords<'a>>
         game: game(words)?,
         board: optional_board(words),
         is_plain: words.get_flag(PLAIN.name),
+        colours: colours(words)?,
     })
 }
 
@@ -103,7 +105,10 @@ Examples:
     words: &[
         BUDGET,
         CERT_OPTION,
+        WORDS,
         BOARDS,
+        IN_SEQUENCES,
+        COLOR,
         STATS,
         QUIET,
         GAME,
@@ -111,6 +116,7 @@ Examples:
         CELLS,
         RULE,
         DEAL,
+        ROWS,
         OPTIONAL_BOARD,
     ],
 };
@@ -123,7 +129,7 @@ pub(crate) fn best<'a>(words: &ArgMatches<'a>) -> Result<BestWords<'a>, WordsFau
         Ok(search) => search,
         Err(fault) => return Err(fault),
     };
-    let Some(game) = game(words) else {
+    let (Some(game), Some(colours)) = (game(words), colours(words)) else {
         return Err(WordsFault::Missing);
     };
     Ok(BestWords {
@@ -131,7 +137,8 @@ pub(crate) fn best<'a>(words: &ArgMatches<'a>) -> Result<BestWords<'a>, WordsFau
         board: optional_board(words),
         search,
         cert: words.get_str(CERT_OPTION.name),
-        has_boards: words.get_flag(BOARDS.name),
+        form: form(words),
+        colours,
         has_stats: words.get_flag(STATS.name),
         is_quiet: words.get_flag(QUIET.name),
     })
@@ -157,7 +164,10 @@ Examples:
         WITHIN,
         BOUND,
         EXPAND,
+        WORDS,
         BOARDS,
+        IN_SEQUENCES,
+        COLOR,
         STATS,
         QUIET,
         GAME,
@@ -165,6 +175,7 @@ Examples:
         CELLS,
         RULE,
         DEAL,
+        ROWS,
         OPTIONAL_BOARD,
     ],
 };
@@ -176,12 +187,6 @@ const CERT_OPTION: Word = Word {
         default: None,
     },
     help: "Writes a proof of the answer to FILE, for `check`",
-};
-
-const BOARDS: Word = Word {
-    name: "boards",
-    kind: Kind::Flag,
-    help: "Numbers the moves, and draws the board after each",
 };
 
 const STATS: Word = Word {
@@ -204,7 +209,7 @@ pub(crate) fn solve<'a>(words: &ArgMatches<'a>) -> Result<SolveWords<'a>, WordsF
         Ok(search) => search,
         Err(fault) => return Err(fault),
     };
-    let Some(game) = game(words) else {
+    let (Some(game), Some(colours)) = (game(words), colours(words)) else {
         return Err(WordsFault::Missing);
     };
     Ok(SolveWords {
@@ -212,7 +217,8 @@ pub(crate) fn solve<'a>(words: &ArgMatches<'a>) -> Result<SolveWords<'a>, WordsF
         board: optional_board(words),
         search,
         cert: words.get_str(CERT_OPTION.name),
-        has_boards: words.get_flag(BOARDS.name),
+        form: form(words),
+        colours,
         has_stats: words.get_flag(STATS.name),
         is_quiet: words.get_flag(QUIET.name),
     })
@@ -224,7 +230,7 @@ static CHECKING: Subcommand = Subcommand {
     after_help: "Status: 0 accepted, 3 refused, 4 want of memory, 5 reading or writing failed.
 
 Example: fc_solve check boards/locked.txt boards/locked.cert",
-    words: &[GAME, KINGS, CELLS, NEEDED_BOARD, CERT],
+    words: &[GAME, KINGS, CELLS, ROWS, NEEDED_BOARD, CERT],
 };
 
 const CERT: Word = Word {
@@ -253,7 +259,7 @@ Examples:
   fc_solve replay boards/three-spades.txt moves.txt
   fc_solve 941 | fc_solve replay 941 -
   fc-solve -m -sn board.txt | fc_solve replay --sequences board.txt -",
-    words: &[NUMBERED, SEQUENCES, GAME, KINGS, CELLS, NEEDED_BOARD, MOVES],
+    words: &[NUMBERED, SEQUENCES, GAME, KINGS, CELLS, ROWS, NEEDED_BOARD, MOVES],
 };
 
 const NUMBERED: Word = Word {
@@ -277,7 +283,7 @@ pub(crate) fn replay<'a>(words: &ArgMatches<'a>) -> Result<ReplayWords<'a>, Word
     else {
         return Err(WordsFault::Missing);
     };
-    if let (BoardWord::Input, MovesWord::Input) = (board, moves) {
+    if let (BoardWord::Input, MovesWord::Input) = (board.word, moves) {
         return Err(WordsFault::OneInput);
     }
     Ok(ReplayWords {
@@ -321,7 +327,7 @@ const TABLE: Word = Word {
 
 const BEST: Word = Word {
     name: "best",
-    kind: Kind::FlagInPlaceOfSearch,
+    kind: Kind::FlagInPlaceOf(&["within", "bound", "expand"]),
     help: "The best answer that the budget gives of each deal, as by `best`",
 };
 

@@ -1,6 +1,6 @@
 //! The command line as clap reads it.
 
-use crate::options::{BOUND, EXPAND, Kind, WITHIN, Word};
+use crate::options::{Kind, Word};
 use crate::subcommands::{Subcommand, subcommand_of};
 use crate::tasks::Task;
 use clap::{Arg, ArgAction, Command, value_parser};
@@ -66,11 +66,7 @@ fn arg_of<'a>(alloc: Global, word: &'static Word) -> Result<Arg<'a>, AllocError>
             .hide_possible_values(true),
         Kind::Text { value, default } => with_value(arg, word.name, value, default),
         Kind::Flag => flag(arg, word.name),
-        Kind::FlagInPlaceOfSearch => flag(arg, word.name).conflicts_with_all(&[
-            WITHIN.name,
-            BOUND.name,
-            EXPAND.name,
-        ])?,
+        Kind::FlagInPlaceOf(others) => flag(arg, word.name).conflicts_with_all(others)?,
         Kind::DealInPlaceOf(board) => with_value(arg, word.name, "N", None)
             .value_parser(value_parser!(u32))
             .conflicts_with(board)?,

@@ -1,0 +1,130 @@
+//! An answer told otherwise than by letters: in words, with boards, or as entries that may move several cards.
+ghost use Rattle.fc_position.specs.Position.{Fits};
+ghost use Rattle.fc_moves.specs.GameRules.{IsPositionOf};
+
+use crate::endings::Ending;
+use crate::entries::tell_entries;
+use crate::outputs::Out;
+use fc_io::{Sink, write_all};
+use fc_moves::Game;
+use fc_position::Position;
+use fc_replay::{Page, replay_as};
+use fc_runs::{LONGEST_MOVES, Output, ProgramFault};
+use fc_words::{Colours, MovesForm};
+use std::io::IsTerminal;
+
+/// The most bytes of an answer that is held to be told otherwise.
+pub const LONGEST_ANSWER: usize = 32_768;
+
+/// How an answer is told.
+#[derive(Clone, Copy)]
+pub struct Manner {
+    pub form: MovesForm,
+    /// Whether red suits are in red.
+    pub is_coloured: bool,
+}
+
+impl Manner {
+    /// What the words say, on the terminal that standard output may be.
+    pub fn new(rt: &HostRuntime, form: MovesForm, colours: Colours) -> Manner {
+        Manner {
+            form,
+            is_coloured: colours.are_shown(rt.stdout().is_terminal()),
+        }
+    }
+}
+
+/// Writes the answer that a run held, in this manner; the run's status.
+pub fn tell_held<G: Game>(
+    rt: &HostRuntime,
+    game: &G,
+    start: &Position,
+    ran: Result<u8, ProgramFault>,
+    answer: &[u8],
+    manner: Manner,
+) -> Result<u8, Ending>
+    requires position { IsPositionOf (G.game game.now) start.now }
+{
+    let status = ran?;
+    tell_in_form(rt, game, start, answer, manner)?;
+    Ok(status)
+}
+
+// Writes an answer in this manner.
+fn tell_in_form<G: Game>(
+    rt: &HostRuntime,
+    game: &G,
+    start: &Position,
+    answer: &[u8],
+    manner: Manner,
+) -> Result<(), Ending>
+    requires position { IsPositionOf (G.game game.now) start.now }
+{
+    let is_coloured = manner.is_coloured;
+    match manner.form {
+        MovesForm::Letters => tell_whole(rt, answer),
+        MovesForm::Words => tell_in_pages(rt, game, start, answer, Page::Words(is_coloured)),
+        MovesForm::Boards => tell_in_pages(rt, game, start, answer, Page::Drawn(is_coloured)),
+        MovesForm::Sequences => tell_entries(rt, game, start, answer),
+    }
+}
+
+/// Writes a text.
+pub fn tell_whole(rt: &HostRuntime, text: &[u8]) -> Result<(), Ending> {
+    let mut out = Out::new(rt);
+    match write_all(&mut out, text) {
+        Ok(()) => Ok(()),
+        Err(_) => Err(out.ending_of(UNWRITTEN)),
+    }
+}
+
+// Why an answer isn't told to its end.
+const UNWRITTEN: ProgramFault = ProgramFault::Write(Output::Answer);
+
+// Writes the first line of an answer, and then a page for each of its moves.
+fn tell_in_pages<G: Game>(
+    rt: &HostRuntime,
+    game: &G,
+    start: &Position,
+    answer: &[u8],
+    page: Page,
+) -> Result<(), Ending>
+    requires fits { Fits (G.game game.now).cells start.now }
+{
+    let (told, moves) = split_answer(answer);
+    let mut out = Out::new(rt);
+    let Ok(()) = write_all(&mut out, told) else {
+        return Err(out.ending_of(UNWRITTEN));
+    };
+    match show_moves(game, start, moves, page, &mut out) {
+        Ok(()) => Ok(()),
+        Err(fault) => Err(out.ending_of(fault)),
+    }
+}
+
+// Writes a page for each move of an answer. No memory is asked for, so none can be wanted behind an answer's first line.
+fn show_moves<G: Game, K: Sink>(
+    game: &G,
+    start: &Position,
+    moves: &[u8],
+    page: Page,
+    out: &mut K,
+) -> Result<(), ProgramFault>
+    requires fits { Fits (G.game game.now).cells start.now }
+{
+    if moves.len() > LONGEST_MOVES {
+        return Ok(());
+    }
+    match replay_as(game, start, moves, page, out) {
+        Ok(_) => Ok(()),
+        Err(_) => Err(UNWRITTEN),
+    }
+}
+
+/// The first line of an answer, and the moves below it.
+pub fn split_answer(answer: &[u8]) -> (&[u8], &[u8]) {
+    match answer.iter().position(|byte| *byte == b'\n') {
+        Some(end) => answer.split_at(end + 1),
+        None => (answer, &[]),
+    }
+}

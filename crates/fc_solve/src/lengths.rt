@@ -1,0 +1,61 @@
+//! Boards whose columns are as long as those of no deal: they may have been typed in rows, or have lost their line ends.
+ghost use Rattle.std.specs.Prelude.{◌≤◌};
+
+use fc_io::FromSlice;
+use fc_position::Position;
+use fc_rows::columns_of_rows;
+use fc_runs::read_position;
+
+/// Where all cards stand in columns, and these aren't as long as those of a deal, says so on standard error, and what to do
+/// where the text, read in rows, is a deal. Where this can't be written, the board stands all the same.
+pub fn note_lengths(rt: &HostRuntime, start: &Position, text: &[u8], cells: u8)
+    requires cells { cells ≤ 4 }
+{
+    if !has_all_in_columns(start) || has_lengths_of_deal(start) {
+        return;
+    }
+    let _told = eprint!(rt; "fc_solve: the columns have");
+    for column in 0..8 {
+        let count = start.column(column).len();
+        let _told = eprint!(rt; " {count}");
+    }
+    let advice = if is_deal_in_rows(text, cells) {
+        ": for a board typed in rows say --rows"
+    } else {
+        ""
+    };
+    let _told = eprintln!(rt; " cards, as no deal has{advice}");
+}
+
+// Whether no card is home or in a cell.
+fn has_all_in_columns(start: &Position) -> bool {
+    let mut count = 0;
+    for column in 0..8 {
+        count += start.column(column).len();
+    }
+    count == 52
+}
+
+// Whether the first four columns have seven cards each, and the others six.
+fn has_lengths_of_deal(start: &Position) -> bool {
+    for column in 0..8 {
+        let dealt = if column < 4 { 7 } else { 6 };
+        if start.column(column).len() != dealt {
+            return false;
+        }
+    }
+    true
+}
+
+// Whether the text, read in rows, is as long in its columns as a deal.
+fn is_deal_in_rows(text: &[u8], cells: u8) -> bool
+    requires cells { cells ≤ 4 }
+{
+    let Ok(columns) = columns_of_rows(text) else {
+        return false;
+    };
+    match read_position(&mut FromSlice::new(columns.bytes()), cells) {
+        Ok(start) => has_all_in_columns(&start) && has_lengths_of_deal(&start),
+        Err(_) => false,
+    }
+}
