@@ -1,0 +1,4 @@
+pub mod EntryLemmas
+pub mod FaultLemmas
+pub mod LetterLemmas
+pub mod PushLemmas

@@ -1,0 +1,11 @@
+use Rattle.std.proofs.Common.{◌≡◌, ◌++◌}
+use Rattle.std.specs.List.{flat_map}
+use Rattle.fc_text.specs.Line.{lines_of}
+use Rattle.fc_rows.specs.Rows.{column_line, row_text, told_below, told_lines}
+use Rattle.fc_rows.proofs.columns.push_column.Given as goal
+
+-- the entries of the rows so far are written, and the others are left
+abbrev pub invariant-loop-kind : goal.invariant-loop-kind
+invariant-loop-kind l =
+    l.bytes.items ++ flat_map (row_text l.column) (told_below l.kind-iterator.names (lines_of l.kind-iterator.rest.now))
+    ≡ l.fn.bytes.items ++ column_line l.column (told_lines l.text)

@@ -1,0 +1,229 @@
+-- A board in rows, as a screen shows it, and the text in columns that it stands for.
+use Rattle.std.specs.Prelude.{ℕ, zero, suc, ◌+◌, ◌-◌, ◌*◌, ◌==◌, ◌||◌, ◌&&◌, Bool, true, false, not, cond, List, [], ◌∷◌, ◌++◌, length, take, drop, Option, Some, None, codes, nat_lt, slice_index, slice_index_or}
+use Rattle.std.specs.Char.{to_ascii_uppercase}
+use Rattle.std.specs.List.{flat_map, range_with_len}
+use Rattle.std.specs.Option.{option_or}
+use Rattle.fc_position.specs.Board.{front_of}
+use Rattle.fc_text.specs.Line.{is_blank, line_of, lines_of, tokens_of, without_return}
+use Rattle.fc_text.specs.Printed.{ended}
+use Rattle.fc_text.specs.Spelling.{is_column}
+use Rattle.fc_rows.specs.declared.faults.RowFault.{RowFault}
+use Rattle.fc_rows.specs.declared.faults.RowFault.TheVariants.{TooLong, BadHead, LongRow, ShortRow}
+use Rattle.fc_rows.specs.declared.lines.LineKind.{LineKind}
+use Rattle.fc_rows.specs.declared.lines.LineKind.TheVariants.{Blank, Kept, Numbers, Names, Held, Row}
+
+-- the token is this letter alone
+abbrev pub is_letter : ℕ → List ℕ → Bool
+is_letter b [] = false
+is_letter b (x ∷ []) = x == b
+is_letter b (x ∷ y ∷ bytes) = false
+
+-- the tokens are these letters, one each
+abbrev pub are_letters : List (List ℕ) → List ℕ → Bool
+are_letters [] [] = true
+are_letters [] (b ∷ letters) = false
+are_letters (token ∷ tokens) [] = false
+are_letters (token ∷ tokens) (b ∷ letters) = is_letter b token && are_letters tokens letters
+
+-- the tokens are the numbers of the columns
+unfoldable pub are_numbers : List (List ℕ) → Bool
+are_numbers tokens = are_letters tokens (codes "12345678")
+
+-- how many cells the tokens name, if they are the names above a drawing: those of none to four cells, and of the foundations
+unfoldable pub cells_named : List (List ℕ) → Option ℕ
+cells_named tokens = cond (are_letters tokens (codes "CDHS")) (Some 0)
+    (cond (are_letters tokens (codes "aCDHS")) (Some 1)
+    (cond (are_letters tokens (codes "abCDHS")) (Some 2)
+    (cond (are_letters tokens (codes "abcCDHS")) (Some 3)
+    (cond (are_letters tokens (codes "abcdCDHS")) (Some 4) None))))
+
+-- a line without such names is the numbers of the columns or a row
+abbrev pub named_or_row : Option ℕ → Bool → LineKind
+named_or_row (Some n) is_numbers = Names n
+named_or_row None is_numbers = cond is_numbers Numbers Row
+
+-- what a line tells by itself; one that the reader sorts as foundations or cells is kept
+abbrev pub own_kind : List ℕ → LineKind
+own_kind line = cond (is_column (line_of (without_return line)).kind)
+    (named_or_row (cells_named (tokens_of line)) (are_numbers (tokens_of line)))
+    Kept
+
+-- below the names of n cells and the foundations, a line tells what these hold
+abbrev pub held_or : Option ℕ → LineKind → LineKind
+held_or (Some n) own = Held n
+held_or None own = own
+
+-- what a line tells below these names, if names stand above it; one of blanks alone tells nothing
+abbrev pub kind_below : Option ℕ → List ℕ → LineKind
+kind_below names line = cond (length (tokens_of line) == 0) Blank (held_or names (own_kind line))
+
+-- the names that stand above the next line
+abbrev pub names_below : Option ℕ → LineKind → Option ℕ
+names_below names Blank = names
+names_below names Kept = None
+names_below names Numbers = None
+names_below names (Names n) = Some n
+names_below names (Held n) = None
+names_below names Row = None
+
+-- a line and what it tells
+pub record Told : Type 0 where
+  pub kind : LineKind
+  pub line : List ℕ
+
+-- the lines below these names, if names stand above them, and what they tell
+abbrev pub told_below : Option ℕ → List (List ℕ) → List Told
+told_below names [] = []
+told_below names (line ∷ lines) =
+    record { kind = kind_below names line; line = line } ∷ told_below (names_below names (kind_below names line)) lines
+
+-- a text as its lines and what they tell
+abbrev pub told_lines : List ℕ → List Told
+told_lines text = told_below None (lines_of text)
+
+-- the k-th token of a text, from 0; past the last one nothing
+abbrev pub token_at : ℕ → List ℕ → List ℕ
+token_at k text = slice_index_or (tokens_of text) k []
+
+-- spaces alone
+abbrev pub are_spaces : List ℕ → Bool
+are_spaces [] = true
+are_spaces (b ∷ bytes) = (b == 32) && are_spaces bytes
+
+-- a space and two bytes that are no blanks
+abbrev pub is_entry : List ℕ → Bool
+is_entry (a ∷ b ∷ c ∷ []) = (a == 32) && (not (is_blank b) && not (is_blank c))
+is_entry place = false
+
+-- a place of a row that is drawn has an entry or spaces alone
+abbrev pub is_place : List ℕ → Bool
+is_place place = is_entry place || are_spaces place
+
+-- a line has so many places of three bytes, and spaces behind them
+abbrev pub has_places : ℕ → List ℕ → Bool
+has_places zero line = are_spaces line
+has_places (suc n) line = is_place (take 3 line) && has_places n (drop 3 line)
+
+-- a row as a drawing has it: eight places, one for each column
+unfoldable pub is_drawn : List ℕ → Bool
+is_drawn line = has_places 8 line
+
+-- the entry of a row for column k: what stands in the column's place where the row is drawn, else the k-th one
+abbrev pub entry_at : ℕ → List ℕ → List ℕ
+entry_at k line = cond (is_drawn line) (token_at 0 (take 3 (drop (3 * k) line))) (token_at k line)
+
+-- how many entries a row has
+abbrev pub entry_count : List ℕ → ℕ
+entry_count line = cond (is_drawn line) 8 (length (tokens_of line))
+
+-- an entry that stands for no card: none at all, `-`, `.` or `--`
+abbrev pub is_none : List ℕ → Bool
+is_none [] = true
+is_none (a ∷ []) = (a == 45) || (a == 46)
+is_none (a ∷ b ∷ []) = (a == 45) && (b == 45)
+is_none (a ∷ b ∷ c ∷ bytes) = false
+
+-- an entry with a blank before it, where it is one
+abbrev pub entry_text : List ℕ → List ℕ
+entry_text entry = cond (is_none entry) [] (32 ∷ entry)
+
+-- the line is a row
+abbrev pub is_row : LineKind → Bool
+is_row Blank = false
+is_row Kept = false
+is_row Numbers = false
+is_row (Names n) = false
+is_row (Held n) = false
+is_row Row = true
+
+-- what a line says of column k
+abbrev pub row_text : ℕ → Told → List ℕ
+row_text k told = cond (is_row told.kind) (entry_text (entry_at k told.line)) []
+
+-- column k: a colon, and its entries, the deepest first
+abbrev pub column_line : ℕ → List Told → List ℕ
+column_line k lines = 58 ∷ flat_map (row_text k) lines
+
+-- the token ends with the letter of the suit, in either case
+abbrev pub has_suit : ℕ → List ℕ → Bool
+has_suit letter token = nat_lt 0 (length token) && (to_ascii_uppercase (slice_index token (length token - 1)) == letter)
+
+-- how many cards of a suit are home, from what its foundation holds: none for `-`, the rank of a card of the suit; anything
+-- else is handed on
+abbrev pub home_entry : ℕ → List ℕ → List ℕ
+home_entry letter token = cond (is_letter 45 token) (letter ∷ codes "-0")
+    (cond (has_suit letter token) (letter ∷ 45 ∷ front_of token) token)
+
+-- the foundations of a drawing with n cells, from what a line says that these and those hold
+abbrev pub homes_text : ℕ → List ℕ → List ℕ
+homes_text n line = codes "Foundations:" ++ (32 ∷ home_entry 67 (token_at n line)) ++ (32 ∷ home_entry 68 (token_at (n + 1) line))
+    ++ (32 ∷ home_entry 72 (token_at (n + 2) line)) ++ (32 ∷ home_entry 83 (token_at (n + 3) line))
+
+-- its cells
+abbrev pub cells_text : ℕ → List ℕ → List ℕ
+cells_text n line = codes "Freecells:" ++ flat_map (λ i. 32 ∷ token_at i line) (range_with_len 0 n)
+
+-- its foundations, and its cells where it has some
+abbrev pub head_text : ℕ → List ℕ → List ℕ
+head_text n line = ended (homes_text n line) ++ cond (n == 0) [] (ended (cells_text n line))
+
+-- what stands before the columns: the lines that are kept, and what cells and foundations hold
+abbrev pub front_text : Told → List ℕ
+front_text told = elim told.kind as (λ _. List ℕ) [
+  | Blank ↦ []
+  | Kept ↦ ended told.line
+  | Numbers ↦ []
+  | Names n ↦ []
+  | Held n ↦ head_text n told.line
+  | Row ↦ []
+]
+
+-- the lines of the first columns
+unfoldable pub columns_text : List Told → ℕ → List ℕ
+columns_text lines count = flat_map (λ k. ended (column_line k lines)) (range_with_len 0 count)
+
+-- the text in columns that a text in rows stands for
+unfoldable pub column_text : List ℕ → List ℕ
+column_text text = flat_map front_text (told_lines text) ++ columns_text (told_lines text) 8
+
+-- what is wrong with a row that stands below a short one with this number, if one is above it: that one, or its own length
+abbrev pub row_fault : Option ℕ → ℕ → ℕ → Option RowFault
+row_fault (Some above) number count = Some (ShortRow above)
+row_fault None number count = cond (nat_lt 8 count) (Some (LongRow number)) None
+
+-- what is wrong with a line with this number, below such a row or none
+abbrev pub fault_of : Option ℕ → ℕ → Told → Option RowFault
+fault_of short number told = elim told.kind as (λ _. Option RowFault) [
+  | Blank ↦ None
+  | Kept ↦ None
+  | Numbers ↦ None
+  | Names n ↦ None
+  | Held n ↦ cond (length (tokens_of told.line) == n + 4) None (Some (BadHead number))
+  | Row ↦ row_fault short number (entry_count told.line)
+]
+
+-- a row with so many entries is short where they are fewer than eight
+abbrev pub short_after : Option ℕ → ℕ → ℕ → Option ℕ
+short_after short number count = cond (nat_lt count 8) (Some number) short
+
+-- the short row that stands above the next line, if there is one
+abbrev pub short_below : Option ℕ → ℕ → Told → Option ℕ
+short_below short number told = cond (is_row told.kind) (short_after short number (entry_count told.line)) short
+
+-- the first fault of lines, the first of which has this number
+abbrev pub first_fault : Option ℕ → ℕ → List Told → Option RowFault
+first_fault short number [] = None
+first_fault short number (told ∷ lines) =
+    option_or (fault_of short number told) (first_fault (short_below short number told) (number + 1) lines)
+
+-- texts have at most so many bytes
+abbrev pub most_bytes : ℕ
+most_bytes = 16384
+
+abbrev pub length_fault : List ℕ → Option RowFault
+length_fault text = cond (nat_lt most_bytes (length text)) (Some TooLong) None
+
+-- what is wrong with a text in rows: it is too long, else the first fault of its lines, else the text in columns is too long
+abbrev pub rows_fault : List ℕ → Option RowFault
+rows_fault text = option_or (length_fault text)
+    (option_or (first_fault None 1 (told_lines text)) (length_fault (column_text text)))

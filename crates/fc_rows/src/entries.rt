@@ -1,0 +1,94 @@
+ghost use Rattle.std.specs.Prelude.{◌≡◌, ◌*◌, ◌≤◌, drop, length, take};
+ghost use Rattle.fc_text.specs.Line.{is_blank};
+ghost use Rattle.fc_rows.specs.Rows.{are_spaces, entry_at, entry_count, is_drawn, is_entry, is_none, is_place};
+
+use crate::tokens::{token_at, token_count};
+
+/// The entry of a row for this column, from 0.
+pub(crate) fn entry_at(line: &[u8], column: usize) -> &[u8]
+    requires column { column ≤ 7 }
+    ensures { result.now ≡ entry_at column line.now }
+{
+    if is_drawn(line) {
+        return token_at(place(line, column), 0);
+    }
+    token_at(line, column)
+}
+
+/// How many entries a row has.
+pub(crate) fn entry_count(line: &[u8]) -> usize
+    ensures value { result ≡ entry_count line.now }
+{
+    if is_drawn(line) {
+        return 8;
+    }
+    token_count(line)
+}
+
+/// Whether an entry stands for no card.
+pub(crate) fn is_none(entry: &[u8]) -> bool
+    ensures { result ≡ is_none entry.now }
+{
+    matches!(entry, [] | [b'-' | b'.'] | [b'-', b'-'])
+}
+
+// The three bytes of a line where a drawing has the card of this column, from 0.
+fn place(line: &[u8], column: usize) -> &[u8]
+    requires column { column ≤ 7 }
+    ensures { result.now ≡ take 3 (drop (3 * column) line.now) }
+{
+    let start = line.len().min(3 * column);
+    let end = line.len().min(3 * column + 3);
+    &line[start..end]
+}
+
+// Whether a row is drawn: eight places of three bytes, one for each column.
+fn is_drawn(line: &[u8]) -> bool
+    ensures { result ≡ is_drawn line.now }
+{
+    let mut rest = line;
+    for _ in 0..8_usize {
+        let (place, others) = rest.split_at(rest.len().min(3));
+        if !is_place(place) {
+            return false;
+        }
+        rest = others;
+    }
+    are_spaces(rest)
+}
+
+// Whether a place has an entry or spaces alone.
+fn is_place(place: &[u8]) -> bool
+    ensures { result ≡ is_place place.now }
+{
+    is_entry(place) || are_spaces(place)
+}
+
+// Whether a place has an entry: a space and two bytes that are no blanks.
+fn is_entry(place: &[u8]) -> bool
+    ensures { result ≡ is_entry place.now }
+{
+    match place {
+        [b' ', first, second] => !is_blank(*first) && !is_blank(*second),
+        _ => false,
+    }
+}
+
+// Whether a byte is a space or a tab.
+fn is_blank(byte: u8) -> bool
+    ensures { result ≡ is_blank byte }
+{
+    byte == b' ' || byte == b'\t'
+}
+
+// Whether these are spaces alone.
+fn are_spaces(bytes: &[u8]) -> bool
+    ensures { result ≡ are_spaces bytes.now }
+{
+    for byte in bytes {
+        if *byte != b' ' {
+            return false;
+        }
+    }
+    true
+}

@@ -1,0 +1,71 @@
+ghost use Rattle.std.specs.Prelude.{◌≡◌, ◌++◌, ◌∷◌, OnOk, IfErr};
+ghost use Rattle.fc_text.specs.Printed.{ended};
+ghost use Rattle.fc_rows.specs.Rows.{cells_text, has_suit, head_text, home_entry, homes_text};
+ghost use Rattle.fc_rows.specs.inner.Told.{IsFull};
+
+use crate::faults::RowFault;
+use crate::texts::{Bytes, push, push_word};
+use crate::tokens::{is_letter, token_at};
+
+/// Pushes what so many cells and the foundations of a drawing hold, as the reader reads it.
+pub(crate) fn push_head(bytes: &mut Bytes, cells: u8, line: &[u8]) -> Result<(), RowFault>
+    ensures pushed { OnOk result (bytes.new.items ≡ bytes.old.items ++ head_text cells line.now) }
+    ensures full { IfErr result (IsFull bytes.old.items (head_text cells line.now)) }
+{
+    push_homes(bytes, cells, line)?;
+    if cells == 0 {
+        return Ok(());
+    }
+    push_cells(bytes, cells, line)
+}
+
+// Pushes the line of the foundations.
+fn push_homes(bytes: &mut Bytes, cells: u8, line: &[u8]) -> Result<(), RowFault>
+    ensures pushed { OnOk result (bytes.new.items ≡ bytes.old.items ++ ended (homes_text cells line.now)) }
+    ensures full { IfErr result (IsFull bytes.old.items (ended (homes_text cells line.now))) }
+{
+    let first = cells as usize;
+    push(bytes, b"Foundations:")?;
+    push_home(bytes, b'C', token_at(line, first))?;
+    push_home(bytes, b'D', token_at(line, first + 1))?;
+    push_home(bytes, b'H', token_at(line, first + 2))?;
+    push_home(bytes, b'S', token_at(line, first + 3))?;
+    push(bytes, b"\n")
+}
+
+// Pushes a blank, and how many cards of the suit with this letter are home, from what its foundation holds.
+fn push_home(bytes: &mut Bytes, letter: u8, token: &[u8]) -> Result<(), RowFault>
+    ensures pushed { OnOk result (bytes.new.items ≡ bytes.old.items ++ 32 ∷ home_entry letter token.now) }
+    ensures full { IfErr result (IsFull bytes.old.items (32 ∷ home_entry letter token.now)) }
+{
+    if is_letter(b'-', token) {
+        return push_word(bytes, &[letter, b'-', b'0']);
+    }
+    if !has_suit(letter, token) {
+        return push_word(bytes, token);
+    }
+    push(bytes, &[b' ', letter, b'-'])?;
+    push(bytes, &token[..token.len() - 1])
+}
+
+// Whether a token ends with this letter of a suit, in either case.
+fn has_suit(letter: u8, token: &[u8]) -> bool
+    ensures { result ≡ has_suit letter token.now }
+{
+    match token {
+        [.., suit] => suit.to_ascii_uppercase() == letter,
+        [] => false,
+    }
+}
+
+// Pushes the line of the cells.
+fn push_cells(bytes: &mut Bytes, cells: u8, line: &[u8]) -> Result<(), RowFault>
+    ensures pushed { OnOk result (bytes.new.items ≡ bytes.old.items ++ ended (cells_text cells line.now)) }
+    ensures full { IfErr result (IsFull bytes.old.items (ended (cells_text cells line.now))) }
+{
+    push(bytes, b"Freecells:")?;
+    for i in 0..cells {
+        push_word(bytes, token_at(line, i as usize))?;
+    }
+    push(bytes, b"\n")
+}

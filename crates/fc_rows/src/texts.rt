@@ -1,0 +1,149 @@
+ghost use Rattle.std.specs.Prelude.{◌≡◌, ℕ, List, ◌<◌, ◌≤◌, ◌++◌, ◌∷◌, Some, None, length, IfOk, OnOk, IfErr};
+ghost use Rattle.fc_rows.specs.Rows.{column_text, fault_of, first_fault, row_fault, rows_fault, short_after, short_below, told_lines};
+ghost use Rattle.fc_rows.specs.inner.Told.{IsFull, told_with};
+
+use crate::columns::{push_columns, push_front};
+use crate::entries::entry_count;
+use crate::faults::RowFault;
+use crate::lines::{LineKind, ToldLines};
+use crate::tokens::token_count;
+use arrayvec::ArrayVec;
+use std::marker::Model;
+
+/// The most bytes that a text in rows may have, and the text in columns for which it stands. The reader of board texts takes
+/// at most 4,096.
+pub const MOST_BYTES: usize = 16_384;
+
+/// The bytes of a text that is put together.
+pub(crate) type Bytes = ArrayVec<u8, MOST_BYTES>;
+
+/// A board text in columns that was made from one in rows, seen by contracts as its bytes.
+#[derive(Debug, Drop)]
+pub struct ColumnText {
+    bytes: Bytes,
+}
+
+impl Model for ColumnText {
+    ghost use Rattle.std.specs.Prelude.{ℕ, List};
+
+    ghost Value = { List ℕ };
+
+    ghost view = { λ s. s.bytes.items };
+}
+
+impl ColumnText {
+    /// Its bytes, at most 16,384.
+    pub fn bytes(&self) -> &[u8]
+        ensures value { result.now ≡ self.now }
+        ensures most { length result.now ≤ MOST_BYTES }
+    {
+        self.bytes.as_slice()
+    }
+}
+
+/// The text in columns that a text in rows stands for: what its lines say of foundations and cells, and then a line for each
+/// of the eight columns.
+///
+/// A row has an entry for each column, the deepest cards stand in the first one, and an entry of `--`, `-` or `.` is no
+/// card. The last row may have fewer entries, for the columns from the first on. A row as `fc_show` draws it, each entry of
+/// two bytes in its column's place of three, may have blanks in place of entries. Foundation and cell lines stay as they
+/// are; blank lines and the numbers of the columns say nothing. Names as a drawing has them, `a b c d` for the cells and
+/// `C D H S`, say that the next line has what these hold. Lines are ended by LF or CR LF, entries parted by blanks and tabs,
+/// and all entries are handed on as they are: the reader says what is wrong with one that is no card.
+///
+/// # Errors
+/// `TooLong` for a text of more than 16,384 bytes; then the first line that is at fault, where a row below a short one tells
+/// on that one; then `TooLong` where the text in columns would have more than 16,384 bytes.
+pub fn columns_of_rows(text: &[u8]) -> Result<ColumnText, RowFault>
+    ensures value { IfOk result (λ columns. columns ≡ column_text text.now) }
+    ensures sound { OnOk result (rows_fault text.now ≡ None) }
+    ensures fault { IfErr result (λ fault. rows_fault text.now ≡ Some fault) }
+{
+    if text.len() > MOST_BYTES {
+        return Err(RowFault::TooLong);
+    }
+    check_lines(text)?;
+    let mut bytes = ArrayVec::new();
+    push_front(&mut bytes, text)?;
+    push_columns(&mut bytes, text)?;
+    Ok(ColumnText { bytes })
+}
+
+// Pushes a piece of a text.
+pub(crate) fn push(bytes: &mut Bytes, piece: &[u8]) -> Result<(), RowFault>
+    ensures pushed { OnOk result (bytes.new.items ≡ bytes.old.items ++ piece.now) }
+    ensures within { OnOk result (length bytes.new.items ≤ MOST_BYTES) }
+    ensures full { IfErr result (IsFull bytes.old.items piece.now) }
+{
+    match bytes.try_extend_from_slice(piece) {
+        Ok(()) => Ok(()),
+        Err(_) => Err(RowFault::TooLong),
+    }
+}
+
+// Pushes a blank and a word.
+pub(crate) fn push_word(bytes: &mut Bytes, word: &[u8]) -> Result<(), RowFault>
+    ensures pushed { OnOk result (bytes.new.items ≡ bytes.old.items ++ 32 ∷ word.now) }
+    ensures full { IfErr result (IsFull bytes.old.items (32 ∷ word.now)) }
+{
+    push(bytes, b" ")?;
+    push(bytes, word)
+}
+
+// Looks for the first line that is at fault.
+fn check_lines(text: &[u8]) -> Result<(), RowFault>
+    requires short { length text.now ≤ MOST_BYTES }
+    ensures sound { OnOk result (first_fault None 1 (told_lines text.now) ≡ None) }
+    ensures fault { IfErr result (λ fault. first_fault None 1 (told_lines text.now) ≡ Some fault) }
+{
+    let mut short = None;
+    let mut number = 1;
+    for (kind, line) in ToldLines::new(text) {
+        short = check_line(short, number, kind, line)?;
+        number += 1;
+    }
+    Ok(())
+}
+
+// The short row that stands above the next line, if there is one, where this line with its number isn't at fault below the
+// one that stands above it.
+fn check_line(
+    short: Option<u32>,
+    number: u32,
+    kind: LineKind,
+    line: &[u8],
+) -> Result<Option<u32>, RowFault>
+    ensures next { IfOk result (λ next. next ≡ short_below short number (told_with kind line.now)) }
+    ensures sound { OnOk result (fault_of short number (told_with kind line.now) ≡ None) }
+    ensures fault { IfErr result (λ fault. fault_of short number (told_with kind line.now) ≡ Some fault) }
+{
+    match kind {
+        LineKind::Held(cells) => {
+            if token_count(line) != cells as usize + 4 {
+                return Err(RowFault::BadHead(number));
+            }
+            Ok(short)
+        }
+        LineKind::Row => check_row(short, number, entry_count(line)),
+        _ => Ok(short),
+    }
+}
+
+// The short row that stands above the next line, where a row with its number and so many entries isn't at fault.
+fn check_row(short: Option<u32>, number: u32, count: usize) -> Result<Option<u32>, RowFault>
+    ensures next { IfOk result (λ next. next ≡ short_after short number count) }
+    ensures sound { OnOk result (row_fault short number count ≡ None) }
+    ensures fault { IfErr result (λ fault. row_fault short number count ≡ Some fault) }
+{
+    if let Some(above) = short {
+        return Err(RowFault::ShortRow(above));
+    }
+    if count > 8 {
+        return Err(RowFault::LongRow(number));
+    }
+    if count < 8 {
+        Ok(Some(number))
+    } else {
+        Ok(None)
+    }
+}
