@@ -12,7 +12,7 @@ use Rattle.fc_sequences.specs.Carry.{AddsRun}
 use Rattle.fc_sequences.specs.Following.{Expands}
 
 -- runs are joined
-run_on : (g : GameRules) (b c d : Board) (ms ns : List Move) → Run g b ms c → Run g c ns d → Run g b (ms ++ ns) d
+pub run_on : (g : GameRules) (b c d : Board) (ms ns : List Move) → Run g b ms c → Run g c ns d → Run g b (ms ++ ns) d
 run_on g b c d [] ns same more = subst (λ x. Run g x ns d) same more
 run_on g b c d (m ∷ ms) ns (mid, step, rest) more = (mid, step, run_on g mid c d ms ns rest more)
 

@@ -1,5 +1,7 @@
 pub mod Carry
 pub mod Following
+pub mod Gathering
+pub mod Laws
 pub mod Pair
 pub mod Sequence
 pub mod inner

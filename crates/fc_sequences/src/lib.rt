@@ -3,11 +3,16 @@
 #![tactic(auto)]
 
 pub use carries::{carry, may_carry};
+pub use gathers::{GatherFault, gather};
 pub use lists::{ListFault, MOST_BOARDS, expand};
 pub use pairs::{Pair, read_pair};
+pub use texts::print_pair;
 
 mod carries;
+mod gathers;
+pub mod laws;
 mod lists;
 mod pairs;
 mod spaces;
+mod texts;
 mod trees;

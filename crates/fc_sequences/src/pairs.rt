@@ -79,7 +79,13 @@ pub(crate) fn may_play<G: Game>(game: &G, position: &Position, pair: Pair, count
 }
 
 // Whether so many cards may be played from the one place to the other.
-fn may_play_cards<G: Game>(game: &G, position: &Position, from: Place, to: Place, count: u8) -> bool
+pub(crate) fn may_play_cards<G: Game>(
+    game: &G,
+    position: &Position,
+    from: Place,
+    to: Place,
+    count: u8,
+) -> bool
     ensures value { IsTrue result ↔ ((c : Board) × PlaysCards (G.game game.now) position.now from to count c) }
 {
     match (from, to) {
