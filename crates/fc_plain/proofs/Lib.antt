@@ -1,7 +1,11 @@
 pub mod CountLemmas
+pub mod KeptLemmas
 pub mod LineLemmas
+pub mod MeaningLemmas
 pub mod NumberLemmas
 pub mod PlainLemmas
 pub mod ReadLemmas
+pub mod SortedLemmas
 pub mod SpelledLemmas
+pub mod SpellingLemmas
 pub mod StayLemmas

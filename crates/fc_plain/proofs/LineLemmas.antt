@@ -116,7 +116,7 @@ return-front (x ∷ y ∷ front) rest =
     return-cons x y (front ++ 58 ∷ rest) ∙ ap (λ t. x ∷ t) (return-front (y ∷ front) rest)
 
 -- a labelled line without the CR that may end it
-return-label : (before : ℕ) (line : List ℕ) (found : IsLabelled before line)
+pub return-label : (before : ℕ) (line : List ℕ) (found : IsLabelled before line)
     → without_return line ≡ found.blanks ++ (49 + before) ∷ 58 ∷ without_return found.rest
 return-label before line found =
     let digit = 49 + before in

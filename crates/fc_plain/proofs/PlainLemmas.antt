@@ -1,5 +1,5 @@
 -- What the loops over the signs and the lines of a text keep.
-use Rattle.std.proofs.Common.{◌≡◌, ℕ, zero, suc, ◌+◌, ◌-◌, ◌<◌, ◌≤◌, true, false, cond, Some, None, List, [], ◌∷◌, ◌++◌, length, take, drop, refl, sym, ◌∙◌, ap, ⊎_elim, arith}
+use Rattle.std.proofs.Common.{◌≡◌, ℕ, zero, suc, ◌+◌, ◌-◌, ◌<◌, ◌≤◌, Bool, true, false, cond, Some, None, List, [], ◌∷◌, ◌++◌, length, take, drop, refl, sym, ◌∙◌, ap, ⊎_elim, arith}
 use Rattle.std.specs.Prelude.{nat_lt, position}
 use Rattle.std.specs.List.{join_with_byte, position_or_len, slice_split}
 use Rattle.std.proofs.lemmas.List.{append_assoc}
@@ -62,20 +62,27 @@ pub join-cons : (line : List ℕ) (lines : List (List ℕ)) → 0 < length lines
 join-cons line [] some = absurd (omega arith)
 join-cons line (x ∷ xs) some = refl
 
--- where the first LF of a text stands
-lf_at : (rest : List ℕ) (len : ℕ) → position is_line_end rest ≡ Some len
-    → (position_or_len is_line_end rest < length rest) × (position_or_len is_line_end rest ≡ len)
-lf_at rest len found = ⊎_elim
-    (λ yes. let e : Some (position_or_len is_line_end rest) ≡ Some len = sym (cond-true _ _ _ yes) ∙ found in
-    (ltb-true (position_or_len is_line_end rest) (length rest) yes, cc e))
-    (λ none. absurd (cc (sym (cond-false _ (Some (position_or_len is_line_end rest)) None none) ∙ found)))
-    (cases_Bool (nat_lt (position_or_len is_line_end rest) (length rest)))
+-- where the first byte of a kind stands
+pub first_at : (p : ℕ → Bool) (rest : List ℕ) (len : ℕ) → position p rest ≡ Some len
+    → (position_or_len p rest < length rest) × (position_or_len p rest ≡ len)
+first_at p rest len found = ⊎_elim
+    (λ yes. let e : Some (position_or_len p rest) ≡ Some len = sym (cond-true _ _ _ yes) ∙ found in
+    (ltb-true (position_or_len p rest) (length rest) yes, cc e))
+    (λ none. absurd (cc (sym (cond-false _ (Some (position_or_len p rest)) None none) ∙ found)))
+    (cases_Bool (nat_lt (position_or_len p rest) (length rest)))
+
+-- where there is none
+pub none_at : (p : ℕ → Bool) (rest : List ℕ) → position p rest ≡ None → length rest ≤ position_or_len p rest
+none_at p rest none = ⊎_elim
+    (λ yes. absurd (cc (sym (cond-true _ (Some (position_or_len p rest)) None yes) ∙ none)))
+    (λ no. ltb-false (position_or_len p rest) (length rest) no)
+    (cases_Bool (nat_lt (position_or_len p rest) (length rest)))
 
 -- a text with an LF is a first line, and the lines of what follows it
-first_line : (rest after : List ℕ) (len : ℕ) → position is_line_end rest ≡ Some len → after ≡ drop (len + 1) rest
+pub first_line : (rest after : List ℕ) (len : ℕ) → position is_line_end rest ≡ Some len → after ≡ drop (len + 1) rest
     → slice_split is_line_end rest ≡ take len rest ∷ slice_split is_line_end after
 first_line rest after len found left =
-    let at = lf_at rest len found in
+    let at = first_at is_line_end rest len found in
     slice_split_first is_line_end rest 0 at.0
     ∙ ap (λ n. take n rest ∷ slice_split is_line_end (drop (n + 1) rest)) at.1
     ∙ ap (λ t. take len rest ∷ slice_split is_line_end t) (sym left)
@@ -105,12 +112,9 @@ line_pushed whole done rest after mid new before next len so found left pushed e
     ∙ so
 
 -- a text without an LF is one line
-one_line : (rest : List ℕ) → position is_line_end rest ≡ None → slice_split is_line_end rest ≡ rest ∷ []
+pub one_line : (rest : List ℕ) → position is_line_end rest ≡ None → slice_split is_line_end rest ≡ rest ∷ []
 one_line rest none =
-    let far : length rest ≤ position_or_len is_line_end rest = ⊎_elim
-    (λ yes. absurd (cc (sym (cond-true _ (Some (position_or_len is_line_end rest)) None yes) ∙ none)))
-    (λ no. ltb-false (position_or_len is_line_end rest) (length rest) no)
-    (cases_Bool (nat_lt (position_or_len is_line_end rest) (length rest))) in
+    let far = none_at is_line_end rest none in
     slice_split_none is_line_end rest (λ k d within. fails_before_first is_line_end rest k d (omega arith))
 
 -- the whole text, once its last line was pushed

@@ -12,10 +12,11 @@ use Rattle.std.proofs.lemmas.Slice.Eq.{bytes_eq-Decides}
 use Rattle.fc_cards.specs.Card.{rank, suit}
 use Rattle.fc_cards.specs.Texts.{IsRank, IsRankText, rank_letter, suit_letter}
 use Rattle.fc_cards.proofs.EachRank.{by_rank, by_suit}
+use Rattle.fc_position.specs.Board.{Board}
+use Rattle.fc_text.specs.Board.{Spells}
 use Rattle.fc_text.specs.Line.{Line, after_blanks, after_colon, after_name, begin_part, begins_with, cell_names, foundation_names, is_blank, is_line_end, is_token, line_of, parts_of, sorted_line, tokens_of, without_return}
 use Rattle.fc_text.specs.Spelling.{IsMark, SpellsCard, SpellsHome}
-use Rattle.fc_plain.specs.Plain.{is_column_line, plain_lines, without_label}
-use Rattle.fc_plain.specs.Laws.{SpelledTextsStay}
+use Rattle.fc_plain.specs.Plain.{after_mark, is_column_line, plain_lines, without_label, without_signs}
 use Rattle.fc_plain.proofs.LineLemmas.{Stays, after_blanks-label, digit_no_blank, label_or_not, labels_stay, parts-split, return-cons, trimmed-all}
 use Rattle.fc_plain.proofs.SpelledLemmas.{IsClean, clean_line, label_bad, told_lines}
 use Rattle.fc_plain.proofs.StayLemmas.{ascii_stays}
@@ -248,7 +249,7 @@ clean_stays line clean before = ⊎_elim
     (cases_Bool (is_column_line line))
 
 -- the parts of a text that spells a position are clean lines
-each_clean : (parts : List (List ℕ)) → ((front rest : List Line) (line : Line) → told_lines parts ≡ front ++ line ∷ rest → IsClean line)
+pub each_clean : (parts : List (List ℕ)) → ((front rest : List Line) (line : Line) → told_lines parts ≡ front ++ line ∷ rest → IsClean line)
     → All (λ part. IsClean (line_of (without_return part))) parts
 each_clean [] clean = All-nil (λ part. IsClean (line_of (without_return part)))
 each_clean (x ∷ xs) clean =
@@ -256,9 +257,9 @@ each_clean (x ∷ xs) clean =
     All-cons (λ part. IsClean (line_of (without_return part))) x xs (clean [] (told_lines xs) first refl)
     (each_clean xs (λ front rest line e. clean (first ∷ front) rest line (ap (λ ls. first ∷ ls) e)))
 
--- a text that spells a position is plain already
-pub spelled_stays : SpelledTextsStay
-spelled_stays cells text b spells =
+-- a text that spells a position has no signs and no labels
+pub spelled_shown : (cells : ℕ) (text : List ℕ) (b : Board) → Spells cells text b → plain_lines (without_signs 0 (after_mark text)) ≡ text
+spelled_shown cells text b spells =
     let parts = parts_of is_line_end text in
     let clean = each_clean parts (λ front rest line e. clean_line cells text b spells front rest line e) in
     let ascii : IsAscii text =

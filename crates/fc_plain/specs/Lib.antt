@@ -1,4 +1,5 @@
 pub mod Count
 pub mod Laws
 pub mod Plain
+pub mod Respelled
 pub mod inner

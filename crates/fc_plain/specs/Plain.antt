@@ -3,6 +3,7 @@ use Rattle.std.specs.Prelude.{ℕ, zero, suc, ◌+◌, ◌-◌, ◌==◌, ◌||�
 use Rattle.std.specs.List.{join_with_byte, position_or_len, slice_split}
 use Rattle.fc_text.specs.Line.{after_blanks, is_blank, is_line_end, line_of, without_return}
 use Rattle.fc_text.specs.Spelling.{is_column}
+use Rattle.fc_plain.specs.Respelled.{respelled}
 
 -- the mark of byte order (U+FEFF) that a text may begin with says nothing
 abbrev pub after_mark : List ℕ → List ℕ
@@ -81,4 +82,4 @@ plain_lines text = join_with_byte 10 (without_labels 0 (slice_split is_line_end 
 
 -- the plain text that a text stands for
 abbrev pub plain : List ℕ → List ℕ
-plain text = plain_lines (without_signs 0 (after_mark text))
+plain text = plain_lines (respelled (without_signs 0 (after_mark text)))

@@ -3,13 +3,13 @@ ghost use Rattle.std.specs.List.{position_or_len};
 ghost use Rattle.fc_text.specs.Line.{is_blank, is_line_end};
 ghost use Rattle.fc_plain.specs.Plain.{is_column_line, is_next_digit, plain_lines, without_digit, without_label};
 
-use crate::texts::MOST_BYTES;
+use crate::texts::ROOM;
 use arrayvec::ArrayVec;
 use fc_text::is_column_line;
 
 /// The text without the numbers of its columns, each where it heads the column line of its number.
-pub(crate) fn without_labels(text: &[u8]) -> ArrayVec<u8, MOST_BYTES>
-    requires room { length text.now ≤ MOST_BYTES }
+pub(crate) fn without_labels(text: &[u8]) -> ArrayVec<u8, ROOM>
+    requires room { length text.now ≤ ROOM }
     ensures value { result.items ≡ plain_lines text.now }
     ensures within { length result.items ≤ length text.now }
 {
@@ -26,16 +26,16 @@ pub(crate) fn without_labels(text: &[u8]) -> ArrayVec<u8, MOST_BYTES>
 }
 
 // How many bytes stand before the first LF, if there is one.
-fn line_len(text: &[u8]) -> Option<usize>
+pub(crate) fn line_len(text: &[u8]) -> Option<usize>
     ensures { result ≡ position is_line_end text.now }
 {
     text.iter().position(|byte| *byte == b'\n')
 }
 
 // Pushes a line that so many column lines stand before, without its label; how many stand before the next one.
-fn push_line(plain: &mut ArrayVec<u8, MOST_BYTES>, line: &[u8], columns: usize) -> usize
-    requires room { length plain.old.items + length line.now ≤ MOST_BYTES }
-    requires few { columns ≤ MOST_BYTES }
+fn push_line(plain: &mut ArrayVec<u8, ROOM>, line: &[u8], columns: usize) -> usize
+    requires room { length plain.old.items + length line.now ≤ ROOM }
+    requires few { columns ≤ ROOM }
     ensures pushed { plain.new.items ≡ plain.old.items
         ++ cond (is_column_line line.now) (without_label columns line.now) line.now }
     ensures within { length plain.new.items ≤ length plain.old.items + length line.now }
@@ -53,7 +53,7 @@ fn push_line(plain: &mut ArrayVec<u8, MOST_BYTES>, line: &[u8], columns: usize) 
 }
 
 // How many blanks a line begins with.
-fn blanks_len(line: &[u8]) -> usize
+pub(crate) fn blanks_len(line: &[u8]) -> usize
     ensures value { result ≡ position_or_len (λ b. not (is_blank b)) line.now }
     ensures within { result ≤ length line.now }
 {
@@ -84,8 +84,8 @@ fn is_label(columns: usize, byte: u8, rest: &[u8]) -> bool
 }
 
 // Pushes all bytes of a piece.
-fn push_all(plain: &mut ArrayVec<u8, MOST_BYTES>, piece: &[u8])
-    requires room { length plain.old.items + length piece.now ≤ MOST_BYTES }
+pub(crate) fn push_all(plain: &mut ArrayVec<u8, ROOM>, piece: &[u8])
+    requires room { length plain.old.items + length piece.now ≤ ROOM }
     ensures { plain.new.items ≡ plain.old.items ++ piece.now }
 {
     let _has_room = plain.try_extend_from_slice(piece);

@@ -1,15 +1,10 @@
 //! Laws of the definitions, each the contract of a function that does nothing.
 
-ghost use Rattle.fc_plain.specs.Laws.{NumbersAreColumns, PlainTextsAreNoLonger, PlainTextsStay, SpelledTextsStay};
+ghost use Rattle.fc_plain.specs.Laws.{MeaningsStay, NumbersAreColumns, PlainTextsGrowByHalf, SpelledTextsStay};
 
-/// A text of ASCII alone, of which no line begins with a digit and a colon, is plain already.
-pub fn plain_texts_stay()
-    ensures { PlainTextsStay }
-{}
-
-/// A plain text is no longer than the text that it stands for.
-pub fn plain_texts_are_no_longer()
-    ensures { PlainTextsAreNoLonger }
+/// A plain text has at most half as many bytes again as the text that it stands for.
+pub fn plain_texts_grow_by_half()
+    ensures { PlainTextsGrowByHalf }
 {}
 
 /// Where the plain text spells a position, a line that was numbered n is the n-th column line, and its cards are the
@@ -21,4 +16,10 @@ pub fn numbers_are_columns()
 /// A text that spells a position is plain already.
 pub fn spelled_texts_stay()
     ensures { SpelledTextsStay }
+{}
+
+/// A text that spells a position once its signs are replaced and its columns have lost their numbers is not respelled, so
+/// it spells the same position.
+pub fn meanings_stay()
+    ensures { MeaningsStay }
 {}

@@ -4,6 +4,7 @@ ghost use Rattle.fc_plain.specs.Plain.{plain};
 
 use crate::labels::without_labels;
 use crate::signs::{after_mark, without_signs};
+use crate::spellings::respelled;
 use arrayvec::ArrayVec;
 use fc_io::{ReadFault, Source, read_up_to};
 use std::marker::Model;
@@ -11,10 +12,13 @@ use std::marker::Model;
 /// The most bytes that a text may have that is made plain. A plain board text has at most 4,096.
 pub const MOST_BYTES: usize = 16_384;
 
+// The most bytes that a plain text may have: a token of a foundation line may grow from two bytes to three.
+pub(crate) const ROOM: usize = 24_576;
+
 /// A board text that was made plain, seen by contracts as its bytes.
 #[derive(Debug, Drop)]
 pub struct PlainText {
-    bytes: ArrayVec<u8, MOST_BYTES>,
+    bytes: ArrayVec<u8, ROOM>,
 }
 
 impl Model for PlainText {
@@ -26,12 +30,15 @@ impl Model for PlainText {
 }
 
 impl PlainText {
-    /// The plain text that a text stands for: a mark of byte order before it is left out, symbols of suits and no-break
-    /// spaces are replaced, and a column that is numbered loses its number. A number is `1:` to `8:`, first in its line
-    /// but for blanks, and is taken off where it heads the column line of its number; the colon stays. Column lines are
-    /// all that the reader sorts as such: those that don't begin with a name of the foundations or the cells, blank
-    /// lines too. Nothing else changes, so the reader refuses a column with another's number. `None` for a text of more
-    /// than 16,384 bytes.
+    /// The plain text that a text stands for. First a mark of byte order before it is left out, and symbols of suits and
+    /// no-break spaces are replaced. Then each line is respelled, by its name: in columns and cells a card that is told by
+    /// its suit first is told by its rank first (`D7` as `7D`), a foundation that is told by its last card, in either
+    /// order, is told by its count (`4H` as `H-4`), and a dash alone in a column line is left out. Last a column that is
+    /// numbered loses its number: `1:` to `8:`, first in its line but for blanks, is taken off where it heads the column
+    /// line of its number; the colon stays. Column lines are all that the reader sorts as such: those that don't begin
+    /// with a name of the foundations or the cells, blank lines too. Nothing else changes, so the reader refuses a column
+    /// with another's number, and no text that spelled a position without being respelled spells another now. `None` for
+    /// a text of more than 16,384 bytes.
     pub fn of(text: &[u8]) -> Option<PlainText>
         ensures value { IfSome result (λ plain_text. plain_text ≡ plain text.now) }
         ensures some { IsSome result ↔ length text.now ≤ MOST_BYTES }
@@ -40,8 +47,9 @@ impl PlainText {
             return None;
         }
         let spelled = without_signs(after_mark(text));
+        let told = respelled(spelled.as_slice());
         Some(PlainText {
-            bytes: without_labels(spelled.as_slice()),
+            bytes: without_labels(told.as_slice()),
         })
     }
 
@@ -64,7 +72,7 @@ impl PlainText {
         PlainText::of(&room[..count]).ok_or(ReadFault::TooLong)
     }
 
-    /// Its bytes, at most 16,384.
+    /// Its bytes, at most 24,576.
     pub fn bytes(&self) -> &[u8]
         ensures value { result.now ≡ self.now }
     {

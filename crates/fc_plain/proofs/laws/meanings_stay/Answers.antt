@@ -1,0 +1,5 @@
+use Rattle.fc_plain.proofs.MeaningLemmas.{meanings_stay}
+use Rattle.fc_plain.proofs.laws.meanings_stay.Goals as goal
+
+pub returns : goal.returns
+returns c = meanings_stay
