@@ -9,7 +9,7 @@ use crate::outputs::Out;
 use crate::solving::tell_advice;
 use crate::watching::{BestTeller, Line};
 use fc_io::{ToArray, ToWriter};
-use fc_methods::{Budget, Question};
+use fc_methods::{MOST_BUDGET, Question};
 use fc_moves::Game;
 use fc_position::Position;
 use fc_runs::{ProgramFault, run_best};
@@ -32,7 +32,7 @@ impl InGame for BestWords<'_> {
         let start = read_start(rt, source, game.cells())?;
         let line = Line::new(rt, deal);
         let status = answer_from(rt, self, &Question::new(game, method), &start, cert, &line)?;
-        let has_room = method.strategy.budget < Budget::MOST;
+        let has_room = method.strategy.budget.get() < MOST_BUDGET;
         if status == 2 && has_room && !self.is_quiet && rt.stderr().is_terminal() {
             tell_advice(rt, "a greater --budget", deal);
         }

@@ -79,7 +79,7 @@ fn letters_of(line: &[u8]) -> Option<[u8; 2]> {
     let mut tokens = Tokens::new(line, MoveGaps);
     let number = tokens.next()?;
     let _card = tokens.next()?;
-    if !number.ends_with(b".") || tokens.next()? != b"from" {
+    if !number.ends_with(b".") || tokens.next()? != b"from".as_slice() {
         return None;
     }
     let _kind = tokens.next()?;

@@ -8,7 +8,7 @@ use crate::forms::{LONGEST_ANSWER, Manner, tell_held};
 use crate::outputs::Out;
 use crate::watching::{Line, Teller};
 use fc_io::{ToArray, ToWriter};
-use fc_methods::{BoundKind, Budget, Method, Question};
+use fc_methods::{BoundKind, MOST_BUDGET, Method, Question};
 use fc_moves::Game;
 use fc_position::Position;
 use fc_runs::{ProgramFault, run_solve_by};
@@ -100,7 +100,7 @@ pub fn tell_advice(rt: &HostRuntime, advice: &str, deal: Option<u32>) {
 fn advice_for(method: Method) -> Option<&'static str> {
     let strategy = method.strategy;
     let is_near = strategy.weight.times() < 2 * strategy.weight.parts();
-    let has_room = strategy.budget < Budget::MOST;
+    let has_room = strategy.budget.get() < MOST_BUDGET;
     match (method.bound, is_near, has_room) {
         (BoundKind::Plain, true, true) => {
             Some("--bound clearing, --within 2, or a greater --budget")

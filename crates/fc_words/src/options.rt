@@ -299,7 +299,7 @@ pub(crate) fn form(words: &ArgMatches<'_>) -> MovesForm {
 pub(crate) const COLOR: Word = Word {
     name: "color",
     kind: Kind::Name(&COLOURS_NAMES),
-    help: "When red suits are in red: auto (on a terminal), always or never",
+    help: "Red suits in red: auto (on a terminal), always or never",
 };
 
 /// When red suits are to be in red.
