@@ -29,12 +29,12 @@ card_or_suit (suit ∷ rank) = ⊎_elim
     (cases_Bool (is_suit suit && is_rank rank))
 
 -- no rank's letter is a suit's
-rank_no_suit : (r : ℕ) → IsRank r → is_suit_letter (rank_letter r) ≡ false
+pub rank_no_suit : (r : ℕ) → IsRank r → is_suit_letter (rank_letter r) ≡ false
 rank_no_suit =
     by_rank (λ r. is_suit_letter (rank_letter r) ≡ false) refl refl refl refl refl refl refl refl refl refl refl refl refl
 
 -- so no card is told by its suit first, to the reader
-suit_no_card : (token : List ℕ) → IsSuitFirst token → IsNoCard token
+pub suit_no_card : (token : List ℕ) → IsSuitFirst token → IsNoCard token
 suit_no_card token first c card =
     let below = card.below in
     let text = card.text in

@@ -1,10 +1,13 @@
+pub mod CommentLemmas
 pub mod CountLemmas
 pub mod KeptLemmas
 pub mod LineLemmas
 pub mod MeaningLemmas
 pub mod NumberLemmas
+pub mod OrderLemmas
 pub mod PlainLemmas
 pub mod ReadLemmas
+pub mod SaidLemmas
 pub mod SortedLemmas
 pub mod SpelledLemmas
 pub mod SpellingLemmas

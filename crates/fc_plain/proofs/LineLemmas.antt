@@ -8,7 +8,8 @@ use Rattle.std.proofs.lemmas.List.Splits.{slice_split_none, slice_split_at, leng
 use Rattle.std.proofs.lemmas.Bool.{cases_Bool, and_parts, eqb-true, ltb-true, cond_both, cond-true, cond-false}
 use Rattle.std.proofs.lemmas.Bool.Decides.{nat_tests}
 use Rattle.fc_text.specs.Line.{after_blanks, begin_part, is_blank, is_line_end, is_token, parts_of, without_return}
-use Rattle.fc_plain.specs.Plain.{blanks_of, is_next_digit, plain_lines, without_digit, without_label, without_labels}
+use Rattle.fc_plain.specs.Comment.{blanks_of}
+use Rattle.fc_plain.specs.Plain.{is_next_digit, plain_lines, without_digit, without_label, without_labels}
 use Rattle.fc_plain.proofs.PlainLemmas.{columns_after, labels_next, length-labels, told_line}
 
 -- a line that loses its label
@@ -45,7 +46,7 @@ digit_or_not before (b ∷ c ∷ bytes) = ⊎_elim
     (cases_Bool (is_next_digit before b && (c == 58)))
 
 -- what a line begins with are blanks
-blanks_blank : (line : List ℕ) → All (λ b. IsTrue (is_blank b)) (blanks_of line)
+pub blanks_blank : (line : List ℕ) → All (λ b. IsTrue (is_blank b)) (blanks_of line)
 blanks_blank [] = All-nil (λ b. IsTrue (is_blank b))
 blanks_blank (b ∷ line) =
     let n = position_or_len (λ x. not (is_blank x)) line in
@@ -105,15 +106,19 @@ return-cons x y rest =
     ap (λ n. return_at n (x ∷ y ∷ rest)) two ∙ return_at-cons (length rest) x (y ∷ rest)
     ∙ ap (λ n. x ∷ return_at n (y ∷ rest)) one
 
-return-colon : (rest : List ℕ) → without_return (58 ∷ rest) ≡ 58 ∷ without_return rest
-return-colon [] = refl
-return-colon (y ∷ rest) = return-cons 58 y rest
+pub return-other : (x : ℕ) (rest : List ℕ) → (x == 13) ≡ false → without_return (x ∷ rest) ≡ x ∷ without_return rest
+return-other x [] other = cond-false _ [] (x ∷ []) other
+return-other x (y ∷ rest) other = return-cons x y rest
+
+pub return-front_of : (front : List ℕ) (c : ℕ) (rest : List ℕ) → (c == 13) ≡ false
+    → without_return (front ++ c ∷ rest) ≡ front ++ c ∷ without_return rest
+return-front_of [] c rest other = return-other c rest other
+return-front_of (x ∷ []) c rest other = return-cons x c rest ∙ ap (λ t. x ∷ t) (return-other c rest other)
+return-front_of (x ∷ y ∷ front) c rest other =
+    return-cons x y (front ++ c ∷ rest) ∙ ap (λ t. x ∷ t) (return-front_of (y ∷ front) c rest other)
 
 pub return-front : (front rest : List ℕ) → without_return (front ++ 58 ∷ rest) ≡ front ++ 58 ∷ without_return rest
-return-front [] rest = return-colon rest
-return-front (x ∷ []) rest = return-cons x 58 rest ∙ ap (λ t. x ∷ t) (return-colon rest)
-return-front (x ∷ y ∷ front) rest =
-    return-cons x y (front ++ 58 ∷ rest) ∙ ap (λ t. x ∷ t) (return-front (y ∷ front) rest)
+return-front front rest = return-front_of front 58 rest refl
 
 -- a labelled line without the CR that may end it
 pub return-label : (before : ℕ) (line : List ℕ) (found : IsLabelled before line)

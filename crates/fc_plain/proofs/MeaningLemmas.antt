@@ -1,4 +1,4 @@
--- A text that spells a position is not respelled.
+-- A text that spells a position stays as it is.
 use Rattle.std.proofs.Common.{◌≡◌, ℕ, ◌+◌, ◌<◌, ◌==◌, ◌&&◌, true, false, ◌⊎◌, Option, Some, None, List, [], ◌∷◌, ◌++◌, length, map, drop, inl, inr, refl, sym, ◌∙◌, ap, subst, ⊎_elim, arith}
 use Rattle.std.specs.Prelude.{All, IsTrue, nat_lt}
 use Rattle.std.specs.List.{join_with_byte, slice_split}
@@ -12,11 +12,13 @@ use Rattle.fc_text.specs.Line.{Line, after_blanks, after_colon, after_name, cell
 use Rattle.fc_text.specs.Spelling.{is_column}
 use Rattle.fc_plain.specs.Laws.{MeaningsStay, SpelledTextsStay}
 use Rattle.fc_plain.specs.Plain.{after_mark, is_column_line, plain_lines, without_label, without_labels, without_signs}
+use Rattle.fc_plain.specs.Comment.{without_comments}
 use Rattle.fc_plain.specs.Respelled.{after_label, line_spelling, respelled, respelled_column, respelled_line}
 use Rattle.fc_plain.proofs.KeptLemmas.{homes_stay, cells_stay, column_stays}
 use Rattle.fc_plain.proofs.LineLemmas.{IsLabelled, after_blanks-front, after_blanks-label, label_or_not, parts-split, plain_parts, return-front, trimmed-all}
 use Rattle.fc_plain.proofs.PlainLemmas.{columns_after, labels_next, told_line}
 use Rattle.fc_plain.proofs.ReadLemmas.{each_clean, spelled_shown}
+use Rattle.fc_plain.proofs.SaidLemmas.{SaysItself, said_stay, says_all}
 use Rattle.fc_plain.proofs.SortedLemmas.{EndsWith, by_kind, return_parts}
 use Rattle.fc_plain.proofs.SpelledLemmas.{IsClean, clean_line, label_bad}
 
@@ -120,13 +122,23 @@ kept_part before part clean = ⊎_elim
 abbrev IsCleanPart : List ℕ → Type 0
 IsCleanPart part = IsClean (line_of (without_return part))
 
-kept_all : (before : ℕ) (parts : List (List ℕ)) → All IsCleanPart (without_labels before parts) → All Kept parts
-kept_all before [] clean = All-nil Kept
-kept_all before (x ∷ xs) clean =
-    let others = without_labels (columns_after before x) xs in
-    let here = subst (All IsCleanPart) (labels_next before x xs) clean in
-    All-cons Kept x xs (kept_part before x (All-head IsCleanPart (told_line before x) others here))
-    (kept_all (columns_after before x) xs (All-tail IsCleanPart (told_line before x) others here))
+-- what holds of each line that is clean once it has lost its label holds of the lines of a text that spells a position
+module _ (K : List ℕ → Type 0) (keeps : (before : ℕ) (part : List ℕ) → IsCleanPart (told_line before part) → K part) where
+  parts_keep : (before : ℕ) (parts : List (List ℕ)) → All IsCleanPart (without_labels before parts) → All K parts
+  parts_keep before [] clean = All-nil K
+  parts_keep before (x ∷ xs) clean =
+      let others = without_labels (columns_after before x) xs in
+      let here = subst (All IsCleanPart) (labels_next before x xs) clean in
+      All-cons K x xs (keeps before x (All-head IsCleanPart (told_line before x) others here))
+      (parts_keep (columns_after before x) xs (All-tail IsCleanPart (told_line before x) others here))
+
+  pieces_keep : (cells : ℕ) (text : List ℕ) (b : Board) → Spells cells (plain_lines text) b → K [] → All K (slice_split is_line_end text)
+  pieces_keep cells text b spells none =
+      let parts = parts_of is_line_end text in
+      let clean = each_clean (parts_of is_line_end (plain_lines text))
+      (λ front rest line e. clean_line cells (plain_lines text) b spells front rest line e) in
+      let kept = parts_keep 0 parts (subst (All IsCleanPart) (plain_parts text) clean) in
+      trimmed-all K (slice_split is_line_end text) none (subst (All K) (parts-split is_line_end text) kept)
 
 -- pieces that stay are the text again
 pieces_stay : (pieces : List (List ℕ)) → All Kept pieces → map respelled_line pieces ≡ pieces
@@ -134,20 +146,23 @@ pieces_stay [] all = refl
 pieces_stay (x ∷ xs) all =
     ap (λ l. l ∷ map respelled_line xs) (All-head Kept x xs all) ∙ ap (λ ls. x ∷ ls) (pieces_stay xs (All-tail Kept x xs all))
 
--- a text that spells a position once its columns have lost their numbers is not respelled
+-- a text that spells a position once its columns have lost their numbers has no comments, and is not respelled
 text_stays : (cells : ℕ) (text : List ℕ) (b : Board) → Spells cells (plain_lines text) b → respelled text ≡ text
 text_stays cells text b spells =
-    let parts = parts_of is_line_end text in
-    let clean = each_clean (parts_of is_line_end (plain_lines text))
-    (λ front rest line e. clean_line cells (plain_lines text) b spells front rest line e) in
-    let kept = kept_all 0 parts (subst (All IsCleanPart) (plain_parts text) clean) in
     let pieces = slice_split is_line_end text in
-    let all : All Kept pieces = trimmed-all Kept pieces refl (subst (All Kept) (parts-split is_line_end text) kept) in
-    ap (join_with_byte 10) (pieces_stay pieces all) ∙ join_with_byte-slice_split 10 text
+    ap (join_with_byte 10) (pieces_stay pieces (pieces_keep Kept kept_part cells text b spells refl)) ∙ join_with_byte-slice_split 10 text
+
+text_says : (cells : ℕ) (text : List ℕ) (b : Board) → Spells cells (plain_lines text) b → without_comments text ≡ text
+text_says cells text b spells =
+    let pieces = slice_split is_line_end text in
+    ap (join_with_byte 10) (said_stay pieces (pieces_keep SaysItself says_all cells text b spells (refl, refl)))
+    ∙ join_with_byte-slice_split 10 text
 
 -- so no text changes its meaning
 pub meanings_stay : MeaningsStay
-meanings_stay cells text b spells = ap plain_lines (text_stays cells (without_signs 0 (after_mark text)) b spells)
+meanings_stay cells text b spells =
+    let shown = without_signs 0 (after_mark text) in
+    ap (λ t. plain_lines (respelled t)) (text_says cells shown b spells) ∙ ap plain_lines (text_stays cells shown b spells)
 
 -- a text that spells a position is plain already
 pub spelled_stays : SpelledTextsStay

@@ -1,4 +1,4 @@
--- A text that spells a position is ASCII alone, and has no labels.
+-- A text that spells a position is ASCII alone, and has no labels, comments or commas.
 use Rattle.std.proofs.Common.{◌≡◌, ℕ, suc, ◌+◌, ◌<◌, ◌==◌, ◌&&◌, Bool, true, false, not, cond, Option, Some, None, List, [], ◌∷◌, ◌++◌, length, map, take, drop, get_or, inl, refl, sym, ◌∙◌, ap, subst, ⊎_elim, arith}
 use Rattle.std.specs.Prelude.{All, codes, filter, nat_lt}
 use Rattle.std.specs.Char.{to_ascii_lowercase, to_ascii_uppercase}
@@ -6,7 +6,7 @@ use Rattle.std.specs.List.{join_with_byte, position_or_len, slice_split}
 use Rattle.std.proofs.lemmas.List.{take-append-drop}
 use Rattle.std.proofs.lemmas.List.Elements.{All-nil, All-cons, All-head, All-tail, All-append, All-same, Contains-get_or}
 use Rattle.std.proofs.lemmas.List.Splits.{join_with_byte-slice_split}
-use Rattle.std.proofs.lemmas.Bool.{and_parts, cases_Bool, cases_lt, cond-false, cond-true, cond_both, eqb-true, ltb-true}
+use Rattle.std.proofs.lemmas.Bool.{and_parts, cases_Bool, cond-false, cond-true, cond_both, eqb-true, ltb-true}
 use Rattle.std.proofs.lemmas.Bool.Decides.{nat_tests}
 use Rattle.std.proofs.lemmas.Slice.Eq.{bytes_eq-Decides}
 use Rattle.fc_cards.specs.Card.{rank, suit}
@@ -21,59 +21,62 @@ use Rattle.fc_plain.proofs.LineLemmas.{Stays, after_blanks-label, digit_no_blank
 use Rattle.fc_plain.proofs.SpelledLemmas.{IsClean, clean_line, label_bad, told_lines}
 use Rattle.fc_plain.proofs.StayLemmas.{ascii_stays}
 
--- a byte of ASCII
-abbrev IsLow : ℕ → Type 0
-IsLow b = b < 128
+-- a byte of ASCII that begins no comment and is no comma
+abbrev pub is_low : ℕ → Bool
+is_low b = nat_lt b 128 && (not (b == 35) && not (b == 44))
 
-abbrev IsAscii : List ℕ → Type 0
+abbrev pub IsLow : ℕ → Type 0
+IsLow b = is_low b ≡ true
+
+low_below : (b : ℕ) → IsLow b → b < 128
+low_below b low = ltb-true b 128 (and_parts (nat_lt b 128) _ low).0
+
+abbrev pub IsAscii : List ℕ → Type 0
 IsAscii bytes = All IsLow bytes
 
--- a test of a text for ASCII
+-- a test of a text for such bytes
 abbrev is_ascii : List ℕ → Bool
 is_ascii [] = true
-is_ascii (b ∷ bytes) = nat_lt b 128 && is_ascii bytes
+is_ascii (b ∷ bytes) = is_low b && is_ascii bytes
 
 ascii_from : (bytes : List ℕ) → is_ascii bytes ≡ true → IsAscii bytes
 ascii_from [] e = All-nil IsLow
 ascii_from (b ∷ bytes) e =
-    let both = and_parts (nat_lt b 128) (is_ascii bytes) e in
-    All-cons IsLow b bytes (ltb-true b 128 both.0) (ascii_from bytes both.1)
+    let both = and_parts (is_low b) (is_ascii bytes) e in
+    All-cons IsLow b bytes both.0 (ascii_from bytes both.1)
 
 -- what cannot be otherwise than ASCII is
 ascii_stable : (bytes : List ℕ) → ((IsAscii bytes → ⊥) → ⊥) → IsAscii bytes
 ascii_stable bytes stable k d within = ⊎_elim
-    (λ low. low) (λ high. absurd (stable (λ all. let low = all k d within in omega (arith, low, high))))
-    (cases_lt (get_or bytes k d) 128)
+    (λ low. low) (λ high. absurd (stable (λ all. cc (sym (all k d within) ∙ high))))
+    (cases_Bool (is_low (get_or bytes k d)))
 
 -- letters that are ASCII in one case are in the other
-upper_low : (b : ℕ) → to_ascii_uppercase b < 128 → b < 128
+upper_low : (b : ℕ) → IsLow (to_ascii_uppercase b) → IsLow b
 upper_low b low = grind (arith, nat_tests)
 
-lower_low : (b : ℕ) → to_ascii_lowercase b < 128 → b < 128
+lower_low : (b : ℕ) → IsLow (to_ascii_lowercase b) → IsLow b
 lower_low b low = grind (arith, nat_tests)
 
-low_lower : (b : ℕ) → b < 128 → to_ascii_lowercase b < 128
+low_lower : (b : ℕ) → IsLow b → IsLow (to_ascii_lowercase b)
 low_lower b low = grind (arith, nat_tests)
 
-rank_low : (r : ℕ) → IsRank r → rank_letter r < 128
-rank_low =
-    by_rank (λ r. rank_letter r < 128)
-    (omega arith) (omega arith) (omega arith) (omega arith) (omega arith) (omega arith) (omega arith) (omega arith) (omega arith)
-    (omega arith) (omega arith) (omega arith) (omega arith)
+rank_low : (r : ℕ) → IsRank r → IsLow (rank_letter r)
+rank_low = by_rank (λ r. IsLow (rank_letter r)) refl refl refl refl refl refl refl refl refl refl refl refl refl
 
-suit_low : (s : ℕ) → s < 4 → suit_letter s < 128
-suit_low = by_suit (λ s. suit_letter s < 128) (omega arith) (omega arith) (omega arith) (omega arith)
+suit_low : (s : ℕ) → s < 4 → IsLow (suit_letter s)
+suit_low = by_suit (λ s. IsLow (suit_letter s)) refl refl refl refl
 
 -- tokens that the reader takes are ASCII
 rank_ascii : (r : ℕ) (text : List ℕ) → IsRank r → IsRankText r text → IsAscii text
 rank_ascii r text is spells = ⊎_elim
     (λ one. All-same IsLow text (one.0 ∷ []) one.1
-    (All-cons IsLow one.0 [] (upper_low one.0 (subst (λ b. b < 128) (sym one.2) (rank_low r is))) (All-nil IsLow)))
+    (All-cons IsLow one.0 [] (upper_low one.0 (subst IsLow (sym one.2) (rank_low r is))) (All-nil IsLow)))
     (λ ten. All-same IsLow text (codes "10") ten.1 (ascii_from (codes "10") refl))
     spells
 
-suit_part_low : (s byte : ℕ) → s < 4 → to_ascii_uppercase byte ≡ suit_letter s → byte < 128
-suit_part_low s byte few e = upper_low byte (subst (λ b. b < 128) (sym e) (suit_low s few))
+suit_part_low : (s byte : ℕ) → s < 4 → to_ascii_uppercase byte ≡ suit_letter s → IsLow byte
+suit_part_low s byte few e = upper_low byte (subst IsLow (sym e) (suit_low s few))
 
 card_ascii : (token : List ℕ) (c : ℕ) → SpellsCard token c → IsAscii token
 card_ascii token c card =
@@ -96,7 +99,7 @@ home_ascii token s n few home =
     (λ some. rank_ascii n home.rank_part some.0 some.1) home.count in
     All-same IsLow token (home.suit_part ∷ 45 ∷ home.rank_part) home.parts
     (All-cons IsLow home.suit_part (45 ∷ home.rank_part) (suit_part_low s home.suit_part few home.suit)
-    (All-cons IsLow 45 home.rank_part (omega arith) count))
+    (All-cons IsLow 45 home.rank_part refl count))
 
 -- the tokens of a clean line are ASCII
 tokens_ascii : (homes cells : Option (List ℕ)) (rest : List ℕ) → IsClean (sorted_line homes cells rest)
@@ -144,10 +147,10 @@ kept_parts P ((b ∷ part) ∷ parts) all =
     All-cons (All P) (b ∷ part) parts (All-head (All P) (b ∷ part) (filter is_token parts) all)
     (kept_parts P parts (All-tail (All P) (b ∷ part) (filter is_token parts) all))
 
-blank_low : (b : ℕ) → is_blank b ≡ true → b < 128
+pub blank_low : (b : ℕ) → is_blank b ≡ true → IsLow b
 blank_low b is = grind (arith, nat_tests)
 
-end_low : (b : ℕ) → is_line_end b ≡ true → b < 128
+end_low : (b : ℕ) → is_line_end b ≡ true → IsLow b
 end_low b is = grind (arith, nat_tests)
 
 piece_ascii : (piece : List ℕ) → All IsAscii (tokens_of piece) → IsAscii piece
@@ -157,7 +160,7 @@ colon_ascii : (rest : List ℕ) → IsAscii (after_colon rest) → IsAscii rest
 colon_ascii [] all = all
 colon_ascii (b ∷ bytes) all =
     elim (b == 58) as (λ t. (b == 58) ≡ t → IsAscii (cond t bytes (b ∷ bytes)) → IsAscii (b ∷ bytes)) [
-      | true ↦ λ is tail. let here = eqb-true b 58 is in All-cons IsLow b bytes (omega (arith, here)) tail
+      | true ↦ λ is tail. All-cons IsLow b bytes (ap is_low (eqb-true b 58 is)) tail
       | false ↦ λ is whole. whole
     ] refl all
 
@@ -180,7 +183,7 @@ lowered_ascii (x ∷ xs) (y ∷ ys) same all =
     let first : to_ascii_lowercase x ≡ to_ascii_lowercase y = cc same in
     let others : map to_ascii_lowercase xs ≡ map to_ascii_lowercase ys = cc same in
     let low = low_lower y (All-head IsLow y ys all) in
-    All-cons IsLow x xs (lower_low x (subst (λ b. b < 128) (sym first) low)) (lowered_ascii xs ys others (All-tail IsLow y ys all))
+    All-cons IsLow x xs (lower_low x (subst IsLow (sym first) low)) (lowered_ascii xs ys others (All-tail IsLow y ys all))
 
 are_ascii : List (List ℕ) → Bool
 are_ascii [] = true
@@ -219,18 +222,18 @@ sorted_ascii (Some piece) cells rest found other all =
 sorted_ascii None (Some piece) rest other found all = name_ascii cell_names rest piece cell_names-ascii found (piece_ascii piece all)
 sorted_ascii None None rest one other all = colon_ascii rest (piece_ascii (after_colon rest) all)
 
-line_ascii : (line : List ℕ) → IsClean (line_of line) → IsAscii line
+pub line_ascii : (line : List ℕ) → IsClean (line_of line) → IsAscii line
 line_ascii line clean =
     let rest = after_blanks line in
     let homes = after_name foundation_names rest in
     let cells = after_name cell_names rest in
     blanks_ascii line (sorted_ascii homes cells rest refl refl (tokens_ascii homes cells rest clean))
 
-return_ascii : (line : List ℕ) → IsAscii (without_return line) → IsAscii line
+pub return_ascii : (line : List ℕ) → IsAscii (without_return line) → IsAscii line
 return_ascii [] all = all
 return_ascii (b ∷ []) all =
     elim (b == 13) as (λ t. (b == 13) ≡ t → IsAscii (cond t [] (b ∷ [])) → IsAscii (b ∷ [])) [
-      | true ↦ λ is none. let here = eqb-true b 13 is in All-cons IsLow b [] (omega (arith, here)) none
+      | true ↦ λ is none. All-cons IsLow b [] (ap is_low (eqb-true b 13 is)) none
       | false ↦ λ is whole. whole
     ] refl all
 return_ascii (b ∷ c ∷ bytes) all =
@@ -268,4 +271,4 @@ spelled_shown cells text b spells =
     let stay : All Stays pieces =
     trimmed-all Stays pieces (λ before. cond_both (is_column_line []) (without_label before []) [] (λ t. t ≡ []) (λ _. refl) (λ _. refl))
     (subst (All Stays) (parts-split is_line_end text) (λ k d within. clean_stays _ (clean k d within))) in
-    ap plain_lines (ascii_stays text ascii) ∙ ap (join_with_byte 10) (labels_stay 0 pieces stay) ∙ join_with_byte-slice_split 10 text
+    ap plain_lines (ascii_stays text (λ k d within. low_below (get_or text k d) (ascii k d within))) ∙ ap (join_with_byte 10) (labels_stay 0 pieces stay) ∙ join_with_byte-slice_split 10 text

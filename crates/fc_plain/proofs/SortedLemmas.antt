@@ -8,7 +8,7 @@ use Rattle.std.proofs.lemmas.List.Splits.{join_with_byte-slice_split}
 use Rattle.std.proofs.lemmas.Bool.{and_parts, cond_both}
 use Rattle.fc_position.specs.Board.{front_of}
 use Rattle.fc_text.specs.Line.{after_blanks, after_colon, after_name, begins_with, cell_names, foundation_names, is_blank, is_line_end, without_return}
-use Rattle.fc_plain.specs.Plain.{blanks_of}
+use Rattle.fc_plain.specs.Comment.{blanks_of}
 use Rattle.fc_plain.specs.Respelled.{after_label, before_piece, card_spelling, each_token, home_spelling, is_rank, is_suit, line_spelling, rank_first, respelled, respelled_card, respelled_column, respelled_home, respelled_line, sorted_spelling}
 
 -- a line ends with a piece
@@ -30,9 +30,11 @@ ends_further line rest piece one two =
       parts = one.parts ∙ ap (λ t. one.front ++ t) two.parts ∙ sym (append_assoc one.front two.front piece);
     }
 
+pub blanks_parts : (line : List ℕ) → line ≡ blanks_of line ++ after_blanks line
+blanks_parts line = sym (take-append-drop (position_or_len (λ b. not (is_blank b)) line) line)
+
 blanks_end : (line : List ℕ) → EndsWith line (after_blanks line)
-blanks_end line =
-    record { front = blanks_of line; parts = sym (take-append-drop (position_or_len (λ b. not (is_blank b)) line) line) }
+blanks_end line = record { front = blanks_of line; parts = blanks_parts line }
 
 name_end : (names : List (List ℕ)) (rest piece : List ℕ) → after_name names rest ≡ Some piece → EndsWith rest piece
 name_end [] rest piece found = absurd (cc found)

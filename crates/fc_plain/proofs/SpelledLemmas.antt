@@ -90,7 +90,7 @@ colon_second b bytes c card =
     text.spells_rank
 
 -- what a token begins with
-one_begun : (b : ℕ) (parts : List (List ℕ))
+pub one_begun : (b : ℕ) (parts : List (List ℕ))
     → (more : List ℕ) × (others : List (List ℕ)) × (filter is_token (begin_part b parts) ≡ (b ∷ more) ∷ others)
 one_begun b [] = ([], [], refl)
 one_begun b (part ∷ parts) = (part, filter is_token parts, refl)
@@ -101,7 +101,7 @@ two_begun b c [] = ([], [], refl)
 two_begun b c (part ∷ parts) = (part, filter is_token parts, refl)
 
 -- a token is one of the tokens that it is the first of
-first_contained : (tokens others : List (List ℕ)) (token : List ℕ) → tokens ≡ token ∷ others → Contains tokens token
+pub first_contained : (tokens others : List (List ℕ)) (token : List ℕ) → tokens ≡ token ∷ others → Contains tokens token
 first_contained tokens others token e = subst (λ ts. Contains ts token) (sym e) (0, omega arith, refl)
 
 abbrev HasNoCard : List ℕ → Type 0

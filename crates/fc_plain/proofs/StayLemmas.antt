@@ -7,9 +7,11 @@ use Rattle.std.proofs.lemmas.List.Elements.{All-head, All-tail}
 use Rattle.std.proofs.lemmas.List.Splits.{join_with_byte-slice_split}
 use Rattle.std.proofs.lemmas.Bool.{ne_eqb, cond_both}
 use Rattle.fc_text.specs.Line.{after_blanks, is_blank, is_line_end}
-use Rattle.fc_plain.specs.Plain.{after_mark, blanks_of, sign_of, sign_or, without_digit, without_label, without_labels, without_signs}
+use Rattle.fc_plain.specs.Comment.{blanks_of, without_comments}
+use Rattle.fc_plain.specs.Plain.{after_mark, sign_of, sign_or, without_digit, without_label, without_labels, without_signs}
 use Rattle.fc_plain.specs.Laws.{PlainTextsGrowByHalf}
 use Rattle.fc_plain.specs.Respelled.{respelled}
+use Rattle.fc_plain.proofs.CommentLemmas.{comments_long}
 use Rattle.fc_plain.proofs.SortedLemmas.{text_grows}
 use Rattle.fc_plain.proofs.PlainLemmas.{columns_after, join-cons, labels_next, length-labels, told_line}
 
@@ -65,12 +67,14 @@ labels_long before (x ∷ y ∷ ys) =
 pub grow_by_half : PlainTextsGrowByHalf
 grow_by_half text =
     let spelled = without_signs 0 (after_mark text) in
-    let told = respelled spelled in
+    let said = without_comments spelled in
+    let told = respelled said in
     omega (
       arith,
       mark_long text,
       signs_long 0 (after_mark text),
-      text_grows spelled,
+      comments_long spelled,
+      text_grows said,
       labels_long 0 (slice_split is_line_end told),
       ap length (join_with_byte-slice_split 10 told),
     )

@@ -1,12 +1,15 @@
 -- What the laws of this crate state.
-use Rattle.std.specs.Prelude.{◌≡◌, ℕ, ◌+◌, ◌-◌, ◌*◌, ◌≤◌, List, ◌∷◌, ◌++◌, length, map, count_by, IsTrue}
+use Rattle.std.specs.Prelude.{◌≡◌, ℕ, ◌+◌, ◌-◌, ◌*◌, ◌<◌, ◌≤◌, List, [], ◌∷◌, ◌++◌, length, map, count_by, IsTrue}
 use Rattle.std.specs.List.{AllZip}
+use Rattle.fc_cards.specs.Card.{rank, suit}
+use Rattle.fc_cards.specs.Texts.{IsRank, IsRankText, IsSuitText}
 use Rattle.fc_position.specs.Board.{Board, column}
 use Rattle.fc_text.specs.Board.{Spells}
 use Rattle.fc_text.specs.Line.{after_blanks, line_of, lines_of, tokens_of}
-use Rattle.fc_text.specs.Spelling.{SpellsCard, is_column}
+use Rattle.fc_text.specs.Spelling.{SpellsCard, SpellsHome, is_column}
+use Rattle.fc_plain.specs.Comment.{without_comments}
 use Rattle.fc_plain.specs.Plain.{after_mark, plain, plain_lines, without_signs}
-use Rattle.fc_plain.specs.Respelled.{respelled}
+use Rattle.fc_plain.specs.Respelled.{respelled, respelled_card, respelled_home}
 
 -- a plain text has at most half as many bytes again as the text that it stands for
 abbrev pub PlainTextsGrowByHalf : Type 0
@@ -21,11 +24,12 @@ pub record HasNumber (text : List ℕ) (n : ℕ) (rest : List ℕ) : Type 0 wher
   pub column : IsTrue (is_column (line_of line).kind)
   pub begins : after_blanks line ≡ (48 + n) ∷ 58 ∷ rest
 
--- where a plain text spells a position, a line that is numbered n in the text, once its signs are replaced and its tokens
--- respelled, is the n-th column line, and its cards are the position's n-th column; there are eight columns at most
+-- where a plain text spells a position, a line that is numbered n in the text, once its signs are replaced, its comments
+-- left out and its tokens respelled, is the n-th column line, and its cards are the position's n-th column; there are
+-- eight columns at most
 abbrev pub NumbersAreColumns : Type 0
 NumbersAreColumns = (cells : ℕ) (text : List ℕ) (b : Board) (n : ℕ) (rest : List ℕ) → Spells cells (plain text) b
-    → (line : HasNumber (respelled (without_signs 0 (after_mark text))) n rest)
+    → (line : HasNumber (respelled (without_comments (without_signs 0 (after_mark text)))) n rest)
     → (n ≤ 8) × (count_by (λ l. is_column l.kind) (map line_of line.above) + 1 ≡ n)
     × AllZip SpellsCard (tokens_of rest) (column b (n - 1))
 
@@ -33,7 +37,17 @@ NumbersAreColumns = (cells : ℕ) (text : List ℕ) (b : Board) (n : ℕ) (rest 
 abbrev pub SpelledTextsStay : Type 0
 SpelledTextsStay = (cells : ℕ) (text : List ℕ) (b : Board) → Spells cells text b → plain text ≡ text
 
--- where a text spells a position once its signs are replaced and its columns have lost their numbers, no token is respelled
+-- where a text spells a position once its signs are replaced and its columns have lost their numbers, nothing else changes
 abbrev pub MeaningsStay : Type 0
 MeaningsStay = (cells : ℕ) (text : List ℕ) (b : Board) → Spells cells (plain_lines (without_signs 0 (after_mark text))) b
     → plain text ≡ plain_lines (without_signs 0 (after_mark text))
+
+-- the text of a card that is told by its suit first is respelled as one that the reader takes for the card
+abbrev pub CardsAreRead : Type 0
+CardsAreRead = (c byte : ℕ) (text : List ℕ) → c < 52 → IsSuitText (suit c) byte → IsRankText (rank c) text
+    → SpellsCard (respelled_card (byte ∷ text)) c
+
+-- the text of a foundation's last card, in either order, is respelled as one that the reader takes for the foundation
+abbrev pub HomesAreRead : Type 0
+HomesAreRead = (s n byte : ℕ) (text : List ℕ) → s < 4 → IsSuitText s byte → IsRank n → IsRankText n text
+    → SpellsHome (respelled_home (byte ∷ text)) s n × SpellsHome (respelled_home (text ++ byte ∷ [])) s n

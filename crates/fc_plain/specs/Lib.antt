@@ -1,3 +1,4 @@
+pub mod Comment
 pub mod Count
 pub mod Laws
 pub mod Plain

@@ -1,8 +1,9 @@
 -- Board texts as they are copied from elsewhere, and the plain text that each stands for.
-use Rattle.std.specs.Prelude.{ℕ, zero, suc, ◌+◌, ◌-◌, ◌==◌, ◌||◌, ◌&&◌, Bool, not, cond, List, [], ◌∷◌, ◌++◌, take, Option, Some, None, option_map, nat_lt}
-use Rattle.std.specs.List.{join_with_byte, position_or_len, slice_split}
-use Rattle.fc_text.specs.Line.{after_blanks, is_blank, is_line_end, line_of, without_return}
+use Rattle.std.specs.Prelude.{ℕ, zero, suc, ◌+◌, ◌-◌, ◌==◌, ◌||◌, ◌&&◌, Bool, cond, List, [], ◌∷◌, ◌++◌, Option, Some, None, option_map, nat_lt}
+use Rattle.std.specs.List.{join_with_byte, slice_split}
+use Rattle.fc_text.specs.Line.{after_blanks, is_line_end, line_of, without_return}
 use Rattle.fc_text.specs.Spelling.{is_column}
+use Rattle.fc_plain.specs.Comment.{blanks_of, without_comments}
 use Rattle.fc_plain.specs.Respelled.{respelled}
 
 -- the mark of byte order (U+FEFF) that a text may begin with says nothing
@@ -60,10 +61,6 @@ abbrev pub without_digit : ℕ → List ℕ → List ℕ
 without_digit before (b ∷ c ∷ bytes) = cond (is_next_digit before b && (c == 58)) (c ∷ bytes) (b ∷ c ∷ bytes)
 without_digit before piece = piece
 
--- the blanks that a line begins with
-abbrev pub blanks_of : List ℕ → List ℕ
-blanks_of line = take (position_or_len (λ b. not (is_blank b)) line) line
-
 -- a column may be numbered, `1:` to `8:` first in its line but for blanks: the digit of the line that so many column lines
 -- stand before says nothing but that a column follows, which its colon says alone
 abbrev pub without_label : ℕ → List ℕ → List ℕ
@@ -82,4 +79,4 @@ plain_lines text = join_with_byte 10 (without_labels 0 (slice_split is_line_end 
 
 -- the plain text that a text stands for
 abbrev pub plain : List ℕ → List ℕ
-plain text = plain_lines (respelled (without_signs 0 (after_mark text)))
+plain text = plain_lines (respelled (without_comments (without_signs 0 (after_mark text))))

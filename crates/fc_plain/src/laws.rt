@@ -1,6 +1,6 @@
 //! Laws of the definitions, each the contract of a function that does nothing.
 
-ghost use Rattle.fc_plain.specs.Laws.{MeaningsStay, NumbersAreColumns, PlainTextsGrowByHalf, SpelledTextsStay};
+ghost use Rattle.fc_plain.specs.Laws.{CardsAreRead, HomesAreRead, MeaningsStay, NumbersAreColumns, PlainTextsGrowByHalf, SpelledTextsStay};
 
 /// A plain text has at most half as many bytes again as the text that it stands for.
 pub fn plain_texts_grow_by_half()
@@ -22,4 +22,14 @@ pub fn spelled_texts_stay()
 /// it spells the same position.
 pub fn meanings_stay()
     ensures { MeaningsStay }
+{}
+
+/// The text of a card that is told by its suit first is respelled as one that the reader takes for the card.
+pub fn cards_are_read()
+    ensures { CardsAreRead }
+{}
+
+/// The text of a foundation's last card, in either order, is respelled as one that the reader takes for the foundation.
+pub fn homes_are_read()
+    ensures { HomesAreRead }
 {}

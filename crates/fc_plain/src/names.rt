@@ -15,6 +15,9 @@ pub(crate) const FOUNDATION_NAMES: [&[u8]; 6] = [
 // The names that a cell line begins with, to the reader.
 pub(crate) const CELL_NAMES: [&[u8]; 3] = [b"Freecells:", b"Freecell:", b"FC:"];
 
+// Further names of a cell line.
+pub(crate) const MORE_CELL_NAMES: [&[u8]; 2] = [b"Cells:", b"Cell:"];
+
 /// What follows the first of the names that the piece begins with.
 pub(crate) fn after_name<'a>(names: &[&[u8]], piece: &'a [u8]) -> Option<&'a [u8]>
     ensures value { option_copied result ≡ after_name (map (λ name. name.now) names.now) piece.now }

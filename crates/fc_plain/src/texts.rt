@@ -2,6 +2,7 @@ ghost use Rattle.std.specs.Prelude.{◌≡◌, ℕ, List, ◌+◌, ◌≤◌, �
 ghost use Rattle.fc_io.specs.Moves.{Gives, GivesAtMost, IsAllTold, TellsAtLeast, Stays};
 ghost use Rattle.fc_plain.specs.Plain.{plain};
 
+use crate::comments::without_comments;
 use crate::labels::without_labels;
 use crate::signs::{after_mark, without_signs};
 use crate::spellings::respelled;
@@ -30,15 +31,20 @@ impl Model for PlainText {
 }
 
 impl PlainText {
-    /// The plain text that a text stands for. First a mark of byte order before it is left out, and symbols of suits and
-    /// no-break spaces are replaced. Then each line is respelled, by its name: in columns and cells a card that is told by
-    /// its suit first is told by its rank first (`D7` as `7D`), a foundation that is told by its last card, in either
-    /// order, is told by its count (`4H` as `H-4`), and a dash alone in a column line is left out. Last a column that is
-    /// numbered loses its number: `1:` to `8:`, first in its line but for blanks, is taken off where it heads the column
-    /// line of its number; the colon stays. Column lines are all that the reader sorts as such: those that don't begin
-    /// with a name of the foundations or the cells, blank lines too. Nothing else changes, so the reader refuses a column
-    /// with another's number, and no text that spelled a position without being respelled spells another now. `None` for
-    /// a text of more than 16,384 bytes.
+    /// The plain text that a text stands for, in four steps:
+    /// 1. A mark of byte order before it is left out, and symbols of suits and no-break spaces are replaced.
+    /// 2. Comments are left out, from `#` to the end of the line; a line that has nothing but a comment and blanks before
+    ///    it vanishes. Commas become blanks, and `Cells:` or `Cell:`, in either case, becomes `FC:`.
+    /// 3. Each token is respelled: in columns and cells a card that is told suit first is told rank first (`D7` as `7D`),
+    ///    a foundation that is told by its last card, in either order, is told by its count (`4H` as `H-4`), and a dash
+    ///    that stands alone in a column line is left out.
+    /// 4. A column that is numbered loses its number: `1:` to `8:`, first in its line but for blanks, is taken off where
+    ///    it heads the column line of its number; the colon stays. Column lines are all that the reader sorts as such:
+    ///    those that don't begin with a name of the foundations or the cells, blank lines too.
+    ///
+    /// Nothing else changes, so the reader refuses a column with another's number. Where the first and the last step
+    /// alone make a text that the reader accepts, the others change nothing. `None` for a text of more than 16,384
+    /// bytes.
     pub fn of(text: &[u8]) -> Option<PlainText>
         ensures value { IfSome result (λ plain_text. plain_text ≡ plain text.now) }
         ensures some { IsSome result ↔ length text.now ≤ MOST_BYTES }
@@ -47,7 +53,8 @@ impl PlainText {
             return None;
         }
         let spelled = without_signs(after_mark(text));
-        let told = respelled(spelled.as_slice());
+        let said = without_comments(spelled.as_slice());
+        let told = respelled(said.as_slice());
         Some(PlainText {
             bytes: without_labels(told.as_slice()),
         })

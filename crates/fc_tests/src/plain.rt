@@ -60,9 +60,62 @@ static COPIED: [(&[u8], &[u8]); 22] = [
     (b"1: KC\r\n2:\r\n", b": KC\r\n:\r\n"),
 ];
 
+// Texts whose tokens are respelled, and the plain ones for which they stand.
+static RESPELLED: [(&[u8], &[u8]); 14] = [
+    // Suits before ranks.
+    (b"D7 s10 dT\n: CA Hk\r\n", b"7D 10s Td\n: AC kH\r\n"),
+    (b"Freecells:S10 - *\tHJ", b"Freecells:10S - *\tJH"),
+    (b"1:D7\n2:\tCT C10", b":7D\n:\tTC 10C"),
+    (b"\xE2\x99\xA67 \xE2\x99\xA010", b"7D 10S"),
+    (b"D1 DD 7 D77 D7S 7DS D0 10", b"D1 DD 7 D77 D7S 7DS D0 10"),
+    // A dash alone is an empty column.
+    (b"-\n: -\r\n3:- \n -\t", b"\n:\r\n:\n "),
+    (b"- 4S\n4S -\n- -\n--\n:: -", b"- 4S\n4S -\n- -\n--\n:: -"),
+    (b"Founds: -\nFC: -", b"Founds: -\nFC: -"),
+    // Foundations told by their last cards.
+    (b"Foundations: 4H C5 s-2 10d", b"Foundations: H-4 C-5 s-2 d-10"),
+    (b"deck:HA", b"deck:H-A"),
+    (b"Found: H0 0H 4 H-D10", b"Found: H0 0H 4 H-D10"),
+    // Further names of the cells.
+    (b"cells: HK - -\n CELL:C2", b"FC: KH - -\n FC:2C"),
+    (b"Cell s: 2C\n: Cells: 2C", b"Cell s: 2C\n: Cells: 2C"),
+    // Commas between cards.
+    (
+        b"4S, D2,9C\nDecks: H-4,C-5\n,",
+        b"4S  2D 9C\nDecks: H-4 C-5\n ",
+    ),
+];
+
+// Texts with comments, and the plain ones for which they stand.
+static COMMENTED: [(&[u8], &[u8]); 6] = [
+    (b"4S 2D # the first\r\n9C#8C", b"4S 2D \n9C"),
+    (
+        b"# a deal\n1: 4S\n\t # more\r\n2: 5S\n#",
+        b": 4S\n: 5S\n",
+    ),
+    (b"#", b""),
+    (b"#\n#\n", b""),
+    (b"4S\n#", b"4S\n"),
+    (b"4S\n:#\n5S", b"4S\n:\n5S"),
+];
+
 #[test]
 fn what_is_copied_is_made_plain(rt: HostRuntime) {
     for (text, plain) in COPIED.as_slice() {
+        check_plain(&rt, *text, *plain);
+    }
+}
+
+#[test]
+fn tokens_are_respelled(rt: HostRuntime) {
+    for (text, plain) in RESPELLED.as_slice() {
+        check_plain(&rt, *text, *plain);
+    }
+}
+
+#[test]
+fn comments_are_left_out(rt: HostRuntime) {
+    for (text, plain) in COMMENTED.as_slice() {
         check_plain(&rt, *text, *plain);
     }
 }
