@@ -1,4 +1,5 @@
 """The rules of docs/RULES.md once more, written plainly: cards, boards, moves, and the reader of board texts."""
+import re
 from typing import NamedTuple
 
 RANKS, SUITS = "A23456789TJQK", "CDHS"
@@ -44,7 +45,7 @@ def plain(text):
         for selector in ("\ufe0e", "\ufe0f", ""):
             text = text.replace((symbol + selector).encode(), letter.encode())
     text = text.replace("\u00a0".encode(), b" ")
-    lines, columns = text.split(b"\n"), 0
+    lines, columns = [respelled(line) for line in said(text.split(b"\n"))], 0
     for number, line in enumerate(lines):
         if sort_line(line)[0] != "column":
             continue
@@ -53,6 +54,45 @@ def plain(text):
         if columns <= 8 and rest.startswith(b"%d:" % columns):
             lines[number] = line[: len(line) - len(rest)] + rest[1:]
     return b"\n".join(lines)
+
+
+def said(lines):
+    """What lines say: without comments and commas, their cells named as the reader names them."""
+    told = []
+    for number, line in enumerate(lines, 1):
+        if line.lstrip(BLANKS).startswith(b"#"):
+            told += [b""] if number == len(lines) else []
+            continue
+        line = line.split(b"#")[0]
+        named = re.match(rb"([ \t]*)cells?:", line, re.IGNORECASE)
+        told.append((named[1] + b"FC:" + line[named.end():] if named else line).replace(b",", b" "))
+    return told
+
+
+def respelled(line):
+    """A line whose cards have their ranks first, whose foundations are told by counts, and whose dash alone is nothing."""
+    body, end = (line[:-1], b"\r") if line.endswith(b"\r") else (line, b"")
+    kind, _tokens = sort_line(body)
+    front = len(body) - len(body.lstrip(BLANKS))
+    if kind == "column":
+        front += len(re.match(rb"([1-8]:|:)?", body[front:])[0])
+        if body[front:].strip(BLANKS) == b"-":
+            return body[:front] + end
+    else:
+        names = FOUNDATIONS if kind == "homes" else CELLS
+        front += next(len(name) for name in names if body[front:front + len(name)].lower() == name)
+    spell = respelled_home if kind == "homes" else respelled_card
+    return body[:front] + re.sub(rb"[^ \t]+", lambda token: spell(token[0]), body[front:]) + end
+
+
+def respelled_card(token):
+    is_suit_first = suit_of(token[:1]) is not None and rank_of(token[1:]) is not None
+    return token[1:] + token[:1] if is_suit_first else token
+
+
+def respelled_home(token):
+    card = respelled_card(token)
+    return token if card_of(card) is None else card[-1:] + b"-" + card[:-1]
 
 
 def rank_of(token):

@@ -14,24 +14,35 @@ import runs
 
 ADVERSE = [b"", b"\x00", b"\xff", b"\xc2", b"\xa0", b"\xc2\xa0", b"\xe2\x99", b"\xef\xbb\xbf", b"\xe2\x99\xa0\xef\xb8\x8f", b"\r", b"\n",
            b"\r\r\n", b"\x0b", b"\x0c", b"10", b"1O", b"0C", b"-", b"*", b"--", b":", b"::", b"9:", b"1:", b"H-0", b"h-k", b"S-14", b"FC:",
-           b"Deck:", b"foundations :", b"TC", b"10c", b"#", b"\xf0\x9f\x82\xa1", b"KS KS", b" " * 60]
+           b"Deck:", b"foundations :", b"TC", b"10c", b"#", b",", b"7D,", b"D7", b"s10", b"Cells:", b"# a comment\n", b"\xf0\x9f\x82\xa1", b"KS KS", b" " * 60]
 
 
 # What is wanted of a text
 
 
 def wanted(text, cells):
-    """The status, the output and the first line on standard error."""
+    """The status, the output and the first line on standard error, or its front."""
     try:
-        return 0, rules.printed(rules.read_plain(rules.plain(text), cells)).encode(), ""
+        board = rules.read_plain(rules.plain(text), cells)
+        return 0, rules.printed(board).encode(), lengths_note(board)
     except rules.Fault as fault:
         return 3, b"", f"fc_solve: board: {fault}"
+
+
+def lengths_note(board):
+    """What is said of a board with all cards in columns that aren't as long as a deal's."""
+    lengths = [len(column) for column in board.columns]
+    if sum(lengths) < 52 or lengths == [7] * 4 + [6] * 4:
+        return ""
+    return f"fc_solve: the columns have {' '.join(map(str, lengths))} cards, as no deal has"
 
 
 def told_wrong(program, text, cells):
     """What the program does otherwise with a text, or None."""
     ran, right = program.run(["show", "--plain", "--cells", str(cells)], text), wanted(text, cells)
-    if (ran.status, ran.out, ran.fault()) == right and ran.seconds < 1:
+    # (behind the lengths of columns may stand what to do)
+    fault = ran.fault().removesuffix(": for a board typed in rows say --rows")
+    if (ran.status, ran.out, fault) == right and ran.seconds < 1:
         return None
     return f"{text!r}, {cells} cells: {ran.status} {ran.out!r} {ran.fault()!r} {ran.seconds:.2f} s in place of {right!r}"
 

@@ -5,7 +5,7 @@ ghost use Rattle.fc_position.specs.Position.{Fits};
 use crate::endings::{
     Ending, tell_of_board, tell_of_file, tell_of_length, tell_of_reading, tell_of_rows,
 };
-use crate::lengths::note_lengths;
+use crate::lengths::{note_lengths, note_rows};
 use fc_deal::deal;
 use fc_io::{FromReader, FromSlice, ReadFault};
 use fc_plain::PlainText;
@@ -137,9 +137,16 @@ fn read_text(
         };
         return read_columns(rt, columns.bytes(), cells);
     }
-    let start = read_columns(rt, text, cells)?;
-    note_lengths(rt, &start, text, cells);
-    Ok(start)
+    match read_columns(rt, text, cells) {
+        Ok(start) => {
+            note_lengths(rt, &start, text, cells);
+            Ok(start)
+        }
+        Err(ending) => {
+            note_rows(rt, text, cells);
+            Err(ending)
+        }
+    }
 }
 
 // The board of a text in columns.

@@ -51,11 +51,25 @@ fn has_lengths_of_deal(start: &Position) -> bool {
 fn is_deal_in_rows(text: &[u8], cells: u8) -> bool
     requires cells { cells ≤ 4 }
 {
-    let Ok(columns) = columns_of_rows(text) else {
-        return false;
-    };
-    match read_position(&mut FromSlice::new(columns.bytes()), cells) {
-        Ok(start) => has_all_in_columns(&start) && has_lengths_of_deal(&start),
-        Err(_) => false,
+    match board_in_rows(text, cells) {
+        Some(start) => has_all_in_columns(&start) && has_lengths_of_deal(&start),
+        None => false,
+    }
+}
+
+// The board that the text, read in rows, spells.
+fn board_in_rows(text: &[u8], cells: u8) -> Option<Position>
+    requires cells { cells ≤ 4 }
+{
+    let columns = columns_of_rows(text).ok()?;
+    read_position(&mut FromSlice::new(columns.bytes()), cells).ok()
+}
+
+/// Where a text that is no board in columns is one in rows, says so on standard error.
+pub fn note_rows(rt: &HostRuntime, text: &[u8], cells: u8)
+    requires cells { cells ≤ 4 }
+{
+    if board_in_rows(text, cells).is_some() {
+        let _told = eprintln!(rt; "fc_solve: read in rows it is a board: say --rows");
     }
 }
