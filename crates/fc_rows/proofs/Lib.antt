@@ -1,4 +1,4 @@
 pub mod EntryLemmas
 pub mod FaultLemmas
-pub mod LetterLemmas
+pub mod WordLemmas
 pub mod PushLemmas

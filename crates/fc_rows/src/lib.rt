@@ -11,4 +11,4 @@ mod faults;
 mod heads;
 mod lines;
 mod texts;
-mod tokens;
+mod words;
