@@ -1,4 +1,6 @@
+pub mod ByteLemmas
 pub mod EntryLemmas
 pub mod FaultLemmas
-pub mod WordLemmas
 pub mod PushLemmas
+pub mod ReadLemmas
+pub mod WordLemmas
