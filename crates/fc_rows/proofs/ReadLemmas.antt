@@ -165,11 +165,11 @@ foundations-above = search rules
 homes-above : (n : ℕ) (line : List ℕ) → AllAbove 31 (homes_text n line)
 homes-above n line =
     let name = codes "Foundations:" in
-    let clubs = name ++ (32 ∷ home_entry 67 (word_at n line)) in
-    let diamonds = clubs ++ (32 ∷ home_entry 68 (word_at (n + 1) line)) in
-    let hearts = diamonds ++ (32 ∷ home_entry 72 (word_at (n + 2) line)) in
-    held-above 83 (n + 3) line hearts (omega arith) (held-above 72 (n + 2) line diamonds (omega arith)
-    (held-above 68 (n + 1) line clubs (omega arith) (held-above 67 n line name (omega arith) foundations-above)))
+    let hearts = name ++ 32 ∷ home_entry 72 (word_at (n + 2) line) in
+    let clubs = hearts ++ 32 ∷ home_entry 67 (word_at n line) in
+    let diamonds = clubs ++ 32 ∷ home_entry 68 (word_at (n + 1) line) in
+    held-above 83 (n + 3) line diamonds (omega arith) (held-above 68 (n + 1) line clubs (omega arith)
+    (held-above 67 n line hearts (omega arith) (held-above 72 (n + 2) line name (omega arith) foundations-above)))
 
 freecells-above : AllAbove 31 (codes "Freecells:")
 freecells-above = search rules
@@ -201,7 +201,7 @@ front_lines Blank line = []
 front_lines Kept line = line ∷ []
 front_lines Numbers line = []
 front_lines (Names n) line = []
-front_lines (Held n) line = homes_text n line ∷ cond (n == 0) [] (cells_text n line ∷ [])
+front_lines (Held n) line = homes_text n line ∷ cells_text n line ∷ []
 front_lines Row line = []
 
 abbrev told_front : Told → List (List ℕ)
@@ -212,11 +212,7 @@ front-is Blank line = refl
 front-is Kept line = sym (append-nil (ended line))
 front-is Numbers line = refl
 front-is (Names n) line = refl
-front-is (Held n) line =
-    ap (λ t. ended (homes_text n line) ++ t) (
-    elim (n == 0) as (λ t. cond t [] (ended (cells_text n line)) ≡ flat_map ended (cond t [] (cells_text n line ∷ [])))
-    [ true ↦ refl | false ↦ sym (append-nil (ended (cells_text n line))) ]
-    )
+front-is (Held n) line = ap (λ t. ended (homes_text n line) ++ t) (sym (append-nil (ended (cells_text n line))))
 front-is Row line = refl
 
 fronts-are : (lines : List Told) → flat_map front_text lines ≡ flat_map ended (flat_map told_front lines)
@@ -231,10 +227,7 @@ front-each Blank line none other = tt
 front-each Kept line none other = (record { ends = none; other = other refl }, tt)
 front-each Numbers line none other = tt
 front-each (Names n) line none other = tt
-front-each (Held n) line none other = (
-  homes-front n line,
-  cond_both (n == 0) [] (cells_text n line ∷ []) AreFronts (λ _. tt) (λ _. (cells-front n line, tt)),
-)
+front-each (Held n) line none other = (homes-front n line, (cells-front n line, tt))
 front-each Row line none other = tt
 
 fronts-each : (names : Option ℕ) (lines : List (List ℕ)) → NoEnds lines → AreFronts (flat_map told_front (told_below names lines))

@@ -162,18 +162,19 @@ abbrev pub home_entry : ℕ → List ℕ → List ℕ
 home_entry letter word = cond (is_letter 45 word) (letter ∷ codes "-0")
     (cond (has_suit letter word) (letter ∷ 45 ∷ front_of word) word)
 
--- the foundations of a drawing with n cells, from what a line says that these and those hold
+-- the foundations of a drawing with n cells, from what a line says that these and those hold, in the order in which boards
+-- are printed
 abbrev pub homes_text : ℕ → List ℕ → List ℕ
-homes_text n line = codes "Foundations:" ++ (32 ∷ home_entry 67 (word_at n line)) ++ (32 ∷ home_entry 68 (word_at (n + 1) line))
-    ++ (32 ∷ home_entry 72 (word_at (n + 2) line)) ++ (32 ∷ home_entry 83 (word_at (n + 3) line))
+homes_text n line = codes "Foundations:" ++ (32 ∷ home_entry 72 (word_at (n + 2) line)) ++ (32 ∷ home_entry 67 (word_at n line))
+    ++ (32 ∷ home_entry 68 (word_at (n + 1) line)) ++ (32 ∷ home_entry 83 (word_at (n + 3) line))
 
 -- its cells
 abbrev pub cells_text : ℕ → List ℕ → List ℕ
 cells_text n line = codes "Freecells:" ++ flat_map (λ i. 32 ∷ word_at i line) (range_with_len 0 n)
 
--- its foundations, and its cells where it has some
+-- its foundations and its cells
 abbrev pub head_text : ℕ → List ℕ → List ℕ
-head_text n line = ended (homes_text n line) ++ cond (n == 0) [] (ended (cells_text n line))
+head_text n line = ended (homes_text n line) ++ ended (cells_text n line)
 
 -- what stands before the columns: the lines that are kept, and what cells and foundations hold
 abbrev pub front_text : Told → List ℕ
@@ -228,6 +229,7 @@ first_fault short number (told ∷ lines) =
 abbrev pub most_bytes : ℕ
 most_bytes = 16384
 
+-- what is wrong with a text that has more
 abbrev pub length_fault : List ℕ → Option RowFault
 length_fault text = cond (nat_lt most_bytes (length text)) (Some TooLong) None
 

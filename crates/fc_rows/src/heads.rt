@@ -13,9 +13,6 @@ pub(crate) fn push_head(bytes: &mut Bytes, cells: u8, line: &[u8]) -> Result<(),
     ensures full { IfErr result (IsFull bytes.old.items (head_text cells line.now)) }
 {
     push_homes(bytes, cells, line)?;
-    if cells == 0 {
-        return Ok(());
-    }
     push_cells(bytes, cells, line)
 }
 
@@ -26,9 +23,9 @@ fn push_homes(bytes: &mut Bytes, cells: u8, line: &[u8]) -> Result<(), RowFault>
 {
     let first = cells as usize;
     push(bytes, b"Foundations:")?;
+    push_home(bytes, b'H', word_at(line, first + 2))?;
     push_home(bytes, b'C', word_at(line, first))?;
     push_home(bytes, b'D', word_at(line, first + 1))?;
-    push_home(bytes, b'H', word_at(line, first + 2))?;
     push_home(bytes, b'S', word_at(line, first + 3))?;
     push(bytes, b"\n")
 }
