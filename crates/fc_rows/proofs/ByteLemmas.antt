@@ -11,7 +11,7 @@ use Rattle.fc_text.proofs.PrintedPieces.{AllAbove, ArePrinted}
 use Rattle.fc_rows.specs.Rows.{entry_at, is_drawn, is_gap, word_at, words_of}
 
 -- each byte of each part is above the space
-abbrev AreAbove : List (List ℕ) → Type 0
+abbrev pub AreAbove : List (List ℕ) → Type 0
 AreAbove [] = Unit {0}
 AreAbove (part ∷ parts) = AllAbove 32 part × AreAbove parts
 

@@ -1,10 +1,13 @@
 -- What the laws of this crate state.
-use Rattle.std.specs.Prelude.{ℕ, ◌<◌, cond, List, [], ◌∷◌}
+use Rattle.std.specs.Prelude.{◌≡◌, ℕ, ◌<◌, ◌≤◌, false, cond, None, List, [], ◌∷◌}
 use Rattle.std.specs.List.{AllZip, flat_map}
 use Rattle.fc_position.specs.Board.{Board, column}
+use Rattle.fc_position.specs.Position.{Fits, IsPosition}
+use Rattle.fc_show.specs.Drawing.{drawing}
 use Rattle.fc_text.specs.Board.{Spells}
+use Rattle.fc_text.specs.Printed.{board_text}
 use Rattle.fc_text.specs.Spelling.{SpellsCard}
-use Rattle.fc_rows.specs.Rows.{Told, column_text, entry_at, is_none, is_row, told_lines}
+use Rattle.fc_rows.specs.Rows.{Told, column_text, entry_at, is_none, is_row, rows_fault, told_lines}
 
 -- an entry, where it doesn't stand for no card
 abbrev pub some_entry : List ℕ → List (List ℕ)
@@ -22,3 +25,12 @@ entries_of k lines = flat_map (row_entry k) lines
 abbrev pub EntriesAreColumns : Type 0
 EntriesAreColumns = (cells : ℕ) (text : List ℕ) (b : Board) (k : ℕ) → Spells cells (column_text text) b → k < 8
     → AllZip SpellsCard (entries_of k (told_lines text)) (column b k)
+
+-- the drawing of a position has no fault, and its text in columns is the board's printed text
+abbrev pub DrawingsAreBoards : Type 0
+DrawingsAreBoards = (n : ℕ) (b : Board) → n ≤ 4 → IsPosition b → Fits n b
+    → (rows_fault (drawing false n b) ≡ None) × (column_text (drawing false n b) ≡ board_text n b)
+
+-- so the reader reads the position back
+abbrev pub DrawingsReadBack : Type 0
+DrawingsReadBack = (n : ℕ) (b : Board) → n ≤ 4 → IsPosition b → Fits n b → Spells n (column_text (drawing false n b)) b

@@ -49,20 +49,20 @@ static TYPED: [(&[u8], &[u8]); 14] = [
     // What stands above a drawing, for none to four cells.
     (
         b"C D H S\n\n- KD th 10S\n",
-        b"Foundations: C-0 D-K H-t S-10\n:\n:\n:\n:\n:\n:\n:\n:\n",
+        b"Foundations: H-t C-0 D-K S-10\nFreecells:\n:\n:\n:\n:\n:\n:\n:\n:\n",
     ),
     (
         b"a C D H S\n7S - - - AS",
-        b"Foundations: C-0 D-0 H-0 S-A\nFreecells: 7S\n:\n:\n:\n:\n:\n:\n:\n:\n",
+        b"Foundations: H-0 C-0 D-0 S-A\nFreecells: 7S\n:\n:\n:\n:\n:\n:\n:\n:\n",
     ),
     (
         b"a b c d C D H S\n- KC x * - - - -\n",
-        b"Foundations: C-0 D-0 H-0 S-0\nFreecells: - KC x *\n:\n:\n:\n:\n:\n:\n:\n:\n",
+        b"Foundations: H-0 C-0 D-0 S-0\nFreecells: - KC x *\n:\n:\n:\n:\n:\n:\n:\n:\n",
     ),
     // A foundation with another suit's card is handed on.
     (
         b"a b C D H S\n- - KD 7 D-7 S\n",
-        b"Foundations: KD 7 D-7 S-\nFreecells: - -\n:\n:\n:\n:\n:\n:\n:\n:\n",
+        b"Foundations: D-7 KD 7 S-\nFreecells: - -\n:\n:\n:\n:\n:\n:\n:\n:\n",
     ),
     // Names that nothing stands below say nothing.
     (b"a b c C D H S\n", b":\n:\n:\n:\n:\n:\n:\n:\n"),
