@@ -4,29 +4,29 @@ use Rattle.std.proofs.lemmas.List.{length-map}
 use Rattle.std.specs.Prelude.{codes}
 use Rattle.std.specs.Option.{option_or}
 use Rattle.std.proofs.lemmas.Bool.{cond-false, cond-true, le-ltb, lt-ltb}
-use Rattle.fc_text.specs.Line.{is_line_end, line_of, lines_of, parts_of, tokens_of, without_return}
+use Rattle.fc_text.specs.Line.{is_line_end, line_of, lines_of, parts_of, without_return}
 use Rattle.fc_text.specs.Spelling.{is_column}
 use Rattle.fc_text.proofs.PartLemmas.{length-parts_of}
-use Rattle.fc_rows.specs.Rows.{Told, are_letters, are_numbers, cells_named, column_text, fault_of, first_fault, kind_below, length_fault, most_bytes, named_or_row, names_below, own_kind, rows_fault, short_below, told_below, told_lines}
+use Rattle.fc_rows.specs.Rows.{Told, are_letters, are_numbers, cells_named, column_text, fault_of, first_fault, kind_below, length_fault, most_bytes, named_or_row, names_below, own_kind, rows_fault, short_below, told_below, told_lines, words_of}
 use Rattle.fc_rows.specs.declared.faults.RowFault.{RowFault}
 use Rattle.fc_rows.specs.declared.faults.RowFault.TheVariants.{TooLong}
 use Rattle.fc_rows.specs.declared.lines.LineKind.TheVariants.{Kept, Numbers, Row}
 
 -- a line that isn't kept and has no names is the numbers of the columns, or a row
 own_unnamed : (line : List ℕ) (is_numbers : Bool) → is_column (line_of (without_return line)).kind ≡ true
-    → cells_named (tokens_of line) ≡ None → are_letters (tokens_of line) (codes "12345678") ≡ is_numbers
+    → cells_named (words_of line) ≡ None → are_letters (words_of line) (codes "12345678") ≡ is_numbers
     → own_kind line ≡ cond is_numbers Numbers Row
 unfolding are_numbers
 own_unnamed line is_numbers column none is =
-    cond-true _ (named_or_row (cells_named (tokens_of line)) (are_numbers (tokens_of line))) Kept column
-    ∙ ap (λ n. named_or_row n (are_numbers (tokens_of line))) none ∙ ap (λ t. cond t Numbers Row) is
+    cond-true _ (named_or_row (cells_named (words_of line)) (are_numbers (words_of line))) Kept column
+    ∙ ap (λ n. named_or_row n (are_numbers (words_of line))) none ∙ ap (λ t. cond t Numbers Row) is
 
-pub own_numbers : (line : List ℕ) → is_column (line_of (without_return line)).kind ≡ true → cells_named (tokens_of line) ≡ None
-    → are_letters (tokens_of line) (codes "12345678") ≡ true → Numbers ≡ own_kind line
+pub own_numbers : (line : List ℕ) → is_column (line_of (without_return line)).kind ≡ true → cells_named (words_of line) ≡ None
+    → are_letters (words_of line) (codes "12345678") ≡ true → Numbers ≡ own_kind line
 own_numbers line column none is = sym (own_unnamed line true column none is)
 
-pub own_row : (line : List ℕ) → is_column (line_of (without_return line)).kind ≡ true → cells_named (tokens_of line) ≡ None
-    → are_letters (tokens_of line) (codes "12345678") ≡ false → Row ≡ own_kind line
+pub own_row : (line : List ℕ) → is_column (line_of (without_return line)).kind ≡ true → cells_named (words_of line) ≡ None
+    → are_letters (words_of line) (codes "12345678") ≡ false → Row ≡ own_kind line
 own_row line column none is = sym (own_unnamed line false column none is)
 
 -- there are no more lines than bytes

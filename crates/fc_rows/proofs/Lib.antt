@@ -1,4 +1,10 @@
+pub mod ByteLemmas
+pub mod DrawnBoards
+pub mod DrawnHeads
+pub mod DrawnRows
+pub mod DrawnWords
 pub mod EntryLemmas
 pub mod FaultLemmas
-pub mod LetterLemmas
 pub mod PushLemmas
+pub mod ReadLemmas
+pub mod WordLemmas

@@ -102,9 +102,9 @@ columns_start old lines most =
     ap (λ n. old ++ flat_map (λ k. ended (column_line k lines)) (range_with_len 0 n)) all
 
 -- what a foundation holds was pushed
-pub home_pushed : (old mid new front token told : List ℕ) (letter : ℕ) → mid ≡ old ++ front → new ≡ mid ++ 32 ∷ home_entry letter token
-    → token ≡ told → new ≡ old ++ (front ++ 32 ∷ home_entry letter told)
-home_pushed old mid new front token told letter before after is =
+pub home_pushed : (old mid new front word told : List ℕ) (letter : ℕ) → mid ≡ old ++ front → new ≡ mid ++ 32 ∷ home_entry letter word
+    → word ≡ told → new ≡ old ++ (front ++ 32 ∷ home_entry letter told)
+home_pushed old mid new front word told letter before after is =
     pushed_next old mid new front (32 ∷ home_entry letter told) before (after ∙ ap (λ t. mid ++ 32 ∷ home_entry letter t) is)
 
 -- the whole text in columns was pushed

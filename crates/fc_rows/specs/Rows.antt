@@ -4,7 +4,7 @@ use Rattle.std.specs.Char.{to_ascii_uppercase}
 use Rattle.std.specs.List.{flat_map, range_with_len}
 use Rattle.std.specs.Option.{option_or}
 use Rattle.fc_position.specs.Board.{front_of}
-use Rattle.fc_text.specs.Line.{is_blank, line_of, lines_of, tokens_of, without_return}
+use Rattle.fc_text.specs.Line.{line_of, lines_of, tokens_between, without_return}
 use Rattle.fc_text.specs.Printed.{ended}
 use Rattle.fc_text.specs.Spelling.{is_column}
 use Rattle.fc_rows.specs.declared.faults.RowFault.{RowFault}
@@ -12,30 +12,38 @@ use Rattle.fc_rows.specs.declared.faults.RowFault.TheVariants.{TooLong, BadHead,
 use Rattle.fc_rows.specs.declared.lines.LineKind.{LineKind}
 use Rattle.fc_rows.specs.declared.lines.LineKind.TheVariants.{Blank, Kept, Numbers, Names, Held, Row}
 
--- the token is this letter alone
+-- what parts entries: spaces, tabs and all other control bytes
+abbrev pub is_gap : ℕ → Bool
+is_gap b = nat_lt b 33
+
+-- the words of a text: what stands between gaps
+abbrev pub words_of : List ℕ → List (List ℕ)
+words_of text = tokens_between is_gap text
+
+-- the word is this letter alone
 abbrev pub is_letter : ℕ → List ℕ → Bool
 is_letter b [] = false
 is_letter b (x ∷ []) = x == b
 is_letter b (x ∷ y ∷ bytes) = false
 
--- the tokens are these letters, one each
+-- the words are these letters, one each
 abbrev pub are_letters : List (List ℕ) → List ℕ → Bool
 are_letters [] [] = true
 are_letters [] (b ∷ letters) = false
-are_letters (token ∷ tokens) [] = false
-are_letters (token ∷ tokens) (b ∷ letters) = is_letter b token && are_letters tokens letters
+are_letters (word ∷ words) [] = false
+are_letters (word ∷ words) (b ∷ letters) = is_letter b word && are_letters words letters
 
--- the tokens are the numbers of the columns
+-- the words are the numbers of the columns
 unfoldable pub are_numbers : List (List ℕ) → Bool
-are_numbers tokens = are_letters tokens (codes "12345678")
+are_numbers words = are_letters words (codes "12345678")
 
--- how many cells the tokens name, if they are the names above a drawing: those of none to four cells, and of the foundations
+-- how many cells the words name, if they are the names above a drawing: those of none to four cells, and of the foundations
 unfoldable pub cells_named : List (List ℕ) → Option ℕ
-cells_named tokens = cond (are_letters tokens (codes "CDHS")) (Some 0)
-    (cond (are_letters tokens (codes "aCDHS")) (Some 1)
-    (cond (are_letters tokens (codes "abCDHS")) (Some 2)
-    (cond (are_letters tokens (codes "abcCDHS")) (Some 3)
-    (cond (are_letters tokens (codes "abcdCDHS")) (Some 4) None))))
+cells_named words = cond (are_letters words (codes "CDHS")) (Some 0)
+    (cond (are_letters words (codes "aCDHS")) (Some 1)
+    (cond (are_letters words (codes "abCDHS")) (Some 2)
+    (cond (are_letters words (codes "abcCDHS")) (Some 3)
+    (cond (are_letters words (codes "abcdCDHS")) (Some 4) None))))
 
 -- a line without such names is the numbers of the columns or a row
 abbrev pub named_or_row : Option ℕ → Bool → LineKind
@@ -45,7 +53,7 @@ named_or_row None is_numbers = cond is_numbers Numbers Row
 -- what a line tells by itself; one that the reader sorts as foundations or cells is kept
 abbrev pub own_kind : List ℕ → LineKind
 own_kind line = cond (is_column (line_of (without_return line)).kind)
-    (named_or_row (cells_named (tokens_of line)) (are_numbers (tokens_of line)))
+    (named_or_row (cells_named (words_of line)) (are_numbers (words_of line)))
     Kept
 
 -- below the names of n cells and the foundations, a line tells what these hold
@@ -53,9 +61,9 @@ abbrev pub held_or : Option ℕ → LineKind → LineKind
 held_or (Some n) own = Held n
 held_or None own = own
 
--- what a line tells below these names, if names stand above it; one of blanks alone tells nothing
+-- what a line tells below these names, if names stand above it; one without words tells nothing
 abbrev pub kind_below : Option ℕ → List ℕ → LineKind
-kind_below names line = cond (length (tokens_of line) == 0) Blank (held_or names (own_kind line))
+kind_below names line = cond (length (words_of line) == 0) Blank (held_or names (own_kind line))
 
 -- the names that stand above the next line
 abbrev pub names_below : Option ℕ → LineKind → Option ℕ
@@ -81,18 +89,18 @@ told_below names (line ∷ lines) =
 abbrev pub told_lines : List ℕ → List Told
 told_lines text = told_below None (lines_of text)
 
--- the k-th token of a text, from 0; past the last one nothing
-abbrev pub token_at : ℕ → List ℕ → List ℕ
-token_at k text = slice_index_or (tokens_of text) k []
+-- the k-th word of a text, from 0; past the last one nothing
+abbrev pub word_at : ℕ → List ℕ → List ℕ
+word_at k text = slice_index_or (words_of text) k []
 
 -- spaces alone
 abbrev pub are_spaces : List ℕ → Bool
 are_spaces [] = true
 are_spaces (b ∷ bytes) = (b == 32) && are_spaces bytes
 
--- a space and two bytes that are no blanks
+-- a space and two bytes that are no gaps
 abbrev pub is_entry : List ℕ → Bool
-is_entry (a ∷ b ∷ c ∷ []) = (a == 32) && (not (is_blank b) && not (is_blank c))
+is_entry (a ∷ b ∷ c ∷ []) = (a == 32) && (not (is_gap b) && not (is_gap c))
 is_entry place = false
 
 -- a place of a row that is drawn has an entry or spaces alone
@@ -110,11 +118,11 @@ is_drawn line = has_places 8 line
 
 -- the entry of a row for column k: what stands in the column's place where the row is drawn, else the k-th one
 abbrev pub entry_at : ℕ → List ℕ → List ℕ
-entry_at k line = cond (is_drawn line) (token_at 0 (take 3 (drop (3 * k) line))) (token_at k line)
+entry_at k line = cond (is_drawn line) (word_at 0 (take 3 (drop (3 * k) line))) (word_at k line)
 
 -- how many entries a row has
 abbrev pub entry_count : List ℕ → ℕ
-entry_count line = cond (is_drawn line) 8 (length (tokens_of line))
+entry_count line = cond (is_drawn line) 8 (length (words_of line))
 
 -- an entry that stands for no card: none at all, `-`, `.` or `--`
 abbrev pub is_none : List ℕ → Bool
@@ -144,28 +152,29 @@ row_text k told = cond (is_row told.kind) (entry_text (entry_at k told.line)) []
 abbrev pub column_line : ℕ → List Told → List ℕ
 column_line k lines = 58 ∷ flat_map (row_text k) lines
 
--- the token ends with the letter of the suit, in either case
+-- the word ends with the letter of the suit, in either case
 abbrev pub has_suit : ℕ → List ℕ → Bool
-has_suit letter token = nat_lt 0 (length token) && (to_ascii_uppercase (slice_index token (length token - 1)) == letter)
+has_suit letter word = nat_lt 0 (length word) && (to_ascii_uppercase (slice_index word (length word - 1)) == letter)
 
 -- how many cards of a suit are home, from what its foundation holds: none for `-`, the rank of a card of the suit; anything
 -- else is handed on
 abbrev pub home_entry : ℕ → List ℕ → List ℕ
-home_entry letter token = cond (is_letter 45 token) (letter ∷ codes "-0")
-    (cond (has_suit letter token) (letter ∷ 45 ∷ front_of token) token)
+home_entry letter word = cond (is_letter 45 word) (letter ∷ codes "-0")
+    (cond (has_suit letter word) (letter ∷ 45 ∷ front_of word) word)
 
--- the foundations of a drawing with n cells, from what a line says that these and those hold
+-- the foundations of a drawing with n cells, from what a line says that these and those hold, in the order in which boards
+-- are printed
 abbrev pub homes_text : ℕ → List ℕ → List ℕ
-homes_text n line = codes "Foundations:" ++ (32 ∷ home_entry 67 (token_at n line)) ++ (32 ∷ home_entry 68 (token_at (n + 1) line))
-    ++ (32 ∷ home_entry 72 (token_at (n + 2) line)) ++ (32 ∷ home_entry 83 (token_at (n + 3) line))
+homes_text n line = codes "Foundations:" ++ (32 ∷ home_entry 72 (word_at (n + 2) line)) ++ (32 ∷ home_entry 67 (word_at n line))
+    ++ (32 ∷ home_entry 68 (word_at (n + 1) line)) ++ (32 ∷ home_entry 83 (word_at (n + 3) line))
 
 -- its cells
 abbrev pub cells_text : ℕ → List ℕ → List ℕ
-cells_text n line = codes "Freecells:" ++ flat_map (λ i. 32 ∷ token_at i line) (range_with_len 0 n)
+cells_text n line = codes "Freecells:" ++ flat_map (λ i. 32 ∷ word_at i line) (range_with_len 0 n)
 
--- its foundations, and its cells where it has some
+-- its foundations and its cells
 abbrev pub head_text : ℕ → List ℕ → List ℕ
-head_text n line = ended (homes_text n line) ++ cond (n == 0) [] (ended (cells_text n line))
+head_text n line = ended (homes_text n line) ++ ended (cells_text n line)
 
 -- what stands before the columns: the lines that are kept, and what cells and foundations hold
 abbrev pub front_text : Told → List ℕ
@@ -198,7 +207,7 @@ fault_of short number told = elim told.kind as (λ _. Option RowFault) [
   | Kept ↦ None
   | Numbers ↦ None
   | Names n ↦ None
-  | Held n ↦ cond (length (tokens_of told.line) == n + 4) None (Some (BadHead number))
+  | Held n ↦ cond (length (words_of told.line) == n + 4) None (Some (BadHead number))
   | Row ↦ row_fault short number (entry_count told.line)
 ]
 
@@ -220,6 +229,7 @@ first_fault short number (told ∷ lines) =
 abbrev pub most_bytes : ℕ
 most_bytes = 16384
 
+-- what is wrong with a text that has more
 abbrev pub length_fault : List ℕ → Option RowFault
 length_fault text = cond (nat_lt most_bytes (length text)) (Some TooLong) None
 

@@ -1,8 +1,7 @@
 ghost use Rattle.std.specs.Prelude.{◌≡◌, ◌*◌, ◌≤◌, drop, length, take};
-ghost use Rattle.fc_text.specs.Line.{is_blank};
 ghost use Rattle.fc_rows.specs.Rows.{are_spaces, entry_at, entry_count, is_drawn, is_entry, is_none, is_place};
 
-use crate::tokens::{token_at, token_count};
+use crate::words::{is_gap, word_at, word_count};
 
 /// The entry of a row for this column, from 0.
 pub(crate) fn entry_at(line: &[u8], column: usize) -> &[u8]
@@ -10,9 +9,9 @@ pub(crate) fn entry_at(line: &[u8], column: usize) -> &[u8]
     ensures { result.now ≡ entry_at column line.now }
 {
     if is_drawn(line) {
-        return token_at(place(line, column), 0);
+        return word_at(place(line, column), 0);
     }
-    token_at(line, column)
+    word_at(line, column)
 }
 
 /// How many entries a row has.
@@ -22,7 +21,7 @@ pub(crate) fn entry_count(line: &[u8]) -> usize
     if is_drawn(line) {
         return 8;
     }
-    token_count(line)
+    word_count(line)
 }
 
 /// Whether an entry stands for no card.
@@ -64,21 +63,14 @@ fn is_place(place: &[u8]) -> bool
     is_entry(place) || are_spaces(place)
 }
 
-// Whether a place has an entry: a space and two bytes that are no blanks.
+// Whether a place has an entry: a space and two bytes that are no gaps.
 fn is_entry(place: &[u8]) -> bool
     ensures { result ≡ is_entry place.now }
 {
     match place {
-        [b' ', first, second] => !is_blank(*first) && !is_blank(*second),
+        [b' ', first, second] => !is_gap(*first) && !is_gap(*second),
         _ => false,
     }
-}
-
-// Whether a byte is a space or a tab.
-fn is_blank(byte: u8) -> bool
-    ensures { result ≡ is_blank byte }
-{
-    byte == b' ' || byte == b'\t'
 }
 
 // Whether these are spaces alone.

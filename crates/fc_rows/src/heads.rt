@@ -5,7 +5,7 @@ ghost use Rattle.fc_rows.specs.inner.Told.{IsFull};
 
 use crate::faults::RowFault;
 use crate::texts::{Bytes, push, push_word};
-use crate::tokens::{is_letter, token_at};
+use crate::words::{is_letter, word_at};
 
 /// Pushes what so many cells and the foundations of a drawing hold, as the reader reads it.
 pub(crate) fn push_head(bytes: &mut Bytes, cells: u8, line: &[u8]) -> Result<(), RowFault>
@@ -13,9 +13,6 @@ pub(crate) fn push_head(bytes: &mut Bytes, cells: u8, line: &[u8]) -> Result<(),
     ensures full { IfErr result (IsFull bytes.old.items (head_text cells line.now)) }
 {
     push_homes(bytes, cells, line)?;
-    if cells == 0 {
-        return Ok(());
-    }
     push_cells(bytes, cells, line)
 }
 
@@ -26,33 +23,33 @@ fn push_homes(bytes: &mut Bytes, cells: u8, line: &[u8]) -> Result<(), RowFault>
 {
     let first = cells as usize;
     push(bytes, b"Foundations:")?;
-    push_home(bytes, b'C', token_at(line, first))?;
-    push_home(bytes, b'D', token_at(line, first + 1))?;
-    push_home(bytes, b'H', token_at(line, first + 2))?;
-    push_home(bytes, b'S', token_at(line, first + 3))?;
+    push_home(bytes, b'H', word_at(line, first + 2))?;
+    push_home(bytes, b'C', word_at(line, first))?;
+    push_home(bytes, b'D', word_at(line, first + 1))?;
+    push_home(bytes, b'S', word_at(line, first + 3))?;
     push(bytes, b"\n")
 }
 
 // Pushes a blank, and how many cards of the suit with this letter are home, from what its foundation holds.
-fn push_home(bytes: &mut Bytes, letter: u8, token: &[u8]) -> Result<(), RowFault>
-    ensures pushed { OnOk result (bytes.new.items ≡ bytes.old.items ++ 32 ∷ home_entry letter token.now) }
-    ensures full { IfErr result (IsFull bytes.old.items (32 ∷ home_entry letter token.now)) }
+fn push_home(bytes: &mut Bytes, letter: u8, word: &[u8]) -> Result<(), RowFault>
+    ensures pushed { OnOk result (bytes.new.items ≡ bytes.old.items ++ 32 ∷ home_entry letter word.now) }
+    ensures full { IfErr result (IsFull bytes.old.items (32 ∷ home_entry letter word.now)) }
 {
-    if is_letter(b'-', token) {
+    if is_letter(b'-', word) {
         return push_word(bytes, &[letter, b'-', b'0']);
     }
-    if !has_suit(letter, token) {
-        return push_word(bytes, token);
+    if !has_suit(letter, word) {
+        return push_word(bytes, word);
     }
     push(bytes, &[b' ', letter, b'-'])?;
-    push(bytes, &token[..token.len() - 1])
+    push(bytes, &word[..word.len() - 1])
 }
 
-// Whether a token ends with this letter of a suit, in either case.
-fn has_suit(letter: u8, token: &[u8]) -> bool
-    ensures { result ≡ has_suit letter token.now }
+// Whether a word ends with this letter of a suit, in either case.
+fn has_suit(letter: u8, word: &[u8]) -> bool
+    ensures { result ≡ has_suit letter word.now }
 {
-    match token {
+    match word {
         [.., suit] => suit.to_ascii_uppercase() == letter,
         [] => false,
     }
@@ -65,7 +62,7 @@ fn push_cells(bytes: &mut Bytes, cells: u8, line: &[u8]) -> Result<(), RowFault>
 {
     push(bytes, b"Freecells:")?;
     for i in 0..cells {
-        push_word(bytes, token_at(line, i as usize))?;
+        push_word(bytes, word_at(line, i as usize))?;
     }
     push(bytes, b"\n")
 }

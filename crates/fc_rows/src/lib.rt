@@ -9,6 +9,7 @@ mod columns;
 mod entries;
 mod faults;
 mod heads;
+pub mod laws;
 mod lines;
 mod texts;
-mod tokens;
+mod words;

@@ -1,11 +1,11 @@
 ghost use Rattle.std.specs.Prelude.{◌≡◌, ◌<◌, ◌≤◌, ◌∷◌, length, IfSome};
 ghost use Rattle.std.specs.List.{position_or_len};
 ghost use Rattle.std.specs.Iterator.{YieldsFirstBy, item_count};
-ghost use Rattle.fc_text.specs.Line.{is_line_end, lines_of, parts_of, tokens_of, without_return};
-ghost use Rattle.fc_rows.specs.Rows.{cells_named, kind_below, names_below, own_kind, told_below};
+ghost use Rattle.fc_text.specs.Line.{is_line_end, lines_of, parts_of, without_return};
+ghost use Rattle.fc_rows.specs.Rows.{cells_named, kind_below, names_below, own_kind, told_below, words_of};
 ghost use Rattle.fc_rows.specs.inner.Told.{told_of};
 
-use crate::tokens::{are_letters, token_count};
+use crate::words::{are_letters, word_count};
 use fc_text::is_column_line;
 
 /// What a line of a text in rows tells.
@@ -103,7 +103,7 @@ fn without_return(line: &[u8]) -> &[u8]
 fn kind_below(names: Option<u8>, line: &[u8]) -> LineKind
     ensures { result ≡ kind_below names line.now }
 {
-    if token_count(line) == 0 {
+    if word_count(line) == 0 {
         return LineKind::Blank;
     }
     match names {
@@ -128,7 +128,7 @@ fn own_kind(line: &[u8]) -> LineKind
 
 // How many cells a line names, if it has the names above a drawing.
 fn cells_named(line: &[u8]) -> Option<u8>
-    ensures { result ≡ cells_named (tokens_of line.now) }
+    ensures { result ≡ cells_named (words_of line.now) }
 {
     if are_letters(line, b"CDHS") {
         return Some(0);

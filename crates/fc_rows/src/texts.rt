@@ -6,7 +6,7 @@ use crate::columns::{push_columns, push_front};
 use crate::entries::entry_count;
 use crate::faults::RowFault;
 use crate::lines::{LineKind, ToldLines};
-use crate::tokens::token_count;
+use crate::words::word_count;
 use arrayvec::ArrayVec;
 use std::marker::Model;
 
@@ -48,7 +48,7 @@ impl ColumnText {
 /// card. The last row may have fewer entries, for the columns from the first on. A row as `fc_show` draws it, each entry of
 /// two bytes in its column's place of three, may have blanks in place of entries. Foundation and cell lines stay as they
 /// are; blank lines and the numbers of the columns say nothing. Names as a drawing has them, `a b c d` for the cells and
-/// `C D H S`, say that the next line has what these hold. Lines are ended by LF or CR LF, entries parted by blanks and tabs,
+/// `C D H S`, say that the next line has what these hold. Lines are ended by LF or CR LF, entries parted by spaces, tabs and
 /// and all entries are handed on as they are: the reader says what is wrong with one that is no card.
 ///
 /// # Errors
@@ -119,7 +119,7 @@ fn check_line(
 {
     match kind {
         LineKind::Held(cells) => {
-            if token_count(line) != cells as usize + 4 {
+            if word_count(line) != cells as usize + 4 {
                 return Err(RowFault::BadHead(number));
             }
             Ok(short)

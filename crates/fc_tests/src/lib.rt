@@ -33,4 +33,6 @@ pub mod queues;
 #[cfg(test)]
 mod replays;
 #[cfg(test)]
+mod rows;
+#[cfg(test)]
 mod texts;

@@ -1,17 +1,17 @@
 use Rattle.std.proofs.Common.{length, ◌∙◌, ap, arith}
-use Rattle.fc_text.specs.Line.{is_blank, tokens_of}
 use Rattle.fc_text.proofs.PartLemmas.{length-tokens_between}
-use Rattle.fc_rows.proofs.tokens.token_count.Goals as goal
+use Rattle.fc_rows.specs.Rows.{words_of, is_gap}
+use Rattle.fc_rows.proofs.words.word_count.Goals as goal
 
 pub loop-init : goal.loop-init
 loop-init c =
-    let from = ap (λ t. length (tokens_of t)) (ap (λ i. i.rest.now) c.into_iter-iterator.ensures.into_iter_gives ∙ c.new-items.ensures.rest) in
+    let from = ap (λ t. length (words_of t)) (ap (λ i. i.rest.now) c.into_iter-iterator.ensures.into_iter_gives ∙ c.new-items.ensures.rest) in
     omega (arith, from)
 
 pub overflow_add-count : goal.overflow_add-count
 overflow_add-count c =
     let more = ap length c.in-Some.ensures.steps in
-    let few = length-tokens_between is_blank c.args.text.now in
+    let few = length-tokens_between is_gap c.args.text.now in
     omega (arith, more, few, c.loop.invariant)
 
 pub loop-preserved : goal.loop-preserved
@@ -26,5 +26,5 @@ returns-clause-value c =
 
 pub returns-clause-most : goal.returns-clause-most
 returns-clause-most c =
-    let few = length-tokens_between is_blank c.args.text.now in
+    let few = length-tokens_between is_gap c.args.text.now in
     omega (arith, few, c.loop.invariant)
