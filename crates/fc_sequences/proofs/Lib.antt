@@ -7,12 +7,13 @@ mod EntryLemmas
 mod GatherLemmas
 mod GetLemmas
 mod GrowLemmas
-mod LawLemmas
+pub mod LawLemmas
 pub mod LieLemmas
 mod MovesLemmas
 pub mod OverLemmas
+mod PartLemmas
 mod PathLemmas
 pub mod RunLemmas
 pub mod SpaceLemmas
-mod TextLemmas
+pub mod TextLemmas
 mod TreeLemmas
