@@ -10,6 +10,7 @@ mod GrowLemmas
 pub mod LawLemmas
 pub mod LieLemmas
 mod MovesLemmas
+mod OneListLemmas
 pub mod OverLemmas
 mod PartLemmas
 mod PathLemmas
