@@ -1,5 +1,5 @@
 -- What one entry does: where it leads, with how many cards, and that a move alone is one.
-use Rattle.std.proofs.Common.{◌≡◌, ◌≢◌, ◌↔◌, ℕ, ◌+◌, ◌-◌, ◌≤◌, ◌<◌, Option, Some, None, length, refl, sym, ◌∙◌, subst, inl, ⊎_elim, arith}
+use Rattle.std.proofs.Common.{◌≡◌, ◌≢◌, ◌↔◌, ℕ, ◌+◌, ◌-◌, ◌≤◌, ◌<◌, Option, Some, None, length, refl, sym, ◌∙◌, ap, subst, inl, ⊎_elim, arith}
 use Rattle.std.specs.Prelude.{IfSome, IsSome, slice_index}
 use Rattle.std.proofs.lemmas.Bool.{cases_eq, cases_lt}
 use Rattle.std.proofs.lemmas.Option.{slice_get_within, get_or_from_slice_get}
@@ -21,6 +21,12 @@ use Rattle.fc_sequences.proofs.CellLemmas.{across, after_across}
 use Rattle.fc_sequences.proofs.CountLemmas.{played_few}
 use Rattle.fc_sequences.proofs.MovesLemmas.{moves_few}
 use Rattle.fc_sequences.proofs.SpaceLemmas.{may_lie}
+
+-- entries of the same places and numbers are the same
+pub entry_same : (p q : Pair) → p.from ≡ q.from → p.to ≡ q.to → p.count ≡ q.count → p ≡ q
+entry_same p q from to count =
+    let make : Place → Place → Option ℕ → Pair = λ x y n. record { from = x; to = y; count = n } in
+    ap (λ x. make x p.to p.count) from ∙ ap (λ y. make q.from y p.count) to ∙ ap (λ n. make q.from q.to n) count
 
 -- so many cards are played to one board
 pub cards_once : (g : GameRules) (b : Board) (from to : Place) (k : ℕ) (c d : Board) → PlaysCards g b from to k c → PlaysCards g b from to k d

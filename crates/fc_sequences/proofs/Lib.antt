@@ -7,12 +7,14 @@ mod EntryLemmas
 mod GatherLemmas
 mod GetLemmas
 mod GrowLemmas
-mod LawLemmas
+pub mod LawLemmas
 pub mod LieLemmas
 mod MovesLemmas
+mod OneListLemmas
 pub mod OverLemmas
+mod PartLemmas
 mod PathLemmas
 pub mod RunLemmas
 pub mod SpaceLemmas
-mod TextLemmas
+pub mod TextLemmas
 mod TreeLemmas

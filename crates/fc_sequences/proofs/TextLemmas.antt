@@ -7,9 +7,9 @@ use Rattle.fc_cards.specs.declared.places.Place.{Place}
 use Rattle.fc_cards.specs.declared.places.Place.TheVariants.{Column, Cell, Home}
 use Rattle.fc_moves.specs.MoveText.{IsThere, place_letter}
 use Rattle.fc_moves.proofs.StepLemmas.{source_is_there}
-use Rattle.fc_sequences.specs.declared.pairs.Pair.{Pair}
 use Rattle.fc_sequences.specs.Laws.{TextsTellEntriesApart}
 use Rattle.fc_sequences.specs.Pair.{count_text, hexadecimal, pair_text}
+use Rattle.fc_sequences.proofs.EntryLemmas.{entry_same}
 
 -- the digit of a number below ten, and of another
 low_digit : (n : ℕ) → n < 10 → hexadecimal n ≡ 48 + n
@@ -46,11 +46,6 @@ letter_once Home Home a b e = refl
 -- what stands at a place of equal lists is equal
 heads : (x y : ℕ) (xs ys : List ℕ) → x ∷ xs ≡ y ∷ ys → (x ≡ y) × (xs ≡ ys)
 heads x y xs ys e = (cc e, cc e)
-
-entry_same : (p q : Pair) → p.from ≡ q.from → p.to ≡ q.to → p.count ≡ q.count → p ≡ q
-entry_same p q from to count =
-    let make : Place → Place → Option ℕ → Pair = λ x y n. record { from = x; to = y; count = n } in
-    ap (λ x. make x p.to p.count) from ∙ ap (λ y. make q.from y p.count) to ∙ ap (λ n. make q.from q.to n) count
 
 pub text_of_one : TextsTellEntriesApart
 text_of_one token p q (one, here) (other, there) =

@@ -2,7 +2,7 @@
 use Rattle.std.specs.Prelude.{◌≡◌, ◌≤◌, ℕ, List, length}
 use Rattle.fc_position.specs.Board.{Board}
 use Rattle.fc_moves.specs.declared.steps.Move.{Move}
-use Rattle.fc_moves.specs.GameRules.{GameRules}
+use Rattle.fc_moves.specs.GameRules.{GameRules, IsPositionOf}
 use Rattle.fc_moves.specs.Run.{Run}
 use Rattle.fc_sequences.specs.declared.lists.ListFault.{ListFault}
 use Rattle.fc_sequences.specs.declared.lists.ListFault.TheVariants.{Memory}
@@ -25,6 +25,11 @@ GatheredExpandToNoMore = (g : GameRules) (b c d : Board) (ps : List Pair) (ms ns
 abbrev pub GatheredExpandAlways : Type 0
 GatheredExpandAlways = (g : GameRules) (b c : Board) (ps : List Pair) (ms : List Move) (fault : ListFault) → Gathers g b ps ms c
     → IsListFault g b ps fault → fault ≡ Memory
+
+-- from a position of the game a list of moves is gathered to one list of entries
+abbrev pub GatheredToOneList : Type 0
+GatheredToOneList = (g : GameRules) (b c d : Board) (ps qs : List Pair) (ms : List Move) → IsPositionOf g b → Gathers g b ps ms c
+    → Gathers g b qs ms d → ps ≡ qs
 
 -- a text is of one entry
 abbrev pub TextsTellEntriesApart : Type 0

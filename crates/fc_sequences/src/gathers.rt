@@ -1,14 +1,15 @@
 //! Lists of one-card moves, gathered to entries.
 
-ghost use Rattle.std.specs.Prelude.{◌≡◌, ◌↔◌, ◌++◌, ◌^◌, ◌<◌, ◌≤◌, List, [], ◌∷◌, All, Some, IfSome, IfOk, IfErr, IsTrue, IsSome, OnOk, length, slice_get, take};
-ghost use Rattle.fc_position.specs.Board.{Board};
+ghost use Rattle.std.specs.Prelude.{◌≡◌, ℕ, ◌+◌, ◌↔◌, ◌++◌, ◌^◌, ◌<◌, ◌≤◌, List, [], ◌∷◌, All, Some, IfSome, IfOk, IfErr, IsTrue, IsSome, OnOk, length, slice_get, take};
+ghost use Rattle.fc_cards.specs.declared.places.Place.TheVariants.{Column};
+ghost use Rattle.fc_position.specs.Board.{Board, column};
 ghost use Rattle.fc_moves.specs.declared.steps.Move.{Move};
 ghost use Rattle.fc_moves.specs.GameRules.{IsPositionOf};
 ghost use Rattle.fc_moves.specs.Step.{Allows};
 ghost use Rattle.fc_sequences.specs.declared.pairs.Pair.{Pair};
 ghost use Rattle.fc_sequences.specs.Gathering.{Gathers, IsGathered, IsGatherFault, MayPlayAnother};
 ghost use Rattle.fc_sequences.specs.Pair.{HasPairText};
-ghost use Rattle.fc_sequences.specs.inner.Part.{IsPart, PlaysPart};
+ghost use Rattle.fc_sequences.specs.inner.Part.{IsPart, NoneLonger, PlaysPart};
 
 use crate::pairs::{Pair, may_play_cards, play_pair};
 use fc_cards::Place;
@@ -18,7 +19,7 @@ use std::alloc::{AllocError, Global};
 use thiserror::Error;
 
 /// How many moves are looked at for one entry: thirteen cards are carried by fewer, whatever is free.
-const MOST_AHEAD: usize = 64;
+pub const MOST_AHEAD: usize = 64;
 
 /// Why a list of moves isn't gathered. Steps count from 1.
 #[derive(Clone, Copy, Debug, PartialEq, Eq, Error)]
@@ -42,9 +43,11 @@ impl From<AllocError> for GatherFault {
     }
 }
 
-/// The entries that do what a list of one-card moves does on a position that fits the game, as a player's hands would: moves
-/// that together carry a sequence from column to column are one entry. Each entry leads to one board alone, since it tells how
-/// many cards wherever another number of them may be played, and to play it takes no more moves than were gathered to it.
+/// The entries that do what a list of one-card moves does on a position that fits the game, as a player's hands would. The
+/// longest front of the moves is the first entry, and so on with the others: one move, or at most `MOST_AHEAD` that together
+/// carry a sequence from the column where the first begins to that where the last ends. Each entry leads to one board alone,
+/// since it tells how many cards wherever another number of them may be played, and to play it takes no more moves than were
+/// gathered to it.
 ///
 /// # Errors
 /// `NotAllowed` with the step of the first move that the rules don't allow; `Memory` where a growth was refused.
@@ -98,6 +101,7 @@ fn longest_part<G: Game>(
     requires allowed { Allows (G.game game.now) position.now first }
     requires fits { IsPositionOf (G.game game.now) position.now }
     ensures part { IfOk result (IsPart (G.game game.now) position.now moves.now) }
+    ensures longest { IfOk result (λ part. NoneLonger (G.game game.now) position.now moves.now (length moves.now) part.moves) }
 {
     let mut longest = Part {
         from: first.from,
@@ -158,7 +162,11 @@ fn is_played<G: Game>(
 }
 
 // How many cards a column of the second board has more than in the first, where cards go from a column to a column, else 0.
-fn gain(before: &Position, after: &Position, from: Place, to: Place) -> u8 {
+fn gain(before: &Position, after: &Position, from: Place, to: Place) -> u8
+    ensures value { (i j k : ℕ) → from ≡ Column i → to ≡ Column j → j < 8 → k < 256
+        → length (column after.now j) ≡ length (column before.now j) + k → result ≡ k }
+    ensures columns { 1 ≤ result → (i : ℕ) × (j : ℕ) × (from ≡ Column i) × (to ≡ Column j) }
+{
     match (from, to) {
         (Place::Column(_), Place::Column(to)) if to < 8 => {
             let more = after

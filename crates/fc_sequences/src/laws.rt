@@ -1,6 +1,6 @@
 //! Laws of entries, each the contract of a function that does nothing.
 
-ghost use Rattle.fc_sequences.specs.Laws.{GatheredLeadToOneBoard, GatheredExpandToNoMore, GatheredExpandAlways, TextsTellEntriesApart};
+ghost use Rattle.fc_sequences.specs.Laws.{GatheredLeadToOneBoard, GatheredExpandToNoMore, GatheredExpandAlways, GatheredToOneList, TextsTellEntriesApart};
 
 /// Entries to which moves are gathered lead to the board to which the moves run, and to no other.
 pub fn gathered_lead_to_one_board()
@@ -15,6 +15,11 @@ pub fn gathered_expand_to_no_more()
 /// Nothing but want of memory keeps entries to which moves are gathered from being expanded.
 pub fn gathered_expand_always()
     ensures { GatheredExpandAlways }
+{}
+
+/// From a position that fits the game a list of moves is gathered to one list of entries.
+pub fn gathered_to_one_list()
+    ensures { GatheredToOneList }
 {}
 
 /// A text is of one entry.

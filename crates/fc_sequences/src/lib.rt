@@ -3,7 +3,7 @@
 #![tactic(auto)]
 
 pub use carries::{carry, may_carry};
-pub use gathers::{GatherFault, gather};
+pub use gathers::{GatherFault, MOST_AHEAD, gather};
 pub use lists::{ListFault, MOST_BOARDS, expand};
 pub use pairs::{Pair, read_pair};
 pub use texts::print_pair;

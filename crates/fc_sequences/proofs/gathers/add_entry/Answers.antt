@@ -1,4 +1,4 @@
-use Rattle.fc_sequences.proofs.GatherLemmas.{part_gathered}
+use Rattle.fc_sequences.proofs.PartLemmas.{part_gathered}
 use Rattle.fc_sequences.proofs.RunLemmas.{where_ok}
 use Rattle.fc_sequences.proofs.gathers.add_entry.Goals as goal
 
