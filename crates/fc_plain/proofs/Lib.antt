@@ -12,3 +12,4 @@ pub mod SortedLemmas
 pub mod SpelledLemmas
 pub mod SpellingLemmas
 pub mod StayLemmas
+pub mod UnitLemmas

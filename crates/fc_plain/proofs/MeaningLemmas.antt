@@ -14,13 +14,15 @@ use Rattle.fc_plain.specs.Laws.{MeaningsStay, SpelledTextsStay}
 use Rattle.fc_plain.specs.Plain.{after_mark, is_column_line, plain_lines, without_label, without_labels, without_signs}
 use Rattle.fc_plain.specs.Comment.{without_comments}
 use Rattle.fc_plain.specs.Respelled.{after_label, line_spelling, respelled, respelled_column, respelled_line}
+use Rattle.fc_plain.specs.Unit.{in_bytes}
 use Rattle.fc_plain.proofs.KeptLemmas.{homes_stay, cells_stay, column_stays}
 use Rattle.fc_plain.proofs.LineLemmas.{IsLabelled, after_blanks-front, after_blanks-label, label_or_not, parts-split, plain_parts, return-front, trimmed-all}
 use Rattle.fc_plain.proofs.PlainLemmas.{columns_after, labels_next, told_line}
-use Rattle.fc_plain.proofs.ReadLemmas.{each_clean, spelled_shown}
-use Rattle.fc_plain.proofs.SaidLemmas.{SaysItself, said_stay, says_all}
+use Rattle.fc_plain.proofs.ReadLemmas.{IsLow, each_clean, end_low, low_below, parts_all, spelled_shown}
+use Rattle.fc_plain.proofs.SaidLemmas.{SaysItself, low_part, said_stay, says_all}
 use Rattle.fc_plain.proofs.SortedLemmas.{EndsWith, by_kind, return_parts}
 use Rattle.fc_plain.proofs.SpelledLemmas.{IsClean, clean_line, label_bad}
+use Rattle.fc_plain.proofs.UnitLemmas.{high_stays, in_bytes_stays}
 
 -- a line as it is sorted
 abbrev sorted : List ℕ → Line
@@ -132,13 +134,16 @@ module _ (K : List ℕ → Type 0) (keeps : (before : ℕ) (part : List ℕ) →
       All-cons K x xs (keeps before x (All-head IsCleanPart (told_line before x) others here))
       (parts_keep (columns_after before x) xs (All-tail IsCleanPart (told_line before x) others here))
 
-  pieces_keep : (cells : ℕ) (text : List ℕ) (b : Board) → Spells cells (plain_lines text) b → K [] → All K (slice_split is_line_end text)
-  pieces_keep cells text b spells none =
-      let parts = parts_of is_line_end text in
+  text_keeps : (cells : ℕ) (text : List ℕ) (b : Board) → Spells cells (plain_lines text) b → All K (parts_of is_line_end text)
+  text_keeps cells text b spells =
       let clean = each_clean (parts_of is_line_end (plain_lines text))
       (λ front rest line e. clean_line cells (plain_lines text) b spells front rest line e) in
-      let kept = parts_keep 0 parts (subst (All IsCleanPart) (plain_parts text) clean) in
-      trimmed-all K (slice_split is_line_end text) none (subst (All K) (parts-split is_line_end text) kept)
+      parts_keep 0 (parts_of is_line_end text) (subst (All IsCleanPart) (plain_parts text) clean)
+
+  pieces_keep : (cells : ℕ) (text : List ℕ) (b : Board) → Spells cells (plain_lines text) b → K [] → All K (slice_split is_line_end text)
+  pieces_keep cells text b spells none =
+      trimmed-all K (slice_split is_line_end text) none
+      (subst (All K) (parts-split is_line_end text) (text_keeps cells text b spells))
 
 -- pieces that stay are the text again
 pieces_stay : (pieces : List (List ℕ)) → All Kept pieces → map respelled_line pieces ≡ pieces
@@ -158,11 +163,27 @@ text_says cells text b spells =
     ap (join_with_byte 10) (said_stay pieces (pieces_keep SaysItself says_all cells text b spells (refl, refl)))
     ∙ join_with_byte-slice_split 10 text
 
+-- it is ASCII alone, so it was in bytes
+text_low : (cells : ℕ) (text : List ℕ) (b : Board) → Spells cells (plain_lines text) b → All IsLow text
+text_low cells text b spells = parts_all IsLow is_line_end end_low text (text_keeps (All IsLow) low_part cells text b spells)
+
+text_in_bytes : (cells : ℕ) (text : List ℕ) (b : Board) → Spells cells (plain_lines (without_signs 0 (after_mark text))) b
+    → in_bytes text ≡ text
+text_in_bytes cells text b spells =
+    let low = text_low cells (without_signs 0 (after_mark text)) b spells in
+    in_bytes_stays text (λ a bytes e high.
+    let rest = without_signs 0 bytes in
+    let first : without_signs 0 (after_mark text) ≡ a ∷ rest =
+    ap (λ t. without_signs 0 (after_mark t)) e ∙ high_stays a bytes high in
+    let here = low_below a (All-head IsLow a rest (subst (All IsLow) first low)) in
+    omega (arith, here, high))
+
 -- so no text changes its meaning
 pub meanings_stay : MeaningsStay
 meanings_stay cells text b spells =
     let shown = without_signs 0 (after_mark text) in
-    ap (λ t. plain_lines (respelled t)) (text_says cells shown b spells) ∙ ap plain_lines (text_stays cells shown b spells)
+    ap (λ t. plain_lines (respelled (without_comments (without_signs 0 (after_mark t))))) (text_in_bytes cells text b spells)
+    ∙ ap (λ t. plain_lines (respelled t)) (text_says cells shown b spells) ∙ ap plain_lines (text_stays cells shown b spells)
 
 -- a text that spells a position is plain already
 pub spelled_stays : SpelledTextsStay

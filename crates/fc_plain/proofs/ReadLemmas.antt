@@ -28,7 +28,7 @@ is_low b = nat_lt b 128 && (not (b == 35) && not (b == 44))
 abbrev pub IsLow : ℕ → Type 0
 IsLow b = is_low b ≡ true
 
-low_below : (b : ℕ) → IsLow b → b < 128
+pub low_below : (b : ℕ) → IsLow b → b < 128
 low_below b low = ltb-true b 128 (and_parts (nat_lt b 128) _ low).0
 
 abbrev pub IsAscii : List ℕ → Type 0
@@ -129,7 +129,7 @@ begun_parts P b (part ∷ parts) bytes more all =
     let first = All-head (All P) (b ∷ part) parts all in
     (All-head P b part first, more (All-cons (All P) part parts (All-tail P b part first) (All-tail (All P) (b ∷ part) parts all)))
 
-parts_all : (P : ℕ → Type 0) (p : ℕ → Bool) → ((b : ℕ) → p b ≡ true → P b) → (text : List ℕ) → All (All P) (parts_of p text) → All P text
+pub parts_all : (P : ℕ → Type 0) (p : ℕ → Bool) → ((b : ℕ) → p b ≡ true → P b) → (text : List ℕ) → All (All P) (parts_of p text) → All P text
 parts_all P p ends [] all = All-nil P
 parts_all P p ends (b ∷ text) all =
     elim (p b) as (λ t. p b ≡ t → All (All P) (cond t ([] ∷ parts_of p text) (begin_part b (parts_of p text))) → All P (b ∷ text)) [
@@ -150,7 +150,7 @@ kept_parts P ((b ∷ part) ∷ parts) all =
 pub blank_low : (b : ℕ) → is_blank b ≡ true → IsLow b
 blank_low b is = grind (arith, nat_tests)
 
-end_low : (b : ℕ) → is_line_end b ≡ true → IsLow b
+pub end_low : (b : ℕ) → is_line_end b ≡ true → IsLow b
 end_low b is = grind (arith, nat_tests)
 
 piece_ascii : (piece : List ℕ) → All IsAscii (tokens_of piece) → IsAscii piece

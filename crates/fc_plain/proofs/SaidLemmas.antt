@@ -212,11 +212,16 @@ unnamed before part clean = is_none (after_name more_cell_names (after_blanks pa
     ap without_return whole ∙ return-front_of front x begins.more (c_no_return x c) in
     c_part before part clean x rest (ap after_blanks body ∙ after_blanks-front front x rest (blanks_blank part) (c_no_blank x c)) c)
 
--- a clean line says itself
+-- a clean line is of such bytes
+pub low_part : (before : ℕ) (part : List ℕ) → IsClean (line_of (without_return (told_line before part))) → All IsLow part
+low_part before part clean =
+    let told = told_line before part in
+    told_low before part (return_ascii told (line_ascii (without_return told) clean))
+
+-- and says itself
 pub says_all : (before : ℕ) (part : List ℕ) → IsClean (line_of (without_return (told_line before part))) → SaysItself part
 says_all before part clean =
-    let told = told_line before part in
-    says_itself part (told_low before part (return_ascii told (line_ascii (without_return told) clean))) (unnamed before part clean)
+    says_itself part (low_part before part clean) (unnamed before part clean)
 
 -- lines that say themselves stay
 pub said_stay : (lines : List (List ℕ)) → All SaysItself lines → said_lines lines ≡ lines

@@ -11,7 +11,9 @@ use Rattle.fc_plain.specs.Comment.{blanks_of, without_comments}
 use Rattle.fc_plain.specs.Plain.{after_mark, sign_of, sign_or, without_digit, without_label, without_labels, without_signs}
 use Rattle.fc_plain.specs.Laws.{PlainTextsGrowByHalf}
 use Rattle.fc_plain.specs.Respelled.{respelled}
+use Rattle.fc_plain.specs.Unit.{in_bytes}
 use Rattle.fc_plain.proofs.CommentLemmas.{comments_long}
+use Rattle.fc_plain.proofs.UnitLemmas.{in_bytes_long}
 use Rattle.fc_plain.proofs.SortedLemmas.{text_grows}
 use Rattle.fc_plain.proofs.PlainLemmas.{columns_after, join-cons, labels_next, length-labels, told_line}
 
@@ -66,17 +68,20 @@ labels_long before (x ∷ y ∷ ys) =
 -- a plain text has at most half as many bytes again
 pub grow_by_half : PlainTextsGrowByHalf
 grow_by_half text =
-    let spelled = without_signs 0 (after_mark text) in
+    let bytes = in_bytes text in
+    let spelled = without_signs 0 (after_mark bytes) in
     let said = without_comments spelled in
-    let told = respelled said in
-    omega (
-      arith,
-      mark_long text,
-      signs_long 0 (after_mark text),
-      comments_long spelled,
-      text_grows said,
-      labels_long 0 (slice_split is_line_end told),
-      ap length (join_with_byte-slice_split 10 told),
+    let told = respelled said in (
+      omega (
+        arith,
+        mark_long bytes,
+        signs_long 0 (after_mark bytes),
+        comments_long spelled,
+        text_grows said,
+        labels_long 0 (slice_split is_line_end told),
+        ap length (join_with_byte-slice_split 10 told),
+      ),
+      in_bytes_long text,
     )
 
 mark_stays : (text : List ℕ) → All (λ b. b < 128) text → after_mark text ≡ text

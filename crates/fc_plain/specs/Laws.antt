@@ -10,10 +10,13 @@ use Rattle.fc_text.specs.Spelling.{SpellsCard, SpellsHome, is_column}
 use Rattle.fc_plain.specs.Comment.{without_comments}
 use Rattle.fc_plain.specs.Plain.{after_mark, plain, plain_lines, without_signs}
 use Rattle.fc_plain.specs.Respelled.{respelled, respelled_card, respelled_home}
+use Rattle.fc_plain.specs.Unit.{in_bytes}
 
--- a plain text has at most half as many bytes again as the text that it stands for
+-- a plain text has at most half as many bytes again as the text that it stands for has in bytes, and these are at most
+-- half as many again as the text has, if it is in units of two bytes
 abbrev pub PlainTextsGrowByHalf : Type 0
-PlainTextsGrowByHalf = (text : List ℕ) → 2 * length (plain text) ≤ 3 * length text
+PlainTextsGrowByHalf = (text : List ℕ) → (2 * length (plain text) ≤ 3 * length (in_bytes text))
+    × (2 * length (in_bytes text) ≤ 3 * length text)
 
 -- a column line of a text that begins, after blanks, with the digit of n and a colon, and what stands behind them
 pub record HasNumber (text : List ℕ) (n : ℕ) (rest : List ℕ) : Type 0 where
@@ -29,7 +32,7 @@ pub record HasNumber (text : List ℕ) (n : ℕ) (rest : List ℕ) : Type 0 wher
 -- eight columns at most
 abbrev pub NumbersAreColumns : Type 0
 NumbersAreColumns = (cells : ℕ) (text : List ℕ) (b : Board) (n : ℕ) (rest : List ℕ) → Spells cells (plain text) b
-    → (line : HasNumber (respelled (without_comments (without_signs 0 (after_mark text)))) n rest)
+    → (line : HasNumber (respelled (without_comments (without_signs 0 (after_mark (in_bytes text))))) n rest)
     → (n ≤ 8) × (count_by (λ l. is_column l.kind) (map line_of line.above) + 1 ≡ n)
     × AllZip SpellsCard (tokens_of rest) (column b (n - 1))
 

@@ -5,12 +5,12 @@ ghost use Rattle.fc_plain.specs.Comment.{before_comment, comma_blank, is_comment
 
 use crate::labels::{blanks_len, line_len, push_all};
 use crate::names::{MORE_CELL_NAMES, after_name};
-use crate::texts::{MOST_BYTES, ROOM};
+use crate::texts::ROOM;
 use arrayvec::ArrayVec;
 
 /// The text without its comments, its cells by a name that the reader knows, and its cards between blanks.
 pub(crate) fn without_comments(text: &[u8]) -> ArrayVec<u8, ROOM>
-    requires room { length text.now ≤ MOST_BYTES }
+    requires room { length text.now ≤ ROOM }
     ensures value { result.items ≡ without_comments text.now }
     ensures within { length result.items ≤ length text.now }
 {

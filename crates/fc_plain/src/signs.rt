@@ -1,7 +1,7 @@
 ghost use Rattle.std.specs.Prelude.{◌≡◌, ◌≤◌, ◌<◌, length, IfSome};
 ghost use Rattle.fc_plain.specs.Plain.{after_mark, selector_len, sign_of, space_sign, suit_of_symbol, without_signs};
 
-use crate::texts::MOST_BYTES;
+use crate::texts::ROOM;
 use arrayvec::ArrayVec;
 
 /// The text without the mark of byte order that it may begin with.
@@ -16,8 +16,8 @@ pub(crate) fn after_mark(text: &[u8]) -> &[u8]
 }
 
 /// The text with each sign replaced by the byte that it stands for.
-pub(crate) fn without_signs(text: &[u8]) -> ArrayVec<u8, MOST_BYTES>
-    requires room { length text.now ≤ MOST_BYTES }
+pub(crate) fn without_signs(text: &[u8]) -> ArrayVec<u8, ROOM>
+    requires room { length text.now ≤ ROOM }
     ensures value { result.items ≡ without_signs 0 text.now }
     ensures within { length result.items ≤ length text.now }
 {

@@ -6,7 +6,7 @@ ghost use Rattle.fc_plain.specs.inner.Respelled.{respelled_by};
 
 use crate::labels::{blanks_len, line_len, push_all};
 use crate::names::{CELL_NAMES, FOUNDATION_NAMES, after_name};
-use crate::texts::{MOST_BYTES, ROOM};
+use crate::texts::ROOM;
 use crate::tokens::{Telling, push_token};
 use arrayvec::ArrayVec;
 use fc_text::{Gaps, Tokens};
@@ -25,7 +25,7 @@ impl Gaps for Blanks {
 
 /// The text with each token spelled as the reader spells it.
 pub(crate) fn respelled(text: &[u8]) -> ArrayVec<u8, ROOM>
-    requires room { length text.now ≤ MOST_BYTES }
+    requires room { 3 * length text.now ≤ 2 * ROOM }
     ensures value { result.items ≡ respelled text.now }
     ensures within { 2 * length result.items ≤ 3 * length text.now }
 {

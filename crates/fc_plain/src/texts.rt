@@ -6,6 +6,7 @@ use crate::comments::without_comments;
 use crate::labels::without_labels;
 use crate::signs::{after_mark, without_signs};
 use crate::spellings::respelled;
+use crate::units::in_bytes;
 use arrayvec::ArrayVec;
 use fc_io::{ReadFault, Source, read_up_to};
 use std::marker::Model;
@@ -13,8 +14,9 @@ use std::marker::Model;
 /// The most bytes that a text may have that is made plain. A plain board text has at most 4,096.
 pub const MOST_BYTES: usize = 16_384;
 
-// The most bytes that a plain text may have: a token of a foundation line may grow from two bytes to three.
-pub(crate) const ROOM: usize = 24_576;
+// The most bytes that a plain text may have: two bytes of a unit may stand for three, and a token of a foundation line may
+// grow from two bytes to three.
+pub(crate) const ROOM: usize = 36_864;
 
 /// A board text that was made plain, seen by contracts as its bytes.
 #[derive(Debug, Drop)]
@@ -31,18 +33,20 @@ impl Model for PlainText {
 }
 
 impl PlainText {
-    /// The plain text that a text stands for, in four steps:
-    /// 1. A mark of byte order before it is left out, and symbols of suits and no-break spaces are replaced.
-    /// 2. Comments are left out, from `#` to the end of the line; a line that has nothing but a comment and blanks before
+    /// The plain text that a text stands for, in five steps:
+    /// 1. A text in units of two bytes (UTF-16), which begins with the mark of byte order, is put into bytes (UTF-8); a half
+    ///    of a pair of units and a byte that is left alone become `?`.
+    /// 2. A mark of byte order before it is left out, and symbols of suits and no-break spaces are replaced.
+    /// 3. Comments are left out, from `#` to the end of the line; a line that has nothing but a comment and blanks before
     ///    it vanishes. Commas become blanks, and `Cells:` or `Cell:`, in either case, becomes `FC:`.
-    /// 3. Each token is respelled: in columns and cells a card that is told suit first is told rank first (`D7` as `7D`),
+    /// 4. Each token is respelled: in columns and cells a card that is told suit first is told rank first (`D7` as `7D`),
     ///    a foundation that is told by its last card, in either order, is told by its count (`4H` as `H-4`), and a dash
     ///    that stands alone in a column line is left out.
-    /// 4. A column that is numbered loses its number: `1:` to `8:`, first in its line but for blanks, is taken off where
+    /// 5. A column that is numbered loses its number: `1:` to `8:`, first in its line but for blanks, is taken off where
     ///    it heads the column line of its number; the colon stays. Column lines are all that the reader sorts as such:
     ///    those that don't begin with a name of the foundations or the cells, blank lines too.
     ///
-    /// Nothing else changes, so the reader refuses a column with another's number. Where the first and the last step
+    /// Nothing else changes, so the reader refuses a column with another's number. Where the second and the last step
     /// alone make a text that the reader accepts, the others change nothing. `None` for a text of more than 16,384
     /// bytes.
     pub fn of(text: &[u8]) -> Option<PlainText>
@@ -52,7 +56,8 @@ impl PlainText {
         if text.len() > MOST_BYTES {
             return None;
         }
-        let spelled = without_signs(after_mark(text));
+        let bytes = in_bytes(text);
+        let spelled = without_signs(after_mark(bytes.as_slice()));
         let said = without_comments(spelled.as_slice());
         let told = respelled(said.as_slice());
         Some(PlainText {
@@ -79,7 +84,7 @@ impl PlainText {
         PlainText::of(&room[..count]).ok_or(ReadFault::TooLong)
     }
 
-    /// Its bytes, at most 24,576.
+    /// Its bytes, at most 36,864.
     pub fn bytes(&self) -> &[u8]
         ensures value { result.now ≡ self.now }
     {

@@ -73,7 +73,10 @@ static RESPELLED: [(&[u8], &[u8]); 14] = [
     (b"- 4S\n4S -\n- -\n--\n:: -", b"- 4S\n4S -\n- -\n--\n:: -"),
     (b"Founds: -\nFC: -", b"Founds: -\nFC: -"),
     // Foundations told by their last cards.
-    (b"Foundations: 4H C5 s-2 10d", b"Foundations: H-4 C-5 s-2 d-10"),
+    (
+        b"Foundations: 4H C5 s-2 10d",
+        b"Foundations: H-4 C-5 s-2 d-10",
+    ),
     (b"deck:HA", b"deck:H-A"),
     (b"Found: H0 0H 4 H-D10", b"Found: H0 0H 4 H-D10"),
     // Further names of the cells.
@@ -89,14 +92,27 @@ static RESPELLED: [(&[u8], &[u8]); 14] = [
 // Texts with comments, and the plain ones for which they stand.
 static COMMENTED: [(&[u8], &[u8]); 6] = [
     (b"4S 2D # the first\r\n9C#8C", b"4S 2D \n9C"),
-    (
-        b"# a deal\n1: 4S\n\t # more\r\n2: 5S\n#",
-        b": 4S\n: 5S\n",
-    ),
+    (b"# a deal\n1: 4S\n\t # more\r\n2: 5S\n#", b": 4S\n: 5S\n"),
     (b"#", b""),
     (b"#\n#\n", b""),
     (b"4S\n#", b"4S\n"),
     (b"4S\n:#\n5S", b"4S\n:\n5S"),
+];
+
+// Texts in units of two bytes, and the plain ones for which they stand.
+static IN_UNITS: [(&[u8], &[u8]); 7] = [
+    (b"\xFF\xFE4\0S\0\n\0", b"4S\n"),
+    (b"\xFE\xFF\04\0S\0\n", b"4S\n"),
+    // U+2666 and its selector, U+00A0, U+00E9 and U+3042.
+    (b"\xFF\xFE7\0\x66\x26\x0F\xFE", b"7D"),
+    (
+        b"\xFE\xFF\x00\xA0\x00\xE9\x30\x42",
+        b" \xC3\xA9\xE3\x81\x82",
+    ),
+    // A pair of units, a half of one, and a byte that is left alone.
+    (b"\xFE\xFF\xD8\x3C\xDC\xA1\xDF\xFF0", b"????"),
+    (b"\xFF\xFE", b""),
+    (b"\xFF\xFF4\0", b"\xFF\xFF4\0"),
 ];
 
 #[test]
@@ -109,6 +125,13 @@ fn what_is_copied_is_made_plain(rt: HostRuntime) {
 #[test]
 fn tokens_are_respelled(rt: HostRuntime) {
     for (text, plain) in RESPELLED.as_slice() {
+        check_plain(&rt, *text, *plain);
+    }
+}
+
+#[test]
+fn units_are_put_into_bytes(rt: HostRuntime) {
+    for (text, plain) in IN_UNITS.as_slice() {
         check_plain(&rt, *text, *plain);
     }
 }
