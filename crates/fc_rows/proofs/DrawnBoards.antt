@@ -15,7 +15,7 @@ use Rattle.fc_text.specs.Printed.{board_text, cell_text, ended, entries_text, ho
 use Rattle.fc_text.proofs.PrintedLines.{spells_board}
 use Rattle.fc_text.proofs.PrintedPieces.{AllAbove, AreLines, lines_of-lines}
 use Rattle.fc_text.proofs.PrintLemmas.{length-board_text}
-use Rattle.fc_show.specs.Drawing.{drawing, held_entry, height, row, rows, top_names, top_row}
+use Rattle.fc_show.specs.Drawing.{drawing, held_entry, height, row, rows, top_names, top_row, unmarked}
 use Rattle.fc_show.proofs.DrawingLemmas.{height_position}
 use Rattle.fc_rows.specs.Laws.{DrawingsAreBoards, DrawingsReadBack}
 use Rattle.fc_rows.specs.Rows.{Told, cells_text, column_line, column_text, columns_text, entry_count, first_fault, front_text, head_text, kind_below, names_below, row_fault, rows_fault, short_after, told_below, told_lines, words_of}
@@ -29,23 +29,23 @@ use Rattle.fc_rows.proofs.FaultLemmas.{rows_sound}
 
 -- the lines of a drawing
 abbrev drawn_rows : List (List ℕ) → List ℕ → List (List ℕ)
-drawn_rows columns is = map (row false columns) is
+drawn_rows columns is = map (row (unmarked false) columns) is
 
 abbrev drawn_lines : ℕ → Board → List (List ℕ)
 drawn_lines n b =
-    top_names n ∷ top_row false n b ∷ [] ∷ numbers_line ∷ drawn_rows b.columns (range_with_len 0 (height b.columns))
+    top_names n ∷ top_row (unmarked false) n b ∷ [] ∷ numbers_line ∷ drawn_rows b.columns (range_with_len 0 (height b.columns))
 
 rows-are : (columns : List (List ℕ)) (i count : ℕ)
-    → rows false columns i count ≡ flat_map ended (drawn_rows columns (range_with_len i count))
+    → rows (unmarked false) columns i count ≡ flat_map ended (drawn_rows columns (range_with_len i count))
 rows-are columns i zero = refl
-rows-are columns i (suc count) = ap (λ t. ended (row false columns i) ++ t) (rows-are columns (i + 1) count)
+rows-are columns i (suc count) = ap (λ t. ended (row (unmarked false) columns i) ++ t) (rows-are columns (i + 1) count)
 
-drawing-is : (n : ℕ) (b : Board) → drawing false n b ≡ flat_map ended (drawn_lines n b)
+drawing-is : (n : ℕ) (b : Board) → drawing (unmarked false) n b ≡ flat_map ended (drawn_lines n b)
 drawing-is n b =
     let names = ended (top_names n) in
-    let held = ended (top_row false n b) in
+    let held = ended (top_row (unmarked false) n b) in
     let numbers = ended numbers_line in
-    let rest = rows false b.columns 0 (height b.columns) in
+    let rest = rows (unmarked false) b.columns 0 (height b.columns) in
     append_assoc names (held ++ (ended [] ++ numbers)) rest
     ∙ ap (λ t. names ++ t) (append_assoc held (ended [] ++ numbers) rest ∙ ap (λ t. held ++ t) (append_assoc (ended []) numbers rest))
     ∙ ap (λ t. names ++ (held ++ (ended [] ++ (numbers ++ t)))) (rows-are b.columns 0 (height b.columns))
@@ -67,9 +67,9 @@ told-rows : (columns : List (List ℕ)) (i count : ℕ) → AllCards columns →
 told-rows columns i zero p within = refl
 told-rows columns i (suc count) p within =
     let held = row_of columns i in
-    let kind : kind_below None (row false columns i) ≡ Row =
+    let kind : kind_below None (row (unmarked false) columns i) ≡ Row =
     ap (kind_below None) (row-is columns i) ∙ places-row held (row-held columns i p) (row-some columns i (omega arith)) in
-    told-step None (row false columns i) (drawn_rows columns (range_with_len (i + 1) count)) Row kind
+    told-step None (row (unmarked false) columns i) (drawn_rows columns (range_with_len (i + 1) count)) Row kind
     ∙ ap (λ ls. told_row columns i ∷ ls) (told-rows columns (i + 1) count p (omega arith))
 
 -- the cards of a position that fits
@@ -94,14 +94,14 @@ told_rows b = map (told_row b.columns) (range_with_len 0 (height b.columns))
 
 abbrev told_drawing : ℕ → Board → List Told
 told_drawing n b =
-    record { kind = Names n; line = top_names n } ∷ record { kind = Held n; line = top_row false n b }
+    record { kind = Names n; line = top_names n } ∷ record { kind = Held n; line = top_row (unmarked false) n b }
     ∷ record { kind = Blank; line = [] } ∷ record { kind = Numbers; line = numbers_line } ∷ told_rows b
 
-told-is : (n : ℕ) (b : Board) → Drawn n b → told_lines (drawing false n b) ≡ told_drawing n b
+told-is : (n : ℕ) (b : Board) → Drawn n b → told_lines (drawing (unmarked false) n b) ≡ told_drawing n b
 told-is n b d =
     let p = d.position in
     let names = top_names n in
-    let held = top_row false n b in
+    let held = top_row (unmarked false) n b in
     let rows = drawn_rows b.columns (range_with_len 0 (height b.columns)) in
     let lines : AreLines (drawn_lines n b) =
     (names-above n d.few, (top-above n b p d.held, (tt, (numbers-above, rows-lines b.columns (range_with_len 0 (height b.columns)) d.cards)))) in
@@ -133,7 +133,7 @@ cards_line cards = 58 ∷ entries_text (map card_text cards)
 front-is : (n : ℕ) (b : Board) → Drawn n b → flat_map front_text (told_drawing n b) ≡ ended (homes_line b) ++ ended (cells_line n b)
 unfolding homes_line cells_line
 front-is n b d =
-    let line = top_row false n b in
+    let line = top_row (unmarked false) n b in
     ap (λ t. head_text n line ++ t) (rows-front b.columns (range_with_len 0 (height b.columns))) ∙ append-nil (head_text n line)
     ∙ ap (λ t. ended t ++ ended (cells_text n line)) (homes-are n b d.few d.position d.held)
     ∙ ap (λ t. ended (homes_line b) ++ ended t) (cells-are n b d.few d.position d.held)
@@ -159,7 +159,7 @@ board-is : (n : ℕ) (b : Board)
 unfolding homes_line cells_line
 board-is n b = append_assoc (ended (homes_line b)) (ended (cells_line n b)) (flat_map ended (map cards_line b.columns))
 
-text-is : (n : ℕ) (b : Board) → Drawn n b → column_text (drawing false n b) ≡ board_text n b
+text-is : (n : ℕ) (b : Board) → Drawn n b → column_text (drawing (unmarked false) n b) ≡ board_text n b
 unfolding column_text
 text-is n b d =
     ap (λ ls. flat_map front_text ls ++ columns_text ls 8) (told-is n b d)
@@ -167,7 +167,7 @@ text-is n b d =
     ∙ ap (λ t. (ended (homes_line b) ++ ended (cells_line n b)) ++ t) (columns-are n b 8 refl d) ∙ board-is n b
 
 -- it has no fault
-row-count : (columns : List (List ℕ)) (i : ℕ) → AllCards columns → length columns ≡ 8 → entry_count (row false columns i) ≡ 8
+row-count : (columns : List (List ℕ)) (i : ℕ) → AllCards columns → length columns ≡ 8 → entry_count (row (unmarked false) columns i) ≡ 8
 row-count columns i p long =
     ap entry_count (row-is columns i)
     ∙ places-count (row_of columns i) (row-held columns i p) (length-map columns (λ (cards : List ℕ). slice_get cards i) ∙ long)
@@ -183,7 +183,7 @@ rows-fault columns number (i ∷ is) p long =
 
 told-fault : (n : ℕ) (b : Board) → Drawn n b → first_fault None 1 (told_drawing n b) ≡ None
 told-fault n b d =
-    let words = length (words_of (top_row false n b)) in
+    let words = length (words_of (top_row (unmarked false) n b)) in
     ap (λ t. option_or (cond t None (Some (BadHead 2))) (first_fault None 5 (told_rows b)))
     (eq-eqb words (n + 4) (top-count n b d.few d.position d.held))
     ∙ rows-fault b.columns 5 (range_with_len 0 (height b.columns)) d.cards d.position.columns
@@ -194,44 +194,44 @@ places-long [] = omega arith
 places-long (None ∷ held) = let more = places-long held in omega arith
 places-long (Some c ∷ held) = let more = places-long held in omega arith
 
-rows-long : (columns : List (List ℕ)) (i count : ℕ) → length columns ≡ 8 → length (rows false columns i count) ≡ 25 * count
+rows-long : (columns : List (List ℕ)) (i count : ℕ) → length columns ≡ 8 → length (rows (unmarked false) columns i count) ≡ 25 * count
 rows-long columns i zero long = omega arith
 rows-long columns i (suc count) long =
     let held = row_of columns i in
     let line = ap length (row-is columns i) ∙ places-long held in
     let size = length-map columns (λ (cards : List ℕ). slice_get cards i) in
     let more = rows-long columns (i + 1) count long in
-    let one = length-append (row false columns i) (10 ∷ []) in
-    let both = length-append (ended (row false columns i)) (rows false columns (i + 1) count) in
+    let one = length-append (row (unmarked false) columns i) (10 ∷ []) in
+    let both = length-append (ended (row (unmarked false) columns i)) (rows (unmarked false) columns (i + 1) count) in
     omega (arith, line, size, more, one, both, long)
 
-top-long : (n : ℕ) (b : Board) → n ≤ 4 → length (top_row false n b) ≤ 27
+top-long : (n : ℕ) (b : Board) → n ≤ 4 → length (top_row (unmarked false) n b) ≤ 27
 top-long n b few =
     let first = held-long (take n b.cells) in
     let four : length (tops b) ≡ 4 = refl in
     let rest = held-long (tops b) in
     let size = length-take n b.cells in
-    let both = length-append (flat_map (held_entry false) (take n b.cells)) (codes "   " ++ flat_map (held_entry false) (tops b)) in
+    let both = length-append (flat_map (held_entry (unmarked false)) (take n b.cells)) (codes "   " ++ flat_map (held_entry (unmarked false)) (tops b)) in
     omega (arith, first, four, rest, size, both)
 
-drawing-short : (n : ℕ) (b : Board) → n ≤ 4 → IsPosition b → length (drawing false n b) ≤ 16384
+drawing-short : (n : ℕ) (b : Board) → n ≤ 4 → IsPosition b → length (drawing (unmarked false) n b) ≤ 16384
 drawing-short n b few p =
     let names = ended (top_names n) in
-    let held = ended (top_row false n b) in
-    let rest = rows false b.columns 0 (height b.columns) in
+    let held = ended (top_row (unmarked false) n b) in
+    let rest = rows (unmarked false) b.columns 0 (height b.columns) in
     let numbers = ended [] ++ ended numbers_line in
     let one = length-append (top_names n) (10 ∷ []) in
-    let two = length-append (top_row false n b) (10 ∷ []) in
+    let two = length-append (top_row (unmarked false) n b) (10 ∷ []) in
     let few_numbers : length numbers ≡ 26 = refl in
     let three = length-append held numbers in
     let four = length-append names (held ++ numbers) in
     let all = length-append (names ++ (held ++ numbers)) rest in
     omega (arith, names-long n few, top-long n b few, rows-long b.columns 0 (height b.columns) p.columns, height_position b p, one, two, few_numbers, three, four, all)
 
-sound-is : (n : ℕ) (b : Board) → Drawn n b → rows_fault (drawing false n b) ≡ None
+sound-is : (n : ℕ) (b : Board) → Drawn n b → rows_fault (drawing (unmarked false) n b) ≡ None
 sound-is n b d =
     let size = ap length (text-is n b d) in
-    rows_sound (drawing false n b) (drawing-short n b d.few d.position) (ap (first_fault None 1) (told-is n b d) ∙ told-fault n b d)
+    rows_sound (drawing (unmarked false) n b) (drawing-short n b d.few d.position) (ap (first_fault None 1) (told-is n b d) ∙ told-fault n b d)
     (omega (arith, size, length-board_text n b d.position d.few))
 
 pub drawings_are : DrawingsAreBoards

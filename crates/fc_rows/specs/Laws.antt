@@ -3,7 +3,7 @@ use Rattle.std.specs.Prelude.{◌≡◌, ℕ, ◌<◌, ◌≤◌, false, cond, N
 use Rattle.std.specs.List.{AllZip, flat_map}
 use Rattle.fc_position.specs.Board.{Board, column}
 use Rattle.fc_position.specs.Position.{Fits, IsPosition}
-use Rattle.fc_show.specs.Drawing.{drawing}
+use Rattle.fc_show.specs.Drawing.{drawing, unmarked}
 use Rattle.fc_text.specs.Board.{Spells}
 use Rattle.fc_text.specs.Printed.{board_text}
 use Rattle.fc_text.specs.Spelling.{SpellsCard}
@@ -29,8 +29,8 @@ EntriesAreColumns = (cells : ℕ) (text : List ℕ) (b : Board) (k : ℕ) → Sp
 -- the drawing of a position has no fault, and its text in columns is the board's printed text
 abbrev pub DrawingsAreBoards : Type 0
 DrawingsAreBoards = (n : ℕ) (b : Board) → n ≤ 4 → IsPosition b → Fits n b
-    → (rows_fault (drawing false n b) ≡ None) × (column_text (drawing false n b) ≡ board_text n b)
+    → (rows_fault (drawing (unmarked false) n b) ≡ None) × (column_text (drawing (unmarked false) n b) ≡ board_text n b)
 
 -- so the reader reads the position back
 abbrev pub DrawingsReadBack : Type 0
-DrawingsReadBack = (n : ℕ) (b : Board) → n ≤ 4 → IsPosition b → Fits n b → Spells n (column_text (drawing false n b)) b
+DrawingsReadBack = (n : ℕ) (b : Board) → n ≤ 4 → IsPosition b → Fits n b → Spells n (column_text (drawing (unmarked false) n b)) b
