@@ -39,6 +39,10 @@ def plain(text):
     """The text made plain."""
     if len(text) > 16384:
         raise Fault("too long")
+    for mark, order in ((b"\xff\xfe", "little"), (b"\xfe\xff", "big")):
+        if text.startswith(mark):
+            text = in_bytes(text[2:], order)
+            break
     if text.startswith(b"\xef\xbb\xbf"):
         text = text[3:]
     for symbol, letter in SYMBOLS.items():
@@ -54,6 +58,13 @@ def plain(text):
         if columns <= 8 and rest.startswith(b"%d:" % columns):
             lines[number] = line[: len(line) - len(rest)] + rest[1:]
     return b"\n".join(lines)
+
+
+def in_bytes(text, order):
+    """Units of two bytes as bytes: halves of pairs, and a byte that is left alone, are question marks."""
+    units = [text[at:at + 2] for at in range(0, len(text), 2)]
+    numbers = [int.from_bytes(unit, order) if len(unit) == 2 else 0xD800 for unit in units]
+    return "".join("?" if 0xD800 <= number < 0xE000 else chr(number) for number in numbers).encode()
 
 
 def said(lines):

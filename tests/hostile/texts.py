@@ -12,7 +12,7 @@ import sys
 import rules
 import runs
 
-ADVERSE = [b"", b"\x00", b"\xff", b"\xc2", b"\xa0", b"\xc2\xa0", b"\xe2\x99", b"\xef\xbb\xbf", b"\xe2\x99\xa0\xef\xb8\x8f", b"\r", b"\n",
+ADVERSE = [b"", b"\x00", b"\xff", b"\xc2", b"\xa0", b"\xc2\xa0", b"\xe2\x99", b"\xef\xbb\xbf", b"\xff\xfe", b"\xe2\x99\xa0\xef\xb8\x8f", b"\r", b"\n",
            b"\r\r\n", b"\x0b", b"\x0c", b"10", b"1O", b"0C", b"-", b"*", b"--", b":", b"::", b"9:", b"1:", b"H-0", b"h-k", b"S-14", b"FC:",
            b"Deck:", b"foundations :", b"TC", b"10c", b"#", b",", b"7D,", b"D7", b"s10", b"Cells:", b"# a comment\n", b"\xf0\x9f\x82\xa1", b"KS KS", b" " * 60]
 

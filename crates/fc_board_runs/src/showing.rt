@@ -1,16 +1,17 @@
 //! The run of the program that shows a board, over any source and any sink.
 
-ghost use Rattle.std.specs.Prelude.{◌≤◌, ◌↔◌, IfOk, IfErr, OnOk, IsErr, IsTrue};
+ghost use Rattle.std.specs.Prelude.{◌≡◌, ◌≤◌, ◌↔◌, IfOk, IfErr, OnOk, IsErr, IsTrue};
 ghost use Rattle.fc_io.specs.Moves.{TakesBytes, TakesFront};
 ghost use Rattle.fc_position.specs.Position.{Fits};
 ghost use Rattle.fc_board_runs.specs.Devices.{change};
+ghost use Rattle.fc_show.specs.Drawing.{drawing, unmarked};
 ghost use Rattle.fc_board_runs.specs.Showing.{IsShown, IsShowFault, shown};
 
 use crate::faults::{Output, ProgramFault};
 use fc_io::{Failed, Sink, write_all};
 use fc_moves::Game;
 use fc_position::Position;
-use fc_show::{Style, draw};
+use fc_show::{Drawing, Style, draw};
 use fc_text::print_board;
 
 /// How a board is shown.
@@ -60,8 +61,17 @@ fn write_look<K: Sink>(
     ensures fault { IsErr result ↔ IsTrue (K.has_failed out.new) }
 {
     match look {
-        Look::Drawn => write_all(out, draw(position, cells, &Style::unmarked(false)).as_slice()),
-        Look::Coloured => write_all(out, draw(position, cells, &Style::unmarked(true)).as_slice()),
+        Look::Drawn => write_all(out, drawn(position, cells, false).as_slice()),
+        Look::Coloured => write_all(out, drawn(position, cells, true).as_slice()),
         Look::Text => write_all(out, print_board(position, cells).as_bytes()),
     }
+}
+
+// The drawing of a position in which no card is marked.
+fn drawn(position: &Position, cells: u8, is_coloured: bool) -> Drawing
+    requires game { cells ≤ 4 }
+    requires fits { Fits cells position.now }
+    ensures value { result.items ≡ drawing (unmarked is_coloured) cells position.now }
+{
+    draw(position, cells, &Style::unmarked(is_coloured))
 }

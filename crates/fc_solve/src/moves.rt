@@ -66,8 +66,9 @@ pub fn without_answer(text: &[u8]) -> &[u8] {
 pub fn told_moves(alloc: Global, text: &[u8]) -> Result<Option<Vec<u8>>, AllocError> {
     let mut list = Vec::new(alloc);
     for line in text.split(|byte| *byte == b'\n') {
-        if let Some([from, to]) = letters_of(line) {
-            list.extend_from_slice(&[from, to, b' '])?;
+        if let Some(letters) = letters_of(line) {
+            list.extend_from_slice(&letters)?;
+            list.push(b' ')?;
         }
     }
     Ok(if list.is_empty() { None } else { Some(list) })
