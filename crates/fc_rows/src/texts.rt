@@ -47,9 +47,10 @@ impl ColumnText {
 /// A row has an entry for each column, the deepest cards stand in the first one, and an entry of `--`, `-` or `.` is no
 /// card. The last row may have fewer entries, for the columns from the first on. A row as `fc_show` draws it, each entry of
 /// two bytes in its column's place of three, may have blanks in place of entries. Foundation and cell lines stay as they
-/// are; blank lines and the numbers of the columns say nothing. Names as a drawing has them, `a b c d` for the cells and
-/// `C D H S`, say that the next line has what these hold. Lines are ended by LF or CR LF, entries parted by spaces, tabs and
-/// and all entries are handed on as they are: the reader says what is wrong with one that is no card.
+/// are; blank lines and the numbers of the columns say nothing. Names as a drawing has them, the first few of `a b c d` for
+/// the cells and `C D H S`, say that the next line that isn't blank has what these hold. Lines are ended by LF or CR LF,
+/// entries parted by spaces, tabs and all other control bytes. Entries are handed on as they are: the reader says what is
+/// wrong with one that is no card.
 ///
 /// # Errors
 /// `TooLong` for a text of more than 16,384 bytes; then the first line that is at fault, where a row below a short one tells

@@ -85,12 +85,18 @@ const DEAL_1: &[u8] = b"\
     6D 8S 8D QS 6C 3D 8C TC\n\
     6S 9C 2H 6H\n";
 
+// A text in rows is read as this position of a game with so many cells.
+fn check_read(rt: &impl Abort, rows: &[u8], position: &Position, cells: u8) {
+    let is_fit = position.fits(cells) && cells <= 4;
+    assert!(rt; is_fit, "a board of the game");
+    let columns = sure(rt, columns_of_rows(rows));
+    let read = sure(rt, read_board(columns.bytes(), cells));
+    assert!(rt; print_board(&read, cells) == print_board(position, cells));
+}
+
 #[test]
 fn a_typed_deal_is_the_deal(rt: HostRuntime) {
-    let position = deal(1).expect(&rt, "a deal");
-    let columns = sure(&rt, columns_of_rows(DEAL_1));
-    let read = sure(&rt, read_board(columns.bytes(), 4));
-    assert!(&rt; print_board(&read, 4) == print_board(&position, 4));
+    check_read(&rt, DEAL_1, &deal(1).expect(&rt, "a deal"), 4);
 }
 
 // The drawing of a position in a game with so many cells is read back.
@@ -98,9 +104,7 @@ fn check_drawing(rt: &impl Abort, position: &Position, cells: u8) {
     let is_fit = position.fits(cells) && cells <= 4;
     assert!(rt; is_fit, "a board of the game");
     let drawing = draw(position, cells, false);
-    let columns = sure(rt, columns_of_rows(drawing.as_slice()));
-    let read = sure(rt, read_board(columns.bytes(), cells));
-    assert!(rt; print_board(&read, cells) == print_board(position, cells));
+    check_read(rt, drawing.as_slice(), position, cells);
 }
 
 #[test]

@@ -10,6 +10,7 @@ use Rattle.fc_rows.specs.declared.lines.LineKind.{LineKind}
 abbrev pub told_of : LineKind × Bor (List ℕ) → Told
 told_of x = record { kind = x.0; line = x.1.now }
 
+-- the same, of the line's bytes
 abbrev pub told_with : LineKind → List ℕ → Told
 told_with kind line = record { kind = kind; line = line }
 
