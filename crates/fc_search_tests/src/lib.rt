@@ -20,6 +20,8 @@ mod bounds;
 #[cfg(test)]
 mod faults;
 #[cfg(test)]
+mod gathers;
+#[cfg(test)]
 mod given;
 #[cfg(test)]
 mod heard;

@@ -13,11 +13,11 @@ use fc_text::BoardFault;
 use std::alloc::Global;
 use std::process::Abort;
 
-// Two columns of two cards that lie on each other.
-const PAIRS: &str = "Foundations: H-J C-K D-K S-J\nKS QH\nKH QS\n";
+/// Two columns of two cards that lie on each other.
+pub const PAIRS: &str = "Foundations: H-J C-K D-K S-J\nKS QH\nKH QS\n";
 
-// Four columns of all cards from king to ace.
-const KINGS: &str = "\
+/// Four columns of all cards from king to ace.
+pub const KINGS: &str = "\
 KS QH JS TH 9S 8H 7S 6H 5S 4H 3S 2H AS
 KH QS JH TS 9H 8S 7H 6S 5H 4S 3H 2S AH
 KC QD JC TD 9C 8D 7C 6D 5C 4D 3C 2D AC
