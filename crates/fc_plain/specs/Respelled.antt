@@ -50,7 +50,7 @@ home_spelling token (Some card) = card.0 ∷ 45 ∷ card.1
 abbrev pub respelled_home : List ℕ → List ℕ
 respelled_home token = home_spelling token (option_or (suit_first token) (rank_first token))
 
--- each token of a piece is respelled and all blanks stay, where these bytes stand before the piece and begin its first token
+-- each token of a piece is respelled and all blanks stay; these bytes stand before the piece, and begin its first token
 abbrev pub each_token : (List ℕ → List ℕ) → List ℕ → List ℕ → List ℕ
 each_token respell token [] = respell token
 each_token respell token (b ∷ bytes) = cond (is_blank b)

@@ -2,7 +2,8 @@
 
 ghost use Rattle.fc_plain.specs.Laws.{CardsAreRead, HomesAreRead, MeaningsStay, NumbersAreColumns, PlainTextsGrowByHalf, SpelledTextsStay};
 
-/// A plain text has at most half as many bytes again as the text that it stands for.
+/// A plain text has at most half as many bytes again as the text that it stands for, and so has a text in UTF-8 beside the
+/// same in UTF-16.
 pub fn plain_texts_grow_by_half()
     ensures { PlainTextsGrowByHalf }
 {}
@@ -18,8 +19,8 @@ pub fn spelled_texts_stay()
     ensures { SpelledTextsStay }
 {}
 
-/// A text that spells a position once its signs are replaced and its columns have lost their numbers is not respelled, so
-/// it spells the same position.
+/// Where a text spells a position once its signs are replaced and its columns have lost their numbers, nothing else changes,
+/// so it spells that position.
 pub fn meanings_stay()
     ensures { MeaningsStay }
 {}

@@ -2,10 +2,10 @@
 //!
 //! A board text may have symbols of suits (`7♦`), cards told suit first (`D7`) or with commas between them, foundations
 //! told by their last cards (`Foundations: 4H`), cells named `Cells:`, columns that are numbered or told to be empty by a
-//! dash, comments from `#` to the end of their line, or a mark of byte order; it may be UTF-16 with that mark. A number is taken off where it is its
-//! column's own: `3:` first in the third line that the reader takes for a column's, blank lines counted and lines that
-//! have nothing but a comment not. A board text without any of these is handed on as it is, and so is every text that
-//! the reader accepts. No call allocates.
+//! dash, comments from `#` to the end of their line, or a mark of byte order; with that mark it may be UTF-16. A number is
+//! taken off where it is its column's own: `3:` first in the third line that the reader takes for a column's, blank lines
+//! counted and lines that have nothing but a comment not. A board text without any of these is handed on as it is, and so
+//! is every text that the reader accepts. No call allocates.
 #![tactic(auto)]
 
 pub use counts::read_count;

@@ -33,22 +33,23 @@ impl Model for PlainText {
 }
 
 impl PlainText {
-    /// The plain text that a text stands for, in five steps:
-    /// 1. A text in units of two bytes (UTF-16), which begins with the mark of byte order, is put into bytes (UTF-8); a half
-    ///    of a pair of units and a byte that is left alone become `?`.
-    /// 2. A mark of byte order before it is left out, and symbols of suits and no-break spaces are replaced.
+    /// The plain text that a text stands for. Five steps make it:
+    /// 1. A text in units of two bytes (UTF-16), which begins with the mark of byte order, is put into bytes (UTF-8); a
+    ///    half of a pair of units and a byte that is left alone become `?`.
+    /// 2. A mark of byte order before the text is left out, and symbols of suits and no-break spaces are replaced.
     /// 3. Comments are left out, from `#` to the end of the line; a line that has nothing but a comment and blanks before
     ///    it vanishes. Commas become blanks, and `Cells:` or `Cell:`, in either case, becomes `FC:`.
-    /// 4. Each token is respelled: in columns and cells a card that is told suit first is told rank first (`D7` as `7D`),
-    ///    a foundation that is told by its last card, in either order, is told by its count (`4H` as `H-4`), and a dash
-    ///    that stands alone in a column line is left out.
+    /// 4. Tokens are respelled: in columns and cells a card that is told suit first is told rank first (`D7` as `7D`), a
+    ///    foundation that is told by its last card, in either order, is told by its count (`4H` as `H-4`), and a dash that
+    ///    stands alone in a column line is left out.
     /// 5. A column that is numbered loses its number: `1:` to `8:`, first in its line but for blanks, is taken off where
     ///    it heads the column line of its number; the colon stays. Column lines are all that the reader sorts as such:
     ///    those that don't begin with a name of the foundations or the cells, blank lines too.
     ///
-    /// Nothing else changes, so the reader refuses a column with another's number. Where the second and the last step
-    /// alone make a text that the reader accepts, the others change nothing. `None` for a text of more than 16,384
-    /// bytes.
+    /// Nothing else changes, so the reader refuses a column with another's number. Where the reader accepts what the second
+    /// and the last step alone make of a text, the other steps change nothing.
+    ///
+    /// `None` for a text of more than 16,384 bytes.
     pub fn of(text: &[u8]) -> Option<PlainText>
         ensures value { IfSome result (λ plain_text. plain_text ≡ plain text.now) }
         ensures some { IsSome result ↔ length text.now ≤ MOST_BYTES }
