@@ -183,7 +183,7 @@ def told_wrong(program, source, cert):
     """Whether the certificate was accepted, and what is wrong with what check said, or None."""
     ran = program.run(["check", *source.words, "-", "/dev/fd/3"], source.board, [cert])
     claim = ran.out.decode("latin-1")
-    is_refused = ran.status == 3 and not claim and FAULT.fullmatch(ran.fault()) is not None and ran.err.count(b"\n") == 1
+    is_refused = ran.status == 3 and not claim and FAULT.fullmatch(ran.fault()) is not None and ran.err.count(b"\n") == 2
     is_accepted = ran.status == 0 and not ran.err and (claim == source.claim or is_other_floor(source, claim))
     if ran.seconds < 1 and (is_refused or is_accepted):
         return is_accepted, None

@@ -32,7 +32,7 @@ def wanted(text, cells):
 def lengths_note(board):
     """What is said of a board with all cards in columns that aren't as long as a deal's."""
     lengths = [len(column) for column in board.columns]
-    if sum(lengths) < 52 or lengths == [7] * 4 + [6] * 4:
+    if sum(lengths) < 52 or sorted(lengths) == [6] * 4 + [7] * 4:
         return ""
     return f"fc_solve: the columns have {' '.join(map(str, lengths))} cards, as no deal has"
 

@@ -36,15 +36,17 @@ fn has_all_in_columns(start: &Position) -> bool {
     count == 52
 }
 
-// Whether the first four columns have seven cards each, and the others six.
+// Whether four of the columns have seven cards each, and the others six; their order says nothing.
 fn has_lengths_of_deal(start: &Position) -> bool {
+    let mut sevens = 0;
     for column in 0..8 {
-        let dealt = if column < 4 { 7 } else { 6 };
-        if start.column(column).len() != dealt {
-            return false;
+        match start.column(column).len() {
+            7 => sevens += 1,
+            6 => {}
+            _ => return false,
         }
     }
-    true
+    sevens == 4
 }
 
 // Whether the text, read in rows, is as long in its columns as a deal.
