@@ -289,14 +289,14 @@ def check_typed(folder):
 
 
 def check_closed_pipes(folder):
-    """Nobody reads what is printed."""
+    """Nobody reads what is printed: the command ends, and nothing is said."""
     all_words = ["solve board", "solve --cert cert board", "check board cert", "replay board moves", "batch 24 24 --budget 1", "deal 1", "show 1"]
     for words in all_words:
         reading, writing = os.pipe()
         os.close(reading)
         ran = subprocess.run([runs.PROGRAM, *words.split()], stdin=subprocess.DEVNULL, stdout=writing, stderr=subprocess.PIPE, cwd=folder)
         os.close(writing)
-        expect((ran.returncode, ran.stderr) == (5, b"fc_solve: cannot write the answer\n"), f"{words} to a closed pipe: {ran}")
+        expect((ran.returncode, ran.stderr) == (5, b""), f"{words} to a closed pipe: {ran}")
         check_files(folder, words)
     print(len(all_words), "closed pipes")
 
