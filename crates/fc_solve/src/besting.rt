@@ -3,8 +3,8 @@ ghost use Rattle.fc_moves.specs.GameRules.{IsPositionOf};
 
 use crate::boards::{create, find_board, read_start};
 use crate::endings::Ending;
-use crate::games::InGame;
 use crate::forms::{LONGEST_ANSWER, Manner, tell_held};
+use crate::games::InGame;
 use crate::outputs::Out;
 use crate::solving::tell_advice;
 use crate::watching::{BestTeller, Line};

@@ -121,12 +121,7 @@ fn read_input(rt: &HostRuntime) -> Result<PlainText, Ending> {
 }
 
 // The board of a text that was made plain.
-fn read_text(
-    rt: &HostRuntime,
-    text: &[u8],
-    is_in_rows: bool,
-    cells: u8,
-) -> Result<Position, Ending>
+fn read_text(rt: &HostRuntime, text: &[u8], is_in_rows: bool, cells: u8) -> Result<Position, Ending>
     requires cells { cells ≤ 4 }
     ensures fits { IfOk result (Fits cells) }
 {

@@ -40,11 +40,13 @@ fn reason_of(fault: CheckFault) -> &'static str {
         CheckFault::NotAllowed(_) => {
             "the rules don't allow the move of this step: another board, or a changed certificate?"
         }
-        CheckFault::NotHome => "its moves leave cards that aren't home: another board, or a changed certificate?",
+        CheckFault::NotHome =>
+            "its moves leave cards that aren't home: another board, or a changed certificate?",
         CheckFault::StartOpen => {
             "its table doesn't list the board that the search began with: another board, or a cut certificate?"
         }
-        CheckFault::WonListed(_) => "a board that its table lists, the records counted from 0, is won already",
+        CheckFault::WonListed(_) =>
+            "a board that its table lists, the records counted from 0, is won already",
         CheckFault::Open(_) => {
             "from a board of its table, the records counted from 0, a move leads to one that it doesn't list"
         }

@@ -1,5 +1,7 @@
 //! An answer as entries that may move several cards, as a player's hands would do it.
+ghost use Rattle.std.specs.Prelude.{All};
 ghost use Rattle.fc_moves.specs.GameRules.{IsPositionOf};
+ghost use Rattle.fc_sequences.specs.Pair.{HasPairText};
 
 use crate::endings::Ending;
 use crate::forms::{split_answer, tell_whole};
@@ -48,7 +50,9 @@ fn moves_of(alloc: Global, list: &[u8]) -> Result<Vec<Move>, AllocError> {
 }
 
 // An answer's first line, with how many entries there are, and the entries in a line.
-fn text_of(alloc: Global, told: &[u8], pairs: &[Pair]) -> Result<Vec<u8>, AllocError> {
+fn text_of(alloc: Global, told: &[u8], pairs: &[Pair]) -> Result<Vec<u8>, AllocError>
+    requires texts { All HasPairText pairs.now }
+{
     let mut text = Vec::new(alloc);
     let count = pairs.len();
     text.extend_from_slice(told.strip_suffix(b"\n").unwrap_or(told))?;

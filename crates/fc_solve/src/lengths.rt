@@ -1,6 +1,7 @@
 //! Boards whose columns are as long as those of no deal: they may have been typed in rows, or have lost their line ends.
 ghost use Rattle.std.specs.Prelude.{◌≤◌};
 
+use fc_cards::Suit;
 use fc_io::FromSlice;
 use fc_position::Position;
 use fc_rows::columns_of_rows;
@@ -29,19 +30,25 @@ pub fn note_lengths(rt: &HostRuntime, start: &Position, text: &[u8], cells: u8)
 
 // Whether no card is home or in a cell.
 fn has_all_in_columns(start: &Position) -> bool {
-    let mut count = 0;
-    for column in 0..8 {
-        count += start.column(column).len();
+    for cell in 0..4 {
+        if start.cell(cell).is_some() {
+            return false;
+        }
     }
-    count == 52
+    for suit in [Suit::C, Suit::D, Suit::H, Suit::S] {
+        if start.home(suit) > 0 {
+            return false;
+        }
+    }
+    true
 }
 
 // Whether four of the columns have seven cards each, and the others six; their order says nothing.
 fn has_lengths_of_deal(start: &Position) -> bool {
-    let mut sevens = 0;
+    let mut sevens = 0u8;
     for column in 0..8 {
         match start.column(column).len() {
-            7 => sevens += 1,
+            7 => sevens = sevens.saturating_add(1),
             6 => {}
             _ => return false,
         }

@@ -1,5 +1,7 @@
 //! Standard output, as the program writes it.
 
+ghost use Rattle.std.specs.Prelude.{◌≡◌};
+
 use crate::endings::{Ending, tell};
 use crate::watching::Line;
 use arrayvec::ArrayVec;
@@ -70,7 +72,9 @@ impl<'a> Out<'a> {
     }
 
     // Keeps the first bytes that are written.
-    fn keep(&mut self, piece: &[u8]) {
+    fn keep(&mut self, piece: &[u8])
+        ensures stays { self.new.has_failed ≡ self.old.has_failed }
+    {
         for byte in piece {
             if self.front.try_push(*byte).is_err() {
                 return;

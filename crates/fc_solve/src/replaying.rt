@@ -6,7 +6,8 @@ use crate::boards::{find_board, read_start};
 use crate::endings::Ending;
 use crate::games::InGame;
 use crate::moves::{
-    find_moves, read_moves, tell_end, tell_entry, tell_stop, told_moves, without_answer, without_rulers,
+    find_moves, read_moves, tell_end, tell_entry, tell_stop, told_moves, without_answer,
+    without_rulers,
 };
 use crate::outputs::Out;
 use fc_io::FromSlice;

@@ -259,7 +259,16 @@ Examples:
   fc_solve replay boards/three-spades.txt moves.txt
   fc_solve 941 | fc_solve replay 941 -
   fc-solve -m -sn board.txt | fc_solve replay --sequences board.txt -",
-    words: &[NUMBERED, SEQUENCES, GAME, KINGS, CELLS, ROWS, NEEDED_BOARD, MOVES],
+    words: &[
+        NUMBERED,
+        SEQUENCES,
+        GAME,
+        KINGS,
+        CELLS,
+        ROWS,
+        NEEDED_BOARD,
+        MOVES,
+    ],
 };
 
 const NUMBERED: Word = Word {
