@@ -75,11 +75,10 @@ impl<'a> Out<'a> {
     fn keep(&mut self, piece: &[u8])
         ensures stays { self.new.has_failed ≡ self.old.has_failed }
     {
-        for byte in piece {
-            if self.front.try_push(*byte).is_err() {
-                return;
-            }
-        }
+        let room = LONGEST_FRONT.saturating_sub(self.front.len());
+        let _fits = self
+            .front
+            .try_extend_from_slice(&piece[..piece.len().min(room)]);
     }
 }
 
