@@ -5,7 +5,7 @@ use crate::given::{board, sure};
 use fc_deal::deal;
 use fc_position::Position;
 use fc_rows::{MOST_BYTES, RowFault, columns_of_rows};
-use fc_show::draw;
+use fc_show::{Style, draw};
 use fc_text::{print_board, read_board};
 use std::process::Abort;
 
@@ -103,7 +103,7 @@ fn a_typed_deal_is_the_deal(rt: HostRuntime) {
 fn check_drawing(rt: &impl Abort, position: &Position, cells: u8) {
     let is_fit = position.fits(cells) && cells <= 4;
     assert!(rt; is_fit, "a board of the game");
-    let drawing = draw(position, cells, false);
+    let drawing = draw(position, cells, &Style::unmarked(false));
     check_read(rt, drawing.as_slice(), position, cells);
 }
 
