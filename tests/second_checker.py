@@ -143,8 +143,8 @@ def main():
     same = {name: sum(compare(it, it.bytes)[1] for it in sources) for name, sources in (("worked boards", small), ("deals", great))}
     print(f"worked boards: {same['worked boards']} of {len(small)} certificates are told alike")
     print(f"deals: {same['deals']} of {len(great)} certificates are told alike")
-    great = [it for it in great if len(it.bytes) <= GREATEST]
-    is_right = try_damaged(small, great, int(sys.argv[1]), sys.argv[2])
+    short = [it for it in great if len(it.bytes) <= GREATEST]
+    is_right = try_damaged(small, short, int(sys.argv[1]), sys.argv[2])
     sys.exit(0 if is_right and sum(same.values()) == len(small) + len(great) else 1)
 
 
