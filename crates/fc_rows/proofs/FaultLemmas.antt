@@ -73,16 +73,6 @@ rows_sound text short sound fits =
     ap (λ f. option_or f (option_or (first_fault None 1 (told_lines text)) (length_fault (column_text text)))) (short_text text short)
     ∙ ap (λ f. option_or f (length_fault (column_text text))) sound ∙ short_text (column_text text) fits
 
-pub rows_long : (text : List ℕ) → most_bytes < length text → rows_fault text ≡ Some TooLong
-rows_long text long =
-    ap (λ f. option_or f (option_or (first_fault None 1 (told_lines text)) (length_fault (column_text text)))) (long_text text long)
-
-pub rows_faulty : (text : List ℕ) (fault : RowFault) → length text ≤ most_bytes → first_fault None 1 (told_lines text) ≡ Some fault
-    → rows_fault text ≡ Some fault
-rows_faulty text fault short is =
-    ap (λ f. option_or f (option_or (first_fault None 1 (told_lines text)) (length_fault (column_text text)))) (short_text text short)
-    ∙ ap (λ f. option_or f (length_fault (column_text text))) is
-
 pub rows_full : (text : List ℕ) (fault : RowFault) → length text ≤ most_bytes → first_fault None 1 (told_lines text) ≡ None
     → (fault ≡ TooLong) × (most_bytes < length (column_text text)) → rows_fault text ≡ Some fault
 rows_full text fault short sound full =
