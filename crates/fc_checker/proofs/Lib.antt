@@ -1,4 +1,5 @@
 pub mod ClosedLemmas
+pub mod FarLemmas
 pub mod FaultLemmas
 pub mod LawLemmas
 pub mod ListedLemmas

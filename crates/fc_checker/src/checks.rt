@@ -14,7 +14,7 @@ ghost use Rattle.fc_checker.specs.Check.{IsCheckFault, IsOfGame, MovesHold, Reco
 ghost use Rattle.fc_checker.specs.inner.Steps.{IsFaultOf, IsFaultOfMoves, IsFaultOfRecords, IsProof, claim_of};
 
 use crate::faults::CheckFault;
-use crate::steps::{is_far, is_seen_far, level, settled_holds, steps_hold};
+use crate::steps::{Near, Parent, is_far, level, settled_holds, steps_hold};
 use fc_canonical::position_of;
 use fc_cert::{CertFault, Certificate, Claim, Kind, LONGEST_CERTIFICATE};
 use fc_moves::{Game, allows, apply};
@@ -65,7 +65,7 @@ fn check_content<G: Game>(
         return Err(CheckFault::OtherGame);
     }
     check_moves(game, certificate, position)?;
-    let (holds, _sent) = settled_holds(game, certificate, &mut start, 0);
+    let (holds, _sent) = settled_holds(game, certificate, &mut start, 0, false);
     if !holds {
         return Err(CheckFault::StartOpen);
     }
@@ -193,11 +193,14 @@ fn record_steps_hold<G: Game>(
 {
     match level(certificate) {
         Some(level) => steps_hold_below(game, certificate, level, position, key, cost),
-        None => steps_hold(game, certificate, position, key, cost),
+        None => {
+            let near = None;
+            steps_hold(game, certificate, position, &Parent { key, cost, near })
+        }
     }
 }
 
-// Whether they hold below this level. The bound itself, which may take long to count, is asked last.
+// Whether they hold below this level. The bound by which a search goes is asked first, since what a step leads to is told by it.
 fn steps_hold_below<G: Game>(
     game: &G,
     certificate: &Certificate,
@@ -213,12 +216,13 @@ fn steps_hold_below<G: Game>(
     ensures value { position.old ≡ spelled key.now
         → (IsTrue result ↔ StepsHold (G.game game.now) certificate.now (level_of certificate.now) (key.now, cost)) }
 {
-    let moves = u64::from(cost);
-    if is_seen_far(certificate, level, position, moves) {
+    let guide = certificate.head().bound.guide(position);
+    if u64::from(level) <= u64::from(cost) + u64::from(guide) {
         return true;
     }
-    if steps_hold(game, certificate, position, key, cost) {
+    let near = Some(Near { level, guide });
+    if steps_hold(game, certificate, position, &Parent { key, cost, near }) {
         return true;
     }
-    is_far(certificate, level, position, moves)
+    is_far(certificate, level, position, u64::from(cost))
 }

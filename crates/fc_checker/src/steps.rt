@@ -2,20 +2,37 @@
 
 ghost use Rattle.std.specs.Prelude.{◌≡◌, ◌+◌, ◌<◌, ◌≤◌, ◌^◌, ◌↔◌, ℕ, length, IsTrue, MatchOption};
 ghost use Rattle.fc_position.specs.Position.{IsPosition};
+ghost use Rattle.fc_moves.specs.GameRules.{GameRules};
 ghost use Rattle.fc_moves.specs.Step.{Allows};
 ghost use Rattle.fc_canonical.specs.Key.{BeginsWithBoard};
 ghost use Rattle.fc_bound.specs.Kinds.{guide_of, low_of};
 ghost use Rattle.fc_tables.specs.Table.{Covered, Lists, ListsClass, as_boards};
 ghost use Rattle.fc_cert.specs.Content.{IsContent};
 ghost use Rattle.fc_checker.specs.Check.{Holds, level as level_of};
-ghost use Rattle.fc_checker.specs.inner.Steps.{SettledHolds, StepHolds};
+ghost use Rattle.fc_checker.specs.inner.Steps.{IsKnownNear, SettledHolds, StepHolds};
 
+use fc_bound::{GREATEST_BOUND, is_held_back};
 use fc_canonical::{distinct_moves, key, position_of};
 use fc_cards::Place;
 use fc_cert::{Certificate, Kind};
 use fc_home::settle;
 use fc_moves::{Game, Move, apply};
 use fc_position::Position;
+
+// A record whose steps are looked at, as far as that is known: its key, its cost, and what makes it near.
+#[derive(Clone, Copy)]
+pub(crate) struct Parent<'a> {
+    pub key: &'a [u8],
+    pub cost: u32,
+    pub near: Option<Near>,
+}
+
+// The level below which no list is to win, and the bound that a search goes by of a record's position, which leaves it below.
+#[derive(Clone, Copy)]
+pub(crate) struct Near {
+    pub level: u32,
+    pub guide: u8,
+}
 
 // The number of moves below which no list is to win, `None` where no list is to win at all.
 #[inline]
@@ -30,26 +47,28 @@ pub(crate) fn level(certificate: &Certificate) -> Option<u32>
     }
 }
 
-// Whether so many moves and the bound of the position to which they lead reach the level.
+// Whether so many moves and the bound of the position to which they lead reach the level. The bound itself, which may take
+// long to count, is asked last.
 pub(crate) fn is_far(certificate: &Certificate, level: u32, position: &Position, moves: u64) -> bool
     requires few { moves < 2 ^ 33 }
     ensures value { IsTrue result ↔ level ≤ moves + low_of certificate.now.head.bound position.now }
 {
-    u64::from(level) <= moves + u64::from(certificate.head().bound.low(position))
+    is_seen_far(certificate, level, position, moves)
+        || u64::from(level) <= moves + u64::from(certificate.head().bound.low(position))
 }
 
 // The same by the bound that a search goes by, which is counted quickly and nowhere greater: where that is enough, they do.
-pub(crate) fn is_seen_far(
-    certificate: &Certificate,
-    level: u32,
-    position: &Position,
-    moves: u64,
-) -> bool
+// It is counted no further than asked.
+fn is_seen_far(certificate: &Certificate, level: u32, position: &Position, moves: u64) -> bool
     requires few { moves < 2 ^ 33 }
     ensures seen { IsTrue result → level ≤ moves + low_of certificate.now.head.bound position.now }
     ensures value { IsTrue result ↔ level ≤ moves + guide_of certificate.now.head.bound position.now }
 {
-    u64::from(level) <= moves + u64::from(certificate.head().bound.guide(position))
+    let Some(most) = u64::from(level).checked_sub(moves + 1) else {
+        return true;
+    };
+    let most = most.min(u64::from(GREATEST_BOUND)) as u8;
+    most < certificate.head().bound.guide_within(position, most)
 }
 
 // The cost at which the position's class is listed, `None` where it isn't.
@@ -81,36 +100,43 @@ fn is_listed_within(certificate: &Certificate, position: &Position, moves: u64) 
     }
 }
 
-// Whether the position, to which so many moves lead, is covered below the level. The bound itself, which may take long to
-// count, is asked last.
-fn is_covered(certificate: &Certificate, level: u32, position: &Position, moves: u64) -> bool
+// Whether the position, to which so many moves lead, is covered below the level. Where it looks far, that is asked first.
+fn is_covered(
+    certificate: &Certificate,
+    level: u32,
+    position: &Position,
+    moves: u64,
+    looks_far: bool,
+) -> bool
     requires content { IsContent certificate.now }
     requires few { moves < 2 ^ 33 }
     ensures value { IsTrue result ↔ Covered (low_of certificate.now.head.bound) level (as_boards certificate.now.rows) position.now moves }
 {
-    is_seen_far(certificate, level, position, moves)
+    (looks_far && is_seen_far(certificate, level, position, moves))
         || is_listed_within(certificate, position, moves)
         || is_far(certificate, level, position, moves)
 }
 
 // Whether the position, to which so many moves lead, is covered, or where no list is to win, listed.
-fn holds(certificate: &Certificate, position: &Position, moves: u64) -> bool
+fn holds(certificate: &Certificate, position: &Position, moves: u64, looks_far: bool) -> bool
     requires content { IsContent certificate.now }
     requires few { moves < 2 ^ 33 }
     ensures value { IsTrue result ↔ Holds certificate.now (level_of certificate.now) position.now moves }
 {
     match level(certificate) {
-        Some(level) => is_covered(certificate, level, position, moves),
+        Some(level) => is_covered(certificate, level, position, moves, looks_far),
         None => is_listed(certificate, position),
     }
 }
 
-// Settles the position, to which so many moves lead: whether it holds then, and how many cards went home.
+// Settles the position, to which so many moves lead: whether it holds then, and how many cards went home. It may look far
+// before, which says no more than in what order that is asked.
 pub(crate) fn settled_holds<G: Game>(
     game: &G,
     certificate: &Certificate,
     position: &mut Position,
     moves: u64,
+    looks_far: bool,
 ) -> (bool, usize)
     requires content { IsContent certificate.now }
     requires whole { IsPosition position.old }
@@ -121,7 +147,43 @@ pub(crate) fn settled_holds<G: Game>(
 {
     let settling = settle(game, position, certificate.rule());
     let count = settling.len();
-    (holds(certificate, position, moves + count as u64), count)
+    let holds = holds(certificate, position, moves + count as u64, looks_far);
+    (holds, count)
+}
+
+// Whether where a step leads that takes no card home is far, by what is plain to see of its card: then so it is once settled,
+// since no move lowers the bound by more than one.
+fn is_step_far(certificate: &Certificate, position: &Position, parent: &Parent<'_>, m: Move) -> bool
+    requires near { IsKnownNear certificate.now position.now parent.now.near }
+    ensures far { (g : GameRules) → IsTrue result → StepHolds g certificate.now position.now parent.now.cost m }
+{
+    let Some(near) = parent.near else {
+        return false;
+    };
+    if m.to == Place::Home {
+        return false;
+    }
+    match certificate
+        .head()
+        .bound
+        .guide_after(position, m, near.guide)
+    {
+        Some(after) => u64::from(near.level) <= u64::from(parent.cost) + 1 + u64::from(after),
+        None => false,
+    }
+}
+
+// Whether where a step leads is far if its card adds nothing to the bound, there and where it lay: a guess, as most cards do
+// that stand above no lower card of their own suit.
+fn looks_far(position: &Position, parent: &Parent<'_>, m: Move) -> bool {
+    match parent.near {
+        Some(near) => {
+            m.to != Place::Home
+                && u64::from(near.level) <= u64::from(parent.cost) + 1 + u64::from(near.guide)
+                && !is_held_back(position, m.from)
+        }
+        None => false,
+    }
 }
 
 // Whether where the move leads holds, once settled. The position is made as it was: the card is moved back, or where cards
@@ -130,23 +192,28 @@ fn step_holds<G: Game>(
     game: &G,
     certificate: &Certificate,
     position: &mut Position,
-    key: &[u8],
-    cost: u32,
+    parent: &Parent<'_>,
     m: Move,
 ) -> bool
     requires content { IsContent certificate.now }
     requires whole { IsPosition position.old }
-    requires key { BeginsWithBoard key.now position.old }
+    requires key { BeginsWithBoard parent.now.key.now position.old }
+    requires near { IsKnownNear certificate.now position.old parent.now.near }
     requires allowed { Allows (G.game game.now) position.old m }
-    ensures value { IsTrue result ↔ StepHolds (G.game game.now) certificate.now position.old cost m }
+    ensures value { IsTrue result ↔ StepHolds (G.game game.now) certificate.now position.old parent.now.cost m }
     ensures same { position.new ≡ position.old }
 {
+    if is_step_far(certificate, position, parent, m) {
+        return true;
+    }
+    let looks_far = looks_far(position, parent, m);
     apply(game, position, m);
-    let (holds, sent) = settled_holds(game, certificate, position, u64::from(cost) + 1);
+    let moves = u64::from(parent.cost) + 1;
+    let (holds, sent) = settled_holds(game, certificate, position, moves, looks_far);
     if sent == 0 && m.to != Place::Home {
         position.shift(m.to, m.from);
     } else {
-        *position = position_of(key);
+        *position = position_of(parent.key);
     }
     holds
 }
@@ -156,17 +223,17 @@ pub(crate) fn steps_hold<G: Game>(
     game: &G,
     certificate: &Certificate,
     position: &mut Position,
-    key: &[u8],
-    cost: u32,
+    parent: &Parent<'_>,
 ) -> bool
     requires content { IsContent certificate.now }
     requires whole { IsPosition position.old }
-    requires key { BeginsWithBoard key.now position.old }
-    ensures value { IsTrue result ↔ ((m : Move) → StepHolds (G.game game.now) certificate.now position.old cost m) }
+    requires key { BeginsWithBoard parent.now.key.now position.old }
+    requires near { IsKnownNear certificate.now position.old parent.now.near }
+    ensures value { IsTrue result ↔ ((m : Move) → StepHolds (G.game game.now) certificate.now position.old parent.now.cost m) }
     ensures same { position.new ≡ position.old }
 {
     for m in distinct_moves(game, position).as_slice() {
-        if !step_holds(game, certificate, position, key, cost, *m) {
+        if !step_holds(game, certificate, position, parent, *m) {
             return false;
         }
     }

@@ -1,9 +1,10 @@
 -- What is asked of where moves lead, once settled, and what all that is asked proves.
-use Rattle.std.specs.Prelude.{◌≢◌, ℕ, ◌+◌, List, length}
+use Rattle.std.specs.Prelude.{◌≡◌, ◌≢◌, ℕ, ◌+◌, List, length, Option, Some, IfSome}
 use Rattle.fc_position.specs.Board.{Board}
 use Rattle.fc_moves.specs.declared.steps.Move.{Move}
 use Rattle.fc_moves.specs.GameRules.{GameRules}
 use Rattle.fc_moves.specs.Step.{Step}
+use Rattle.fc_bound.specs.Kinds.{guide_of}
 use Rattle.fc_home.specs.Settles.{Settles}
 use Rattle.fc_cert.specs.declared.claims.Claim.{Claim}
 use Rattle.fc_cert.specs.declared.claims.Claim.TheVariants as claim
@@ -12,6 +13,7 @@ use Rattle.fc_cert.specs.declared.contents.Kind.TheVariants.{Shortest, CannotWin
 use Rattle.fc_cert.specs.Content.{Content, IsSpelled}
 use Rattle.fc_checker.specs.declared.faults.CheckFault.{CheckFault}
 use Rattle.fc_checker.specs.declared.faults.CheckFault.TheVariants.{Memory}
+use Rattle.fc_checker.specs.declared.steps.Near.{Near}
 use Rattle.fc_checker.specs.Check.{Holds, level, HasContent, HasStart, IsCheckFault, IsOfGame, MovesHold, RecordsHold, StartHolds}
 
 -- where a board that d moves lead to settles to, it holds
@@ -21,6 +23,10 @@ SettledHolds g c y d = (z : Board) (k : ℕ) → Settles g c.head.rule y k z →
 -- where the move leads from a board that d moves lead to, it holds, once settled
 abbrev pub StepHolds : GameRules → Content → Board → ℕ → Move → Type 0
 StepHolds g c x d m = (y : Board) → Step g x m y → SettledHolds g c y (d + 1)
+
+-- what is known of a board that is near, if anything is: the level, and the bound that a search goes by
+abbrev pub IsKnownNear : Content → Board → Option Near → Type 0
+IsKnownNear c x known = IfSome known (λ near. (level c ≡ Some near.level) × (near.guide ≡ guide_of c.head.bound x))
 
 -- the fault is that of any bytes with this content, and no want of memory
 abbrev pub IsFaultOf : GameRules → Board → Content → CheckFault → Type 0

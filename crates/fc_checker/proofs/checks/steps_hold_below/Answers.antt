@@ -1,14 +1,17 @@
-use Rattle.std.proofs.Common.{◌+◌, ◌≤◌, ◌↔◌, ℕ, IsTrue, refl, subst}
-use Rattle.fc_bound.specs.Kinds.{low_of}
+use Rattle.std.proofs.Common.{◌≡◌, ◌+◌, ◌≤◌, ◌↔◌, ℕ, IsTrue, refl, ◌∙◌, ap, subst, arith}
+use Rattle.fc_bound.specs.Kinds.{guide_of, low_of}
+use Rattle.fc_bound.proofs.KindLemmas.{guides_under}
 use Rattle.fc_home.proofs.RuleLemmas.{refuted}
 use Rattle.fc_checker.proofs.StepLemmas.{far_steps, held_steps, near_steps, told_by}
 use Rattle.fc_checker.proofs.checks.steps_hold_below.Goals as goal
 
-pub returns-then-is_seen_far : goal.returns-then-is_seen_far
-returns-then-is_seen_far g c =
+pub returns-then-from : goal.returns-then-from
+returns-then-from g c =
     let content = c.args.certificate.now in
     let x = c.args.position.now in
-    let far = subst (λ (n : ℕ). c.args.level ≤ n + low_of content.head.bound x) c.from-moves.ensures (c.is_seen_far.ensures.seen c.if-is_seen_far.true) in
+    let guide : c.guide-guide.result ≡ guide_of content.head.bound x = c.guide-guide.ensures.value ∙ ap (λ h. guide_of h.bound x) c.head.ensures.value in
+    let under = guides_under content.head.bound x c.guide-guide.ensures.whole in
+    let far : c.args.level ≤ c.args.cost + low_of content.head.bound x = omega (arith, guide, under) in
     record {
       value = λ same. (
         λ true. far_steps (g.G.Game.game c.args.game.now) content x c.args.key.now c.args.cost c.args.level c.requires.level far same,
@@ -34,7 +37,7 @@ returns g c =
     let content = c.args.certificate.now in
     let x = c.args.position.now in
     let reach = subst (λ b. IsTrue c.is_far.result ↔ (c.args.level ≤ c.args.cost + low_of content.head.bound b)) c.steps_hold.ensures.same
-    (subst (λ (n : ℕ). IsTrue c.is_far.result ↔ (c.args.level ≤ n + low_of content.head.bound c.steps_hold.new.position)) c.from-moves.ensures
+    (subst (λ (n : ℕ). IsTrue c.is_far.result ↔ (c.args.level ≤ n + low_of content.head.bound c.steps_hold.new.position)) c.from-4.ensures
     c.is_far.ensures.value) in
     let stuck = refuted c.steps_hold.result c.steps_hold.ensures.value c.if-steps_hold.false in
     record {

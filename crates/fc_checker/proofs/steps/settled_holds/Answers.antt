@@ -11,9 +11,9 @@ returns g c =
     let next = c.settle-settling.new.position in
     let count = length c.settle-settling.result.items in
     let settles = subst (λ r. Settles rules r c.args.position.now count next) c.rule.ensures.value c.settle-settling.ensures.count in
-    let test = subst (λ (n : ℕ). IsTrue c.holds.result ↔ Holds content (level content) next (c.args.moves + n)) c.len-count.ensures.value c.holds.ensures.value in
+    let test = subst (λ (n : ℕ). IsTrue c.holds-holds.result ↔ Holds content (level content) next (c.args.moves + n)) c.len-count.ensures.value c.holds-holds.ensures.value in
     record {
-      value = settled_once rules content c.args.position.now next count c.args.moves c.holds.result c.requires.whole settles test;
+      value = settled_once rules content c.args.position.now next count c.args.moves c.holds-holds.result c.requires.whole settles test;
       still = λ none. stays rules c.rule.result c.args.position.now next c.settle-settling.result.items
           (sym c.len-count.ensures.value ∙ none) c.settle-settling.ensures.settled;
       whole = c.settle-settling.ensures.whole;

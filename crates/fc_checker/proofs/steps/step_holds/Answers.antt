@@ -18,8 +18,8 @@ returns-then-ne-clause-value g c =
     let rules = g.G.Game.game c.args.game.now in
     let content = c.args.certificate.now in
     let next = c.apply.new.position in
-    let test = subst (λ (n : ℕ). IsTrue c.settled_holds-holds.result.0 ↔ SettledHolds rules content next (n + 1)) c.from.ensures c.settled_holds-holds.ensures.value in
-    led_once rules content c.args.position.now next c.args.m c.args.cost c.settled_holds-holds.result.0 c.apply.ensures.step test
+    let test = subst (λ (n : ℕ). IsTrue c.settled_holds-holds.result.0 ↔ SettledHolds rules content next (n + 1)) c.from-moves.ensures c.settled_holds-holds.ensures.value in
+    led_once rules content c.args.position.now next c.args.m c.args.parent.now.cost c.settled_holds-holds.result.0 c.apply.ensures.step test
 
 pub returns-then-ne-clause-same : goal.returns-then-ne-clause-same
 returns-then-ne-clause-same g c =
@@ -34,5 +34,5 @@ returns-else-sent-eq0-clause-value g c =
     let rules = g.G.Game.game c.args.game.now in
     let content = c.args.certificate.now in
     let next = c.apply.new.position in
-    let test = subst (λ (n : ℕ). IsTrue c.settled_holds-holds.result.0 ↔ SettledHolds rules content next (n + 1)) c.from.ensures c.settled_holds-holds.ensures.value in
-    led_once rules content c.args.position.now next c.args.m c.args.cost c.settled_holds-holds.result.0 c.apply.ensures.step test
+    let test = subst (λ (n : ℕ). IsTrue c.settled_holds-holds.result.0 ↔ SettledHolds rules content next (n + 1)) c.from-moves.ensures c.settled_holds-holds.ensures.value in
+    led_once rules content c.args.position.now next c.args.m c.args.parent.now.cost c.settled_holds-holds.result.0 c.apply.ensures.step test

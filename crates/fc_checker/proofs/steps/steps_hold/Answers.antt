@@ -26,7 +26,7 @@ pub returns-then-not-step_holds-clause-value : goal.returns-then-not-step_holds-
 returns-then-not-step_holds-clause-value g c =
     let d : Move = record { from = Column 0; to = Column 0 } in
     let m = get_or c.as_slice-m-items.result.now c.loop-m.m-index d in
-    let test = subst (λ x. IsTrue c.step_holds.result ↔ StepHolds (g.G.Game.game c.args.game.now) c.args.certificate.now x c.args.cost m)
+    let test = subst (λ x. IsTrue c.step_holds.result ↔ StepHolds (g.G.Game.game c.args.game.now) c.args.certificate.now x c.args.parent.now.cost m)
     c.loop-m.invariant.same c.step_holds.ensures.value in
     let wrong = refuted c.step_holds.result test c.if-not-step_holds.true in
     (λ yes. absurd (false≢true yes), λ all. absurd (wrong (all m)))
@@ -38,12 +38,12 @@ pub loop-m-preserved : goal.loop-m-preserved
 loop-m-preserved g c =
     let d : Move = record { from = Column 0; to = Column 0 } in
     let m = get_or c.as_slice-m-items.result.now c.loop-m.m-index d in
-    let test = subst (λ x. IsTrue c.step_holds.result ↔ StepHolds (g.G.Game.game c.args.game.now) c.args.certificate.now x c.args.cost m)
+    let test = subst (λ x. IsTrue c.step_holds.result ↔ StepHolds (g.G.Game.game c.args.game.now) c.args.certificate.now x c.args.parent.now.cost m)
     c.loop-m.invariant.same c.step_holds.ensures.value in
     record {
       same = c.step_holds.ensures.same ∙ c.loop-m.invariant.same;
       held = one_more c.as_slice-m-items.result.now c.loop-m.m-index d
-          (StepHolds (g.G.Game.game c.args.game.now) c.args.certificate.now c.args.position.now c.args.cost) c.loop-m-test.true
+          (StepHolds (g.G.Game.game c.args.game.now) c.args.certificate.now c.args.position.now c.args.parent.now.cost) c.loop-m-test.true
           c.loop-m.invariant.held (test.0 c.if-not-step_holds.false);
     }
 
@@ -52,10 +52,10 @@ returns-clause-value g c =
     let rules = g.G.Game.game c.args.game.now in
     let moves = c.distinct_moves.result.items in
     let items = c.as_slice-m-items.result.now in (
-      λ true. one_each rules c.args.certificate.now c.args.position.now c.args.cost moves c.distinct_moves.ensures.classes
+      λ true. one_each rules c.args.certificate.now c.args.position.now c.args.parent.now.cost moves c.distinct_moves.ensures.classes
           (λ m there.
           let at = subst (λ l. Contains l m) (sym c.as_slice-m-items.ensures.value) there in
-          subst (StepHolds rules c.args.certificate.now c.args.position.now c.args.cost) at.2
+          subst (StepHolds rules c.args.certificate.now c.args.position.now c.args.parent.now.cost) at.2
           (c.loop-m.invariant.held at.0 m (omega (arith, at.1, c.loop-m-test.false)))),
       λ all. refl,
     )
@@ -64,4 +64,4 @@ pub step_holds-requires-clause-whole : goal.step_holds-requires-clause-whole
 step_holds-requires-clause-whole g c = subst IsPosition (sym c.loop-m.invariant.same) c.requires.whole
 
 pub step_holds-requires-clause-key : goal.step_holds-requires-clause-key
-step_holds-requires-clause-key g c = subst (BeginsWithBoard c.args.key.now) (sym c.loop-m.invariant.same) c.requires.key
+step_holds-requires-clause-key g c = subst (BeginsWithBoard c.args.parent.now.key.now) (sym c.loop-m.invariant.same) c.requires.key

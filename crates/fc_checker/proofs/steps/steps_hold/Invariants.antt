@@ -7,5 +7,5 @@ use Rattle.fc_checker.proofs.steps.steps_hold.Given as goal
 abbrev pub invariant-loop-m : goal.invariant-loop-m
 invariant-loop-m g l = record {
   same : l.position ≡ l.fn.position;
-  held : (k : ℕ) (d : Move) → k < l.m-index → StepHolds (g.G.Game.game l.game) l.certificate l.fn.position l.cost (get_or l.m-items k d);
+  held : (k : ℕ) (d : Move) → k < l.m-index → StepHolds (g.G.Game.game l.game) l.certificate l.fn.position l.parent.cost (get_or l.m-items k d);
 }
