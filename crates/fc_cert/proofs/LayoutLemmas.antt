@@ -4,7 +4,7 @@ use Rattle.std.specs.Prelude.{All, slice_range}
 use Rattle.std.specs.Int.{w32, from_be_bytes}
 use Rattle.std.specs.List.{flat_map}
 use Rattle.std.proofs.lemmas.Bool.Decides.{nat_tests}
-use Rattle.std.proofs.lemmas.List.{get_or_default, length-append, take_at, drop_at}
+use Rattle.std.proofs.lemmas.List.{length-append, take_at, drop_at}
 use Rattle.std.proofs.lemmas.List.Elements.{All-head, All-tail}
 use Rattle.std.proofs.lemmas.Nat.{from_be_bytes-to_be_bytes_4}
 use Rattle.fc_cards.specs.declared.places.Place.{Place}
@@ -185,15 +185,12 @@ module _ (c : Content) (t r e : List ℕ) (parts : AreParts c t r e) where
   has_text i d lt = listed_has_text c.head.kind c.moves parts.content.moves i d lt
 
   -- the record with a number stands where its places say, and its cost is small
-  pub record_at_places : (i : ℕ) (to : ℕ) (d : List ℕ × ℕ) → i < length c.rows → to ≡ get_or e i to
-      → LiesBetween r (start_of 0 e i) to (record_bytes (get_or c.rows i d))
-  record_at_places i to d lt there =
-      let ends = sym parts.ends in
-      let last : get_or e i 0 ≡ to = sym (there ∙ get_or_default e i to 0 (omega (arith, lt, places_many))) in
-      subst (λ k. LiesBetween r (start_of 0 e i) k (record_bytes (get_or c.rows i d))) last
-      (subst (λ l. LiesBetween r (start_of 0 l i) (get_or l i 0) (record_bytes (get_or c.rows i d))) ends
+  pub record_at_places : (i : ℕ) (d : List ℕ × ℕ) → i < length c.rows
+      → LiesBetween r (start_of 0 e i) (get_or e i 0) (record_bytes (get_or c.rows i d))
+  record_at_places i d lt =
+      subst (λ l. LiesBetween r (start_of 0 l i) (get_or l i 0) (record_bytes (get_or c.rows i d))) (sym parts.ends)
       (subst (λ l. LiesBetween l (start_of 0 (ends_from 0 c.rows) i) (get_or (ends_from 0 c.rows) i 0) (record_bytes (get_or c.rows i d)))
-      (sym parts.records) (record_there [] c.rows i d lt)))
+      (sym parts.records) (record_there [] c.rows i d lt))
 
   pub cost_at : (i : ℕ) (d : List ℕ × ℕ) → i < length c.rows → (get_or c.rows i d).1 < 2 ^ 32
   cost_at i d lt = cost_small c.head.kind (get_or c.rows i d).1 (parts.content.rows i d lt).cost

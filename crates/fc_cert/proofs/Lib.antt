@@ -1,4 +1,5 @@
 pub mod CertifiedLemmas
+pub mod ChainLemmas
 pub mod CompareLemmas
 pub mod FieldLemmas
 pub mod FindLemmas

@@ -1,44 +1,50 @@
 //! Certificates that were read.
 
-ghost use Rattle.std.specs.Prelude.{◌≡◌, ◌+◌, ◌<◌, ◌≤◌, ◌^◌, ◌↔◌, ℕ, List, [], ◌++◌, Some, length, slice_get, Contains, IsTrue, IfOk, IfErr, OnErr, MatchOption};
+ghost use Rattle.std.specs.Prelude.{◌≡◌, ◌<◌, ◌≤◌, ◌^◌, ◌↔◌, ℕ, List, [], ◌++◌, Some, length, slice_get, Contains, IsTrue, IfOk, IfErr, OnErr, MatchOption};
 ghost use Rattle.fc_cert.specs.Content.{Content, IsContent, IsRecord, IsSpelled, kind_byte, record_bytes};
-ghost use Rattle.fc_cert.specs.inner.Layout.{AreRecords, start_of, ends_from};
+ghost use Rattle.fc_cert.specs.inner.Chains.{IsLast, place_of, places_of};
+ghost use Rattle.fc_cert.specs.inner.Layout.{AreRecords, ends_from};
 ghost use Rattle.fc_cert.specs.Reading.{IsFormFault, IsReadFault};
 
+use crate::chains::{links_of, place_of};
 use crate::comparisons::compare;
 use crate::contents::Head;
 use crate::faults::CertFault;
 use crate::fields::split_number;
+use crate::layouts::record_in;
 use crate::readers::check_form;
 use fc_canonical::key_size;
 use fc_home::GREATEST_RULE;
 use fc_moves::{Move, read_move};
 use std::alloc::{AllocError, Global};
-use std::cmp::Ordering;
 use std::marker::Model;
 
 /// The most bytes that a certificate may have: 1 GiB.
 pub const LONGEST_CERTIFICATE: usize = 1_073_741_824;
 
-/// A certificate, over the bytes that it was read from. No record is copied: only where each ends is kept.
+/// A certificate, over the bytes that it was read from. No record is copied: only where each ends is kept, and links by which
+/// its key is found.
 #[derive(Drop)]
 pub struct Certificate<'a> {
     head: Head,
     texts: &'a [u8],
     records: &'a [u8],
     ends: Vec<u32>,
+    links: Vec<u32>,
 }
 
 impl<'a> Model for Certificate<'a> {
     ghost use Rattle.fc_cert.specs.Content.{Content};
     ghost use Rattle.fc_cert.specs.Layout.{content_of};
+    ghost use Rattle.fc_cert.specs.inner.Chains.{IsChained};
     ghost use Rattle.fc_cert.specs.inner.Layout.{AreParts};
 
     ghost Value = { Content };
 
     ghost view = { λ s. content_of s.head s.texts.now s.records.now s.ends.items };
 
-    ghost invariant = { λ s. AreParts (content_of s.head s.texts.now s.records.now s.ends.items) s.texts.now s.records.now s.ends.items };
+    ghost invariant = { λ s. AreParts (content_of s.head s.texts.now s.records.now s.ends.items) s.texts.now s.records.now s.ends.items
+        × IsChained (content_of s.head s.texts.now s.records.now s.ends.items).rows s.links.items };
 }
 
 impl<'a> Certificate<'a> {
@@ -46,7 +52,7 @@ impl<'a> Certificate<'a> {
     ///
     /// # Errors
     /// The first fault of the form, field by field; `Memory` only once the whole form was checked, where some class is listed
-    /// and the one growth was refused.
+    /// and one of the two growths was refused.
     pub fn read(alloc: Global, bytes: &'a [u8]) -> Result<Self, CertFault>
         requires limit { length bytes.now ≤ LONGEST_CERTIFICATE }
         ensures read { IfOk result (IsSpelled bytes.now) }
@@ -56,11 +62,15 @@ impl<'a> Certificate<'a> {
         let Ok(ends) = ends_of(alloc, parts.head, parts.records, parts.count) else {
             return Err(CertFault::Memory);
         };
+        let Ok(links) = links_of(alloc, parts.records, ends.as_slice()) else {
+            return Err(CertFault::Memory);
+        };
         Ok(Certificate {
             head: parts.head,
             texts: parts.texts,
             records: parts.records,
             ends,
+            links,
         })
     }
 
@@ -149,27 +159,44 @@ impl<'a> Certificate<'a> {
         requires within { i < length self.now.rows }
         ensures value { (row : List ℕ × ℕ) × (slice_get self.now.rows i ≡ Some row) × (result.now ≡ record_bytes row) × (row.1 < 2 ^ 32) }
     {
-        let from = start_of(self.ends.as_slice(), i);
-        &self.records[from..self.ends[i] as usize]
+        record_in(self.records, self.ends.as_slice(), i)
     }
 
-    /// The cost that is listed for a key, sought by halves; `None` where none is.
+    /// The cost that is listed for a key; `None` where none is. Only keys of its place are looked at.
     pub fn find(&self, key: &[u8]) -> Option<u32>
         ensures value { MatchOption result ((cost : ℕ) → Contains self.now.rows (key.now, cost) → ⊥)
             (λ cost. Contains self.now.rows (key.now, cost)) }
     {
-        let mut low = 0;
-        let mut high = self.len();
-        while low < high {
-            let middle = low + (high - low) / 2;
-            let (other, cost) = self.record_at(middle);
-            match compare(key, other) {
-                Ordering::Less => high = middle,
-                Ordering::Equal => return Some(cost),
-                Ordering::Greater => low = middle + 1,
+        let mut link = self.last_of(key);
+        while let Some(i) = link.checked_sub(1) {
+            let (other, cost) = self.record_at(i);
+            if compare(key, other).is_eq() {
+                return Some(cost);
             }
+            link = self.link_at(i);
         }
         None
+    }
+
+    // The link to the last record with the place of the key.
+    #[inline]
+    fn last_of(&self, key: &[u8]) -> u32
+        ensures last { IsLast (places_of self.now.rows) (place_of (length self.now.rows) key.now) (length self.now.rows) result }
+    {
+        let count = self.len() as usize;
+        if count == 0 {
+            return 0;
+        }
+        self.links[count + place_of(key, count)]
+    }
+
+    // The link to the last record before this one with its place.
+    #[inline]
+    fn link_at(&self, i: u32) -> u32
+        requires within { i < length self.now.rows }
+        ensures last { IsLast (places_of self.now.rows) (places_of self.now.rows i) i result }
+    {
+        self.links[i as usize]
     }
 }
 
@@ -181,17 +208,6 @@ pub fn form_fault(bytes: &[u8]) -> Option<CertFault>
     match check_form(bytes) {
         Ok(_) => None,
         Err(fault) => Some(fault),
-    }
-}
-
-// Where the record with this number begins, by where the records end.
-fn start_of(ends: &[u32], i: usize) -> usize
-    requires within { i ≤ length ends.now }
-    ensures value { result ≡ start_of 0 ends.now i }
-{
-    match i.checked_sub(1) {
-        Some(before) => ends[before] as usize,
-        None => 0,
     }
 }
 

@@ -9,6 +9,7 @@ pub use faults::CertFault;
 pub use writers::write_answer;
 
 mod certificates;
+mod chains;
 mod claims;
 mod comparisons;
 mod contents;
@@ -16,5 +17,6 @@ mod faults;
 mod fields;
 mod heads;
 pub mod laws;
+mod layouts;
 mod readers;
 mod writers;

@@ -1,42 +1,23 @@
-use Rattle.std.proofs.Common.{◌+◌, ◌-◌, ◌/◌, sym, ◌∙◌, arith}
-use Rattle.fc_cert.proofs.FindLemmas.{above_more, below_more, key_found, none_found}
+use Rattle.std.proofs.Common.{◌≡◌, ◌+◌, ◌-◌, ◌≤◌, sym, ◌∙◌, ap, arith}
+use Rattle.std.specs.Ordering.{is_eq}
+use Rattle.fc_cert.proofs.ChainLemmas.{sought_in_vain, sought_next}
+use Rattle.fc_cert.proofs.FindLemmas.{key_differs, key_found}
 use Rattle.fc_cert.proofs.certificates.Certificate.find.Goals as goal
 
-pub loop-low-preserved-in-Less : goal.loop-low-preserved-in-Less
-loop-low-preserved-in-Less c =
-    let lt = c.loop-low-test.true in
-    let within = c.loop-low.invariant.within in
-    let middle = c.loop-low.low + (c.loop-low.high - c.loop-low.low) / 2 in
-    let record_there = c.record_at-cost.result in record {
-      order = omega arith;
-      within = omega (arith, lt, within);
-      below = c.loop-low.invariant.below;
-      above = above_more c.args.self.now.rows c.len-high.ensures.content.rising c.args.key.now middle
-          (record_there.0.now, record_there.1) c.record_at-cost.ensures.value (sym c.compare.ensures.value ∙ c.in-Less.is);
-    }
+pub returns-then-is_eq : goal.returns-then-is_eq
+returns-then-is_eq c = record {
+  value = key_found c.args.self.now.rows c.args.key.now c.in-Some.i c.record_at-cost.result.0.now c.record_at-cost.result.1
+      c.record_at-cost.ensures.value (ap is_eq (sym c.compare.ensures.value) ∙ sym c.is_eq.ensures ∙ c.if-is_eq.true);
+}
 
-pub loop-low-preserved : goal.loop-low-preserved
-loop-low-preserved c =
-    let lt = c.loop-low-test.true in
-    let middle = c.loop-low.low + (c.loop-low.high - c.loop-low.low) / 2 in
-    let record_there = c.record_at-cost.result in record {
-      order = omega (arith, lt);
-      within = c.loop-low.invariant.within;
-      below = below_more c.args.self.now.rows c.len-high.ensures.content.rising c.args.key.now middle
-          (record_there.0.now, record_there.1) c.record_at-cost.ensures.value (sym c.compare.ensures.value ∙ c.in-Greater.is);
-      above = c.loop-low.invariant.above;
-    }
-
-pub returns-in-Equal : goal.returns-in-Equal
-returns-in-Equal c =
-    let middle = c.loop-low.low + (c.loop-low.high - c.loop-low.low) / 2 in
-    let record_there = c.record_at-cost.result in record {
-      value = key_found c.args.self.now.rows c.len-high.ensures.content.rising c.args.key.now middle record_there.0.now record_there.1
-          c.record_at-cost.ensures.value (sym c.compare.ensures.value ∙ c.in-Equal.is);
-    }
+pub loop-i-preserved : goal.loop-i-preserved
+loop-i-preserved c =
+    sought_next c.args.self.now.rows c.args.key.now c.loop-i.link c.in-Some.i c.link_at-link.result c.record_at-cost.result.1
+    c.record_at-cost.result.0.now c.loop-i.invariant (omega (arith, c.in-Some.ensures)) c.record_at-cost.ensures.value
+    (key_differs c.args.key.now c.record_at-cost.result.0.now (ap is_eq (sym c.compare.ensures.value) ∙ sym c.is_eq.ensures ∙ c.if-is_eq.false))
+    c.link_at-link.ensures.last
 
 pub returns : goal.returns
 returns c = record {
-  value = none_found c.args.self.now.rows c.len-high.ensures.content.rising c.args.key.now c.loop-low.low c.loop-low.high
-      c.loop-low-test.false c.loop-low.invariant.below c.loop-low.invariant.above;
+  value = sought_in_vain c.args.self.now.rows c.args.key.now c.loop-i.link c.loop-i.invariant (omega (arith, c.in_default.ensures));
 }

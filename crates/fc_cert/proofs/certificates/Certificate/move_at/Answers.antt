@@ -14,7 +14,7 @@ pub slice_bounds-read_move-end : goal.slice_bounds-read_move-end
 slice_bounds-read_move-end c =
     let s = c.self.inside in
     let content = content_of s.head s.texts.now s.records.now s.ends.items in
-    let long = bytes_many content s.texts.now s.records.now s.ends.items c.self.invariant in
+    let long = bytes_many content s.texts.now s.records.now s.ends.items c.self.invariant.0 in
     let within = subst (λ v. c.args.i < length v.moves) (sym c.self.view_is) c.requires.within in
     let le : c.args.i * 2 + 2 ≤ length s.texts.now = omega (arith, long, within) in
     le
@@ -28,9 +28,9 @@ unwrap-requires c =
     let d : Move = record { from = Home; to = Home } in
     let two : i * 2 + 2 - i * 2 ≡ 2 = omega arith in
     let text = ap (λ k. take k (drop (i * 2) s.texts.now)) two
-    ∙ text_at content s.texts.now s.records.now s.ends.items c.self.invariant i d within in
+    ∙ text_at content s.texts.now s.records.now s.ends.items c.self.invariant.0 i d within in
     surely c.read_move.result _ c.read_move.ensures.refused
-    (λ none. none (get_or content.moves i d) (has_text content s.texts.now s.records.now s.ends.items c.self.invariant i d within) text)
+    (λ none. none (get_or content.moves i d) (has_text content s.texts.now s.records.now s.ends.items c.self.invariant.0 i d within) text)
 
 pub returns : goal.returns
 returns c =
@@ -42,10 +42,10 @@ returns c =
     let two : i * 2 + 2 - i * 2 ≡ 2 = omega arith in
     let here = take (i * 2 + 2 - i * 2) (drop (i * 2) s.texts.now) in
     let text = ap (λ k. take k (drop (i * 2) s.texts.now)) two
-    ∙ text_at content s.texts.now s.records.now s.ends.items c.self.invariant i d within in
+    ∙ text_at content s.texts.now s.records.now s.ends.items c.self.invariant.0 i d within in
     let read = subst (λ o. IfSome o (λ m. HasText m × (here ≡ move_text m))) c.unwrap.ensures c.read_move.ensures.read in
     let same = move_once here (get_or content.moves i d) c.unwrap.result
-    (text, has_text content s.texts.now s.records.now s.ends.items c.self.invariant i d within) (read.1, read.0) in record {
+    (text, has_text content s.texts.now s.records.now s.ends.items c.self.invariant.0 i d within) (read.1, read.0) in record {
       value = subst (λ v. slice_get v.moves i ≡ Some c.unwrap.result) c.self.view_is
           (slice_get-get_or content.moves i d within ∙ ap (λ m. Some m) same);
     }

@@ -1,9 +1,9 @@
-use Rattle.std.proofs.Common.{◌<◌, sym, subst}
+use Rattle.std.proofs.Common.{◌<◌, length, sym, ap, subst, arith}
 use Rattle.fc_cert.specs.Content.{IsSpelled}
 use Rattle.fc_cert.specs.Layout.{content_of}
 use Rattle.fc_cert.specs.inner.Layout.{AreParts}
 use Rattle.fc_cert.proofs.LawLemmas.{read_spelled}
-use Rattle.fc_cert.proofs.LayoutLemmas.{content_back, parts_back}
+use Rattle.fc_cert.proofs.LayoutLemmas.{content_back, parts_back, places_many}
 use Rattle.fc_cert.proofs.PartsLemmas.{form_fault, parts_of, records_of, records_short}
 use Rattle.fc_cert.proofs.FieldLemmas.{passed_on}
 use Rattle.fc_cert.specs.Reading.{IsReadFault}
@@ -32,6 +32,27 @@ returns-in_default-clause-fault c =
     let (content, read, has) = c.in_ok-parts.ensures.read in
     (content, read_spelled c.args.bytes.now content read, subst (λ n. 0 < n) has.count c.in_default.ensures.asked)
 
+pub links_of-requires : goal.links_of-requires
+links_of-requires c =
+    let (content, read, has) = c.in_ok-parts.ensures.read in
+    let p = c.in_ok-parts.parts in
+    let spelled = read_spelled c.args.bytes.now content read in
+    let ends = c.in-Ok.ensures.value content.rows (records_of content c.args.bytes.now p.head p.texts.now p.records.now p.count spelled has) in
+    let parts = parts_of content c.args.bytes.now p.head p.texts.now p.records.now p.count spelled has c.in-Ok.ends.items ends in record {
+      parts = (content, p.texts.now, subst (AreParts content p.texts.now p.records.now) (sym c.as_slice.ensures.value) parts);
+    }
+
+pub returns-in_default-links_of-clause-fault : goal.returns-in_default-links_of-clause-fault
+returns-in_default-links_of-clause-fault c =
+    let (content, read, has) = c.in_ok-parts.ensures.read in
+    let p = c.in_ok-parts.parts in
+    let spelled = read_spelled c.args.bytes.now content read in
+    let ends = c.in-Ok.ensures.value content.rows (records_of content c.args.bytes.now p.head p.texts.now p.records.now p.count spelled has) in
+    let parts = parts_of content c.args.bytes.now p.head p.texts.now p.records.now p.count spelled has c.in-Ok.ends.items ends in
+    let many = places_many content p.texts.now p.records.now c.in-Ok.ends.items parts in
+    let long = ap length c.as_slice.ensures.value in
+    (content, spelled, omega (arith, c.in_default-links_of.ensures.asked, many, long))
+
 pub invariant_of-result : goal.invariant_of-result
 invariant_of-result c =
     let (content, read, has) = c.in_ok-parts.ensures.read in
@@ -39,8 +60,12 @@ invariant_of-result c =
     let spelled = read_spelled c.args.bytes.now content read in
     let ends = c.in-Ok.ensures.value content.rows (records_of content c.args.bytes.now p.head p.texts.now p.records.now p.count spelled has) in
     let parts = parts_of content c.args.bytes.now p.head p.texts.now p.records.now p.count spelled has c.in-Ok.ends.items ends in
-    subst (λ h. AreParts (content_of h p.texts.now p.records.now c.in-Ok.ends.items) p.texts.now p.records.now c.in-Ok.ends.items)
-    (sym has.head) (parts_back content p.texts.now p.records.now c.in-Ok.ends.items parts)
+    let laid = subst (λ h. AreParts (content_of h p.texts.now p.records.now c.in-Ok.ends.items) p.texts.now p.records.now c.in-Ok.ends.items)
+    (sym has.head) (parts_back content p.texts.now p.records.now c.in-Ok.ends.items parts) in
+    let whole = content_of p.head p.texts.now p.records.now c.in-Ok.ends.items in (
+      laid,
+      c.in-Ok-links_of.ensures.value whole p.texts.now (subst (AreParts whole p.texts.now p.records.now) (sym c.as_slice.ensures.value) laid),
+    )
 
 pub returns-clause-read : goal.returns-clause-read
 returns-clause-read c =
