@@ -1,4 +1,4 @@
-//! Measures reading a certificate, and finding its keys by halves.
+//! Measures reading a certificate, and finding its keys.
 
 ghost use Rattle.std.specs.Prelude.{◌≤◌, length};
 

@@ -14,11 +14,7 @@ use std::hash::{FoldHasher, Hasher};
 pub(crate) const WINDOW: usize = 64;
 
 // Chains the records that end at these places: first a link for each record, then one for each place.
-pub(crate) fn links_of(
-    alloc: Global,
-    records: &[u8],
-    ends: &[u32],
-) -> Result<Vec<u32>, AllocError>
+pub(crate) fn links_of(alloc: Global, records: &[u8], ends: &[u32]) -> Result<Vec<u32>, AllocError>
     requires parts { (c : Content) × (t : List ℕ) × AreParts c t records.now ends.now }
     ensures value { IfOk result (λ links. (c : Content) (t : List ℕ) → AreParts c t records.now ends.now → IsChained c.rows links.items) }
     ensures asked { OnErr result (0 < length ends.now) }

@@ -26,7 +26,7 @@ use std::alloc::Global;
 ///
 /// # Errors
 /// The first thing that is asked of a certificate and doesn't hold; `Memory` only for bytes that have the form of one and
-/// list some class, where the one growth of memory was refused.
+/// list some class, where one of the two growths of memory was refused.
 pub fn check<G: Game>(
     alloc: Global,
     game: &G,

@@ -1,9 +1,11 @@
 //! What is asked of a position that moves lead to, and of where its own steps lead.
 
-ghost use Rattle.std.specs.Prelude.{◌≡◌, ◌+◌, ◌<◌, ◌≤◌, ◌^◌, ◌↔◌, ℕ, length, IsTrue, MatchOption};
+ghost use Rattle.std.specs.Prelude.{◌≡◌, ◌≢◌, ◌+◌, ◌<◌, ◌≤◌, ◌^◌, ◌↔◌, ℕ, length, IsTrue, IfSome, MatchOption};
+ghost use Rattle.fc_cards.specs.declared.places.Place.TheVariants.{Home};
+ghost use Rattle.fc_position.specs.Board.{Board};
 ghost use Rattle.fc_position.specs.Position.{IsPosition};
 ghost use Rattle.fc_moves.specs.GameRules.{GameRules};
-ghost use Rattle.fc_moves.specs.Step.{Allows};
+ghost use Rattle.fc_moves.specs.Step.{Allows, Step};
 ghost use Rattle.fc_canonical.specs.Key.{BeginsWithBoard};
 ghost use Rattle.fc_bound.specs.Kinds.{guide_of, low_of};
 ghost use Rattle.fc_tables.specs.Table.{Covered, Lists, ListsClass, as_boards};
@@ -11,8 +13,9 @@ ghost use Rattle.fc_cert.specs.Content.{IsContent};
 ghost use Rattle.fc_checker.specs.Check.{Holds, level as level_of};
 ghost use Rattle.fc_checker.specs.inner.Steps.{IsKnownNear, SettledHolds, StepHolds};
 
-use fc_bound::{GREATEST_BOUND, is_held_back};
-use fc_canonical::{distinct_moves, key, position_of};
+use arrayvec::ArrayVec;
+use fc_bound::{BoundKind, GREATEST_BOUND, is_held_back};
+use fc_canonical::{key, list_distinct_moves, position_of};
 use fc_cards::Place;
 use fc_cert::{Certificate, Kind};
 use fc_home::settle;
@@ -151,8 +154,22 @@ pub(crate) fn settled_holds<G: Game>(
     (holds, count)
 }
 
-// Whether where a step leads that takes no card home is far, by what is plain to see of its card: then so it is once settled,
-// since no move lowers the bound by more than one.
+// What the bound of where a step leads that takes no card home is no less than, where that is plain to see of its card, by the
+// bound that a search goes by of the position: a card in a cell holds nothing back, so without it no less is to be cleared.
+fn plain_after(kind: BoundKind, position: &Position, m: Move, guide: u8) -> Option<u8>
+    requires guide { guide ≡ guide_of kind position.now }
+    ensures lower { IfSome result (λ after. (g : GameRules) (y : Board) → Step g position.now m y → m.to ≢ Home → after ≤ low_of kind y) }
+    ensures whole { IsPosition position.now }
+{
+    let told = kind.guide_after(position, m, guide);
+    match (told, kind, m.from) {
+        (None, BoundKind::Clearing, Place::Cell(_)) => Some(guide),
+        _ => told,
+    }
+}
+
+// Whether where a step leads that takes no card home is plain to see to be far: then so it is once settled, since no move lowers
+// the bound by more than one.
 fn is_step_far(certificate: &Certificate, position: &Position, parent: &Parent<'_>, m: Move) -> bool
     requires near { IsKnownNear certificate.now position.now parent.now.near }
     ensures far { (g : GameRules) → IsTrue result → StepHolds g certificate.now position.now parent.now.cost m }
@@ -163,11 +180,7 @@ fn is_step_far(certificate: &Certificate, position: &Position, parent: &Parent<'
     if m.to == Place::Home {
         return false;
     }
-    match certificate
-        .head()
-        .bound
-        .guide_after(position, m, near.guide)
-    {
+    match plain_after(certificate.head().bound, position, m, near.guide) {
         Some(after) => u64::from(near.level) <= u64::from(parent.cost) + 1 + u64::from(after),
         None => false,
     }
@@ -232,7 +245,9 @@ pub(crate) fn steps_hold<G: Game>(
     ensures value { IsTrue result ↔ ((m : Move) → StepHolds (G.game game.now) certificate.now position.old parent.now.cost m) }
     ensures same { position.new ≡ position.old }
 {
-    for m in distinct_moves(game, position).as_slice() {
+    let mut moves = ArrayVec::new();
+    list_distinct_moves(game, position, &mut moves);
+    for m in moves.as_slice() {
         if !step_holds(game, certificate, position, parent, *m) {
             return false;
         }

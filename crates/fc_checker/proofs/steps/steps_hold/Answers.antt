@@ -18,7 +18,7 @@ step_holds-requires-clause-allowed g c =
     let items = c.as_slice-m-items.result.now in
     let d : Move = record { from = Column 0; to = Column 0 } in
     subst (λ x. Allows (g.G.Game.game c.args.game.now) x (get_or items c.loop-m.m-index d)) (sym c.loop-m.invariant.same)
-    (c.distinct_moves.ensures.classes.allowed (get_or items c.loop-m.m-index d)
+    (c.list_distinct_moves.ensures.classes.allowed (get_or items c.loop-m.m-index d)
     (subst (λ l. Contains l (get_or items c.loop-m.m-index d)) c.as_slice-m-items.ensures.value
     (Contains-get_or items c.loop-m.m-index d c.loop-m-test.true)))
 
@@ -50,9 +50,9 @@ loop-m-preserved g c =
 pub returns-clause-value : goal.returns-clause-value
 returns-clause-value g c =
     let rules = g.G.Game.game c.args.game.now in
-    let moves = c.distinct_moves.result.items in
+    let moves = c.list_distinct_moves.new.list.items in
     let items = c.as_slice-m-items.result.now in (
-      λ true. one_each rules c.args.certificate.now c.args.position.now c.args.parent.now.cost moves c.distinct_moves.ensures.classes
+      λ true. one_each rules c.args.certificate.now c.args.position.now c.args.parent.now.cost moves c.list_distinct_moves.ensures.classes
           (λ m there.
           let at = subst (λ l. Contains l m) (sym c.as_slice-m-items.ensures.value) there in
           subst (StepHolds rules c.args.certificate.now c.args.position.now c.args.parent.now.cost) at.2
