@@ -5,7 +5,7 @@
 pub use alone::{is_number, is_subcommand, mean_board};
 pub use bounds::{bound_name, bound_of_name};
 pub use commands::{
-    BatchSearch, BatchWords, BestSearchWords, BestWords, BoardWord, BoardWords, CheckWords,
+    BatchBoards, BatchForm, BatchSearch, BatchWords, BestSearchWords, BestWords, BoardWord, BoardWords, CheckWords,
     Command, DealWords, GameWords, MovesWord, ReplayWords, SearchWords, ShowWords, SolveWords,
 };
 pub use expansions::{expansion_name, expansion_of_name, usual_expansion};

@@ -5,17 +5,18 @@ ghost use Rattle.fc_words.specs.Sound.{HasOneInput};
 ghost use Rattle.fc_words.specs.declared.options.TheConstants.{MOST_CELLS};
 
 use crate::commands::{
-    BatchSearch, BatchWords, BestWords, BoardWord, CheckWords, DealWords, MovesWord, ReplayWords,
+    BatchBoards, BatchForm, BatchSearch, BatchWords, BestWords, BoardWord, CheckWords, DealWords, MovesWord, ReplayWords,
     ShowWords, SolveWords,
 };
 use crate::faults::WordsFault;
 use crate::options::{
-    BOARDS, BOUND, BUDGET, CELLS, COLOR, DEAL, EXPAND, GAME, IN_SEQUENCES, KINGS, Kind, MOVES,
+    BOARDS, BOUND, BUDGET, CELLS, COLOR, DEAL, EXPAND, GAME, IN_JSON, IN_SEQUENCES, KINGS, Kind, MOVES,
     NEEDED_BOARD, OPTIONAL_BOARD, ROWS, RULE, WITHIN, WORDS, Word, best_search, colours, form,
     game, moves, needed_board, optional_board, search,
 };
 use crate::tasks::Task;
 use clap::ArgMatches;
+use std::alloc::Global;
 
 /// A subcommand's words, and its help above them and below.
 #[derive(Clone, Copy)]
@@ -108,6 +109,7 @@ Examples:
         WORDS,
         BOARDS,
         IN_SEQUENCES,
+        IN_JSON,
         COLOR,
         STATS,
         QUIET,
@@ -129,6 +131,7 @@ pub(crate) fn best<'a>(words: &ArgMatches<'a>) -> Result<BestWords<'a>, WordsFau
         Ok(search) => search,
         Err(fault) => return Err(fault),
     };
+    let cert = cert(words)?;
     let (Some(game), Some(colours)) = (game(words), colours(words)) else {
         return Err(WordsFault::Missing);
     };
@@ -136,7 +139,7 @@ pub(crate) fn best<'a>(words: &ArgMatches<'a>) -> Result<BestWords<'a>, WordsFau
         game,
         board: optional_board(words),
         search,
-        cert: words.get_str(CERT_OPTION.name),
+        cert,
         form: form(words),
         colours,
         has_stats: words.get_flag(STATS.name),
@@ -167,6 +170,7 @@ Examples:
         WORDS,
         BOARDS,
         IN_SEQUENCES,
+        IN_JSON,
         COLOR,
         STATS,
         QUIET,
@@ -189,6 +193,14 @@ const CERT_OPTION: Word = Word {
     help: "Writes a proof of the answer to FILE, for `check`",
 };
 
+// The file that takes the certificate, if one is asked for.
+fn cert<'a>(words: &ArgMatches<'a>) -> Result<Option<&'a str>, WordsFault> {
+    match words.get_str(CERT_OPTION.name) {
+        Some("-") => Err(WordsFault::CertInAnswer),
+        cert => Ok(cert),
+    }
+}
+
 const STATS: Word = Word {
     name: "stats",
     kind: Kind::Flag,
@@ -209,6 +221,7 @@ pub(crate) fn solve<'a>(words: &ArgMatches<'a>) -> Result<SolveWords<'a>, WordsF
         Ok(search) => search,
         Err(fault) => return Err(fault),
     };
+    let cert = cert(words)?;
     let (Some(game), Some(colours)) = (game(words), colours(words)) else {
         return Err(WordsFault::Missing);
     };
@@ -216,7 +229,7 @@ pub(crate) fn solve<'a>(words: &ArgMatches<'a>) -> Result<SolveWords<'a>, WordsF
         game,
         board: optional_board(words),
         search,
-        cert: words.get_str(CERT_OPTION.name),
+        cert,
         form: form(words),
         colours,
         has_stats: words.get_flag(STATS.name),
@@ -224,13 +237,19 @@ pub(crate) fn solve<'a>(words: &ArgMatches<'a>) -> Result<SolveWords<'a>, WordsF
     })
 }
 
-// `check [GAME] BOARD CERT`.
+// `check [--json] [GAME] BOARD CERT`.
 static CHECKING: Subcommand = Subcommand {
     about: "Says what a certificate proves of a board, or why it proves nothing; it searches nothing",
     after_help: "Status: 0 accepted, 3 refused, 4 want of memory, 5 reading or writing failed.
 
 Example: fc_solve check boards/locked.txt boards/locked.cert",
-    words: &[GAME, KINGS, CELLS, ROWS, NEEDED_BOARD, CERT],
+    words: &[CLAIM_IN_JSON, GAME, KINGS, CELLS, ROWS, NEEDED_BOARD, CERT],
+};
+
+const CLAIM_IN_JSON: Word = Word {
+    name: "json",
+    kind: Kind::Flag,
+    help: "Prints what is proved, or why nothing is, as a JSON object",
 };
 
 const CERT: Word = Word {
@@ -247,6 +266,7 @@ pub(crate) fn check<'a>(words: &ArgMatches<'a>) -> Option<CheckWords<'a>>
         game: game(words)?,
         board: needed_board(words)?,
         cert: words.get_str(CERT.name)?,
+        is_json: words.get_flag(CLAIM_IN_JSON.name),
     })
 }
 
@@ -304,27 +324,54 @@ pub(crate) fn replay<'a>(words: &ArgMatches<'a>) -> Result<ReplayWords<'a>, Word
     })
 }
 
-// `batch FROM TO [--table] [--budget B] [--best | [--within W] [--bound NAME] [--expand NAME]] [GAME] [--rule R]`.
+// `batch FROM TO [--table | --json] [--boards FILE..] [--certs FOLDER] [--totals] [--budget B] [--best | [--within W] [--bound NAME]
+// [--expand NAME]] [GAME] [--rule R]`.
 static BATCHING: Subcommand = Subcommand {
-    about: "Solves up to 32 numbered deals side by side, and prints a line for each, without moves",
-    after_help: "Status: the greatest of the lines': 0 a solution, 1 can't be won, 2 gave up, 4 want of memory;
-and 3 for what was asked and isn't right, 5 where writing failed.
+    about: "Solves several deals, or boards of files, and prints what is told of each, without moves",
+    after_help: "Without --table or what needs one, at most 32 deals are searched side by side, in turns, and each
+gets a line. They hold the memory of as many searches: up to 12 GB by `--budget max`. With
+--table they go one after the other, any number of them, and hold the memory of one.
 
-Example: fc_solve batch 11982 11982",
+A file has one board or more, parted by lines of three dashes, `---`, since an empty line is an
+empty column. A row is named by its file and the board's place in it: `boards.txt:3`.
+
+Status: the greatest of the lines': 0 a solution, 1 can't be won, 2 gave up, 3 no board, 4 want
+of memory; and 3 for what was asked and isn't right, 5 where reading or writing failed.
+
+Examples:
+  fc_solve batch 11982 11982
+  fc_solve batch --table --best 1 1000
+  fc_solve batch --best --boards boards/two-kings.txt boards/one-king.txt",
     words: &[
-        FROM, TO, TABLE, BUDGET, BEST, WITHIN, BOUND, EXPAND, GAME, KINGS, CELLS, RULE,
+        FROM,
+        TO,
+        TABLE,
+        ROWS_IN_JSON,
+        FILES,
+        ROWS,
+        CERTS,
+        TOTALS,
+        BUDGET,
+        BEST,
+        WITHIN,
+        BOUND,
+        EXPAND,
+        GAME,
+        KINGS,
+        CELLS,
+        RULE,
     ],
 };
 
 const FROM: Word = Word {
     name: "FROM",
-    kind: Kind::DealNumber,
+    kind: Kind::DealNumberUnless(FILES_NAME),
     help: "The number of the first deal, 1 to 1000000",
 };
 
 const TO: Word = Word {
     name: "TO",
-    kind: Kind::DealNumber,
+    kind: Kind::DealNumberUnless(FILES_NAME),
     help: "The number of the last deal",
 };
 
@@ -332,6 +379,35 @@ const TABLE: Word = Word {
     name: "table",
     kind: Kind::Flag,
     help: "Prints a table parted by tabs, with numbers of each search",
+};
+
+const ROWS_IN_JSON: Word = Word {
+    name: "json",
+    kind: Kind::FlagInPlaceOf(&["table", "totals"]),
+    help: "Prints a JSON object a line in place of a table's rows",
+};
+
+const FILES_NAME: &str = "boards";
+
+const FILES: Word = Word {
+    name: FILES_NAME,
+    kind: Kind::Files,
+    help: "The boards of these files in place of deals, - for standard input",
+};
+
+const CERTS: Word = Word {
+    name: "certs",
+    kind: Kind::Text {
+        value: "FOLDER",
+        default: None,
+    },
+    help: "Writes a proof of each answer to FOLDER: N.cert for deal N, or for the table's Nth board",
+};
+
+const TOTALS: Word = Word {
+    name: "totals",
+    kind: Kind::Flag,
+    help: "Ends the table with how many of each answer there are",
 };
 
 const BEST: Word = Word {
@@ -349,23 +425,55 @@ fn batch_search(words: &ArgMatches<'_>) -> Result<BatchSearch, WordsFault> {
     }
 }
 
+// Which boards the words of `batch` name.
+fn batch_boards<'a>(
+    alloc: Global,
+    words: &ArgMatches<'a>,
+) -> Result<BatchBoards<'a>, WordsFault> {
+    if let Some(files) = words.get_strs(FILES.name) {
+        return Ok(BatchBoards::Files(Vec::from_slice(alloc, files)?));
+    }
+    let (Some(from), Some(to)) = (
+        words.get_one::<u32>(FROM.name),
+        words.get_one::<u32>(TO.name),
+    ) else {
+        return Err(WordsFault::Missing);
+    };
+    Ok(BatchBoards::Deals { from, to })
+}
+
+// How the words of `batch` ask to print: what lines can't tell asks for a table.
+fn batch_form(words: &ArgMatches<'_>) -> BatchForm {
+    let needs_table = words.get_flag(TABLE.name)
+        || words.get_flag(TOTALS.name)
+        || words.get_str(CERTS.name).is_some()
+        || words.get_strs(FILES.name).is_some();
+    match (words.get_flag(ROWS_IN_JSON.name), needs_table) {
+        (true, _) => BatchForm::Json,
+        (false, true) => BatchForm::Table,
+        (false, false) => BatchForm::Lines,
+    }
+}
+
 /// What `batch` asks for.
-pub(crate) fn batch(words: &ArgMatches<'_>) -> Result<BatchWords, WordsFault>
+pub(crate) fn batch<'a>(
+    alloc: Global,
+    words: &ArgMatches<'a>,
+) -> Result<BatchWords<'a>, WordsFault>
     ensures cells { IfOk result (λ batch. batch.game.cells ≤ MOST_CELLS) }
 {
     let search = batch_search(words)?;
-    let (Some(from), Some(to), Some(game)) = (
-        words.get_one::<u32>(FROM.name),
-        words.get_one::<u32>(TO.name),
-        game(words),
-    ) else {
+    let boards = batch_boards(alloc, words)?;
+    let Some(game) = game(words) else {
         return Err(WordsFault::Missing);
     };
     Ok(BatchWords {
         game,
-        from,
-        to,
+        boards,
+        is_in_rows: words.get_flag(ROWS.name),
         search,
-        is_table: words.get_flag(TABLE.name),
+        form: batch_form(words),
+        certs: words.get_str(CERTS.name),
+        has_totals: words.get_flag(TOTALS.name),
     })
 }

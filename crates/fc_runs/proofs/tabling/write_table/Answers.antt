@@ -24,14 +24,13 @@ returns-in_default-clause-cut g c =
     } in
     let failed : IsTrue sink.failed = search rules in
     row_cut_short c.args.sought c.args.question.now c.args.from c.loop-i.i c.args.count
-    (g.K.Sink.held c.loop-i.out) sink c.loop-i.greatest c.row_by-row.result c.loop-i.invariant.so_far c.row_by-row.ensures.deal c.row_by-row.ensures.right
-    c.row_by-row.ensures.floor (search rules) c.loop-i-test.true failed
+    (g.K.Sink.held c.loop-i.out) sink c.loop-i.greatest c.deal_row-row.result c.loop-i.invariant.so_far c.deal_row-row.ensures.row
+    (search rules) c.loop-i-test.true failed
 
 pub loop-i-preserved : goal.loop-i-preserved
 loop-i-preserved g c = record {
   so_far = one_more_written c.args.sought c.args.question.now c.args.from c.loop-i.i
       (g.K.Sink.held c.args.out.now) (g.K.Sink.held c.loop-i.out) (g.K.Sink.held c.write_all-in-loop-i.new.sink) c.loop-i.greatest c.max-greatest.result
-      c.row_by-row.result c.loop-i.invariant.so_far c.row_by-row.ensures.deal c.row_by-row.ensures.right
-      c.row_by-row.ensures.floor (search rules) (search rules);
+      c.deal_row-row.result c.loop-i.invariant.so_far c.deal_row-row.ensures.row (search rules) (search rules);
   sound = search rules;
 }
