@@ -99,7 +99,7 @@ impl Sums {
 struct Desk<'a, G: Game + Drop> {
     rt: &'a HostRuntime,
     words: &'a BatchWords<'a>,
-    question: &'a Question<'a, G>,
+    question: &'a Question<G>,
     sought: Sought,
     out: Out<'a>,
     tally: Tally<'a>,
@@ -112,7 +112,7 @@ impl<'a, G: Game + Drop> Desk<'a, G> {
     fn new(
         rt: &'a HostRuntime,
         words: &'a BatchWords<'a>,
-        question: &'a Question<'a, G>,
+        question: &'a Question<G>,
         sought: Sought,
         line: &'a Line<'a>,
     ) -> Result<Self, Ending> {
@@ -180,7 +180,7 @@ impl<'a, G: Game + Drop> Desk<'a, G> {
                 board.clear();
             } else {
                 board.extend_from_slice(line)?;
-                board.push(b'\n')?;
+                board.extend_from_slice(b"\n")?;
             }
         }
         self.answer_text(path, place, board.as_slice())?;

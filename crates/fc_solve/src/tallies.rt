@@ -93,7 +93,7 @@ impl<'a> CountedRows<'a> {
                 let answer = self.row.as_slice().split(|byte| *byte == b'\t').nth(1);
                 // (the first line has the names of the columns)
                 if let Some(answer) = answer {
-                    if answer != b"answer" {
+                    if answer != b"answer".as_slice() {
                         self.tally.note(answer);
                     }
                 }
