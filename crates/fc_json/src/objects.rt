@@ -102,7 +102,12 @@ fn put_text(
     ensures put { OnOk result (members_view map.new.entries ≡ with_text name.now text.entry (members_view map.old.entries)) }
 {
     match text {
-        Some(text) => put(map, alloc, name, Value::from(String::from_str(alloc, text)?)),
+        Some(text) => put(
+            map,
+            alloc,
+            name,
+            Value::from(String::from_str(alloc, text)?),
+        ),
         None => Ok(()),
     }
 }

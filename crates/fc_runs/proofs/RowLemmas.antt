@@ -1,5 +1,5 @@
 -- The floors of rows, and what their certificates rest on.
-use Rattle.std.proofs.Common.{◌≡◌, ℕ, List, [], ◌∷◌, Option, Some, None, sym, refl, subst}
+use Rattle.std.proofs.Common.{◌≡◌, ℕ, suc, List, [], ◌∷◌, Option, Some, None, sym, subst, arith}
 use Rattle.std.specs.Prelude.{All, IfSome}
 use Rattle.fc_position.specs.Board.{Board}
 use Rattle.fc_moves.specs.GameRules.{GameRules}
@@ -33,8 +33,10 @@ pub best_last_floor : (q : Asked) (b : Board) (old new : Last) (heard : List Bes
     → HearsAll (λ _ far next. next.far ≡ Some (best_far_of far)) old heard new → All (IsTold q b) heard
     → IfSome (told_floor old.far) (IsFloor q.game b) → IfSome (told_floor new.far) (IsFloor q.game b)
 best_last_floor q b old new [] same told floor = subst (λ (l : Last). IfSome (told_floor l.far) (IsFloor q.game b)) (sym same) floor
-best_last_floor q b old new (far ∷ heard) (mid, keeps, rest) (first, told) floor =
-    best_last_floor q b mid new heard rest told (subst (λ o. IfSome (told_floor o) (IsFloor q.game b)) (sym keeps) first.least)
+best_last_floor q b old new (far ∷ heard) (mid, keeps, rest) told floor =
+    let first : IsTold q b far = told 0 far (omega arith) in
+    best_last_floor q b mid new heard rest (λ k d within. told (suc k) d (omega (arith, within)))
+    (subst (λ o. IfSome (told_floor o) (IsFloor q.game b)) (sym keeps) first.least)
 
 -- the floor that an answer tells of a board, if it tells any
 answered_floor : Outcome → Option ℕ

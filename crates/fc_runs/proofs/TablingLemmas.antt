@@ -1,7 +1,7 @@
 -- Tables of deals: rows and one row more.
-use Rattle.std.proofs.Common.{◌≡◌, ◌∙◌, ℕ, zero, suc, ◌+◌, ◌<◌, List, [], ◌∷◌, ◌++◌, length, map, Option, None, sym, ap, subst, arith, IsTrue}
+use Rattle.std.proofs.Common.{◌≡◌, ◌∙◌, ℕ, zero, suc, ◌+◌, ◌<◌, List, [], ◌∷◌, ◌++◌, length, map, Option, None, refl, sym, ap, subst, arith, IsTrue}
 use Rattle.std.specs.Prelude.{Some, max, slice_get}
-use Rattle.std.proofs.lemmas.List.{flat_map_more, length-append, map_push}
+use Rattle.std.proofs.lemmas.List.{append-nil, flat_map_more, length-append, map_push}
 use Rattle.fc_io.specs.Moves.{TakesBytes, TakesFront}
 use Rattle.fc_io.proofs.MoveLemmas.{TakesBytes-both, takes_then_front}
 use Rattle.fc_deal.specs.Deal.{dealt_board}
@@ -45,6 +45,17 @@ pub record RowsAreWritten (sought : Sought) (q : Asked) (from count : ℕ) (old 
   pub whole : length rows ≡ count
   pub written : TakesBytes old new (table_text rows)
   pub greatest : status ≡ greatest_status (map line_of rows)
+
+-- the names alone, and no row
+pub none_written : (sought : Sought) (q : Asked) (from : ℕ) (old new : Option (List ℕ)) (bytes : List ℕ) → bytes ≡ names_text
+    → TakesBytes old new bytes → RowsAreWritten sought q from 0 old new 0
+none_written sought q from old new bytes same taken = record {
+  rows = [];
+  right = record { rising = λ i row at. absurd (cc at); right = λ i row at. absurd (cc at) };
+  whole = refl;
+  written = subst (TakesBytes old new) (same ∙ sym (append-nil names_text)) taken;
+  greatest = refl;
+}
 
 -- the text of one row more
 text_more : (rows : List DealRow) (row : DealRow) → table_text rows ++ row_text row ≡ table_text (rows ++ row ∷ [])

@@ -12,7 +12,7 @@ pub use fc_board_runs::{
 };
 pub use rows::{Far, Row, Sought, answer_row};
 pub use solving::{run_solve, run_solve_by};
-pub use tabling::{TABLE_HEAD, run_table, table_deals};
+pub use tabling::{run_table, table_deals, table_head};
 
 mod batches;
 mod best_batches;

@@ -17,8 +17,12 @@ use fc_moves::Game;
 use itoa::Buffer;
 use std::alloc::Global;
 
-/// The names of a table's columns, as its first line has them.
-pub const TABLE_HEAD: &str = "deal\tanswer\tmoves\tfloor\tclasses\tturns\tmost_open\n";
+/// The first line of a table of deals: the names of the columns.
+pub fn table_head() -> &'static str
+    ensures value { result.now ≡ names_text }
+{
+    "deal\tanswer\tmoves\tfloor\tclasses\tturns\tmost_open\n"
+}
 
 /// Searches the deals `from` to `to` of the question's game, any number of them and one after the other, each for what is sought,
 /// and writes a table parted by tabs: a line of the columns' names, and a row for each deal, rising, as soon as its search has
@@ -85,7 +89,7 @@ fn write_table<G: Game + Drop, K: Sink>(
     ensures cut { OnErr result (IsTableCutShort sought question.now from count
         (change K.held K.has_failed out.old out.new)) }
 {
-    write_all(out, TABLE_HEAD.as_bytes())?;
+    write_all(out, table_head().as_bytes())?;
     let mut greatest = 0;
     for i in 0..count {
         let row = deal_row(alloc, question, sought, from + i);

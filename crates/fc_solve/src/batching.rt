@@ -65,7 +65,9 @@ fn unasked(rt: &HostRuntime, fault: ProgramFault, from: u32, to: u32) -> Ending 
     let _told = if from > to {
         eprintln!(rt; "fc_solve: {from} to {to} are none: the lesser number stands first")
     } else {
-        eprintln!(rt; "fc_solve: with --table they are any number, one after the other: see docs/LISTS.md")
+        eprintln!(rt;
+            "fc_solve: with --table they are any number, one after the other: see docs/LISTS.md"
+        )
     };
     Ending::Told(status)
 }

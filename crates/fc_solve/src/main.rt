@@ -93,9 +93,9 @@ fn tell_words(rt: &HostRuntime, fault: &WordsFault) -> Result<u8, Ending> {
         | WordsFault::CertInAnswer
         | WordsFault::OneInput
         | WordsFault::Missing => {
-                let _told = eprintln!(rt; "fc_solve: {fault}");
-                Ok(REFUSED)
-            }
+            let _told = eprintln!(rt; "fc_solve: {fault}");
+            Ok(REFUSED)
+        }
     }
 }
 

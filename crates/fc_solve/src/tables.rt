@@ -14,7 +14,7 @@ use fc_io::write_all;
 use fc_methods::Question;
 use fc_moves::Game;
 use fc_position::Position;
-use fc_runs::{Output, ProgramFault, Row, Sought, TABLE_HEAD, answer_row, run_table, table_deals};
+use fc_runs::{Output, ProgramFault, Row, Sought, answer_row, run_table, table_deals, table_head};
 use fc_words::{BatchBoards, BatchForm, BatchWords};
 use std::fs;
 use std::io::IsTerminal;
@@ -85,8 +85,12 @@ impl Sums {
             None => (0, 0, 0),
         };
         Sums {
-            moves: self.moves.saturating_add(u64::from(row.moves().unwrap_or(0))),
-            floors: self.floors.saturating_add(u64::from(row.floor().unwrap_or(0))),
+            moves: self
+                .moves
+                .saturating_add(u64::from(row.moves().unwrap_or(0))),
+            floors: self
+                .floors
+                .saturating_add(u64::from(row.floor().unwrap_or(0))),
             classes: self.classes.saturating_add(classes),
             turns: self.turns.saturating_add(turns),
             most_open: self.most_open.max(most_open),
@@ -142,10 +146,10 @@ impl<'a, G: Game + Drop> Desk<'a, G> {
     fn write_head(&mut self) -> Result<(), Ending> {
         match (self.words.form, &self.words.boards) {
             (BatchForm::Json, _) => Ok(()),
-            (_, BatchBoards::Deals { .. }) => self.write(TABLE_HEAD.as_bytes()),
+            (_, BatchBoards::Deals { .. }) => self.write(table_head().as_bytes()),
             (_, BatchBoards::Files(_)) => {
                 self.write(b"board")?;
-                self.write(TABLE_HEAD.trim_start_matches("deal").as_bytes())
+                self.write(table_head().trim_start_matches("deal").as_bytes())
             }
         }
     }
@@ -299,7 +303,9 @@ impl<'a, G: Game + Drop> Desk<'a, G> {
             turns,
             most_open,
         } = self.sums;
-        let sums = format!(in self.rt.alloc(); "\t{moves}\t{floors}\t{classes}\t{turns}\t{most_open}\n")?;
+        let sums = format!(in self.rt.alloc();
+            "\t{moves}\t{floors}\t{classes}\t{turns}\t{most_open}\n"
+        )?;
         text.push_str(sums.as_str())?;
         self.write(text.as_bytes())
     }

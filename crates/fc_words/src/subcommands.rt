@@ -5,14 +5,14 @@ ghost use Rattle.fc_words.specs.Sound.{HasOneInput};
 ghost use Rattle.fc_words.specs.declared.options.TheConstants.{MOST_CELLS};
 
 use crate::commands::{
-    BatchBoards, BatchForm, BatchSearch, BatchWords, BestWords, BoardWord, CheckWords, DealWords, MovesWord, ReplayWords,
-    ShowWords, SolveWords,
+    BatchBoards, BatchForm, BatchSearch, BatchWords, BestWords, BoardWord, CheckWords, DealWords,
+    MovesWord, ReplayWords, ShowWords, SolveWords,
 };
 use crate::faults::WordsFault;
 use crate::options::{
-    BOARDS, BOUND, BUDGET, CELLS, COLOR, DEAL, EXPAND, GAME, IN_JSON, IN_SEQUENCES, KINGS, Kind, MOVES,
-    NEEDED_BOARD, OPTIONAL_BOARD, ROWS, RULE, WITHIN, WORDS, Word, best_search, colours, form,
-    game, moves, needed_board, optional_board, search,
+    BOARDS, BOUND, BUDGET, CELLS, COLOR, DEAL, EXPAND, GAME, IN_JSON, IN_SEQUENCES, KINGS, Kind,
+    MOVES, NEEDED_BOARD, OPTIONAL_BOARD, ROWS, RULE, WITHIN, WORDS, Word, best_search, colours,
+    form, game, moves, needed_board, optional_board, search,
 };
 use crate::tasks::Task;
 use clap::ArgMatches;
@@ -426,10 +426,7 @@ fn batch_search(words: &ArgMatches<'_>) -> Result<BatchSearch, WordsFault> {
 }
 
 // Which boards the words of `batch` name.
-fn batch_boards<'a>(
-    alloc: Global,
-    words: &ArgMatches<'a>,
-) -> Result<BatchBoards<'a>, WordsFault> {
+fn batch_boards<'a>(alloc: Global, words: &ArgMatches<'a>) -> Result<BatchBoards<'a>, WordsFault> {
     if let Some(files) = words.get_strs(FILES.name) {
         return Ok(BatchBoards::Files(Vec::from_slice(alloc, files)?));
     }
@@ -456,10 +453,7 @@ fn batch_form(words: &ArgMatches<'_>) -> BatchForm {
 }
 
 /// What `batch` asks for.
-pub(crate) fn batch<'a>(
-    alloc: Global,
-    words: &ArgMatches<'a>,
-) -> Result<BatchWords<'a>, WordsFault>
+pub(crate) fn batch<'a>(alloc: Global, words: &ArgMatches<'a>) -> Result<BatchWords<'a>, WordsFault>
     ensures cells { IfOk result (λ batch. batch.game.cells ≤ MOST_CELLS) }
 {
     let search = batch_search(words)?;

@@ -5,8 +5,8 @@ use Rattle.fc_runs.specs.Rows.{IsToldIn}
 use Rattle.fc_runs.proofs.RowLemmas.{best_last_floor, row_floor}
 use Rattle.fc_runs.proofs.rows.best_row.Goals as goal
 
-pub returns-clause-row : goal.returns-clause-row
-returns-clause-row g c =
+pub returns : goal.returns
+returns g c =
     let q = c.args.question.now in
     let b = c.args.start.now in
     let last = c.best_told_of-told.new.listener in
@@ -14,6 +14,8 @@ returns-clause-row g c =
     let (heard, hears, told) = c.best_told_of-told.ensures.heard in
     let answered : IsToldIn Best q b None c.ok.result = search rules in
     record {
-      told = answered;
-      floor = row_floor Best q b None c.ok.result last.far answered (best_last_floor q b nothing last heard hears told tt);
+      row = record {
+        told = answered;
+        floor = row_floor Best q b None c.ok.result last.far answered (best_last_floor q b nothing last heard hears told tt);
+      };
     }

@@ -1,4 +1,3 @@
-use Rattle.std.proofs.Common.{rules}
 use Rattle.fc_search.specs.Problem.{problem_of}
 use Rattle.fc_search.proofs.EndLemmas.{at_most_floors, end_at_most}
 use Rattle.fc_runs.proofs.rows.told_of.Goals as goal

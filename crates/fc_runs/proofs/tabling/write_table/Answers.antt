@@ -1,7 +1,7 @@
-use Rattle.std.proofs.Common.{rules, IsTrue, OnErr}
+use Rattle.std.proofs.Common.{◌∙◌, rules, IsTrue, OnErr}
 use Rattle.fc_board_runs.specs.Devices.{Device}
 use Rattle.fc_runs.specs.Tabling.{IsTableCutShort}
-use Rattle.fc_runs.proofs.TablingLemmas.{one_more_written, row_cut_short}
+use Rattle.fc_runs.proofs.TablingLemmas.{none_written, one_more_written, row_cut_short}
 use Rattle.fc_runs.proofs.tabling.write_table.Goals as goal
 
 pub returns-in_err-write_all-clause-cut : goal.returns-in_err-write_all-clause-cut
@@ -26,6 +26,13 @@ returns-in_default-clause-cut g c =
     row_cut_short c.args.sought c.args.question.now c.args.from c.loop-i.i c.args.count
     (g.K.Sink.held c.loop-i.out) sink c.loop-i.greatest c.deal_row-row.result c.loop-i.invariant.so_far c.deal_row-row.ensures.row
     (search rules) c.loop-i-test.true failed
+
+pub loop-i-init : goal.loop-i-init
+loop-i-init g c = record {
+  so_far = none_written c.args.sought c.args.question.now c.args.from (g.K.Sink.held c.args.out.now) (g.K.Sink.held c.write_all.new.sink)
+      c.as_bytes.result.now (c.as_bytes.ensures.value ∙ c.table_head.ensures.value) (search rules);
+  sound = search rules;
+}
 
 pub loop-i-preserved : goal.loop-i-preserved
 loop-i-preserved g c = record {
