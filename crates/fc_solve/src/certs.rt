@@ -1,5 +1,7 @@
 //! Files that certificates are written to.
 
+ghost use Rattle.std.specs.Prelude.{◌≡◌, ◌≤◌, length, IfSome};
+
 use crate::endings::{Ending, tell_of_file};
 use fc_io::{Failed, Sink};
 use fc_runs::{Output, ProgramFault};
@@ -34,7 +36,10 @@ impl CertFile {
     }
 
     // Takes away what stood there, and writes.
-    fn write_anew(&mut self, piece: &[u8]) -> Option<usize> {
+    fn write_anew(&mut self, piece: &[u8]) -> Option<usize>
+        ensures within { IfSome result (λ n. n ≤ length piece.now) }
+        ensures stays { self.new.has_failed ≡ self.old.has_failed }
+    {
         if self.has_old {
             self.file.set_len(0).ok()?;
             self.has_old = false;

@@ -2,8 +2,9 @@
 
 use crate::boards::{find_board, open, read_start};
 use crate::endings::{Ending, tell};
+use crate::forms::tell_whole;
 use crate::games::InGame;
-use crate::objects::{Name, tell_object, told_of};
+use crate::objects::{Name, fault_line, tell_answer};
 use crate::outputs::Out;
 use fc_cert::CertFault;
 use fc_checker::CheckFault;
@@ -37,28 +38,28 @@ impl InGame for CheckWords<'_> {
 const LONGEST_CLAIM: usize = 64;
 
 // Writes as an object what a certificate proves of a board, or why it is refused; that is told on standard error, too.
-fn tell_claim(
+fn tell_claim<'a>(
     rt: &HostRuntime,
-    name: Name<'_>,
+    name: Name<'a>,
     ran: Result<u8, ProgramFault>,
-    claim: &[u8],
+    claim: &'a [u8],
 ) -> Result<u8, Ending> {
     match ran {
-        Ok(status) => {
+        Err(ProgramFault::Cert(fault)) => Err(tell_refused(rt, name, fault)?),
+        ran => {
             let claim = claim.strip_prefix(b"accepted: ").unwrap_or(claim);
-            tell_object(rt, &told_of(name, claim))?;
-            Ok(status)
+            tell_answer(rt, name, ran, claim, (None, None))
         }
-        Err(ProgramFault::Cert(fault)) => {
-            let reason = format!(in rt.alloc(); "{fault}")?;
-            let mut told = name.told("refused");
-            told.fault = Some(reason.as_str());
-            let ending = tell_refusal(rt, fault);
-            tell_object(rt, &told)?;
-            Err(ending)
-        }
-        Err(fault) => Err(Ending::Fault(fault)),
     }
+}
+
+// Writes as an object why a certificate is refused, after the lines that say it.
+fn tell_refused(rt: &HostRuntime, name: Name<'_>, fault: CheckFault) -> Result<Ending, Ending> {
+    let ending = tell_refusal(rt, fault);
+    let reason = format!(in rt.alloc(); "{fault}")?;
+    let line = fault_line(rt.alloc(), name, "refused", Some(reason.as_str()))?;
+    tell_whole(rt, line.as_bytes())?;
+    Ok(ending)
 }
 
 // Says that a certificate is refused, and what that means.

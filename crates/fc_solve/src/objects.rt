@@ -4,7 +4,7 @@ use crate::endings::Ending;
 use crate::forms::{split_answer, tell_whole};
 use fc_json::{Told, object_text};
 use fc_plain::read_count;
-use fc_runs::ProgramFault;
+use fc_runs::{ProgramFault, Row};
 use fc_words::BoardWord;
 use std::alloc::Global;
 
@@ -27,36 +27,82 @@ impl<'a> Name<'a> {
         }
     }
 
-    /// An answer that is told of the board, and nothing else.
-    pub fn told(self, answer: &'a str) -> Told<'a> {
-        let mut told = Told::new(answer);
+    // The number of the deal.
+    fn deal(self) -> Option<u32> {
         match self {
-            Name::Deal(number) => told.deal = Some(number),
-            Name::Board(name) => told.board = Some(name),
+            Name::Deal(number) => Some(number),
+            Name::Board(_) => None,
         }
-        told
+    }
+
+    // What another board is called.
+    fn board(self) -> Option<&'a str> {
+        match self {
+            Name::Deal(_) => None,
+            Name::Board(name) => Some(name),
+        }
     }
 }
 
-/// What the first line of an answer tells, and its list of moves.
-pub fn told_of<'a>(name: Name<'a>, answer: &'a [u8]) -> Told<'a> {
+/// The object of an answer, with how many classes were stored and how many turns taken, on a line.
+pub fn answer_line<'a>(
+    alloc: Global,
+    name: Name<'a>,
+    answer: &'a [u8],
+    stored_and_turns: (Option<u64>, Option<u64>),
+) -> Result<String, Ending> {
     let (line, list) = split_answer(answer);
-    let line = line.strip_suffix(b"\n").unwrap_or(line);
-    let mut told = name.told(answer_of(line));
-    let mut numbers = line.split(|byte| *byte == b' ').filter_map(number_of);
-    match told.answer {
-        "shortest" => {
-            told.moves = numbers.next();
-            told.floor = told.moves;
-        }
-        "won" => {
-            told.moves = numbers.next();
-            told.floor = numbers.next();
-        }
-        _ => {}
-    }
-    told.list = text_of(list);
-    told
+    let (moves, floor) = numbers_of(line);
+    let (stored, turns) = stored_and_turns;
+    let told = Told {
+        deal: name.deal(),
+        board: name.board(),
+        answer: answer_of(line),
+        moves,
+        floor,
+        list: text_of(list),
+        stored,
+        turns,
+        fault: None,
+    };
+    line_of(alloc, &told)
+}
+
+/// The object of a row, on a line.
+pub fn row_line(alloc: Global, name: Name<'_>, row: &Row) -> Result<String, Ending> {
+    let told = Told {
+        deal: name.deal(),
+        board: name.board(),
+        answer: row.answer_name(),
+        moves: row.moves(),
+        floor: row.floor(),
+        list: None,
+        stored: row.far.map(|far| far.classes),
+        turns: row.far.map(|far| far.turns),
+        fault: None,
+    };
+    line_of(alloc, &told)
+}
+
+/// The object of a board without an answer, and why, on a line.
+pub fn fault_line<'a>(
+    alloc: Global,
+    name: Name<'a>,
+    answer: &'static str,
+    fault: Option<&'a str>,
+) -> Result<String, Ending> {
+    let told = Told {
+        deal: name.deal(),
+        board: name.board(),
+        answer,
+        moves: None,
+        floor: None,
+        list: None,
+        stored: None,
+        turns: None,
+        fault,
+    };
+    line_of(alloc, &told)
 }
 
 // What the answer of a first line is called.
@@ -72,9 +118,21 @@ fn answer_of(line: &[u8]) -> &'static str {
     }
 }
 
-// The number that a word of a first line is.
-fn number_of(word: &[u8]) -> Option<u32> {
-    read_count(word.strip_suffix(b",").unwrap_or(word))
+// How many moves the list of a first line has, and how many each list has at least.
+fn numbers_of(line: &[u8]) -> (Option<u32>, Option<u32>) {
+    let line = line.strip_suffix(b"\n").unwrap_or(line);
+    if let Some(number) = line.strip_prefix(b"shortest ") {
+        let moves = read_count(number);
+        return (moves, moves);
+    }
+    if !line.starts_with(b"won ") {
+        return (None, None);
+    }
+    let mut words = line.split(|byte| *byte == b' ');
+    let moves = words
+        .nth(1)
+        .and_then(|word| read_count(word.strip_suffix(b",").unwrap_or(word)));
+    (moves, words.last().and_then(|word| read_count(word)))
 }
 
 // The line of a list of moves, if there is one.
@@ -83,14 +141,8 @@ fn text_of(list: &[u8]) -> Option<&str> {
     std::str::from_utf8(line).ok()
 }
 
-/// Writes an object on a line.
-pub fn tell_object(rt: &HostRuntime, told: &Told<'_>) -> Result<(), Ending> {
-    let text = line_of(rt.alloc(), told)?;
-    tell_whole(rt, text.as_bytes())
-}
-
-/// An object on a line.
-pub fn line_of(alloc: Global, told: &Told<'_>) -> Result<String, Ending> {
+// An object on a line.
+fn line_of(alloc: Global, told: &Told<'_>) -> Result<String, Ending> {
     let mut text = object_text(alloc, told)?;
     text.push_str("\n")?;
     Ok(text)
@@ -98,16 +150,15 @@ pub fn line_of(alloc: Global, told: &Told<'_>) -> Result<String, Ending> {
 
 /// Writes the answer that a run held as an object, with how many classes were stored and how many turns taken; the run's
 /// status.
-pub fn tell_answer(
+pub fn tell_answer<'a>(
     rt: &HostRuntime,
-    name: Name<'_>,
+    name: Name<'a>,
     ran: Result<u8, ProgramFault>,
-    answer: &[u8],
+    answer: &'a [u8],
     stored_and_turns: (Option<u64>, Option<u64>),
 ) -> Result<u8, Ending> {
     let status = ran?;
-    let mut told = told_of(name, answer);
-    (told.stored, told.turns) = stored_and_turns;
-    tell_object(rt, &told)?;
+    let line = answer_line(rt.alloc(), name, answer, stored_and_turns)?;
+    tell_whole(rt, line.as_bytes())?;
     Ok(status)
 }

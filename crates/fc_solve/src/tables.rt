@@ -1,12 +1,11 @@
 //! `batch` where each board has a row or an object: they are answered one after the other, and nothing of one is kept.
-ghost use Rattle.std.specs.Prelude.{IfSome};
 ghost use Rattle.fc_moves.specs.GameRules.{IsPositionOf};
 
 use crate::boards::{deal_for, read_board_text};
 use crate::certs::CertFile;
 use crate::endings::{Ending, tell_of_file};
 use crate::lists::{is_blank, is_rule, read_list};
-use crate::objects::{Name, line_of};
+use crate::objects::{Name, fault_line, row_line};
 use crate::outputs::Out;
 use crate::tallies::{ANSWERS, CountedRows, Tally};
 use crate::watching::Line;
@@ -215,7 +214,7 @@ impl<'a, G: Game + Drop> Desk<'a, G> {
 
     // Answers a board; its certificate has this number.
     fn answer(&mut self, name: Name<'_>, number: u64, start: &Position) -> Result<(), Ending>
-        requires position { IsPositionOf self.old.question.game start.now }
+        requires position { IsPositionOf self.old.question.now.game start.now }
     {
         let row = match self.words.certs {
             Some(folder) => self.certified_row(folder, number, start)?,
@@ -232,7 +231,7 @@ impl<'a, G: Game + Drop> Desk<'a, G> {
 
     // The row of a board, whose certificate gets its name once it is whole.
     fn certified_row(&self, folder: &str, number: u64, start: &Position) -> Result<Row, Ending>
-        requires position { IsPositionOf self.now.question.game start.now }
+        requires position { IsPositionOf self.now.question.now.game start.now }
     {
         let alloc = self.rt.alloc();
         let path = format!(in alloc; "{folder}/{number}.cert")?;
@@ -255,7 +254,7 @@ impl<'a, G: Game + Drop> Desk<'a, G> {
     // Writes what is told of a board, and counts it.
     fn tell_row(&mut self, name: Name<'_>, row: &Row) -> Result<(), Ending> {
         let text = match self.words.form {
-            BatchForm::Json => line_of(self.rt.alloc(), &told_in(name, row))?,
+            BatchForm::Json => row_line(self.rt.alloc(), name, row)?,
             _ => {
                 let cells = row.cells();
                 let cells = cells.as_str();
@@ -273,7 +272,7 @@ impl<'a, G: Game + Drop> Desk<'a, G> {
     fn tell_no_board(&mut self, name: &str, status: u8) -> Result<(), Ending> {
         let name = Name::Board(name);
         let text = match self.words.form {
-            BatchForm::Json => line_of(self.rt.alloc(), &name.told(NO_BOARD))?,
+            BatchForm::Json => fault_line(self.rt.alloc(), name, NO_BOARD, None)?,
             _ => row_of(self.rt, name, "\tno board\t\t\t\t\t\n")?,
         };
         self.write(text.as_bytes())?;
@@ -288,12 +287,14 @@ impl<'a, G: Game + Drop> Desk<'a, G> {
         if !self.words.has_totals {
             return Ok(());
         }
-        let mut text = String::from_str(self.rt.alloc(), "total")?;
-        let mut gap = "\t";
+        let mut text = String::from_str(self.rt.alloc(), TOTAL)?;
         for (count, name) in self.tally.answers().iter().zip(ANSWERS.iter()) {
             if *count > 0 {
-                text.push_str(format!(in self.rt.alloc(); "{gap}{count} {name}")?.as_str())?;
-                gap = ", ";
+                let is_first = text.len() == TOTAL.len();
+                let counted = format!(in self.rt.alloc(); "{count} ")?;
+                text.push_str(if is_first { "\t" } else { ", " })?;
+                text.push_str(counted.as_str())?;
+                text.push_str(name)?;
             }
         }
         let Sums {
@@ -321,17 +322,8 @@ impl<'a, G: Game + Drop> Desk<'a, G> {
 
 const NO_BOARD: &str = "no board";
 
-// What an object tells of a board.
-fn told_in<'a>(name: Name<'a>, row: &Row) -> fc_json::Told<'a> {
-    let mut told = name.told(row.answer_name());
-    told.moves = row.moves();
-    told.floor = row.floor();
-    if let Some(far) = row.far {
-        told.stored = Some(far.classes);
-        told.turns = Some(far.turns);
-    }
-    told
-}
+// What the row is called that adds up.
+const TOTAL: &str = "total";
 
 // A row of a table: a name, in which nothing parts cells or rows, and the cells behind it.
 fn row_of(rt: &HostRuntime, name: Name<'_>, cells: &str) -> Result<String, Ending> {

@@ -1,7 +1,5 @@
 //! How many boards of a table are done, told on a line of the terminal that is taken away before each row.
 
-ghost use Rattle.std.specs.Prelude.{◌≡◌};
-
 use crate::outputs::Out;
 use crate::watching::Line;
 use arrayvec::ArrayVec;
@@ -67,41 +65,52 @@ impl<'a> Tally<'a> {
 #[derive(Drop)]
 pub struct CountedRows<'a> {
     pub out: Out<'a>,
-    tally: Tally<'a>,
-    row: ArrayVec<u8, LONGEST_COUNTED>,
+    counter: RowCounter<'a>,
 }
-
-// As many bytes of a row are looked at: the number of a deal and what its answer is called have no more.
-const LONGEST_COUNTED: usize = 32;
 
 impl<'a> CountedRows<'a> {
     /// Rows that go to this output and are counted here.
     pub fn new(out: Out<'a>, tally: Tally<'a>) -> Self {
         CountedRows {
             out,
-            tally,
-            row: ArrayVec::new(),
+            counter: RowCounter {
+                tally,
+                row: ArrayVec::new(),
+            },
         }
     }
+}
 
+// As many bytes of a row are looked at: the number of a deal and what its answer is called have no more.
+const LONGEST_COUNTED: usize = 32;
+
+// Who looks at the bytes of rows as they are written.
+#[derive(Drop)]
+struct RowCounter<'a> {
+    tally: Tally<'a>,
+    row: ArrayVec<u8, LONGEST_COUNTED>,
+}
+
+impl RowCounter<'_> {
     // Looks at the bytes that were written: each end of a line ends a row.
-    fn count(&mut self, written: &[u8])
-        ensures stays { self.new.out ≡ self.old.out }
-    {
+    fn count(&mut self, written: &[u8]) {
         for byte in written {
             if *byte == b'\n' {
-                let answer = self.row.as_slice().split(|byte| *byte == b'\t').nth(1);
-                // (the first line has the names of the columns)
-                if let Some(answer) = answer {
-                    if answer != b"answer".as_slice() {
-                        self.tally.note(answer);
-                    }
-                }
-                self.row.clear();
+                self.end_row();
             } else {
                 let _fits = self.row.try_push(*byte);
             }
         }
+    }
+
+    // Counts the row that has ended; the first line has the names of the columns.
+    fn end_row(&mut self) {
+        if let Some(answer) = self.row.as_slice().split(|byte| *byte == b'\t').nth(1) {
+            if answer != b"answer".as_slice() {
+                self.tally.note(answer);
+            }
+        }
+        self.row.clear();
     }
 }
 
@@ -114,7 +123,7 @@ impl Sink for CountedRows<'_> {
 
     fn write(&mut self, piece: &[u8]) -> Result<usize, Failed> {
         let count = self.out.write(piece)?;
-        self.count(&piece[..count]);
+        self.counter.count(&piece[..count]);
         Ok(count)
     }
 
