@@ -5,7 +5,8 @@ use fc_io::ToArray;
 use fc_io::testing::Failing;
 use fc_moves::FreeCell;
 use fc_runs::{
-    MOST_DEALS, Output, ProgramFault, Sought, run_batch, run_batch_by, run_table, table_deals, table_head,
+    MOST_DEALS, Output, ProgramFault, Sought, run_batch, run_batch_by, run_table, table_deals,
+    table_head,
 };
 use fc_search::{Budget, Question};
 use std::alloc::Global;

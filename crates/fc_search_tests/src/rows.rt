@@ -40,7 +40,13 @@ fn rows_tell_answers_and_certify_them(rt: HostRuntime) {
             let row = row.ok().expect(&rt, "a row");
             assert!(rt; row.told == Some(wanted));
             assert!(rt; cert.held().starts_with(b"FCC") == has_certificate);
-            let plain = answer_row::<FreeCell, Certificate>(rt.alloc(), &question, sought, &start, None);
+            let plain = answer_row::<FreeCell, Certificate>(
+                rt.alloc(),
+                &question,
+                sought,
+                &start,
+                None,
+            );
             assert!(rt; plain.ok().is_some_and(|row| row.told == Some(wanted)));
         }
     }
@@ -54,13 +60,18 @@ fn certificates_that_cant_be_written_end_a_row(rt: HostRuntime) {
         let mut cert = Failing::new(Certificate::new(), 3);
         let row = answer_row(rt.alloc(), &question, sought, &start, Some(&mut cert));
         assert!(rt; row.err() == Some(ProgramFault::Write(Output::Cert)));
-        assert!(rt; cert.device.held() == b"FCC");
+        assert!(rt; cert.device.held() == b"FCC".as_slice());
     }
 }
 
 // What a row tells, the text of its cells, and its status.
 static CELLS: [(Option<Outcome>, Option<u32>, &[u8], u8); 6] = [
-    (Some(Outcome::Shortest(75)), Some(70), b"\tshortest\t75\t75\t9\t8\t7\n", 0),
+    (
+        Some(Outcome::Shortest(75)),
+        Some(70),
+        b"\tshortest\t75\t75\t9\t8\t7\n",
+        0,
+    ),
     (
         Some(Outcome::Won {
             moves: 90,
@@ -70,8 +81,18 @@ static CELLS: [(Option<Outcome>, Option<u32>, &[u8], u8); 6] = [
         b"\twon\t90\t80\t\t\t\n",
         0,
     ),
-    (Some(Outcome::CannotWin), Some(4), b"\tcan't be won\t\t\t9\t8\t7\n", 1),
-    (Some(Outcome::GaveUp(5)), Some(71), b"\tgave up\t\t71\t9\t8\t7\n", 2),
+    (
+        Some(Outcome::CannotWin),
+        Some(4),
+        b"\tcan't be won\t\t\t9\t8\t7\n",
+        1,
+    ),
+    (
+        Some(Outcome::GaveUp(5)),
+        Some(71),
+        b"\tgave up\t\t71\t9\t8\t7\n",
+        2,
+    ),
     (None, Some(72), b"\twant of memory\t\t72\t9\t8\t7\n", 4),
     (None, None, b"\twant of memory\t\t\t\t\t\n", 4),
 ];

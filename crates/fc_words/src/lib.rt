@@ -18,6 +18,7 @@ pub use tasks::Task;
 pub use weights::weight_of;
 
 mod alone;
+mod batching;
 mod bounds;
 mod commands;
 mod expansions;

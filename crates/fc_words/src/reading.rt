@@ -1,9 +1,10 @@
 ghost use Rattle.std.specs.Prelude.{IfOk};
 ghost use Rattle.fc_words.specs.Sound.{IsSound};
 
+use crate::batching::batch;
 use crate::commands::Command;
 use crate::faults::WordsFault;
-use crate::subcommands::{batch, best, check, deal, replay, show, solve};
+use crate::subcommands::{best, check, deal, replay, show, solve};
 use crate::table;
 use crate::tasks::Task;
 use clap::ArgMatches;
