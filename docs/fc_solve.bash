@@ -3,7 +3,7 @@
 _fc_solve() {
   local word=${COMP_WORDS[COMP_CWORD]} before=${COMP_WORDS[COMP_CWORD - 1]} words
   local game="--game --kings --cells" search="--budget --within --bound --expand --rule"
-  local form="--words --boards --sequences --color"
+  local form="--words --boards --sequences --json --color"
   case $before in
     --game) words="freecell bakers" ;;
     --bound) words="plain clearing" ;;
@@ -13,16 +13,16 @@ _fc_solve() {
     --within) words="1 1.1 1.2 1.3 1.5 2 3 4 5 6 7 8 9 10" ;;
     --budget) words="100k 1M max" ;;
     --color) words="auto always never" ;;
-    --cert) ;;
+    --cert | --certs) ;;
     *)
       case ${COMP_WORDS[1]} in
         "$word") words="deal show best solve check replay batch help --help --version" ;;
         show) words="--plain --color --rows --deal $game --help" ;;
         best) words="--cert --deal --rows $form --stats --quiet --budget --rule $game --help" ;;
         solve) words="--cert --deal --rows $form --stats --quiet $search $game --help" ;;
-        batch) words="--table --best $search $game --help" ;;
+        batch) words="--table --json --totals --boards --rows --certs --best $search $game --help" ;;
         replay) words="--numbered --sequences --rows $game --help" ;;
-        check) words="--rows $game --help" ;;
+        check) words="--json --rows $game --help" ;;
         help) words="deal show best solve check replay batch" ;;
       esac
       ;;

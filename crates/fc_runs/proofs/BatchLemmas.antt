@@ -7,7 +7,6 @@ use Rattle.std.proofs.lemmas.Bool.{cases_eq}
 use Rattle.std.proofs.lemmas.List.{flat_map_more, length-append}
 use Rattle.fc_io.specs.Moves.{TakesBytes, TakesFront}
 use Rattle.fc_io.proofs.MoveLemmas.{TakesBytes-both, takes_then_front}
-use Rattle.fc_position.specs.Position.{Fits}
 use Rattle.fc_deal.specs.Deal.{dealt_board}
 use Rattle.fc_answers.specs.declared.answers.Outcome.{Outcome}
 use Rattle.fc_best_first.specs.declared.searches.SearchFault.{SearchFault}

@@ -1,5 +1,5 @@
 -- What running several deals in turns promises, over any sink.
-use Rattle.std.specs.Prelude.{◌≡◌, ◌⊎◌, ℕ, ◌+◌, ◌<◌, ◌≤◌, List, [], ◌∷◌, ◌++◌, max, length, slice_get, Option, Some, None, IsTrue, codes, decimal}
+use Rattle.std.specs.Prelude.{◌≡◌, ◌⊎◌, ℕ, ◌+◌, ◌<◌, ◌≤◌, List, [], ◌∷◌, max, length, slice_get, Option, Some, None, IsTrue}
 use Rattle.std.specs.List.{flat_map}
 use Rattle.fc_io.specs.Moves.{TakesBytes, TakesFront}
 use Rattle.fc_deal.specs.Deal.{IsDealNumber, dealt_board}

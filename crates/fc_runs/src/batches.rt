@@ -97,7 +97,7 @@ pub(crate) fn deals_of(from: u32, to: u32) -> Result<u32, ProgramFault>
 }
 
 // Whether a deal has this number.
-fn is_deal(n: u32) -> bool
+pub(crate) fn is_deal(n: u32) -> bool
     ensures value { IsTrue result ↔ IsDealNumber n }
 {
     (1..=1_000_000).contains(&n)

@@ -10,12 +10,14 @@ pub use fc_board_runs::{
     Input, LONGEST_BOARD, LONGEST_MOVES, Look, Output, ProgramFault, read_position, run_deal,
     run_replay, run_replay_as, run_replay_sequences, run_show,
 };
+pub use rows::{Far, Row, Sought, answer_row};
 pub use solving::{run_solve, run_solve_by};
-pub use tabling::{run_best_table, run_table};
+pub use tabling::{run_table, table_deals, table_head};
 
 mod batches;
 mod best_batches;
 mod besting;
 mod checking;
+mod rows;
 mod solving;
 mod tabling;

@@ -4,7 +4,10 @@ use crate::given::{budget, free_cell, home_rule};
 use fc_io::ToArray;
 use fc_io::testing::Failing;
 use fc_moves::FreeCell;
-use fc_runs::{MOST_DEALS, Output, ProgramFault, run_batch, run_batch_by, run_table};
+use fc_runs::{
+    MOST_DEALS, Output, ProgramFault, Sought, run_batch, run_batch_by, run_table, table_deals,
+    table_head,
+};
 use fc_search::{Budget, Question};
 use std::alloc::Global;
 use std::process::Abort;
@@ -115,10 +118,29 @@ fn lines_are_cut_where_the_sink_fails(rt: HostRuntime) {
 const NAMES: &[u8] = b"deal\tanswer\tmoves\tfloor\tclasses\tturns\tmost_open\n";
 
 #[test]
+fn a_table_has_any_number_of_deals(rt: HostRuntime) {
+    assert!(rt; table_head().as_bytes() == NAMES);
+    for (from, to, wanted) in [
+        (1, 1, Ok(1)),
+        (1, 1_000_000, Ok(1_000_000)),
+        (33, 32, Err(ProgramFault::Range)),
+        (0, 2_000_000, Err(ProgramFault::Number(0))),
+        (1, 1_000_001, Err(ProgramFault::Number(1_000_001))),
+    ] {
+        assert!(rt; table_deals(from, to) == wanted);
+    }
+    let mut out = ToArray::<2000>::new();
+    let question = question(&rt, budget(&rt, 1));
+    let result = run_table(rt.alloc(), &question, Sought::Best, 1, 40, &mut out);
+    let lines = out.held().split(|byte| *byte == b'\n').count();
+    assert!(rt; result == Ok(2) && lines == 42);
+}
+
+#[test]
 fn a_table_has_a_row_for_each_deal(rt: HostRuntime) {
     let mut out = ToArray::<500>::new();
     let question = question(&rt, budget(&rt, 1));
-    let result = run_table(rt.alloc(), &question, 24, 26, &mut out);
+    let result = run_table(rt.alloc(), &question, Sought::ByMethod, 24, 26, &mut out);
     assert!(rt; result == Ok(2));
     let mut lines = out.held().split_inclusive(|byte| *byte == b'\n');
     assert!(rt; lines.next() == Some(NAMES));
@@ -137,8 +159,13 @@ fn tables_are_refused(rt: HostRuntime) {
         };
         let Row(from, to, _, wanted, _) = *row;
         let mut out = Failing::new(ToArray::<100>::new(), 3);
-        let result = run_table(rt.alloc(), &question(&rt, most), from, to, &mut out);
+        let question = question(&rt, most);
+        let result = run_table(rt.alloc(), &question, Sought::ByMethod, from, to, &mut out);
         let (fault, written) = match wanted {
+            // (a table has more than 32 deals, too)
+            Err(ProgramFault::Range) if from <= to => {
+                (ProgramFault::Write(Output::Answer), &NAMES[..3])
+            }
             Ok(_) => (ProgramFault::Write(Output::Answer), &NAMES[..3]),
             Err(fault) => (fault, &NAMES[..0]),
         };

@@ -38,6 +38,8 @@ mod refusals;
 #[cfg(test)]
 mod replays;
 #[cfg(test)]
+mod rows;
+#[cfg(test)]
 mod runs;
 #[cfg(test)]
 mod searches;

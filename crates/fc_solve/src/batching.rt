@@ -1,32 +1,96 @@
-//! `batch`: several numbered deals are solved.
+//! `batch`: several boards are solved.
 ghost use Rattle.std.specs.Prelude.{◌≤◌};
 
-use crate::endings::Ending;
+use crate::endings::{Ending, tell};
 use crate::games::InGame;
 use crate::outputs::Out;
+use crate::tables::{write_deals, write_rows};
 use fc_methods::{Method, Question};
 use fc_moves::Game;
-use fc_runs::{run_batch, run_batch_by, run_best_batch, run_best_table, run_table};
-use fc_words::{BatchSearch, BatchWords};
+use fc_runs::{ProgramFault, Sought, run_batch, run_batch_by, run_best_batch, table_deals};
+use fc_words::{BatchBoards, BatchForm, BatchSearch, BatchWords};
 
-impl InGame for BatchWords {
+impl InGame for BatchWords<'_> {
     fn perform<G: Game + Drop>(&self, rt: &HostRuntime, game: &G) -> Result<u8, Ending> {
-        let (from, to) = (self.from, self.to);
-        let (alloc, mut out) = (rt.alloc(), Out::new(rt));
-        let Some(method) = method_of(&self.search) else {
-            // (a fault of the numbers is told before the budget's)
-            let (rule, budget) = limits_of(&self.search);
-            let ran = run_batch(alloc, game, rule, from, to, budget, &mut out);
-            return out.end_of(ran);
+        match (&self.boards, self.form) {
+            (BatchBoards::Deals { from, to }, BatchForm::Lines) => {
+                write_lines(rt, game, &self.search, *from, *to)
+            }
+            (BatchBoards::Deals { from, to }, _) => {
+                // (a fault of the numbers is told before the budget's)
+                if let Err(fault) = table_deals(*from, *to) {
+                    return Err(unasked(rt, fault, *from, *to));
+                }
+                write_table(rt, game, self)
+            }
+            _ => write_table(rt, game, self),
+        }
+    }
+}
+
+// A line for each deal.
+fn write_lines<G: Game + Drop>(
+    rt: &HostRuntime,
+    game: &G,
+    search: &BatchSearch,
+    from: u32,
+    to: u32,
+) -> Result<u8, Ending> {
+    let (alloc, mut out) = (rt.alloc(), Out::new(rt));
+    let Some(method) = method_of(search) else {
+        // (a fault of the numbers is told before the budget's)
+        let (rule, budget) = limits_of(search);
+        return match run_batch(alloc, game, rule, from, to, budget, &mut out) {
+            Ok(status) => Ok(status),
+            Err(fault) => Err(unasked(rt, fault, from, to)),
         };
-        let question = Question::new(game, method);
-        let ran = match (self.search, self.is_table) {
-            (BatchSearch::By(_), false) => run_batch_by(alloc, &question, from, to, &mut out),
-            (BatchSearch::By(_), true) => run_table(alloc, &question, from, to, &mut out),
-            (BatchSearch::Best(_), false) => run_best_batch(alloc, &question, from, to, &mut out),
-            (BatchSearch::Best(_), true) => run_best_table(alloc, &question, from, to, &mut out),
-        };
-        out.end_of(ran)
+    };
+    let question = Question::new(game, method);
+    let ran = match search {
+        BatchSearch::By(_) => run_batch_by(alloc, &question, from, to, &mut out),
+        BatchSearch::Best(_) => run_best_batch(alloc, &question, from, to, &mut out),
+    };
+    match ran {
+        Err(ProgramFault::Range) => Err(unasked(rt, ProgramFault::Range, from, to)),
+        ran => out.end_of(ran),
+    }
+}
+
+// Ends with why deals can't be asked for, and what to do where they are none or too many.
+fn unasked(rt: &HostRuntime, fault: ProgramFault, from: u32, to: u32) -> Ending {
+    let ProgramFault::Range = fault else {
+        return Ending::Fault(fault);
+    };
+    let status = tell(rt, &fault);
+    let _told = if from > to {
+        eprintln!(rt; "fc_solve: {from} to {to} are none: the lesser number stands first")
+    } else {
+        eprintln!(rt;
+            "fc_solve: with --table they are any number, one after the other: see docs/LISTS.md"
+        )
+    };
+    Ending::Told(status)
+}
+
+// A table.
+fn write_table<G: Game + Drop>(
+    rt: &HostRuntime,
+    game: &G,
+    words: &BatchWords<'_>,
+) -> Result<u8, Ending> {
+    let Some(method) = method_of(&words.search) else {
+        return Err(Ending::Fault(ProgramFault::Budget));
+    };
+    let sought = match words.search {
+        BatchSearch::By(_) => Sought::ByMethod,
+        BatchSearch::Best(_) => Sought::Best,
+    };
+    let question = Question::new(game, method);
+    match (&words.boards, words.form, words.certs, words.has_totals) {
+        (BatchBoards::Deals { from, to }, BatchForm::Table, None, false) => {
+            write_deals(rt, &question, sought, *from, *to)
+        }
+        _ => write_rows(rt, words, &question, sought),
     }
 }
 

@@ -1,20 +1,21 @@
 //! `best`: a board is answered as well as a budget lets, and it is told how far the searches are.
 ghost use Rattle.fc_moves.specs.GameRules.{IsPositionOf};
 
-use crate::boards::{create, find_board, read_start};
+use crate::boards::{find_board, read_start};
+use crate::certs::CertFile;
 use crate::endings::Ending;
 use crate::forms::{LONGEST_ANSWER, Manner, tell_held};
 use crate::games::InGame;
+use crate::objects::{Name, tell_answer};
 use crate::outputs::Out;
 use crate::solving::tell_advice;
 use crate::watching::{BestTeller, Line};
-use fc_io::{ToArray, ToWriter};
+use fc_io::ToArray;
 use fc_methods::{MOST_BUDGET, Question};
 use fc_moves::Game;
 use fc_position::Position;
 use fc_runs::{ProgramFault, run_best};
 use fc_words::{BestWords, MovesForm};
-use std::fs::File;
 use std::io::IsTerminal;
 
 impl InGame for BestWords<'_> {
@@ -22,7 +23,7 @@ impl InGame for BestWords<'_> {
         let source = find_board(rt, &self.board)?;
         let deal = source.deal();
         let cert = match self.cert {
-            Some(path) => Some(ToWriter::new(create(rt, path)?)),
+            Some(path) => Some(CertFile::new(rt, path)?),
             None => None,
         };
         // (before anything is read)
@@ -46,7 +47,7 @@ fn answer_from<G: Game + Drop>(
     words: &BestWords<'_>,
     question: &Question<G>,
     start: &Position,
-    cert: Option<ToWriter<File>>,
+    cert: Option<CertFile>,
     line: &Line<'_>,
 ) -> Result<u8, Ending>
     requires position { IsPositionOf question.now.game start.now }
@@ -77,8 +78,13 @@ fn answer_from<G: Game + Drop>(
         &mut teller,
     );
     line.clear();
-    let manner = Manner::new(rt, words.form, words.colours);
-    let told = tell_held(rt, question.game(), start, ran, answer.held(), manner);
+    let told = if let MovesForm::Json = words.form {
+        let name = Name::of(&words.board.word, line.deal());
+        tell_answer(rt, name, ran, answer.held(), teller.stored_and_turns())
+    } else {
+        let manner = Manner::new(rt, words.form, words.colours);
+        tell_held(rt, question.game(), start, ran, answer.held(), manner)
+    };
     teller.tell_stats(words.has_stats, answer.held());
     told
 }

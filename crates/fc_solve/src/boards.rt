@@ -11,7 +11,7 @@ use fc_io::{FromReader, FromSlice, ReadFault};
 use fc_plain::PlainText;
 use fc_position::Position;
 use fc_rows::columns_of_rows;
-use fc_runs::{Input, Output, ProgramFault, read_position};
+use fc_runs::{Input, ProgramFault, read_position};
 use fc_words::{BoardWord, BoardWords, is_number};
 use std::fs::{self, File};
 use std::io::IsTerminal;
@@ -90,9 +90,9 @@ pub fn read_start(rt: &HostRuntime, source: BoardSource<'_>, cells: u8) -> Resul
     }
 }
 
-// A numbered deal, for a game with so many cells: none of them holds a card.
+/// A numbered deal, for a game with so many cells: none of them holds a card.
 #[tactic(auto, using(fc_deal::proofs::DealLemmas::dealt_fits))]
-fn deal_for(number: u32, cells: u8) -> Option<Position>
+pub fn deal_for(number: u32, cells: u8) -> Option<Position>
     ensures fits { IfSome result (Fits cells) }
 {
     deal(number)
@@ -116,6 +116,22 @@ fn read_input(rt: &HostRuntime) -> Result<PlainText, Ending> {
     }
     match PlainText::read(&mut FromReader::new(input)) {
         Ok(text) => Ok(text),
+        Err(fault) => Err(unread(rt, fault)),
+    }
+}
+
+/// The board of a text, for a game with so many cells; what is wrong with it is told, with where it lies.
+pub fn read_board_text(
+    rt: &HostRuntime,
+    text: &[u8],
+    is_in_rows: bool,
+    cells: u8,
+) -> Result<Position, Ending>
+    requires cells { cells ≤ 4 }
+    ensures fits { IfOk result (Fits cells) }
+{
+    match PlainText::read(&mut FromSlice::new(text)) {
+        Ok(plain) => read_text(rt, plain.bytes(), is_in_rows, cells),
         Err(fault) => Err(unread(rt, fault)),
     }
 }
@@ -173,13 +189,5 @@ pub fn open(rt: &HostRuntime, path: &str, input: Input) -> Result<FromReader<Fil
     match File::open(rt, path) {
         Ok(file) => Ok(FromReader::with_likely_len(file, likely_len)),
         Err(error) => Err(tell_of_file(rt, ProgramFault::Read(input), path, error)),
-    }
-}
-
-/// The file with this path, made or emptied, for a certificate.
-pub fn create(rt: &HostRuntime, path: &str) -> Result<File, Ending> {
-    match File::create(rt, path) {
-        Ok(file) => Ok(file),
-        Err(error) => Err(tell_of_file(rt, ProgramFault::Write(Output::Cert), path, error)),
     }
 }

@@ -62,7 +62,7 @@ fn tell_in_form<G: Game>(
 {
     let is_coloured = manner.is_coloured;
     match manner.form {
-        MovesForm::Letters => tell_whole(rt, answer),
+        MovesForm::Letters | MovesForm::Json => tell_whole(rt, answer),
         MovesForm::Words => tell_in_pages(rt, game, start, answer, Page::Words(is_coloured)),
         MovesForm::Boards => tell_in_pages(rt, game, start, answer, Page::Drawn(is_coloured)),
         MovesForm::Sequences => tell_entries(rt, game, start, answer),

@@ -4,6 +4,7 @@
 mod batching;
 mod besting;
 mod boards;
+mod certs;
 mod checking;
 mod dealing;
 mod endings;
@@ -11,14 +12,18 @@ mod entries;
 mod forms;
 mod games;
 mod lengths;
+mod lists;
 mod moves;
 mod notes;
+mod objects;
 mod outputs;
 mod replaying;
 mod showing;
 mod shown;
 mod solving;
 mod streams;
+mod tables;
+mod tallies;
 mod watching;
 
 ghost use Rattle.fc_words.specs.Sound.{IsSound};
@@ -83,11 +88,14 @@ fn tell_words(rt: &HostRuntime, fault: &WordsFault) -> Result<u8, Ending> {
             let _told = usage.print(rt);
             Ok(if usage.exit_code() == 0 { 0 } else { REFUSED })
         }
-        WordsFault::NoBudget | WordsFault::NoWeight | WordsFault::OneInput | WordsFault::Missing =>
-            {
-                let _told = eprintln!(rt; "fc_solve: {fault}");
-                Ok(REFUSED)
-            }
+        WordsFault::NoBudget
+        | WordsFault::NoWeight
+        | WordsFault::CertInAnswer
+        | WordsFault::OneInput
+        | WordsFault::Missing => {
+            let _told = eprintln!(rt; "fc_solve: {fault}");
+            Ok(REFUSED)
+        }
     }
 }
 

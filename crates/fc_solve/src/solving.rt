@@ -1,19 +1,20 @@
 //! `solve`: a board is solved, and it is told how far the search is.
 ghost use Rattle.fc_moves.specs.GameRules.{IsPositionOf};
 
-use crate::boards::{create, find_board, read_start};
+use crate::boards::{find_board, read_start};
+use crate::certs::CertFile;
 use crate::endings::Ending;
 use crate::forms::{LONGEST_ANSWER, Manner, tell_held};
 use crate::games::InGame;
+use crate::objects::{Name, tell_answer};
 use crate::outputs::Out;
 use crate::watching::{Line, Teller};
-use fc_io::{ToArray, ToWriter};
+use fc_io::ToArray;
 use fc_methods::{BoundKind, MOST_BUDGET, Method, Question};
 use fc_moves::Game;
 use fc_position::Position;
 use fc_runs::{ProgramFault, run_solve_by};
 use fc_words::{MovesForm, SolveWords};
-use std::fs::File;
 use std::io::IsTerminal;
 
 impl InGame for SolveWords<'_> {
@@ -21,7 +22,7 @@ impl InGame for SolveWords<'_> {
         let source = find_board(rt, &self.board)?;
         let deal = source.deal();
         let cert = match self.cert {
-            Some(path) => Some(ToWriter::new(create(rt, path)?)),
+            Some(path) => Some(CertFile::new(rt, path)?),
             None => None,
         };
         // (before anything is read)
@@ -44,7 +45,7 @@ fn search_from<G: Game + Drop>(
     words: &SolveWords<'_>,
     question: &Question<G>,
     start: &Position,
-    cert: Option<ToWriter<File>>,
+    cert: Option<CertFile>,
     line: &Line<'_>,
 ) -> Result<u8, Ending>
     requires position { IsPositionOf question.now.game start.now }
@@ -75,8 +76,13 @@ fn search_from<G: Game + Drop>(
         &mut teller,
     );
     line.clear();
-    let manner = Manner::new(rt, words.form, words.colours);
-    let told = tell_held(rt, question.game(), start, ran, answer.held(), manner);
+    let told = if let MovesForm::Json = words.form {
+        let name = Name::of(&words.board.word, line.deal());
+        tell_answer(rt, name, ran, answer.held(), teller.stored_and_turns())
+    } else {
+        let manner = Manner::new(rt, words.form, words.colours);
+        tell_held(rt, question.game(), start, ran, answer.held(), manner)
+    };
     teller.tell_stats(words.has_stats, answer.held());
     told
 }

@@ -27,6 +27,11 @@ impl<'a> Line<'a> {
         }
     }
 
+    /// The number of the deal, of a numbered one.
+    pub fn deal(&self) -> Option<u32> {
+        self.deal
+    }
+
     /// Takes the line away, if it is there.
     pub fn clear(&self) {
         if self.is_there.replace(false) {
@@ -59,6 +64,15 @@ impl<'a> Line<'a> {
         let _told = eprint!(self.rt; "best so far {moves}, at least {at_least}\r");
     }
 
+    /// Writes the line over: how many boards are done, of how many, if that is known, and how many have a shortest list.
+    pub fn show_done(&self, done: u64, total: Option<u32>, shortest: u64) {
+        self.begin();
+        let _told = match total {
+            Some(total) => eprint!(self.rt; "{done} of {total}, {shortest} shortest\r"),
+            None => eprint!(self.rt; "{done} done, {shortest} shortest\r"),
+        };
+    }
+
     // Ends a run with a line of numbers.
     fn tell_stats(&self, classes: usize, turns: u64, most_open: u128, floor: u32) {
         if let Some(number) = self.deal {
@@ -87,6 +101,14 @@ impl<'a> Teller<'a> {
             is_shown,
             lines: 0,
             last: None,
+        }
+    }
+
+    /// How many classes were stored, and how many turns taken, as was heard last.
+    pub fn stored_and_turns(&self) -> (Option<u64>, Option<u64>) {
+        match self.last {
+            Some(far) => (Some(far.classes as u64), Some(far.turns)),
+            None => (None, None),
         }
     }
 
@@ -131,6 +153,14 @@ impl<'a> BestTeller<'a> {
             is_shown,
             shown: None,
             last: None,
+        }
+    }
+
+    /// How many classes all searches stored together, and how many turns they took, as was heard last.
+    pub fn stored_and_turns(&self) -> (Option<u64>, Option<u64>) {
+        match self.last {
+            Some(far) => (Some(u64::from(far.classes)), Some(far.turns)),
+            None => (None, None),
         }
     }
 

@@ -26,6 +26,8 @@ mod home;
 #[cfg(test)]
 mod moves;
 #[cfg(test)]
+mod objects;
+#[cfg(test)]
 mod plain;
 #[cfg(test)]
 mod positions;

@@ -8,7 +8,7 @@ use crate::games::GameName;
 use fc_methods::{BoundKind, Budget, Expansion, HomeRule, Method, Strategy, Weight};
 
 /// What a command line asks for.
-#[derive(Clone, Copy)]
+#[derive(Drop)]
 pub enum Command<'a> {
     /// A numbered deal is printed.
     Deal(DealWords),
@@ -22,8 +22,8 @@ pub enum Command<'a> {
     Check(CheckWords<'a>),
     /// A list of moves is replayed.
     Replay(ReplayWords<'a>),
-    /// Several numbered deals are solved.
-    Batch(BatchWords),
+    /// Several boards are solved.
+    Batch(BatchWords<'a>),
 }
 
 /// What is said of a game, of which a board is one.
@@ -198,6 +198,8 @@ pub struct CheckWords<'a> {
     pub board: BoardWords<'a>,
     /// The file of the certificate.
     pub cert: &'a str,
+    /// Whether what is proved, or why nothing is, is printed as a JSON object.
+    pub is_json: bool,
 }
 
 /// The words of `replay`, of which the board and the moves are not both from standard input.
@@ -212,15 +214,38 @@ pub struct ReplayWords<'a> {
     pub has_sequences: bool,
 }
 
-/// The words of `batch`.
+/// Which boards a batch is of.
+#[derive(Drop)]
+pub enum BatchBoards<'a> {
+    /// The numbered deals from the one number to the other, each as it was told: it may be no deal's, and the last one may be
+    /// less than the first.
+    Deals { from: u32, to: u32 },
+    /// The boards of these files, of which `-` is standard input.
+    Files(Vec<&'a str>),
+}
+
+/// How what is told of each board of a batch is printed.
 #[derive(Clone, Copy)]
-pub struct BatchWords {
+pub enum BatchForm {
+    /// A line each; the searches take turns.
+    Lines,
+    /// A row each of a table, with numbers of each search; they go one after the other.
+    Table,
+    /// A JSON object each, on a line of its own; they go one after the other.
+    Json,
+}
+
+/// The words of `batch`.
+#[derive(Drop)]
+pub struct BatchWords<'a> {
     pub game: GameWords,
-    /// The number of the first deal, which may be no deal's.
-    pub from: u32,
-    /// The number of the last one, which may be less than the first's.
-    pub to: u32,
+    pub boards: BatchBoards<'a>,
+    /// Whether the texts of boards have the rows across the table, and not the columns.
+    pub is_in_rows: bool,
     pub search: BatchSearch,
-    /// Whether a table is printed, with numbers of each search.
-    pub is_table: bool,
+    pub form: BatchForm,
+    /// The folder that takes a certificate for each board, if they are asked for.
+    pub certs: Option<&'a str>,
+    /// Whether the table ends with how many boards have which answer.
+    pub has_totals: bool,
 }

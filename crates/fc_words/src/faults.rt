@@ -14,6 +14,9 @@ pub enum WordsFault {
     /// The weight is no number that is one.
     #[error("--within is a number from 1 to 10, such as 2 or 1.3")]
     NoWeight,
+    /// The certificate is to go to standard output, where the answer goes.
+    #[error("--cert takes the name of a file: standard output is the answer's")]
+    CertInAnswer,
     /// The board and the moves are both to be read from standard input.
     #[error("BOARD and MOVES can't both be standard input")]
     OneInput,

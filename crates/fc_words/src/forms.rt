@@ -15,6 +15,8 @@ pub enum MovesForm {
     Boards,
     /// As entries that may move several cards, in one line.
     Sequences,
+    /// By two letters each, in a JSON object with the answer.
+    Json,
 }
 
 /// When red suits are shown in red.

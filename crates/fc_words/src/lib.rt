@@ -5,8 +5,9 @@
 pub use alone::{is_number, is_subcommand, mean_board};
 pub use bounds::{bound_name, bound_of_name};
 pub use commands::{
-    BatchSearch, BatchWords, BestSearchWords, BestWords, BoardWord, BoardWords, CheckWords,
-    Command, DealWords, GameWords, MovesWord, ReplayWords, SearchWords, ShowWords, SolveWords,
+    BatchBoards, BatchForm, BatchSearch, BatchWords, BestSearchWords, BestWords, BoardWord,
+    BoardWords, CheckWords, Command, DealWords, GameWords, MovesWord, ReplayWords, SearchWords,
+    ShowWords, SolveWords,
 };
 pub use expansions::{expansion_name, expansion_of_name, usual_expansion};
 pub use faults::WordsFault;
@@ -17,6 +18,7 @@ pub use tasks::Task;
 pub use weights::weight_of;
 
 mod alone;
+mod batching;
 mod bounds;
 mod commands;
 mod expansions;

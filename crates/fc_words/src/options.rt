@@ -41,6 +41,10 @@ pub(crate) enum Kind {
     DealInPlaceOf(&'static str),
     /// The number of a deal, which must stand there.
     DealNumber,
+    /// The number of a deal, which must stand there but where the option of this name does.
+    DealNumberUnless(&'static str),
+    /// An option with the paths of one file or more.
+    Files,
     /// A word that must stand there.
     Needed,
     /// A word that may stand there.
@@ -126,7 +130,7 @@ pub(crate) const RULE: Word = Word {
         range: (0, GREATEST_RULE),
         default: "2",
     },
-    help: "Cards that go home at once: none (0), safe ones (1), all (2)",
+    help: "Cards that go home at once: none (0), safe ones (1), more safe ones (2)",
 };
 
 fn rule(words: &ArgMatches<'_>) -> Option<HomeRule> {
@@ -267,20 +271,26 @@ fn board_word<'a>(words: &ArgMatches<'a>) -> Option<BoardWord<'a>> {
 
 pub(crate) const BOARDS: Word = Word {
     name: "boards",
-    kind: Kind::FlagInPlaceOf(&["words", "sequences"]),
+    kind: Kind::FlagInPlaceOf(&["words", "sequences", "json"]),
     help: "Tells the moves in words, and draws the board after each",
 };
 
 pub(crate) const WORDS: Word = Word {
     name: "words",
-    kind: Kind::FlagInPlaceOf(&["boards", "sequences"]),
+    kind: Kind::FlagInPlaceOf(&["boards", "sequences", "json"]),
     help: "Tells the moves in words, a line each",
 };
 
 pub(crate) const IN_SEQUENCES: Word = Word {
     name: "sequences",
-    kind: Kind::FlagInPlaceOf(&["boards", "words"]),
+    kind: Kind::FlagInPlaceOf(&["boards", "words", "json"]),
     help: "Joins moves that carry several cards, as a player's hand does",
+};
+
+pub(crate) const IN_JSON: Word = Word {
+    name: "json",
+    kind: Kind::FlagInPlaceOf(&["boards", "words", "sequences"]),
+    help: "Prints the answer as a JSON object, for other programs",
 };
 
 /// How the moves of an answer are to be told.
@@ -291,6 +301,8 @@ pub(crate) fn form(words: &ArgMatches<'_>) -> MovesForm {
         MovesForm::Words
     } else if words.get_flag(IN_SEQUENCES.name) {
         MovesForm::Sequences
+    } else if words.get_flag(IN_JSON.name) {
+        MovesForm::Json
     } else {
         MovesForm::Letters
     }

@@ -1,9 +1,10 @@
 ghost use Rattle.std.specs.Prelude.{IfOk};
 ghost use Rattle.fc_words.specs.Sound.{IsSound};
 
+use crate::batching::batch;
 use crate::commands::Command;
 use crate::faults::WordsFault;
-use crate::subcommands::{batch, best, check, deal, replay, show, solve};
+use crate::subcommands::{best, check, deal, replay, show, solve};
 use crate::table;
 use crate::tasks::Task;
 use clap::ArgMatches;
@@ -13,7 +14,8 @@ use std::alloc::Global;
 ///
 /// # Errors
 /// Words that the table of words doesn't let through, and help and the version, which come in the same way; a budget that is
-/// no number; a board and moves that are both to be read from standard input; or want of memory.
+/// no number; a certificate that is to go to standard output; a board and moves that are both to be read from standard input; or
+/// want of memory.
 pub fn read<'a>(alloc: Global, words: &'a [String]) -> Result<Command<'a>, WordsFault>
     ensures sound { IfOk result IsSound }
 {
@@ -23,7 +25,7 @@ pub fn read<'a>(alloc: Global, words: &'a [String]) -> Result<Command<'a>, Words
     };
     match matches.subcommand() {
         Some((name, words)) => match Task::of_name(name) {
-            Some(task) => read_task(task, words),
+            Some(task) => read_task(alloc, task, words),
             None => Err(WordsFault::Missing),
         },
         None => Err(WordsFault::Missing),
@@ -31,7 +33,11 @@ pub fn read<'a>(alloc: Global, words: &'a [String]) -> Result<Command<'a>, Words
 }
 
 // What the words of a task's subcommand ask for.
-fn read_task<'a>(task: Task, words: &ArgMatches<'a>) -> Result<Command<'a>, WordsFault>
+fn read_task<'a>(
+    alloc: Global,
+    task: Task,
+    words: &ArgMatches<'a>,
+) -> Result<Command<'a>, WordsFault>
     ensures sound { IfOk result IsSound }
 {
     match task {
@@ -59,7 +65,7 @@ fn read_task<'a>(task: Task, words: &ArgMatches<'a>) -> Result<Command<'a>, Word
             Ok(words) => Ok(Command::Replay(words)),
             Err(fault) => Err(fault),
         },
-        Task::Batch => match batch(words) {
+        Task::Batch => match batch(alloc, words) {
             Ok(words) => Ok(Command::Batch(words)),
             Err(fault) => Err(fault),
         },

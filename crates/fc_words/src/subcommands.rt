@@ -4,15 +4,15 @@ ghost use Rattle.std.specs.Prelude.{◌≤◌, IfOk, IfSome};
 ghost use Rattle.fc_words.specs.Sound.{HasOneInput};
 ghost use Rattle.fc_words.specs.declared.options.TheConstants.{MOST_CELLS};
 
+use crate::batching::BATCHING;
 use crate::commands::{
-    BatchSearch, BatchWords, BestWords, BoardWord, CheckWords, DealWords, MovesWord, ReplayWords,
-    ShowWords, SolveWords,
+    BestWords, BoardWord, CheckWords, DealWords, MovesWord, ReplayWords, ShowWords, SolveWords,
 };
 use crate::faults::WordsFault;
 use crate::options::{
-    BOARDS, BOUND, BUDGET, CELLS, COLOR, DEAL, EXPAND, GAME, IN_SEQUENCES, KINGS, Kind, MOVES,
-    NEEDED_BOARD, OPTIONAL_BOARD, ROWS, RULE, WITHIN, WORDS, Word, best_search, colours, form,
-    game, moves, needed_board, optional_board, search,
+    BOARDS, BOUND, BUDGET, CELLS, COLOR, DEAL, EXPAND, GAME, IN_JSON, IN_SEQUENCES, KINGS, Kind,
+    MOVES, NEEDED_BOARD, OPTIONAL_BOARD, ROWS, RULE, WITHIN, WORDS, Word, best_search, colours,
+    form, game, moves, needed_board, optional_board, search,
 };
 use crate::tasks::Task;
 use clap::ArgMatches;
@@ -108,6 +108,7 @@ Examples:
         WORDS,
         BOARDS,
         IN_SEQUENCES,
+        IN_JSON,
         COLOR,
         STATS,
         QUIET,
@@ -129,6 +130,7 @@ pub(crate) fn best<'a>(words: &ArgMatches<'a>) -> Result<BestWords<'a>, WordsFau
         Ok(search) => search,
         Err(fault) => return Err(fault),
     };
+    let cert = cert(words)?;
     let (Some(game), Some(colours)) = (game(words), colours(words)) else {
         return Err(WordsFault::Missing);
     };
@@ -136,7 +138,7 @@ pub(crate) fn best<'a>(words: &ArgMatches<'a>) -> Result<BestWords<'a>, WordsFau
         game,
         board: optional_board(words),
         search,
-        cert: words.get_str(CERT_OPTION.name),
+        cert,
         form: form(words),
         colours,
         has_stats: words.get_flag(STATS.name),
@@ -167,6 +169,7 @@ Examples:
         WORDS,
         BOARDS,
         IN_SEQUENCES,
+        IN_JSON,
         COLOR,
         STATS,
         QUIET,
@@ -189,6 +192,14 @@ const CERT_OPTION: Word = Word {
     help: "Writes a proof of the answer to FILE, for `check`",
 };
 
+// The file that takes the certificate, if one is asked for.
+fn cert<'a>(words: &ArgMatches<'a>) -> Result<Option<&'a str>, WordsFault> {
+    match words.get_str(CERT_OPTION.name) {
+        Some("-") => Err(WordsFault::CertInAnswer),
+        cert => Ok(cert),
+    }
+}
+
 const STATS: Word = Word {
     name: "stats",
     kind: Kind::Flag,
@@ -209,6 +220,7 @@ pub(crate) fn solve<'a>(words: &ArgMatches<'a>) -> Result<SolveWords<'a>, WordsF
         Ok(search) => search,
         Err(fault) => return Err(fault),
     };
+    let cert = cert(words)?;
     let (Some(game), Some(colours)) = (game(words), colours(words)) else {
         return Err(WordsFault::Missing);
     };
@@ -216,7 +228,7 @@ pub(crate) fn solve<'a>(words: &ArgMatches<'a>) -> Result<SolveWords<'a>, WordsF
         game,
         board: optional_board(words),
         search,
-        cert: words.get_str(CERT_OPTION.name),
+        cert,
         form: form(words),
         colours,
         has_stats: words.get_flag(STATS.name),
@@ -224,13 +236,19 @@ pub(crate) fn solve<'a>(words: &ArgMatches<'a>) -> Result<SolveWords<'a>, WordsF
     })
 }
 
-// `check [GAME] BOARD CERT`.
+// `check [--json] [GAME] BOARD CERT`.
 static CHECKING: Subcommand = Subcommand {
     about: "Says what a certificate proves of a board, or why it proves nothing; it searches nothing",
     after_help: "Status: 0 accepted, 3 refused, 4 want of memory, 5 reading or writing failed.
 
 Example: fc_solve check boards/locked.txt boards/locked.cert",
-    words: &[GAME, KINGS, CELLS, ROWS, NEEDED_BOARD, CERT],
+    words: &[CLAIM_IN_JSON, GAME, KINGS, CELLS, ROWS, NEEDED_BOARD, CERT],
+};
+
+const CLAIM_IN_JSON: Word = Word {
+    name: "json",
+    kind: Kind::Flag,
+    help: "Prints what is proved, or why nothing is, as a JSON object",
 };
 
 const CERT: Word = Word {
@@ -247,6 +265,7 @@ pub(crate) fn check<'a>(words: &ArgMatches<'a>) -> Option<CheckWords<'a>>
         game: game(words)?,
         board: needed_board(words)?,
         cert: words.get_str(CERT.name)?,
+        is_json: words.get_flag(CLAIM_IN_JSON.name),
     })
 }
 
@@ -301,71 +320,5 @@ pub(crate) fn replay<'a>(words: &ArgMatches<'a>) -> Result<ReplayWords<'a>, Word
         moves,
         is_numbered: words.get_flag(NUMBERED.name),
         has_sequences: words.get_flag(SEQUENCES.name),
-    })
-}
-
-// `batch FROM TO [--table] [--budget B] [--best | [--within W] [--bound NAME] [--expand NAME]] [GAME] [--rule R]`.
-static BATCHING: Subcommand = Subcommand {
-    about: "Solves up to 32 numbered deals side by side, and prints a line for each, without moves",
-    after_help: "Status: the greatest of the lines': 0 a solution, 1 can't be won, 2 gave up, 4 want of memory;
-and 3 for what was asked and isn't right, 5 where writing failed.
-
-Example: fc_solve batch 11982 11982",
-    words: &[
-        FROM, TO, TABLE, BUDGET, BEST, WITHIN, BOUND, EXPAND, GAME, KINGS, CELLS, RULE,
-    ],
-};
-
-const FROM: Word = Word {
-    name: "FROM",
-    kind: Kind::DealNumber,
-    help: "The number of the first deal, 1 to 1000000",
-};
-
-const TO: Word = Word {
-    name: "TO",
-    kind: Kind::DealNumber,
-    help: "The number of the last deal",
-};
-
-const TABLE: Word = Word {
-    name: "table",
-    kind: Kind::Flag,
-    help: "Prints a table parted by tabs, with numbers of each search",
-};
-
-const BEST: Word = Word {
-    name: "best",
-    kind: Kind::FlagInPlaceOf(&["within", "bound", "expand"]),
-    help: "The best answer that the budget gives of each deal, as by `best`",
-};
-
-// How the words of `batch` ask to search.
-fn batch_search(words: &ArgMatches<'_>) -> Result<BatchSearch, WordsFault> {
-    if words.get_flag(BEST.name) {
-        Ok(BatchSearch::Best(best_search(words)?))
-    } else {
-        Ok(BatchSearch::By(search(words)?))
-    }
-}
-
-/// What `batch` asks for.
-pub(crate) fn batch(words: &ArgMatches<'_>) -> Result<BatchWords, WordsFault>
-    ensures cells { IfOk result (λ batch. batch.game.cells ≤ MOST_CELLS) }
-{
-    let search = batch_search(words)?;
-    let (Some(from), Some(to), Some(game)) = (
-        words.get_one::<u32>(FROM.name),
-        words.get_one::<u32>(TO.name),
-        game(words),
-    ) else {
-        return Err(WordsFault::Missing);
-    };
-    Ok(BatchWords {
-        game,
-        from,
-        to,
-        search,
-        is_table: words.get_flag(TABLE.name),
     })
 }

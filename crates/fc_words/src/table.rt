@@ -71,6 +71,11 @@ fn arg_of<'a>(alloc: Global, word: &'static Word) -> Result<Arg<'a>, AllocError>
             .value_parser(value_parser!(u32))
             .conflicts_with(board)?,
         Kind::DealNumber => arg.required(true).value_parser(value_parser!(u32)),
+        Kind::DealNumberUnless(other) => arg
+            .value_parser(value_parser!(u32))
+            .required_unless_present(other)?
+            .conflicts_with(other)?,
+        Kind::Files => arg.long(word.name).value_name("FILE").num_args(1..),
         Kind::Needed => arg.required(true),
         Kind::Optional => arg,
     })

@@ -1,7 +1,7 @@
-use Rattle.std.proofs.Common.{rules, IsTrue, OnErr}
+use Rattle.std.proofs.Common.{◌∙◌, rules, IsTrue, OnErr}
 use Rattle.fc_board_runs.specs.Devices.{Device}
 use Rattle.fc_runs.specs.Tabling.{IsTableCutShort}
-use Rattle.fc_runs.proofs.TablingLemmas.{one_more_written, row_cut_short}
+use Rattle.fc_runs.proofs.TablingLemmas.{none_written, one_more_written, row_cut_short}
 use Rattle.fc_runs.proofs.tabling.write_table.Goals as goal
 
 pub returns-in_err-write_all-clause-cut : goal.returns-in_err-write_all-clause-cut
@@ -24,14 +24,20 @@ returns-in_default-clause-cut g c =
     } in
     let failed : IsTrue sink.failed = search rules in
     row_cut_short c.args.sought c.args.question.now c.args.from c.loop-i.i c.args.count
-    (g.K.Sink.held c.loop-i.out) sink c.loop-i.greatest c.row_by-row.result c.loop-i.invariant.so_far c.row_by-row.ensures.deal c.row_by-row.ensures.right
-    c.row_by-row.ensures.floor (search rules) c.loop-i-test.true failed
+    (g.K.Sink.held c.loop-i.out) sink c.loop-i.greatest c.deal_row-row.result c.loop-i.invariant.so_far c.deal_row-row.ensures.row
+    (search rules) c.loop-i-test.true failed
+
+pub loop-i-init : goal.loop-i-init
+loop-i-init g c = record {
+  so_far = none_written c.args.sought c.args.question.now c.args.from (g.K.Sink.held c.args.out.now) (g.K.Sink.held c.write_all.new.sink)
+      c.as_bytes.result.now (c.as_bytes.ensures.value ∙ c.table_head.ensures.value) (search rules);
+  sound = search rules;
+}
 
 pub loop-i-preserved : goal.loop-i-preserved
 loop-i-preserved g c = record {
   so_far = one_more_written c.args.sought c.args.question.now c.args.from c.loop-i.i
       (g.K.Sink.held c.args.out.now) (g.K.Sink.held c.loop-i.out) (g.K.Sink.held c.write_all-in-loop-i.new.sink) c.loop-i.greatest c.max-greatest.result
-      c.row_by-row.result c.loop-i.invariant.so_far c.row_by-row.ensures.deal c.row_by-row.ensures.right
-      c.row_by-row.ensures.floor (search rules) (search rules);
+      c.deal_row-row.result c.loop-i.invariant.so_far c.deal_row-row.ensures.row (search rules) (search rules);
   sound = search rules;
 }

@@ -1,0 +1,22 @@
+-- What an object tells of a board.
+use Rattle.std.specs.Prelude.{ℕ, List, Option, Some, None, codes}
+use Rattle.std.specs.Borrow.{Bor}
+use Rattle.serde_json.specs.Data.{Members, no_members, number, put, string, unsigned}
+use Rattle.fc_json.specs.declared.objects.Told.{Told}
+
+-- a number under its name, if there is one
+abbrev pub with_number : List ℕ → Option ℕ → Members → Members
+with_number name (Some n) members = put name (number (unsigned n)) members
+with_number name None members = members
+
+-- a text under its name, if there is one
+abbrev pub with_text : List ℕ → Option (Bor (List ℕ)) → Members → Members
+with_text name (Some text) members = put name (string text.now) members
+with_text name None members = members
+
+-- all that is told of a board, each under its name
+abbrev pub members_of : Told → Members
+members_of told = with_text (codes "answer") (Some told.answer) (with_text (codes "board") told.board
+    (with_number (codes "deal") told.deal (with_text (codes "fault") told.fault (with_number (codes "floor") told.floor
+    (with_text (codes "list") told.list (with_number (codes "moves") told.moves (with_number (codes "stored") told.stored
+    (with_number (codes "turns") told.turns no_members))))))))

@@ -1,0 +1,83 @@
+-- The floors of rows, and what their certificates rest on.
+use Rattle.std.proofs.Common.{◌≡◌, ℕ, suc, List, [], ◌∷◌, Option, Some, None, sym, subst, arith}
+use Rattle.std.specs.Prelude.{All, IfSome}
+use Rattle.fc_position.specs.Board.{Board}
+use Rattle.fc_moves.specs.GameRules.{GameRules}
+use Rattle.fc_answers.specs.declared.answers.Outcome.{Outcome}
+use Rattle.fc_answers.specs.declared.answers.Outcome.TheVariants as outcome
+use Rattle.fc_answers.specs.declared.answers.Verdict.{Verdict}
+use Rattle.fc_answers.specs.declared.answers.Verdict.TheVariants as verdict
+use Rattle.fc_answers.specs.Verdict.{IsRight, outcome_of}
+use Rattle.fc_best.specs.Best.{IsBest, IsFloor}
+use Rattle.fc_best.specs.Watch.{IsTold}
+use Rattle.fc_best.specs.declared.listeners.BestProgress.{BestProgress}
+use Rattle.fc_methods.specs.Method.{Asked}
+use Rattle.fc_search.specs.declared.listeners.Progress.{Progress}
+use Rattle.fc_search.specs.Watch.{HearsAll, TellFloors}
+use Rattle.fc_board_runs.specs.Devices.{Device}
+use Rattle.fc_runs.specs.declared.rows.Far.{Far}
+use Rattle.fc_runs.specs.declared.rows.Last.{Last}
+use Rattle.fc_runs.specs.declared.rows.Sought.{Sought}
+use Rattle.fc_runs.specs.declared.rows.Sought.TheVariants.{ByMethod, Best}
+use Rattle.fc_runs.specs.Rows.{IsAnswerOf, IsSought, IsToldIn, best_far_of, far_of, floor_of, told_floor}
+
+-- who keeps what is told last of a board has a floor of it, if it has any
+pub last_floor : (g : GameRules) (b : Board) (old new : Last) (heard : List Progress) → HearsAll (λ _ far next. next.far ≡ Some (far_of far)) old heard new
+    → TellFloors g b heard → IfSome (told_floor old.far) (IsFloor g b) → IfSome (told_floor new.far) (IsFloor g b)
+last_floor g b old new [] same floors floor = subst (λ (l : Last). IfSome (told_floor l.far) (IsFloor g b)) (sym same) floor
+last_floor g b old new (far ∷ heard) (mid, keeps, rest) (least, floors) floor =
+    last_floor g b mid new heard rest floors (subst (λ o. IfSome (told_floor o) (IsFloor g b)) (sym keeps) least)
+
+-- and so has who keeps what is told last of the searches for a best answer
+pub best_last_floor : (q : Asked) (b : Board) (old new : Last) (heard : List BestProgress)
+    → HearsAll (λ _ far next. next.far ≡ Some (best_far_of far)) old heard new → All (IsTold q b) heard
+    → IfSome (told_floor old.far) (IsFloor q.game b) → IfSome (told_floor new.far) (IsFloor q.game b)
+best_last_floor q b old new [] same told floor = subst (λ (l : Last). IfSome (told_floor l.far) (IsFloor q.game b)) (sym same) floor
+best_last_floor q b old new (far ∷ heard) (mid, keeps, rest) told floor =
+    let first : IsTold q b far = told 0 far (omega arith) in
+    best_last_floor q b mid new heard rest (λ k d within. told (suc k) d (omega (arith, within)))
+    (subst (λ o. IfSome (told_floor o) (IsFloor q.game b)) (sym keeps) first.least)
+
+-- the floor that an answer tells of a board, if it tells any
+answered_floor : Outcome → Option ℕ
+answered_floor (outcome.Shortest count) = Some count
+answered_floor (outcome.Won count least) = Some least
+answered_floor outcome.CannotWin = None
+answered_floor (outcome.GaveUp told) = None
+
+right_floor : (g : GameRules) (parts times budget : ℕ) (b : Board) (verdict : Verdict) → IsRight g parts times b budget verdict
+    → IfSome (answered_floor (outcome_of verdict)) (IsFloor g b)
+unfolding answered_floor
+right_floor g parts times budget b (verdict.Shortest moves) right = right.least
+right_floor g parts times budget b (verdict.Won moves least) right = right.floor
+right_floor g parts times budget b verdict.CannotWin right = tt
+right_floor g parts times budget b (verdict.GaveUp told) right = tt
+
+best_floor : (g : GameRules) (budget : ℕ) (b : Board) (verdict : Verdict) → IsBest g b budget verdict
+    → IfSome (answered_floor (outcome_of verdict)) (IsFloor g b)
+unfolding answered_floor
+best_floor g budget b (verdict.Shortest moves) right = right.least
+best_floor g budget b (verdict.Won moves least) (wins, floor, less) = floor
+best_floor g budget b verdict.CannotWin right = tt
+best_floor g budget b (verdict.GaveUp told) right = tt
+
+sought_floor : (sought : Sought) (q : Asked) (b : Board) (verdict : Verdict) → IsSought sought q b verdict
+    → IfSome (answered_floor (outcome_of verdict)) (IsFloor q.game b)
+sought_floor ByMethod q b verdict is =
+    right_floor q.game q.method.strategy.weight.parts q.method.strategy.weight.times q.method.strategy.budget b verdict is.right.right
+sought_floor Best q b verdict is = best_floor q.game q.method.strategy.budget b verdict is.right
+
+told_of_answer : (sought : Sought) (q : Asked) (b : Board) (cert : Option Device) (told : Outcome) → IsAnswerOf sought q b cert told
+    → IfSome (answered_floor told) (IsFloor q.game b)
+told_of_answer sought q b cert told is =
+    subst (λ o. IfSome (answered_floor o) (IsFloor q.game b)) (sym is.answer) (sought_floor sought q b is.verdict is.decided)
+
+-- the floor of a row: what its answer tells, and else what was told last
+pub row_floor : (sought : Sought) (q : Asked) (b : Board) (cert : Option Device) (told : Option Outcome) (far : Option Far)
+    → IsToldIn sought q b cert told → IfSome (told_floor far) (IsFloor q.game b) → IfSome (floor_of told far) (IsFloor q.game b)
+unfolding answered_floor
+row_floor sought q b cert None far right floor = floor
+row_floor sought q b cert (Some (outcome.GaveUp told)) far right floor = floor
+row_floor sought q b cert (Some outcome.CannotWin) far right floor = tt
+row_floor sought q b cert (Some (outcome.Shortest count)) far right floor = told_of_answer sought q b cert (outcome.Shortest count) right
+row_floor sought q b cert (Some (outcome.Won count least)) far right floor = told_of_answer sought q b cert (outcome.Won count least) right

@@ -1,0 +1,105 @@
+-- What a row tells of a board.
+use Rattle.std.specs.Prelude.{◌≡◌, ℕ, ◌++◌, List, [], Option, Some, None, IfSome, codes, decimal}
+use Rattle.fc_position.specs.Board.{Board}
+use Rattle.fc_methods.specs.Method.{Asked}
+use Rattle.fc_answers.specs.declared.answers.Outcome.{Outcome}
+use Rattle.fc_answers.specs.declared.answers.Outcome.TheVariants.{Shortest, Won, CannotWin, GaveUp}
+use Rattle.fc_answers.specs.declared.answers.Verdict.{Verdict}
+use Rattle.fc_answers.specs.Verdict.{outcome_of}
+use Rattle.fc_best.specs.Best.{IsBestVerdict, IsFloor}
+use Rattle.fc_search.specs.declared.listeners.Progress.{Progress}
+use Rattle.fc_search.specs.Problem.{problem_of}
+use Rattle.fc_board_runs.specs.declared.faults.Output.TheVariants.{Cert as of_certificate}
+use Rattle.fc_board_runs.specs.declared.faults.ProgramFault.{ProgramFault}
+use Rattle.fc_board_runs.specs.declared.faults.ProgramFault.TheVariants.{Write}
+use Rattle.fc_board_runs.specs.Devices.{Device, IsUntouched}
+use Rattle.fc_best.specs.declared.listeners.BestProgress.{BestProgress}
+use Rattle.fc_runs.specs.declared.rows.Far.{Far}
+use Rattle.fc_runs.specs.declared.rows.Row.{Row}
+use Rattle.fc_runs.specs.declared.rows.Sought.{Sought}
+use Rattle.fc_runs.specs.declared.rows.Sought.TheVariants.{ByMethod, Best}
+use Rattle.fc_runs.specs.Solving.{IsCertified, IsCutShort, IsDecided}
+
+-- what an answer is called in a table, or that memory was wanted
+abbrev pub answer_name : Option Outcome → List ℕ
+answer_name (Some (Shortest count)) = codes "shortest"
+answer_name (Some (Won count floor)) = codes "won"
+answer_name (Some CannotWin) = codes "can't be won"
+answer_name (Some (GaveUp budget)) = codes "gave up"
+answer_name None = codes "want of memory"
+
+-- how many moves an answer has, if it has any
+abbrev pub moves_of : Option Outcome → Option ℕ
+moves_of (Some (Shortest count)) = Some count
+moves_of (Some (Won count floor)) = Some count
+moves_of (Some CannotWin) = None
+moves_of (Some (GaveUp budget)) = None
+moves_of None = None
+
+-- what a row keeps of what a search tells
+abbrev pub far_of : Progress → Far
+far_of far = record { classes = far.classes; turns = far.turns; most_open = far.most_open; at_least = far.at_least }
+
+-- and of what the searches for a best answer tell
+abbrev pub best_far_of : BestProgress → Far
+best_far_of far = record { classes = far.classes; turns = far.turns; most_open = far.most_open; at_least = far.at_least }
+
+-- the floor that was told last, if any was
+abbrev pub told_floor : Option Far → Option ℕ
+told_floor (Some far) = Some far.at_least
+told_floor None = None
+
+-- how many moves each list that wins has at least: as the answer tells it, or else the search; nothing where no list wins
+abbrev pub floor_of : Option Outcome → Option Far → Option ℕ
+floor_of (Some (Shortest count)) far = Some count
+floor_of (Some (Won count floor)) far = Some floor
+floor_of (Some CannotWin) far = None
+floor_of (Some (GaveUp budget)) far = told_floor far
+floor_of None far = told_floor far
+
+-- a number in its cell, which is empty where there is none
+abbrev pub number_text : Option ℕ → List ℕ
+number_text (Some n) = decimal n
+number_text None = []
+
+-- the cells of what a search told of itself, and the end of a row: the classes, the turns and the most that was open; the
+-- cells are empty where it told nothing
+abbrev pub far_text : Option Far → List ℕ
+far_text (Some far) = decimal far.classes ++ codes "\t" ++ decimal far.turns ++ codes "\t" ++ decimal far.most_open ++ codes "\n"
+far_text None = codes "\t\t\n"
+
+-- the cells of a row behind its name, each after a tab, and its end: the answer, how many moves it has, the floor, and what its
+-- search told
+abbrev pub cells_text : Row → List ℕ
+cells_text row = codes "\t" ++ answer_name row.told ++ codes "\t" ++ number_text (moves_of row.told) ++ codes "\t"
+    ++ number_text (floor_of row.told row.far) ++ codes "\t" ++ far_text row.far
+
+-- a verdict is what was sought of a board: that of a search by the question's method, or a best one
+abbrev pub IsSought : Sought → Asked → Board → Verdict → Type 0
+IsSought ByMethod q b verdict = IsDecided (problem_of q b) verdict
+IsSought Best q b verdict = IsBestVerdict q b verdict
+
+-- an answer is told of a board: that of a verdict that was sought, of which the sink of certificates, where there is one, took
+-- the certificate
+pub record IsAnswerOf (sought : Sought) (q : Asked) (b : Board) (cert : Option Device) (told : Outcome) : Type 0 where
+  pub verdict : Verdict
+  pub decided : IsSought sought q b verdict
+  pub certified : IfSome cert (IsCertified (problem_of q b) verdict)
+  pub answer : told ≡ outcome_of verdict
+
+-- what is told of a board: its answer; or that memory was wanted, and then no certificate is written
+abbrev pub IsToldIn : Sought → Asked → Board → Option Device → Option Outcome → Type 0
+IsToldIn sought q b cert None = IfSome cert IsUntouched
+IsToldIn sought q b cert (Some told) = IsAnswerOf sought q b cert told
+
+-- a row is right for a board: what it tells is, and no list of fewer moves than its floor wins. Nothing is promised of the
+-- other numbers that a search told
+pub record IsRowOf (sought : Sought) (q : Asked) (b : Board) (cert : Option Device) (row : Row) : Type 0 where
+  pub told : IsToldIn sought q b cert row.told
+  pub floor : IfSome (floor_of row.told row.far) (IsFloor q.game b)
+
+-- why a board has no row: the certificate of what was sought couldn't be written, of which a front may be
+abbrev pub IsNoRow : Sought → Asked → Board → Option Device → ProgramFault → Type 0
+IsNoRow sought q b cert (Write of_certificate) = (verdict : Verdict) × IsSought sought q b verdict
+    × ((lent : Device) × (cert ≡ Some lent) × IsCutShort (problem_of q b) verdict lent)
+IsNoRow sought q b cert other = ⊥

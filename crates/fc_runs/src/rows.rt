@@ -1,0 +1,354 @@
+//! What a row tells of a board: its answer without moves, and what its search told last.
+
+ghost use Rattle.std.specs.Prelude.{◌≡◌, ◌+◌, ◌≤◌, ◌++◌, List, Some, None, length, IfOk, IfErr, IfSome};
+ghost use Rattle.arrayvec.specs.ArrayString.{array_string_len};
+ghost use Rattle.fc_moves.specs.GameRules.{IsPositionOf};
+ghost use Rattle.fc_search.specs.declared.listeners.Progress.{Progress};
+ghost use Rattle.fc_search.specs.Watch.{HearsAll, TellFloors};
+ghost use Rattle.fc_best.specs.Watch.{HearsTold};
+ghost use Rattle.fc_board_runs.specs.Devices.{IsHandedBack, change, lent};
+ghost use Rattle.fc_answer_text.specs.AnswerText.{told_status};
+ghost use Rattle.fc_runs.specs.Rows.{IsAnswerOf, IsNoRow, IsRowOf, answer_name, cells_text, far_text, floor_of, moves_of, number_text};
+
+use crate::solving::write_certificate;
+use arrayvec::ArrayString;
+use fc_answer_text::{outcome_of, told_status};
+use fc_answers::Outcome;
+use fc_best::{BestListener, BestProgress, best};
+use fc_board_runs::{Output, ProgramFault};
+use fc_io::Sink;
+use fc_methods::Question;
+use fc_moves::Game;
+use fc_position::Position;
+use fc_search::{Listener, Progress, decide_by, solve_by};
+use itoa::Buffer;
+use std::alloc::{AllocError, Global};
+
+/// What is sought of a board: its answer by the question's method, or its best answer within the question's budget.
+#[derive(Clone, Copy)]
+pub enum Sought {
+    ByMethod,
+    Best,
+}
+
+/// What a search, or the searches for a best answer together, told last.
+#[derive(Clone, Copy)]
+pub struct Far {
+    /// How many classes of positions were stored.
+    pub classes: u64,
+    /// How many turns there were.
+    pub turns: u64,
+    /// The most entries that were open in one search, whenever it was told.
+    pub most_open: u128,
+    /// No list of fewer moves wins.
+    pub at_least: u32,
+}
+
+/// What a row tells of a board: its answer without moves, or `None` where memory was wanted, and what was told last.
+#[derive(Clone, Copy)]
+pub struct Row {
+    pub told: Option<Outcome>,
+    pub far: Option<Far>,
+}
+
+impl Row {
+    /// What the answer is called: `shortest`, `won`, `can't be won`, `gave up` or `want of memory`.
+    pub fn answer_name(&self) -> &'static str
+        ensures value { result.now ≡ answer_name self.now.told }
+        ensures short { length result.now ≤ 14 }
+    {
+        match self.told {
+            Some(Outcome::Shortest(_)) => "shortest",
+            Some(Outcome::Won { .. }) => "won",
+            Some(Outcome::CannotWin) => "can't be won",
+            Some(Outcome::GaveUp(_)) => "gave up",
+            None => "want of memory",
+        }
+    }
+
+    /// How many moves the list has that wins, if one was found.
+    pub fn moves(&self) -> Option<u32>
+        ensures value { result ≡ moves_of self.now.told }
+    {
+        match self.told {
+            Some(Outcome::Shortest(moves) | Outcome::Won { moves, .. }) => Some(moves),
+            _ => None,
+        }
+    }
+
+    /// How many moves each list that wins has at least: as the answer tells it, or else the search.
+    pub fn floor(&self) -> Option<u32>
+        ensures value { result ≡ floor_of self.now.told self.now.far }
+    {
+        match self.told {
+            Some(Outcome::Shortest(floor) | Outcome::Won { floor, .. }) => Some(floor),
+            Some(Outcome::CannotWin) => None,
+            _ => Some(self.far?.at_least),
+        }
+    }
+
+    /// The exit status that tells the row: 0 for a solution, 1 where the board can't be won, 2 on giving up, 4 for want of
+    /// memory.
+    pub fn status(&self) -> u8
+        ensures value { result ≡ told_status self.now.told }
+    {
+        told_status(self.told)
+    }
+
+    /// The row behind its name, as a table has it: a tab before each cell, and an end of line. The cells are the answer's name,
+    /// the moves, the floor, and the classes, the turns and the most that was open; a cell is empty where there is nothing to
+    /// tell.
+    pub fn cells(&self) -> ArrayString<264>
+        ensures text { result.bytes ≡ cells_text self.now }
+        ensures short { length result.bytes ≤ 220 }
+    {
+        let mut text = ArrayString::new();
+        text.push_str("\t");
+        text.push_str(self.answer_name());
+        text.push_str("\t");
+        push_number(&mut text, self.moves());
+        text.push_str("\t");
+        push_number(&mut text, self.floor());
+        text.push_str("\t");
+        push_far(&mut text, self.far);
+        text
+    }
+}
+
+// Appends a number, if there is one.
+fn push_number(text: &mut ArrayString<264>, number: Option<u32>)
+    requires room { array_string_len text.old ≤ 200 }
+    ensures text { text.new.bytes ≡ text.old.bytes ++ number_text number }
+    ensures short { array_string_len text.new ≤ array_string_len text.old + 40 }
+{
+    let mut buffer = Buffer::new();
+    if let Some(number) = number {
+        text.push_str(buffer.format(number));
+    }
+}
+
+// Appends what a search told of itself, and the end of a row.
+fn push_far(text: &mut ArrayString<264>, far: Option<Far>)
+    requires room { array_string_len text.old ≤ 98 }
+    ensures text { text.new.bytes ≡ text.old.bytes ++ far_text far }
+    ensures short { array_string_len text.new ≤ array_string_len text.old + 122 }
+{
+    let mut buffer = Buffer::new();
+    let Some(far) = far else {
+        text.push_str("\t\t\n");
+        return;
+    };
+    text.push_str(buffer.format(far.classes));
+    text.push_str("\t");
+    text.push_str(buffer.format(far.turns));
+    text.push_str("\t");
+    text.push_str(buffer.format(far.most_open));
+    text.push_str("\n");
+}
+
+/// Who keeps what is told last.
+#[derive(Clone, Copy)]
+struct Last {
+    far: Option<Far>,
+}
+
+impl Listener for Last {
+    ghost use Rattle.std.specs.Prelude.{◌≡◌, Some};
+    ghost use Rattle.fc_runs.specs.Rows.{far_of};
+
+    ghost hears = { λ _ far new. new.far ≡ Some (far_of far) };
+
+    fn hear(&mut self, far: Progress) {
+        self.far = Some(Far {
+            classes: far.classes as u64,
+            turns: far.turns,
+            most_open: far.most_open,
+            at_least: far.at_least,
+        });
+    }
+}
+
+impl BestListener for Last {
+    ghost use Rattle.std.specs.Prelude.{◌≡◌, Some};
+    ghost use Rattle.fc_runs.specs.Rows.{best_far_of};
+
+    ghost hears = { λ _ far new. new.far ≡ Some (best_far_of far) };
+
+    fn hear(&mut self, far: BestProgress) {
+        self.far = Some(Far {
+            classes: u64::from(far.classes),
+            turns: far.turns,
+            most_open: far.most_open,
+            at_least: far.at_least,
+        });
+    }
+}
+
+/// The row of a position of the question's game, of which this is sought. Where `cert` is given, the certificate of the answer is
+/// written to it, whole; giving up has none, and want of memory neither. No list of moves wins in fewer than the row's floor, also
+/// where the search gave up or memory was wanted. Of the classes, the turns and the most that was open nothing is proved: these
+/// numbers are only tested.
+///
+/// # Errors
+/// A certificate that can't be written, of which a front may be.
+pub fn answer_row<G: Game + Drop, C: Sink>(
+    alloc: Global,
+    question: &Question<G>,
+    sought: Sought,
+    start: &Position,
+    cert: Option<&mut C>,
+) -> Result<Row, ProgramFault>
+    requires position { IsPositionOf question.now.game start.now }
+    ensures row { IfOk result (IsRowOf sought question.now start.now (lent C.held C.has_failed cert.entry cert.exit)) }
+    ensures fault { IfErr result (IsNoRow sought question.now start.now (lent C.held C.has_failed cert.entry cert.exit)) }
+    ensures back { IsHandedBack cert.entry cert.exit }
+{
+    match cert {
+        Some(cert) => certified_row(alloc, question, sought, start, cert),
+        None => Ok(plain_row(alloc, question, sought, start)),
+    }
+}
+
+// The row of a position, without a certificate.
+pub(crate) fn plain_row<G: Game + Drop>(
+    alloc: Global,
+    question: &Question<G>,
+    sought: Sought,
+    start: &Position,
+) -> Row
+    requires position { IsPositionOf question.now.game start.now }
+    ensures row { IsRowOf sought question.now start.now None result }
+{
+    match sought {
+        Sought::ByMethod => row_by_method(alloc, question, start),
+        Sought::Best => best_row(alloc, question, start),
+    }
+}
+
+// The row of a position that is searched by the question's method.
+fn row_by_method<G: Game + Drop>(alloc: Global, question: &Question<G>, start: &Position) -> Row
+    requires position { IsPositionOf question.now.game start.now }
+    ensures row { IsRowOf Sought.ByMethod question.now start.now None result }
+{
+    let mut last = Last { far: None };
+    let told = told_of(alloc, question, start, &mut last);
+    Row {
+        told: told.ok(),
+        far: last.far,
+    }
+}
+
+// What the search of a position answers, without moves.
+fn told_of<G: Game + Drop, L: Listener>(
+    alloc: Global,
+    question: &Question<G>,
+    start: &Position,
+    listener: &mut L,
+) -> Result<Outcome, AllocError>
+    requires position { IsPositionOf question.now.game start.now }
+    ensures told { IfOk result (IsAnswerOf Sought.ByMethod question.now start.now None) }
+    ensures floors { (heard : List Progress) × HearsAll L.hears listener.old heard listener.new × TellFloors question.now.game start.now heard }
+{
+    let verdict = decide_by(alloc, question, start, listener)?;
+    Ok(outcome_of(&verdict))
+}
+
+// The row of a position whose best answer is searched for.
+fn best_row<G: Game + Drop>(alloc: Global, question: &Question<G>, start: &Position) -> Row
+    requires position { IsPositionOf question.now.game start.now }
+    ensures row { IsRowOf Sought.Best question.now start.now None result }
+{
+    let mut last = Last { far: None };
+    let told = best_told_of(alloc, question, start, &mut last);
+    Row {
+        told: told.ok(),
+        far: last.far,
+    }
+}
+
+// What the searches for the best answer of a position answer, without moves.
+fn best_told_of<G: Game + Drop, L: BestListener>(
+    alloc: Global,
+    question: &Question<G>,
+    start: &Position,
+    listener: &mut L,
+) -> Result<Outcome, AllocError>
+    requires position { IsPositionOf question.now.game start.now }
+    ensures told { IfOk result (IsAnswerOf Sought.Best question.now start.now None) }
+    ensures heard { HearsTold L.hears question.now start.now listener.old listener.new }
+{
+    let answer = best(alloc, question, start, false, listener)?;
+    Ok(outcome_of(&answer.verdict))
+}
+
+// The row of a position, once its certificate is written.
+fn certified_row<G: Game + Drop, C: Sink>(
+    alloc: Global,
+    question: &Question<G>,
+    sought: Sought,
+    start: &Position,
+    cert: &mut C,
+) -> Result<Row, ProgramFault>
+    requires position { IsPositionOf question.now.game start.now }
+    ensures row { IfOk result (IsRowOf sought question.now start.now (Some (change C.held C.has_failed cert.old cert.new))) }
+    ensures fault { IfErr result (IsNoRow sought question.now start.now (Some (change C.held C.has_failed cert.old cert.new))) }
+{
+    match sought {
+        Sought::ByMethod => certified_row_by_method(alloc, question, start, cert),
+        Sought::Best => certified_best_row(alloc, question, start, cert),
+    }
+}
+
+// The row of a position that is searched by the question's method, once its certificate is written.
+fn certified_row_by_method<G: Game + Drop, C: Sink>(
+    alloc: Global,
+    question: &Question<G>,
+    start: &Position,
+    cert: &mut C,
+) -> Result<Row, ProgramFault>
+    requires position { IsPositionOf question.now.game start.now }
+    ensures row { IfOk result (IsRowOf Sought.ByMethod question.now start.now (Some (change C.held C.has_failed cert.old cert.new))) }
+    ensures fault { IfErr result (IsNoRow Sought.ByMethod question.now start.now (Some (change C.held C.has_failed cert.old cert.new))) }
+{
+    let mut last = Last { far: None };
+    let Ok(answer) = solve_by(alloc, question, start, &mut last) else {
+        return Ok(Row {
+            told: None,
+            far: last.far,
+        });
+    };
+    let Ok(()) = write_certificate(question.game(), &answer, cert) else {
+        return Err(ProgramFault::Write(Output::Cert));
+    };
+    Ok(Row {
+        told: Some(outcome_of(&answer.verdict)),
+        far: last.far,
+    })
+}
+
+// The row of a position whose best answer is searched for, once its certificate is written.
+fn certified_best_row<G: Game + Drop, C: Sink>(
+    alloc: Global,
+    question: &Question<G>,
+    start: &Position,
+    cert: &mut C,
+) -> Result<Row, ProgramFault>
+    requires position { IsPositionOf question.now.game start.now }
+    ensures row { IfOk result (IsRowOf Sought.Best question.now start.now (Some (change C.held C.has_failed cert.old cert.new))) }
+    ensures fault { IfErr result (IsNoRow Sought.Best question.now start.now (Some (change C.held C.has_failed cert.old cert.new))) }
+{
+    let mut last = Last { far: None };
+    let Ok(answer) = best(alloc, question, start, true, &mut last) else {
+        return Ok(Row {
+            told: None,
+            far: last.far,
+        });
+    };
+    let Ok(()) = write_certificate(question.game(), &answer, cert) else {
+        return Err(ProgramFault::Write(Output::Cert));
+    };
+    Ok(Row {
+        told: Some(outcome_of(&answer.verdict)),
+        far: last.far,
+    })
+}

@@ -1,0 +1,74 @@
+//! Files that certificates are written to.
+
+ghost use Rattle.std.specs.Prelude.{◌≡◌, ◌≤◌, length, IfSome};
+
+use crate::endings::{Ending, tell_of_file};
+use fc_io::{Failed, Sink};
+use fc_runs::{Output, ProgramFault};
+use std::fs::{File, OpenOptions};
+use std::io::Write;
+
+/// The file that takes a certificate: what stood there stays until the first byte of the certificate is written.
+#[derive(Drop)]
+pub struct CertFile {
+    file: File,
+    has_old: bool,
+    has_failed: bool,
+}
+
+impl CertFile {
+    /// The file with this path, which is made, empty, where there is none.
+    pub fn new(rt: &HostRuntime, path: &str) -> Result<CertFile, Ending> {
+        match OpenOptions::new().write(true).create(true).open(rt, path) {
+            Ok(file) => {
+                let has_old = match file.metadata() {
+                    Ok(metadata) => metadata.is_file() && metadata.len() > 0,
+                    Err(_) => false,
+                };
+                Ok(CertFile {
+                    file,
+                    has_old,
+                    has_failed: false,
+                })
+            }
+            Err(error) => Err(tell_of_file(rt, ProgramFault::Write(Output::Cert), path, error)),
+        }
+    }
+
+    // Takes away what stood there, and writes.
+    fn write_anew(&mut self, piece: &[u8]) -> Option<usize>
+        ensures within { IfSome result (λ n. n ≤ length piece.now) }
+        ensures stays { self.new.has_failed ≡ self.old.has_failed }
+    {
+        if self.has_old {
+            self.file.set_len(0).ok()?;
+            self.has_old = false;
+        }
+        self.file.write(piece).ok()
+    }
+}
+
+impl Sink for CertFile {
+    ghost use Rattle.std.specs.Prelude.{None};
+
+    ghost held = { λ _. None };
+
+    ghost has_failed = { λ s. s.has_failed };
+
+    fn write(&mut self, piece: &[u8]) -> Result<usize, Failed> {
+        if self.has_failed {
+            return Err(Failed);
+        }
+        match self.write_anew(piece) {
+            Some(count) if count > 0 || piece.is_empty() => Ok(count),
+            _ => {
+                self.has_failed = true;
+                Err(Failed)
+            }
+        }
+    }
+
+    fn failed(&self) -> bool {
+        self.has_failed
+    }
+}
