@@ -29,6 +29,19 @@ pub fn verdict_text(alloc: Global, verdict: &Verdict) -> Result<Vec<u8>, AllocEr
     }
 }
 
+/// The line of moves: the text of each, with a blank between two.
+///
+/// # Errors
+/// A growth of memory was refused.
+pub fn moves_text(alloc: Global, moves: &[Move]) -> Result<Vec<u8>, AllocError>
+    requires texts { All HasText moves.now }
+    ensures text { IfOk result (λ t. t.items ≡ moves_line moves.now) }
+{
+    let mut line = Vec::new(alloc);
+    push_line(&mut line, moves)?;
+    Ok(line)
+}
+
 /// The exit status that tells a verdict: 0 for moves that win, 1 where no list wins, 2 on giving up.
 pub fn verdict_status(verdict: &Verdict) -> u8
     ensures value { result ≡ status_of verdict.now }

@@ -2,7 +2,7 @@
 #![tactic(auto)]
 
 pub use answers::{
-    accepted_text, line_text, outcome_of, told_status, verdict_status, verdict_text,
+    accepted_text, line_text, moves_text, outcome_of, told_status, verdict_status, verdict_text,
 };
 
 mod answers;

@@ -1,2 +1,4 @@
+pub mod FrontLemmas
+pub mod ListLemmas
 pub mod ReplayLemmas
 pub mod SequenceLemmas

@@ -13,7 +13,7 @@ use Rattle.fc_replay.proofs.PageLemmas.{replays_printed}
 use Rattle.fc_board_runs.specs.declared.faults.Input.TheVariants.{Board as of_board, Moves as of_moves, Cert as of_certificate}
 use Rattle.fc_board_runs.specs.declared.faults.Output.TheVariants.{Answer as of_answer, Cert as certificate_out}
 use Rattle.fc_board_runs.specs.declared.faults.ProgramFault.{ProgramFault}
-use Rattle.fc_board_runs.specs.declared.faults.ProgramFault.TheVariants.{Number, Range, Budget, Board as bad_board, TooLong, Moves, TooManyWays, Cert, Read, Write, Memory}
+use Rattle.fc_board_runs.specs.declared.faults.ProgramFault.TheVariants.{Number, Range, Budget, Board as bad_board, TooLong, Moves, TooManyWays, ListEnds, Cert, Read, Write, Memory}
 use Rattle.fc_board_runs.specs.Devices.{Device, GivesBoard}
 use Rattle.fc_board_runs.specs.Runs.{IsReplayAs, IsReplayed, IsReplayedAs, IsReplayFault, IsReplayFaultAs, IsReplayOf}
 
@@ -63,6 +63,7 @@ module _ (g : GameRules) (board moves sink : Device) (start : Board) (given : Gi
   fault_printed (Moves (NotAllowed step)) is = replay_printed (Err (NotAllowed step)) is
   fault_printed (Moves unwritten) is = is
   fault_printed (TooManyWays step) is = is
+  fault_printed (ListEnds count) is = is
   fault_printed (Write of_answer) is = (replay_printed (Err unwritten) is.0, is.1)
   fault_printed (Write certificate_out) is = is
   fault_printed (Number n) is = is

@@ -7,6 +7,7 @@ use Rattle.fc_position.specs.Board.{Board}
 use Rattle.fc_position.specs.Position.{IsWon}
 use Rattle.fc_moves.specs.declared.steps.Move.{Move}
 use Rattle.fc_moves.specs.GameRules.{GameRules}
+use Rattle.std.proofs.lemmas.List.{take_all}
 use Rattle.fc_text.proofs.PartLemmas.{length-tokens_between}
 use Rattle.fc_sequences.specs.declared.lists.ListFault.{ListFault}
 use Rattle.fc_sequences.specs.declared.lists.ListFault.TheVariants.{Refused, TooMany, Memory as wanting}
@@ -18,10 +19,11 @@ use Rattle.fc_replay.specs.declared.replays.Ended.{Ended}
 use Rattle.fc_replay.specs.Token.{is_gap, move_tokens}
 use Rattle.fc_board_runs.specs.declared.faults.Input.TheVariants.{Board as of_board, Moves as of_moves, Cert as of_certificate}
 use Rattle.fc_board_runs.specs.declared.faults.ProgramFault.{ProgramFault}
-use Rattle.fc_board_runs.specs.declared.faults.ProgramFault.TheVariants.{Number, Range, Budget, Board as bad_board, TooLong, Moves, TooManyWays, Cert, Read, Write, Memory}
+use Rattle.fc_board_runs.specs.declared.faults.ProgramFault.TheVariants.{Number, Range, Budget, Board as bad_board, TooLong, Moves, TooManyWays, ListEnds, Cert, Read, Write, Memory}
 use Rattle.fc_replay.specs.declared.faults.ReplayFault.TheVariants.{BadMove, NotAllowed, Write as unwritten_page}
 use Rattle.fc_board_runs.specs.Devices.{Device, GivesWhole}
 use Rattle.fc_board_runs.specs.inner.Fault.{list_fault}
+use Rattle.fc_board_runs.proofs.FrontLemmas.{front_all, front_done, front_on}
 use Rattle.fc_board_runs.specs.Sequences.{IsExpanded, IsFirstNoPair, IsLeft, IsListFaultAs, IsUnplayed, SpellPairs}
 
 -- one more token that spells an entry
@@ -58,19 +60,42 @@ listed_few text rest pairs so =
     let count = pairs_length so.front pairs so.spelled in
     omega (arith, count, size, length-append so.front (move_tokens rest), length-tokens_between is_gap text)
 
--- the next token is no entry
-pub listed_bad : (text rest : List ℕ) (more : List (List ℕ)) (pairs : List Pair) (token : List ℕ) → Listed text rest pairs
-    → move_tokens rest ≡ token ∷ more → IsNoPair token → IsFirstNoPair (move_tokens text) (length pairs + 1)
-listed_bad text rest more pairs token so first none = record {
-  front = so.front;
-  token = token;
-  rest = more;
-  parts = sym so.parts ∙ ap (λ l. so.front ++ l) first;
-  place = ap (λ n. n + 1) (pairs_length so.front pairs so.spelled);
-  pairs = pairs;
-  spelled = so.spelled;
-  none = none;
-}
+-- as many entries as are wanted
+pub listed_done : (text rest : List ℕ) (pairs : List Pair) (n : ℕ) → Listed text rest pairs → n ≤ length pairs → length pairs ≤ n
+    → SpellPairs (take n (move_tokens text)) pairs
+listed_done text rest pairs n so least most =
+    let count = pairs_length so.front pairs so.spelled in
+    subst (λ l. SpellPairs l pairs)
+    (sym (front_done so.front (move_tokens rest) (move_tokens text) n so.parts (omega (arith, count, least)) (omega (arith, count, most)))) so.spelled
+
+-- all entries, where no more are wanted
+pub listed_all : (text rest : List ℕ) (pairs : List Pair) (n : ℕ) → Listed text rest pairs → move_tokens rest ≡ [] → length pairs ≤ n
+    → SpellPairs (take n (move_tokens text)) pairs
+listed_all text rest pairs n so none most =
+    let count = pairs_length so.front pairs so.spelled in
+    subst (λ l. SpellPairs l pairs)
+    (sym (front_all so.front (move_tokens rest) (move_tokens text) n so.parts none (omega (arith, count, most)))) so.spelled
+
+-- the next token is wanted, and is no entry
+pub listed_bad : (text rest : List ℕ) (more : List (List ℕ)) (pairs : List Pair) (token : List ℕ) (n : ℕ) → Listed text rest pairs
+    → move_tokens rest ≡ token ∷ more → IsNoPair token → length pairs < n → IsFirstNoPair (take n (move_tokens text)) (length pairs + 1)
+listed_bad text rest more pairs token n so first none less =
+    let count = pairs_length so.front pairs so.spelled in
+    let on = front_on so.front more token n (omega (arith, count, less)) in
+    record {
+      front = so.front;
+      token = token;
+      rest = on.0;
+      parts = ap (λ l. take n l) (sym so.parts ∙ ap (λ l. so.front ++ l) first) ∙ on.1;
+      place = ap (λ k. k + 1) count;
+      pairs = pairs;
+      spelled = so.spelled;
+      none = none;
+    }
+
+-- a text has no more tokens than its longest has bytes
+pub whole_front : (text : List ℕ) (n : ℕ) → length text ≤ n → take n (move_tokens text) ≡ move_tokens text
+whole_front text n short = take_all n (move_tokens text) (omega (arith, length-tokens_between is_gap text, short))
 
 -- a text of entries that was given and isn't played from a position, where nothing was written
 module _ (page : Page) (g : GameRules) (start : Board) (moves sink : Device) (text : List ℕ) (read : GivesWhole moves text) (unwritten : Stays sink.old sink.new) where
@@ -83,6 +108,7 @@ module _ (page : Page) (g : GameRules) (start : Board) (moves sink : Device) (te
   left_for (Moves (BadMove step)) why = left (Moves (BadMove step)) why
   left_for (Moves unwritten_page) why = absurd why
   left_for (TooManyWays step) why = left (TooManyWays step) why
+  left_for (ListEnds count) why = absurd why
   left_for (TooLong of_board) why = absurd why
   left_for (TooLong of_moves) why = inr (left (TooLong of_moves) why)
   left_for (TooLong of_certificate) why = absurd why

@@ -5,7 +5,7 @@ use Rattle.fc_io.specs.declared.transfers.ReadFault.TheVariants.{Failed, TooLong
 use Rattle.fc_board_runs.specs.declared.faults.Input.{Input}
 use Rattle.fc_board_runs.specs.declared.faults.Output.{Output}
 use Rattle.fc_board_runs.specs.declared.faults.ProgramFault.{ProgramFault}
-use Rattle.fc_board_runs.specs.declared.faults.ProgramFault.TheVariants.{Number, Range, Budget, Board, TooLong, Moves, TooManyWays, Cert, Read, Write, Memory}
+use Rattle.fc_board_runs.specs.declared.faults.ProgramFault.TheVariants.{Number, Range, Budget, Board, TooLong, Moves, TooManyWays, ListEnds, Cert, Read, Write, Memory}
 use Rattle.fc_board_runs.specs.declared.faults.Input.TheVariants.{Board as of_board, Moves as of_moves, Cert as of_certificate}
 use Rattle.fc_board_runs.specs.declared.faults.Output.TheVariants.{Answer as of_answer, Cert as certificate_out}
 
@@ -18,6 +18,7 @@ fault_status (Board fault) = 3
 fault_status (TooLong input) = 3
 fault_status (Moves fault) = 3
 fault_status (TooManyWays step) = 3
+fault_status (ListEnds count) = 3
 fault_status (Cert fault) = 3
 fault_status (Read input) = 5
 fault_status (Write output) = 5

@@ -1,5 +1,6 @@
 pub mod Devices
 pub mod Fault
+pub mod Lists
 pub mod Runs
 pub mod Sequences
 pub mod Showing

@@ -77,6 +77,9 @@ pub enum ProgramFault {
     /// to empty columns isn't told.
     #[error("step {0}: too many ways: tell how many cards go to an empty column")]
     TooManyWays(u32),
+    /// The list has so many entries, which are fewer than are asked of.
+    #[error("the list ends after entry {0}")]
+    ListEnds(u32),
     /// The bytes are no certificate of the board; it is never want of memory.
     #[error("certificate refused: {0}")]
     Cert(CheckFault),
@@ -104,6 +107,7 @@ impl ProgramFault {
             | ProgramFault::TooLong(_)
             | ProgramFault::Moves(_)
             | ProgramFault::TooManyWays(_)
+            | ProgramFault::ListEnds(_)
             | ProgramFault::Cert(_) => 3,
             ProgramFault::Memory => 4,
             ProgramFault::Read(_) | ProgramFault::Write(_) => 5,

@@ -1,7 +1,7 @@
 //! The run of the program that replays lists in standard notation, whose entries may move sequences, over any source and any
 //! sink.
 
-ghost use Rattle.std.specs.Prelude.{◌≡◌, ◌+◌, ◌≤◌, length, IfOk, IfErr};
+ghost use Rattle.std.specs.Prelude.{◌≡◌, ◌+◌, ◌≤◌, length, take, IfOk, IfErr};
 ghost use Rattle.fc_io.specs.Moves.{GivesAtMost};
 ghost use Rattle.fc_moves.specs.GameRules.{IsPositionOf};
 ghost use Rattle.fc_replay.specs.Token.{move_tokens};
@@ -49,27 +49,28 @@ pub fn run_replay_sequences<G: Game, M: Source, K: Sink>(
         Ok(text) => text,
         Err(fault) => return Err(read_fault(Input::Moves, fault)),
     };
-    let steps = expand_text(alloc, game, start, text.as_slice())?;
+    let steps = expand_text(alloc, game, start, text.as_slice(), LONGEST_MOVES)?;
     match play(game, start, steps.as_slice(), page, out) {
         Ok(ended) => Ok(ended),
         Err(_) => Err(ProgramFault::Write(Output::Answer)),
     }
 }
 
-// The one-card moves of a text of entries, at most 4,294,967,295.
-fn expand_text<G: Game>(
+// The one-card moves of the first entries of a text, at most so many, which are at most 4,294,967,295.
+pub(crate) fn expand_text<G: Game>(
     alloc: Global,
     game: &G,
     position: &Position,
     text: &[u8],
+    most: usize,
 ) -> Result<Vec<Move>, ProgramFault>
     requires fits { IsPositionOf (G.game game.now) position.now }
     requires short { length text.now ≤ LONGEST_MOVES }
-    ensures expanded { IfOk result (λ moves. IsExpanded (G.game game.now) position.now (move_tokens text.now) moves.items) }
+    ensures expanded { IfOk result (λ moves. IsExpanded (G.game game.now) position.now (take most (move_tokens text.now)) moves.items) }
     ensures few { IfOk result (λ moves. length moves.items ≤ 4294967295) }
-    ensures fault { IfErr result (IsUnplayed (G.game game.now) position.now (move_tokens text.now)) }
+    ensures fault { IfErr result (IsUnplayed (G.game game.now) position.now (take most (move_tokens text.now))) }
 {
-    let pairs = read_pairs(alloc, text)?;
+    let pairs = read_pairs(alloc, text, most)?;
     let moves = match expand(alloc, game, position, pairs.as_slice()) {
         Ok(moves) => moves,
         Err(fault) => return Err(list_fault(fault)),
@@ -80,15 +81,18 @@ fn expand_text<G: Game>(
     Ok(moves)
 }
 
-// The entries of a text.
-fn read_pairs(alloc: Global, text: &[u8]) -> Result<Vec<Pair>, ProgramFault>
+// The first entries of a text, at most so many.
+fn read_pairs(alloc: Global, text: &[u8], most: usize) -> Result<Vec<Pair>, ProgramFault>
     requires short { length text.now ≤ LONGEST_MOVES }
-    ensures spelled { IfOk result (λ pairs. SpellPairs (move_tokens text.now) pairs.items) }
+    ensures spelled { IfOk result (λ pairs. SpellPairs (take most (move_tokens text.now)) pairs.items) }
     ensures few { IfOk result (λ pairs. length pairs.items ≤ LONGEST_MOVES) }
-    ensures fault { IfErr result (IsUnread (move_tokens text.now)) }
+    ensures fault { IfErr result (IsUnread (take most (move_tokens text.now))) }
 {
     let mut pairs = Vec::new(alloc);
     for token in Tokens::new(text, MoveGaps) {
+        if pairs.len() >= most {
+            return Ok(pairs);
+        }
         let Some(pair) = read_pair(token) else {
             return Err(no_entry(pairs.len()));
         };
@@ -100,7 +104,7 @@ fn read_pairs(alloc: Global, text: &[u8]) -> Result<Vec<Pair>, ProgramFault>
 }
 
 // The fault of a token that is no entry, behind so many that are.
-fn no_entry(before: usize) -> ProgramFault
+pub(crate) fn no_entry(before: usize) -> ProgramFault
     requires few { before ≤ LONGEST_MOVES }
     ensures value { result ≡ ProgramFault.Moves (ReplayFault.BadMove (before + 1)) }
 {

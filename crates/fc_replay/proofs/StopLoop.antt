@@ -1,13 +1,12 @@
 -- Looking for the first token that doesn't play.
-use Rattle.std.proofs.Common.{true, ◌≡◌, ℕ, ◌+◌, ◌≤◌, List, ◌∷◌, ◌++◌, [], length, refl}
-use Rattle.std.specs.Prelude.{Option, Some, None, is_some, IfSome}
+use Rattle.std.proofs.Common.{◌≡◌, ℕ, ◌+◌, ◌≤◌, List, ◌∷◌, ◌++◌, [], length, refl}
+use Rattle.std.specs.Prelude.{Option}
 use Rattle.fc_position.specs.Board.{Board}
 use Rattle.fc_moves.specs.declared.steps.Move.{Move}
 use Rattle.fc_moves.specs.GameRules.{GameRules, IsPositionOf}
 use Rattle.fc_moves.specs.Step.{Step}
-use Rattle.fc_moves.specs.declared.refusals.Refusal.{Refusal}
+use Rattle.fc_replay.specs.declared.stops.RefusedMove.{RefusedMove}
 use Rattle.fc_replay.specs.Played.{IsReason, IsFirstStop}
-use Rattle.fc_moves.specs.Refusal.{IsWhy}
 use Rattle.fc_replay.specs.Token.{move_tokens, SpellsMove}
 use Rattle.fc_replay.proofs.ReplayLoop.{Course, Spelled, course_none, course_next, spelled_none, spelled_next, step_fits, stops_here}
 
@@ -42,18 +41,12 @@ pub found_room : (g : GameRules) (start : Board) (text rest : List ℕ) (more : 
 found_room g start text rest more steps here token found first =
     step_fits g start text rest more found.moves found.boards steps here token found.course found.spelled first
 
--- a move that is refused is a reason
-pub refused_for : (g : GameRules) (b : Board) (token : List ℕ) (m : Move) (refusal : Option Refusal) → is_some refusal ≡ true
-    → SpellsMove token m → IfSome refusal (IsWhy g b m) → IsReason g refusal b token
-refused_for g b token m (Some refusal) some spells why = (m, spells, why)
-refused_for g b token m None some spells why = absurd (cc some)
-
 -- the next token doesn't play
-pub found_stop : (g : GameRules) (start : Board) (text rest : List ℕ) (more : List (List ℕ)) (steps : ℕ) (here : Board) (token : List ℕ) (refusal : Option Refusal)
-    → Found g start text rest steps here → move_tokens rest ≡ token ∷ more → IsReason g refusal here token
-    → IsFirstStop g start (move_tokens text) (steps + 1) token refusal
-found_stop g start text rest more steps here token refusal found first fails = record {
+pub found_stop : (g : GameRules) (start : Board) (text rest : List ℕ) (more : List (List ℕ)) (steps : ℕ) (here : Board) (token : List ℕ) (refused : Option RefusedMove)
+    → Found g start text rest steps here → move_tokens rest ≡ token ∷ more → IsReason g (steps + 1) refused here token
+    → IsFirstStop g start (move_tokens text) (steps + 1) token refused
+found_stop g start text rest more steps here token refused found first fails = record {
   boards = found.boards;
-  stops = stops_here (λ c here. (here ≡ token) × IsReason g refusal c here) g start text rest more found.moves found.boards steps here token
+  stops = stops_here (λ c here. (here ≡ token) × IsReason g (steps + 1) refused c here) g start text rest more found.moves found.boards steps here token
       found.course found.spelled first (refl, fails);
 }

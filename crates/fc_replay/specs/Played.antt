@@ -1,5 +1,5 @@
 -- What a list of tokens plays: the boards after its moves, and why it stops.
-use Rattle.std.specs.Prelude.{◌≡◌, ℕ, ◌+◌, ◌<◌, ◌↔◌, List, [], ◌∷◌, ◌++◌, take, length, Option, Some, None, Result, Ok, Err, IfOk, MatchResult, IsTrue}
+use Rattle.std.specs.Prelude.{◌≡◌, ℕ, ◌+◌, ◌<◌, ◌↔◌, ◌&&◌, Bool, not, cond, List, [], ◌∷◌, ◌++◌, take, length, Option, Some, None, Result, Ok, Err, IfOk, MatchResult, IsTrue}
 use Rattle.std.specs.List.{flat_map}
 use Rattle.fc_position.specs.Board.{Board}
 use Rattle.fc_position.specs.Position.{IsWon}
@@ -12,9 +12,10 @@ use Rattle.fc_text.specs.Printed.{board_text}
 use Rattle.fc_replay.specs.declared.faults.ReplayFault.{ReplayFault}
 use Rattle.fc_replay.specs.declared.faults.ReplayFault.TheVariants.{BadMove, NotAllowed, Write}
 use Rattle.fc_replay.specs.declared.pages.Page.{Page}
-use Rattle.fc_moves.specs.declared.refusals.Refusal.{Refusal}
+use Rattle.fc_replay.specs.declared.stops.RefusedMove.{RefusedMove}
 use Rattle.fc_replay.specs.declared.replays.Ended.{Ended}
 use Rattle.fc_replay.specs.Page.{pages_text}
+use Rattle.fc_replay.specs.Telling.{told_move}
 use Rattle.fc_moves.specs.Refusal.{IsWhy}
 use Rattle.fc_replay.specs.Token.{SpellsMove, IsNoMove}
 
@@ -102,6 +103,10 @@ abbrev pub counted : Result Ended ReplayFault → Result ℕ ReplayFault
 counted (Ok ended) = Ok ended.moves
 counted (Err fault) = Err fault
 
+-- the exit status that tells how a list ended: 1 where it had to win and didn't
+abbrev pub ended_status : Bool → Ended → ℕ
+ended_status must_win ended = cond (must_win && not ended.is_won) 1 0
+
 -- a replay of the tokens that writes pages: the moves that it makes, which are those of the tokens at the front, the boards
 -- after them, how it ends, that their pages were written, and at its end whether the last board is won
 pub record ReplaysAs (page : Page) (g : GameRules) (b : Board) (tokens : List (List ℕ)) (sink : SinkChange) (result : Result Ended ReplayFault) : Type 0 where
@@ -122,15 +127,15 @@ pub record PlaysAs (page : Page) (g : GameRules) (b : Board) (moves : List Move)
   pub count : IfOk result (λ ended. ended.moves ≡ length moves)
   pub won : IfOk result (λ ended. IsTrue ended.is_won ↔ IsWon (board_after b boards))
 
--- the token is no move, where nothing is told of it; else it spells a move that is refused for this
-abbrev pub IsReason : GameRules → Option Refusal → Board → List ℕ → Type 0
-IsReason g None b token = IsNoMove token
-IsReason g (Some refusal) b token = (m : Move) × SpellsMove token m × IsWhy g b m refusal
+-- the token of a step is no move, where none is refused; else it spells a move that is refused for this, as it is told from the board
+abbrev pub IsReason : GameRules → ℕ → Option RefusedMove → Board → List ℕ → Type 0
+IsReason g step None b token = IsNoMove token
+IsReason g step (Some refused) b token = (m : Move) × SpellsMove token m × IsWhy g b m refused.refusal × (refused.told ≡ told_move step b m)
 
 -- the tokens before a step, which count from 1, play, and this is the token of the step, and why it doesn't
-pub record IsFirstStop (g : GameRules) (b : Board) (tokens : List (List ℕ)) (step : ℕ) (token : List ℕ) (refusal : Option Refusal) : Type 0 where
+pub record IsFirstStop (g : GameRules) (b : Board) (tokens : List (List ℕ)) (step : ℕ) (token : List ℕ) (refused : Option RefusedMove) : Type 0 where
   pub boards : List Board
-  pub stops : StopsAt (λ c here. (here ≡ token) × IsReason g refusal c here) g b tokens boards step
+  pub stops : StopsAt (λ c here. (here ≡ token) × IsReason g step refused c here) g b tokens boards step
 
 -- all of the tokens play
 abbrev pub PlayAll : GameRules → Board → List (List ℕ) → Type 0

@@ -6,9 +6,9 @@ pub use faults::ReplayFault;
 pub use pages::Page;
 pub use plays::play;
 pub use replays::{Ended, replay, replay_as};
-pub use stops::{Stop, first_stop};
+pub use stops::{RefusedMove, Stop, first_stop};
 pub use tellings::ToldMove;
-pub use tokens::MoveGaps;
+pub use tokens::{MoveGaps, read_token};
 
 mod faults;
 pub mod laws;

@@ -1,8 +1,8 @@
-ghost use Rattle.std.specs.Prelude.{◌≤◌, ◌⊎◌, ◌↔◌, length, IsTrue, IsErrOf};
+ghost use Rattle.std.specs.Prelude.{◌≡◌, ◌≤◌, ◌⊎◌, ◌↔◌, length, IsTrue, IsErrOf};
 ghost use Rattle.fc_io.specs.Moves.{Stays};
 ghost use Rattle.fc_position.specs.Position.{Fits};
 ghost use Rattle.fc_replay.specs.Token.{move_tokens};
-ghost use Rattle.fc_replay.specs.Played.{Replays, ReplaysAs, BeginsWithStep, sink_change};
+ghost use Rattle.fc_replay.specs.Played.{Replays, ReplaysAs, BeginsWithStep, ended_status, sink_change};
 
 use crate::faults::ReplayFault;
 use crate::pages::{Page, write_page};
@@ -20,6 +20,15 @@ pub struct Ended {
     pub moves: u32,
     /// Whether every card is home after them.
     pub is_won: bool,
+}
+
+impl Ended {
+    /// The exit status that tells how a list ended: 1 where it had to win and didn't, else 0.
+    pub fn status(self, must_win: bool) -> u8
+        ensures value { result ≡ ended_status must_win self }
+    {
+        if must_win && !self.is_won { 1 } else { 0 }
+    }
 }
 
 /// Plays a text of moves from a position that fits the game, writes the printed board after each move to `sink`, one

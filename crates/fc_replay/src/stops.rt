@@ -3,10 +3,20 @@ ghost use Rattle.fc_position.specs.Position.{Fits};
 ghost use Rattle.fc_replay.specs.Played.{IsFirstStop, PlayAll};
 ghost use Rattle.fc_replay.specs.Token.{move_tokens};
 
+use crate::tellings::ToldMove;
 use crate::tokens::{MoveGaps, read_token};
 use fc_moves::{Game, Refusal, apply, refusal_of};
 use fc_position::Position;
 use fc_text::Tokens;
+
+/// A move that the rules refuse.
+#[derive(Clone, Copy, Debug, PartialEq, Eq)]
+pub struct RefusedMove {
+    /// The move, as it is told from the board before it.
+    pub told: ToldMove,
+    /// Why the rules refuse it.
+    pub refusal: Refusal,
+}
 
 /// Where a text of moves stops being one that the rules allow.
 #[derive(Clone, Copy, Debug)]
@@ -15,8 +25,8 @@ pub struct Stop<'a> {
     pub step: u32,
     /// What stands there in the text.
     pub token: &'a [u8],
-    /// Why the rules refuse the move; `None` where the token is no move.
-    pub refusal: Option<Refusal>,
+    /// The move that the rules refuse; `None` where the token is no move.
+    pub refused: Option<RefusedMove>,
 }
 
 /// The first token of a text of moves, as `replay` reads them, that is no move or isn't allowed, played from a position that
@@ -25,7 +35,7 @@ pub fn first_stop<'a, G: Game>(game: &G, position: &Position, text: &'a [u8]) ->
     requires fits { Fits (G.game game.now).cells position.now }
     requires short { length text.now ≤ 1048576 }
     ensures stopped { IfSome result (λ stop. IsFirstStop (G.game game.now) position.now (move_tokens text.now)
-        stop.step stop.token.now stop.refusal) }
+        stop.step stop.token.now stop.refused) }
     ensures played { IfNone result (PlayAll (G.game game.now) position.now (move_tokens text.now)) }
 {
     let mut board = position.copy();
@@ -36,15 +46,15 @@ pub fn first_stop<'a, G: Game>(game: &G, position: &Position, text: &'a [u8]) ->
             return Some(Stop {
                 step,
                 token,
-                refusal: None,
+                refused: None,
             });
         };
-        let refusal = refusal_of(game, &board, m);
-        if refusal.is_some() {
+        let told = ToldMove::of(step, &board, m);
+        if let Some(refusal) = refusal_of(game, &board, m) {
             return Some(Stop {
                 step,
                 token,
-                refusal,
+                refused: Some(RefusedMove { told, refusal }),
             });
         }
         apply(game, &mut board, m);

@@ -4,7 +4,7 @@ ghost use Rattle.fc_replay.specs.Token.{is_gap, SpellsMove, IsNoMove};
 use fc_moves::{Move, read_move};
 use fc_text::Gaps;
 
-//// What parts moves: spaces, tabs, CR and LF.
+/// What parts moves: spaces, tabs, CR and LF.
 #[derive(Debug, Drop)]
 pub struct MoveGaps;
 
@@ -16,8 +16,8 @@ impl Gaps for MoveGaps {
     }
 }
 
-/// The move that a token spells, in either case.
-pub(crate) fn read_token(token: &[u8]) -> Option<Move>
+/// The move that a token of a list spells, with letters in either case; `None` where it spells none.
+pub fn read_token(token: &[u8]) -> Option<Move>
     ensures read { IfSome result (SpellsMove token.now) }
     ensures refused { IfNone result (IsNoMove token.now) }
 {

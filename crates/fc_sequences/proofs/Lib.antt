@@ -15,6 +15,7 @@ pub mod OverLemmas
 mod PartLemmas
 mod PathLemmas
 pub mod RunLemmas
+mod SayingLemmas
 pub mod SpaceLemmas
 pub mod TextLemmas
 mod TreeLemmas

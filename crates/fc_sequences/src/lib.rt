@@ -6,6 +6,7 @@ pub use carries::{carry, may_carry};
 pub use gathers::{GatherFault, MOST_AHEAD, gather};
 pub use lists::{ListFault, MOST_BOARDS, expand};
 pub use pairs::{Pair, read_pair};
+pub use sayings::read_saying;
 pub use texts::print_pair;
 
 mod carries;
@@ -13,6 +14,7 @@ mod gathers;
 pub mod laws;
 mod lists;
 mod pairs;
+mod sayings;
 mod spaces;
 mod texts;
 mod trees;

@@ -1,6 +1,6 @@
 use Rattle.std.proofs.Common.{sym, ◌∙◌, ap, subst, arith}
 use Rattle.fc_position.specs.Position.{Fits, IsPosition}
-use Rattle.fc_replay.proofs.StopLoop.{found_none, found_next, found_room, found_stop, refused_for}
+use Rattle.fc_replay.proofs.StopLoop.{found_none, found_next, found_room, found_stop}
 use Rattle.fc_replay.proofs.stops.first_stop.Goals as goal
 
 pub loop-token-init : goal.loop-token-init
@@ -19,10 +19,10 @@ pub returns-in_default-clause-stopped : goal.returns-in_default-clause-stopped
 returns-in_default-clause-stopped g c =
     found_stop _ _ _ _ _ _ _ _ _ c.loop-token.invariant c.in-Some.ensures.steps c.in_default.ensures.refused
 
-pub returns-then-is_some-clause-stopped : goal.returns-then-is_some-clause-stopped
-returns-then-is_some-clause-stopped g c =
+pub returns-in-Some-refusal_of-clause-stopped : goal.returns-in-Some-refusal_of-clause-stopped
+returns-in-Some-refusal_of-clause-stopped g c =
     found_stop _ _ _ _ _ _ _ _ _ c.loop-token.invariant c.in-Some.ensures.steps
-    (refused_for _ _ _ _ c.refusal_of-refusal.result (sym c.if-is_some.ensures) c.in-Some-read_token.ensures.read c.refusal_of-refusal.ensures.why)
+    (_, c.in-Some-read_token.ensures.read, c.in-Some-refusal_of.ensures.why, c.of-told.ensures.value)
 
 pub loop-token-preserved : goal.loop-token-preserved
 loop-token-preserved g c =
