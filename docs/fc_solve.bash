@@ -13,7 +13,7 @@ _fc_solve() {
     --within) words="1 1.1 1.2 1.3 1.5 2 3 4 5 6 7 8 9 10" ;;
     --budget) words="100k 1M max" ;;
     --color) words="auto always never" ;;
-    --cert) ;;
+    --cert | --board-at) ;;
     *)
       case ${COMP_WORDS[1]} in
         "$word") words="deal show best solve check replay batch help --help --version" ;;
@@ -21,7 +21,7 @@ _fc_solve() {
         best) words="--cert --deal --rows $form --stats --quiet --budget --rule $game --help" ;;
         solve) words="--cert --deal --rows $form --stats --quiet $search $game --help" ;;
         batch) words="--table --best $search $game --help" ;;
-        replay) words="--numbered --sequences --rows $game --help" ;;
+        replay) words="--numbered --expanded --board-at --sequences --must-win --rows $game --help" ;;
         check) words="--rows $game --help" ;;
         help) words="deal show best solve check replay batch" ;;
       esac

@@ -3,7 +3,8 @@ ghost use Rattle.fc_words.specs.Sound.{IsSound};
 
 use crate::commands::Command;
 use crate::faults::WordsFault;
-use crate::subcommands::{batch, best, check, deal, replay, show, solve};
+use crate::replays::replay;
+use crate::subcommands::{batch, best, check, deal, show, solve};
 use crate::table;
 use crate::tasks::Task;
 use clap::ArgMatches;

@@ -1,19 +1,18 @@
 //! Each subcommand: its words and its help in one item, and how what it asks for is read in the function below.
 
 ghost use Rattle.std.specs.Prelude.{◌≤◌, IfOk, IfSome};
-ghost use Rattle.fc_words.specs.Sound.{HasOneInput};
 ghost use Rattle.fc_words.specs.declared.options.TheConstants.{MOST_CELLS};
 
 use crate::commands::{
-    BatchSearch, BatchWords, BestWords, BoardWord, CheckWords, DealWords, MovesWord, ReplayWords,
-    ShowWords, SolveWords,
+    BatchSearch, BatchWords, BestWords, CheckWords, DealWords, ShowWords, SolveWords,
 };
 use crate::faults::WordsFault;
 use crate::options::{
-    BOARDS, BOUND, BUDGET, CELLS, COLOR, DEAL, EXPAND, GAME, IN_SEQUENCES, KINGS, Kind, MOVES,
+    BOARDS, BOUND, BUDGET, CELLS, COLOR, DEAL, EXPAND, GAME, IN_SEQUENCES, KINGS, Kind,
     NEEDED_BOARD, OPTIONAL_BOARD, ROWS, RULE, WITHIN, WORDS, Word, best_search, colours, form,
-    game, moves, needed_board, optional_board, search,
+    game, needed_board, optional_board, search,
 };
+use crate::replays::REPLAYING;
 use crate::tasks::Task;
 use clap::ArgMatches;
 
@@ -247,60 +246,6 @@ pub(crate) fn check<'a>(words: &ArgMatches<'a>) -> Option<CheckWords<'a>>
         game: game(words)?,
         board: needed_board(words)?,
         cert: words.get_str(CERT.name)?,
-    })
-}
-
-// `replay [--numbered] [--sequences] [GAME] BOARD MOVES`.
-static REPLAYING: Subcommand = Subcommand {
-    about: "Prints the board after each move, up to the first that isn't allowed",
-    after_help: "It says on standard error whether the board is won at the end, or why a move isn't allowed.
-
-Examples:
-  fc_solve replay boards/three-spades.txt moves.txt
-  fc_solve 941 | fc_solve replay 941 -
-  fc-solve -m -sn board.txt | fc_solve replay --sequences board.txt -",
-    words: &[
-        NUMBERED,
-        SEQUENCES,
-        GAME,
-        KINGS,
-        CELLS,
-        ROWS,
-        NEEDED_BOARD,
-        MOVES,
-    ],
-};
-
-const NUMBERED: Word = Word {
-    name: "numbered",
-    kind: Kind::Flag,
-    help: "Prints the number and the move above each board",
-};
-
-const SEQUENCES: Word = Word {
-    name: "sequences",
-    kind: Kind::Flag,
-    help: "Expands entries that move several cards, as other solvers print them",
-};
-
-/// What `replay` asks for.
-pub(crate) fn replay<'a>(words: &ArgMatches<'a>) -> Result<ReplayWords<'a>, WordsFault>
-    ensures cells { IfOk result (λ replay. replay.game.cells ≤ MOST_CELLS) }
-    ensures one_input { IfOk result HasOneInput }
-{
-    let (Some(game), Some(board), Some(moves)) = (game(words), needed_board(words), moves(words))
-    else {
-        return Err(WordsFault::Missing);
-    };
-    if let (BoardWord::Input, MovesWord::Input) = (board.word, moves) {
-        return Err(WordsFault::OneInput);
-    }
-    Ok(ReplayWords {
-        game,
-        board,
-        moves,
-        is_numbered: words.get_flag(NUMBERED.name),
-        has_sequences: words.get_flag(SEQUENCES.name),
     })
 }
 
