@@ -3,6 +3,7 @@ pub mod ChainLemmas
 pub mod CompareLemmas
 pub mod FieldLemmas
 pub mod FindLemmas
+pub mod HalvingLemmas
 pub mod HeadLemmas
 pub mod LawLemmas
 pub mod LayoutLemmas

@@ -17,10 +17,14 @@ use fc_canonical::key_size;
 use fc_home::GREATEST_RULE;
 use fc_moves::{Move, read_move};
 use std::alloc::{AllocError, Global};
+use std::cmp::Ordering;
 use std::marker::Model;
 
 /// The most bytes that a certificate may have: 1 GiB.
 pub const LONGEST_CERTIFICATE: usize = 1_073_741_824;
+
+// So many keys of one place are looked at.
+const LONGEST_WALK: u32 = 32;
 
 /// A certificate, over the bytes that it was read from. No record is copied: only where each ends is kept, and links by which
 /// its key is found.
@@ -162,18 +166,43 @@ impl<'a> Certificate<'a> {
         record_in(self.records, self.ends.as_slice(), i)
     }
 
-    /// The cost that is listed for a key; `None` where none is. Only keys of its place are looked at.
+    /// The cost that is listed for a key; `None` where none is. Few keys of its place are looked at; where more are chained, as
+    /// keys can be made to be, it is sought by halves.
     pub fn find(&self, key: &[u8]) -> Option<u32>
         ensures value { MatchOption result ((cost : ℕ) → Contains self.now.rows (key.now, cost) → ⊥)
             (λ cost. Contains self.now.rows (key.now, cost)) }
     {
         let mut link = self.last_of(key);
+        let mut left = LONGEST_WALK;
         while let Some(i) = link.checked_sub(1) {
+            if left == 0 {
+                return self.find_by_halves(key);
+            }
+            left -= 1;
             let (other, cost) = self.record_at(i);
             if compare(key, other).is_eq() {
                 return Some(cost);
             }
             link = self.link_at(i);
+        }
+        None
+    }
+
+    // The same, sought by halves.
+    fn find_by_halves(&self, key: &[u8]) -> Option<u32>
+        ensures value { MatchOption result ((cost : ℕ) → Contains self.now.rows (key.now, cost) → ⊥)
+            (λ cost. Contains self.now.rows (key.now, cost)) }
+    {
+        let mut low = 0;
+        let mut high = self.len();
+        while low < high {
+            let middle = low + (high - low) / 2;
+            let (other, cost) = self.record_at(middle);
+            match compare(key, other) {
+                Ordering::Less => high = middle,
+                Ordering::Equal => return Some(cost),
+                Ordering::Greater => low = middle + 1,
+            }
         }
         None
     }

@@ -11,7 +11,7 @@ use std::hash::{FoldHasher, Hasher};
 
 // How many places the keys with the same counts and cells may have. Keys that are looked for one after the other are alike, so what
 // is looked at lies near what was looked at before.
-pub(crate) const WINDOW: usize = 64;
+pub(crate) const WINDOW: usize = 1024;
 
 // Chains the records that end at these places: first a link for each record, then one for each place.
 pub(crate) fn links_of(alloc: Global, records: &[u8], ends: &[u32]) -> Result<Vec<u32>, AllocError>
@@ -40,7 +40,7 @@ pub(crate) fn place_of(key: &[u8], count: usize) -> usize
     ensures below { result < count + WINDOW }
 {
     let window = (hash_of(front_of(key)) >> 32) * count as u64 >> 32;
-    window as usize + (hash_of(key) >> 58) as usize
+    window as usize + (hash_of(key) >> 54) as usize
 }
 
 // The counts and the cells of a key.

@@ -12,7 +12,7 @@ use Rattle.fc_checker.specs.declared.faults.CheckFault.TheVariants.{Form as bad_
 use Rattle.fc_checker.specs.Check.{IsCheckFault}
 use Rattle.fc_board_runs.specs.declared.faults.Input.TheVariants.{Board as of_board, Moves as of_moves, Cert as of_certificate}
 use Rattle.fc_board_runs.specs.declared.faults.ProgramFault.{ProgramFault}
-use Rattle.fc_board_runs.specs.declared.faults.ProgramFault.TheVariants.{Number, Range, Budget, Board as bad_board, TooLong, Moves, TooManyWays, Cert, Read, Write, Memory as wanting}
+use Rattle.fc_board_runs.specs.declared.faults.ProgramFault.TheVariants.{Number, Range, Budget, Board as bad_board, TooLong, Moves, TooManyWays, ListEnds, Cert, Read, Write, Memory as wanting}
 use Rattle.fc_board_runs.specs.Devices.{Device, GivesBoard, GivesWhole, IsUntouched}
 use Rattle.fc_runs.specs.Checking.{IsChecked, IsCheckedOf, IsRefusal, IsRefusalOf}
 use Rattle.fc_runs.specs.inner.Checking.{check_fault}
@@ -59,6 +59,7 @@ module _ (g : GameRules) (b : Board) (board cert sink : Device) (given : GivesBo
   refusal wanting is = (b, given, is)
   refusal (Moves fault) is = (b, given, is)
   refusal (TooManyWays step) is = (b, given, is)
+  refusal (ListEnds count) is = (b, given, is)
   refusal (Write output) is = (b, given, is)
   refusal (Number n) is = (b, given, is)
   refusal Range is = (b, given, is)

@@ -7,8 +7,8 @@ pub use best_batches::run_best_batch;
 pub use besting::run_best;
 pub use checking::{run_check, run_check_of};
 pub use fc_board_runs::{
-    Input, LONGEST_BOARD, LONGEST_MOVES, Look, Output, ProgramFault, read_position, run_deal,
-    run_replay, run_replay_as, run_replay_sequences, run_show,
+    Asked, Input, LONGEST_BOARD, LONGEST_MOVES, ListQuestion, Look, Output, ProgramFault,
+    read_position, run_deal, run_list, run_replay, run_replay_as, run_replay_sequences, run_show,
 };
 pub use rows::{Far, Row, Sought, answer_row};
 pub use solving::{run_solve, run_solve_by};

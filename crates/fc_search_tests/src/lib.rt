@@ -4,6 +4,8 @@
 #[cfg(test)]
 mod alike;
 #[cfg(test)]
+mod asked;
+#[cfg(test)]
 mod batch_runs;
 #[cfg(test)]
 mod batches;

@@ -7,7 +7,7 @@ use fc_io::{FromSlice, Sink, Source, ToArray};
 use fc_moves::{Game, Move};
 use fc_replay::{Ended, Page, ReplayFault};
 use fc_runs::{Input, Output, ProgramFault, read_position, run_replay_sequences};
-use fc_sequences::{Pair, carry, expand, may_carry, read_pair};
+use fc_sequences::{Pair, carry, expand, may_carry, read_pair, read_saying};
 use fc_tests::boards::TWO_KINGS;
 use fc_text::BoardFault;
 use std::alloc::Global;
@@ -209,4 +209,35 @@ fn lists_over_failing_devices(rt: HostRuntime) {
         assert!(rt; result == Err(fault), "another fault");
         assert!(rt; sink_calls != 3 || out.device.held() == b"Fou".as_slice());
     }
+}
+
+// The entry that a line of Freecell Solver's tells.
+fn says(rt: &impl Abort, words: &[&[u8]], wanted: Option<Pair>) {
+    let read = read_saying(words);
+    assert!(rt; read == wanted, "another entry");
+}
+
+#[test]
+fn entries_are_read_from_words(rt: HostRuntime) {
+    let (first, fourth, cell) = (Place::Column(0), Place::Column(3), Place::Cell(2));
+    let sayings: [(&[u8], &[u8], [&[u8]; 4], Option<Pair>); 8] = [
+        (b"12", b"cards", [b"stack", b"0", b"stack", b"3"], entry(first, fourth, Some(12))),
+        (b"1", b"cards", [b"stack", b"3", b"stack", b"0"], entry(fourth, first, Some(1))),
+        (b"a", b"card", [b"stack", b"3", b"freecell", b"2"], entry(fourth, cell, None)),
+        (b"a", b"card", [b"freecell", b"2", b"the", b"foundations"], entry(cell, Place::Home, None)),
+        (b"a", b"card", [b"the", b"foundations", b"stack", b"3"], None),
+        (b"0", b"cards", [b"stack", b"0", b"stack", b"3"], None),
+        (b"a", b"card", [b"stack", b"8", b"stack", b"3"], None),
+        (b"a", b"cards", [b"stack", b"0", b"freecell", b"4"], None),
+    ];
+    for (number, cards, [from, name, to, last], wanted) in sayings {
+        says(&rt, &[b"Move", number, cards, b"from", from, name, b"to", to, last], wanted);
+        says(&rt, &[b"Moves", number, cards, b"from", from, name, b"to", to, last], None);
+    }
+    says(&rt, &[b"Move", b"a", b"card"], None);
+}
+
+// The entry that moves so many cards from one place to another.
+fn entry(from: Place, to: Place, count: Option<u8>) -> Option<Pair> {
+    Some(Pair { from, to, count })
 }

@@ -1,3 +1,4 @@
+<<<<<<< HEAD
 //! Files of several boards.
 
 use crate::boards::open;
@@ -32,4 +33,152 @@ pub fn is_rule(line: &[u8]) -> bool {
 /// Whether a text has nothing but blanks.
 pub fn is_blank(text: &[u8]) -> bool {
     text.iter().all(|byte| byte.is_ascii_whitespace())
+=======
+//! Lists of moves as programs print them, made plain: on each line its entries alone, so that the lines keep their numbers.
+
+ghost use Rattle.std.specs.Prelude.{IfSome};
+ghost use Rattle.fc_sequences.specs.Pair.{HasPairText};
+
+use arrayvec::ArrayVec;
+use fc_replay::MoveGaps;
+use fc_sequences::{Pair, print_pair, read_pair, read_saying};
+use fc_text::Tokens;
+use std::alloc::{AllocError, Global};
+
+// How the lines of a list tell its entries.
+#[derive(Clone, Copy)]
+enum Form {
+    // In letters, on the lines from a number on, up to another; lines count from 0.
+    Letters(usize, usize),
+    // In words, as `solve --words` and `--boards` print them.
+    Words,
+    // As Freecell Solver tells them by lines that begin with `Move`.
+    Sayings,
+}
+
+/// The entries of a list, each on the line of the text where it stands; whether they may move several cards. Where lines of
+/// the text tell moves in words, others have no entry.
+///
+/// # Errors
+/// Want of memory.
+pub fn plain_list(alloc: Global, text: &[u8], has_sequences: bool) -> Result<Vec<u8>, AllocError> {
+    let form = form_of(text, has_sequences);
+    let mut list = Vec::new(alloc);
+    for (number, line) in text.split(|byte| *byte == b'\n').enumerate() {
+        if number > 0 {
+            list.push(b'\n')?;
+        }
+        push_entries(&mut list, form, number, line)?;
+    }
+    Ok(list)
+}
+
+// Appends the entries of a line.
+fn push_entries(
+    list: &mut Vec<u8>,
+    form: Form,
+    number: usize,
+    line: &[u8],
+) -> Result<(), AllocError> {
+    match form {
+        Form::Letters(first, end) if first <= number && number < end => {
+            list.extend_from_slice(line)
+        }
+        Form::Letters(..) => Ok(()),
+        Form::Words => match letters_of(line) {
+            Some(letters) => list.extend_from_slice(&letters),
+            None => Ok(()),
+        },
+        Form::Sayings if line.starts_with(SAYING) => push_saying(list, line),
+        Form::Sayings => Ok(()),
+    }
+}
+
+// How a text tells entries.
+fn form_of(text: &[u8], has_sequences: bool) -> Form {
+    let mut lines = text.split(|byte| *byte == b'\n');
+    if has_sequences {
+        let is_said = match lines.find(|line| line.starts_with(SAYING)) {
+            Some(line) => entry_of(line).is_some(),
+            None => false,
+        };
+        if is_said {
+            return Form::Sayings;
+        }
+    } else if lines.any(|line| letters_of(line).is_some()) {
+        return Form::Words;
+    }
+    let (first, end) = letter_lines(text, has_sequences);
+    Form::Letters(first, end)
+}
+
+// The first line with letters, and that behind the last: not the first line of what `solve` prints, nor what Freecell Solver
+// prints above its entries, up to a ruled line of `-=`, and below them, from one of `==` on, or from where it says that the
+// game is solved.
+fn letter_lines(text: &[u8], has_rulers: bool) -> (usize, usize) {
+    let is_answer = text.starts_with(b"shortest ") || text.starts_with(b"won ");
+    let mut first = if is_answer { 1 } else { 0 };
+    for (number, line) in text.split(|byte| *byte == b'\n').enumerate() {
+        if has_rulers && (line.starts_with(b"===") || line.starts_with(b"This game is ")) {
+            return (first, number);
+        }
+        if has_rulers && line.starts_with(b"-=-=") {
+            first = number.saturating_add(1);
+        }
+    }
+    (first, usize::MAX)
+}
+
+// The two letters of a move that a line tells in words: its number, its card, `from`, a kind of place and its name, and, last,
+// the name of the place where it goes.
+fn letters_of(line: &[u8]) -> Option<[u8; 2]> {
+    let mut tokens = Tokens::new(line, MoveGaps);
+    let number = tokens.next()?;
+    let _card = tokens.next()?;
+    if !number.ends_with(b".") || tokens.next()? != b"from".as_slice() {
+        return None;
+    }
+    let _kind = tokens.next()?;
+    let from = letter_of(tokens.next()?)?;
+    let mut last = tokens.next()?;
+    for token in tokens {
+        last = token;
+    }
+    Some([from, letter_of(last)?])
+}
+
+// The letter of a place by its name.
+fn letter_of(name: &[u8]) -> Option<u8> {
+    match name {
+        [letter] => Some(*letter),
+        b"home" => Some(b'h'),
+        _ => None,
+    }
+}
+
+// How each line begins that Freecell Solver tells a move by.
+const SAYING: &[u8] = b"Move";
+
+// Appends the entry that a line tells as Freecell Solver does, or what it begins with, which is no entry.
+fn push_saying(list: &mut Vec<u8>, line: &[u8]) -> Result<(), AllocError> {
+    match entry_of(line) {
+        Some(pair) => list.extend_from_slice(&print_pair(pair)),
+        None => list.extend_from_slice(SAYING),
+    }
+}
+
+// The entry that a line tells as Freecell Solver does: in words, or, where it draws boards between entries in standard
+// notation, behind `Move:`.
+fn entry_of(line: &[u8]) -> Option<Pair>
+    ensures text { IfSome result HasPairText }
+{
+    let mut words = ArrayVec::<&[u8], 9>::new();
+    for word in Tokens::new(line, MoveGaps) {
+        words.try_push(word).ok()?;
+    }
+    match words.as_slice() {
+        [start, entry] if *start == b"Move:".as_slice() => read_pair(entry),
+        words => read_saying(words),
+    }
+>>>>>>> bcd85442d21af14a2e7c5a838392193ebb87a738
 }

@@ -17,6 +17,7 @@ mod moves;
 mod notes;
 mod objects;
 mod outputs;
+mod refusals;
 mod replaying;
 mod showing;
 mod shown;

@@ -5,11 +5,11 @@ ghost use Rattle.std.specs.Prelude.{◌≤◌, length};
 use crate::boards::{THREE_SPADES, TWO_KINGS};
 use crate::given::{board_for, free_cell, sure};
 use arrayvec::ArrayString;
-use fc_cards::Place;
+use fc_cards::{Card, Place};
 use fc_io::testing::Failing;
 use fc_io::{Sink, ToArray};
 use fc_moves::{Game, Kings, Move, Refusal, refusal_of};
-use fc_replay::{Ended, Page, ReplayFault, first_stop, play, replay, replay_as};
+use fc_replay::{Ended, Page, ReplayFault, first_stop, play, read_token, replay, replay_as};
 use std::fmt::Write;
 use std::process::Abort;
 
@@ -234,7 +234,8 @@ fn stops<G: Game>(rt: &impl Abort, game: &G, list: &[u8], step: u32, refusal: Op
     let start = board_for(rt, game, TWO_KINGS);
     assert!(rt; list.len() < 100, "a long list");
     let stop = first_stop(game, &start, list).expect(rt, "a stop");
-    assert!(rt; stop.step == step && stop.refusal == refusal);
+    let why = stop.refused.map(|refused| refused.refusal);
+    assert!(rt; stop.step == step && why == refusal);
 }
 
 #[test]
@@ -273,4 +274,36 @@ fn a_list_that_plays_has_no_stop(rt: HostRuntime) {
         is_won: false,
     };
     assert!(rt; none == Ok(ended));
+}
+
+#[test]
+fn tells_the_card_of_a_refused_move(rt: HostRuntime) {
+    let game = free_cell(&rt, 4);
+    let start = board_for(&rt, &game, TWO_KINGS);
+    let stop = first_stop(&game, &start, b"1a 12").expect(&rt, "a stop");
+    let refused = stop.refused.expect(&rt, "a refused move");
+    assert!(rt; stop.token == b"12".as_slice() && refused.told.number == 2);
+    assert!(rt; refused.told.card == Card::read(b"QS") && refused.told.beneath == Card::read(b"KS"));
+}
+
+#[test]
+fn reads_tokens_in_either_case(rt: HostRuntime) {
+    let first = Move {
+        from: Place::Column(0),
+        to: Place::Cell(0),
+    };
+    assert!(rt; read_token(b"1A") == Some(first) && read_token(b"1a") == Some(first));
+    assert!(rt; read_token(b"9h").is_none() && read_token(b"1aa").is_none());
+}
+
+#[test]
+fn a_list_that_must_win_has_a_status(rt: HostRuntime) {
+    for (is_won, must_win, status) in [
+        (true, true, 0),
+        (true, false, 0),
+        (false, false, 0),
+        (false, true, 1),
+    ] {
+        assert!(rt; Ended { moves: 3, is_won }.status(must_win) == status);
+    }
 }

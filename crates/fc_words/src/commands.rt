@@ -3,7 +3,7 @@ ghost use Rattle.fc_methods.specs.declared.methods.Method.{Method};
 ghost use Rattle.fc_best_first.specs.Limits.{IsBudget};
 ghost use Rattle.fc_words.specs.Best.{best_method};
 
-use crate::forms::{Colours, MovesForm};
+use crate::forms::{Colours, MovesForm, ReplayForm};
 use crate::games::GameName;
 use fc_methods::{BoundKind, Budget, Expansion, HomeRule, Method, Strategy, Weight};
 
@@ -208,10 +208,12 @@ pub struct ReplayWords<'a> {
     pub game: GameWords,
     pub board: BoardWords<'a>,
     pub moves: MovesWord<'a>,
-    /// Whether the number and the move stand above each board.
-    pub is_numbered: bool,
+    /// What is printed.
+    pub form: ReplayForm,
     /// Whether entries of the list may move several cards.
     pub has_sequences: bool,
+    /// Whether a list that doesn't win ends with a status of its own.
+    pub must_win: bool,
 }
 
 /// Which boards a batch is of.

@@ -19,6 +19,19 @@ pub enum MovesForm {
     Json,
 }
 
+/// What is printed of a replay.
+#[derive(Clone, Copy)]
+pub enum ReplayForm {
+    /// The board after each move.
+    Boards,
+    /// The same, below a line with the number and the move.
+    Numbered,
+    /// The one-card moves alone, in one line.
+    Expanded,
+    /// The board alone after so many entries of the list.
+    BoardAfter(u32),
+}
+
 /// When red suits are shown in red.
 #[derive(Clone, Copy)]
 pub enum Colours {

@@ -11,7 +11,7 @@ pub use commands::{
 };
 pub use expansions::{expansion_name, expansion_of_name, usual_expansion};
 pub use faults::WordsFault;
-pub use forms::{Colours, MovesForm};
+pub use forms::{Colours, MovesForm, ReplayForm};
 pub use games::GameName;
 pub use reading::read;
 pub use tasks::Task;
@@ -29,6 +29,7 @@ pub mod laws;
 mod options;
 mod places;
 mod reading;
+mod replays;
 mod subcommands;
 mod table;
 mod tasks;

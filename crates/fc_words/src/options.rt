@@ -39,6 +39,8 @@ pub(crate) enum Kind {
     FlagInPlaceOf(&'static [&'static str]),
     /// An option with the number of a deal, in place of the word of this name.
     DealInPlaceOf(&'static str),
+    /// An option with the number of an entry, from 1 on, in place of the words of these names.
+    EntryInPlaceOf(&'static [&'static str]),
     /// The number of a deal, which must stand there.
     DealNumber,
     /// The number of a deal, which must stand there but where the option of this name does.

@@ -70,6 +70,9 @@ fn arg_of<'a>(alloc: Global, word: &'static Word) -> Result<Arg<'a>, AllocError>
         Kind::DealInPlaceOf(board) => with_value(arg, word.name, "N", None)
             .value_parser(value_parser!(u32))
             .conflicts_with(board)?,
+        Kind::EntryInPlaceOf(others) => with_value(arg, word.name, "N", None)
+            .value_parser(value_parser!(u32).range(1..=i64::from(u32::MAX)))
+            .conflicts_with_all(others)?,
         Kind::DealNumber => arg.required(true).value_parser(value_parser!(u32)),
         Kind::DealNumberUnless(other) => arg
             .value_parser(value_parser!(u32))

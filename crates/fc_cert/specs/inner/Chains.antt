@@ -9,7 +9,7 @@ hash_of bytes = folding.finish (folding.write folding.initial bytes)
 
 -- the place of a key where so many are chained: it lies in a window that its counts and cells tell
 unfoldable pub place_of : ℕ → List ℕ → ℕ
-place_of count key = hash_of (take 8 key) / 2 ^ 32 * count / 2 ^ 32 + hash_of key / 2 ^ 58
+place_of count key = hash_of (take 8 key) / 2 ^ 32 * count / 2 ^ 32 + hash_of key / 2 ^ 54
 
 -- the places of the rows' keys, by the rows' numbers
 abbrev pub places_of : List (List ℕ × ℕ) → ℕ → ℕ

@@ -1,4 +1,4 @@
-use Rattle.std.proofs.Common.{rules, ◌≡◌, ◌+◌, ◌*◌, ◌<◌, ◌≤◌, ℕ, List, length, replicate, set, slice_index, refl, sym, ◌∙◌, ap, ap₂, subst, arith}
+use Rattle.std.proofs.Common.{rules, ◌≡◌, ◌+◌, ◌*◌, ◌<◌, length, replicate, set, slice_index, refl, sym, ◌∙◌, ap, ap₂, subst, arith}
 use Rattle.std.proofs.lemmas.List.{get_or_default, get_or-replicate, length-set}
 use Rattle.fc_cert.specs.inner.Chains.{AreChained, place_of, places_of}
 use Rattle.fc_cert.proofs.ChainLemmas.{none_chained, one_more_chained}
@@ -12,7 +12,7 @@ returns-then-count-eq0-clause-value c = λ content texts parts some.
 pub loop-i-init : goal.loop-i-init
 loop-i-init c =
     let links = c.in_ok-links.links.items in
-    let many = 2 * length c.args.ends.now + 64 in
+    let many = 2 * length c.args.ends.now + 1024 in
     let zeros : links ≡ replicate many 0 = c.in_ok-links.ensures.items_if_clones_equal (λ y is. search rules) in
     let long : length links ≡ many = sym c.in_ok-links.links.ok.0 ∙ c.in_ok-links.ensures.len in
     record {
@@ -42,7 +42,7 @@ loop-i-preserved c =
           let many = places_many content texts c.args.records.now c.args.ends.now parts in
           let within : k < length rows = omega (arith, many) in
           let place : c.place_of.result ≡ places_of rows k = c.place_of.ensures.value ∙ ap₂ place_of many (c.key_in.ensures.value content texts parts within) in
-          let below : places_of rows k < length rows + 64 = omega (arith, place, many, c.place_of.ensures.below) in
+          let below : places_of rows k < length rows + 1024 = omega (arith, place, many, c.place_of.ensures.below) in
           let at : head ≡ length rows + places_of rows k = omega (arith, place, many) in
           let lt : head < length links = omega (arith, c.loop-i.invariant.long, c.place_of.ensures.below) in
           let link = c.index.ensures ∙ get_or_default links head c.index.result.now 0 lt in

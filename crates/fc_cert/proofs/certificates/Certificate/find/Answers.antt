@@ -1,4 +1,4 @@
-use Rattle.std.proofs.Common.{◌≡◌, ◌+◌, ◌-◌, ◌≤◌, sym, ◌∙◌, ap, arith}
+use Rattle.std.proofs.Common.{sym, ◌∙◌, ap, arith}
 use Rattle.std.specs.Ordering.{is_eq}
 use Rattle.fc_cert.proofs.ChainLemmas.{sought_in_vain, sought_next}
 use Rattle.fc_cert.proofs.FindLemmas.{key_differs, key_found}

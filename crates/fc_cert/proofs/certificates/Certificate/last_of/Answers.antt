@@ -1,4 +1,4 @@
-use Rattle.std.proofs.Common.{◌≡◌, ◌+◌, ◌*◌, ◌<◌, ◌≤◌, ◌^◌, ℕ, length, slice_index, sym, ◌∙◌, ap, subst, arith}
+use Rattle.std.proofs.Common.{◌≡◌, ◌+◌, ◌<◌, length, slice_index, sym, ◌∙◌, ap, subst, arith}
 use Rattle.std.proofs.lemmas.List.{get_or_default}
 use Rattle.fc_cert.specs.Layout.{content_of}
 use Rattle.fc_cert.specs.inner.Chains.{IsLast, place_of, places_of}
@@ -27,7 +27,7 @@ returns c =
     let some : 0 < length rows = omega (arith, many, c.if-count-eq0.false) in
     let chained = c.self.invariant.1 some in
     let place : c.place_of.result ≡ place_of (length rows) key = c.place_of.ensures.value ∙ ap (λ n. place_of n key) many in
-    let below : place_of (length rows) key < length rows + 64 = omega (arith, place, many, c.place_of.ensures.below) in
+    let below : place_of (length rows) key < length rows + 1024 = omega (arith, place, many, c.place_of.ensures.below) in
     let at : c.len-count.result + c.place_of.result ≡ length rows + place_of (length rows) key = omega (arith, place, many) in
     let lt : c.len-count.result + c.place_of.result < length s.links.items = omega (arith, chained.count, c.place_of.ensures.below, many) in
     let link = c.index.ensures ∙ get_or_default s.links.items (c.len-count.result + c.place_of.result) c.index.result.now 0 lt
