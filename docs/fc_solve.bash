@@ -13,26 +13,16 @@ _fc_solve() {
     --within) words="1 1.1 1.2 1.3 1.5 2 3 4 5 6 7 8 9 10" ;;
     --budget) words="100k 1M max" ;;
     --color) words="auto always never" ;;
-<<<<<<< HEAD
-    --cert | --certs) ;;
-=======
-    --cert | --board-at) ;;
->>>>>>> bcd85442d21af14a2e7c5a838392193ebb87a738
+    --cert | --certs | --board-at) ;;
     *)
       case ${COMP_WORDS[1]} in
         "$word") words="deal show best solve check replay batch help --help --version" ;;
         show) words="--plain --color --rows --deal $game --help" ;;
         best) words="--cert --deal --rows $form --stats --quiet --budget --rule $game --help" ;;
         solve) words="--cert --deal --rows $form --stats --quiet $search $game --help" ;;
-<<<<<<< HEAD
         batch) words="--table --json --totals --boards --rows --certs --best $search $game --help" ;;
-        replay) words="--numbered --sequences --rows $game --help" ;;
-        check) words="--json --rows $game --help" ;;
-=======
-        batch) words="--table --best $search $game --help" ;;
         replay) words="--numbered --expanded --board-at --sequences --must-win --rows $game --help" ;;
-        check) words="--rows $game --help" ;;
->>>>>>> bcd85442d21af14a2e7c5a838392193ebb87a738
+        check) words="--json --rows $game --help" ;;
         help) words="deal show best solve check replay batch" ;;
       esac
       ;;

@@ -3,6 +3,7 @@
 
 mod batching;
 mod besting;
+mod board_lists;
 mod boards;
 mod certs;
 mod checking;

@@ -134,13 +134,7 @@ fn tell_card(rt: &HostRuntime, card: Option<Card>) {
 }
 
 // Says which card an entry would move that can't be played, and why it can't, at the end of a line.
-fn tell_unplayed<G: Game>(
-    rt: &HostRuntime,
-    game: &G,
-    start: &Position,
-    list: &[u8],
-    step: u32,
-)
+fn tell_unplayed<G: Game>(rt: &HostRuntime, game: &G, start: &Position, list: &[u8], step: u32)
     requires position { IsPositionOf (G.game game.now) start.now }
 {
     let entry = match place_of(list, step) {
@@ -184,10 +178,7 @@ fn board_before<G: Game>(
 
 // Whether an entry carries cards from column to column.
 fn is_carried(pair: &Pair) -> bool {
-    matches!(
-        (pair.from, pair.to),
-        (Place::Column(_), Place::Column(_))
-    )
+    matches!((pair.from, pair.to), (Place::Column(_), Place::Column(_)))
 }
 
 // The deepest card of those that an entry tells to be moved, which is one where it doesn't tell how many.

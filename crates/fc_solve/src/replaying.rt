@@ -12,9 +12,7 @@ use fc_io::FromSlice;
 use fc_moves::Game;
 use fc_position::Position;
 use fc_replay::{Ended, Page};
-use fc_runs::{
-    Asked, ListQuestion, ProgramFault, run_list, run_replay_as, run_replay_sequences,
-};
+use fc_runs::{Asked, ListQuestion, ProgramFault, run_list, run_replay_as, run_replay_sequences};
 use fc_words::{ReplayForm, ReplayWords};
 use std::alloc::Global;
 
@@ -60,12 +58,18 @@ fn replay<G: Game>(
         ReplayForm::Numbered => Page::Numbered,
         ReplayForm::Expanded => {
             let asked = Asked::Line;
-            let question = ListQuestion { asked, has_sequences };
+            let question = ListQuestion {
+                asked,
+                has_sequences,
+            };
             return run_list(alloc, game, start, &mut moves, question, out);
         }
         ReplayForm::BoardAfter(entries) => {
             let asked = Asked::BoardAfter(entries);
-            let question = ListQuestion { asked, has_sequences };
+            let question = ListQuestion {
+                asked,
+                has_sequences,
+            };
             return run_list(alloc, game, start, &mut moves, question, out);
         }
     };

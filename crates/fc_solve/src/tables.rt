@@ -1,10 +1,10 @@
 //! `batch` where each board has a row or an object: they are answered one after the other, and nothing of one is kept.
 ghost use Rattle.fc_moves.specs.GameRules.{IsPositionOf};
 
+use crate::board_lists::{is_blank, is_rule, read_list};
 use crate::boards::{deal_for, read_board_text};
 use crate::certs::CertFile;
 use crate::endings::{Ending, tell_of_file};
-use crate::lists::{is_blank, is_rule, read_list};
 use crate::objects::{Name, fault_line, row_line};
 use crate::outputs::Out;
 use crate::tallies::{ANSWERS, CountedRows, Tally};

@@ -4,12 +4,8 @@ ghost use Rattle.fc_words.specs.Sound.{IsSound};
 use crate::batching::batch;
 use crate::commands::Command;
 use crate::faults::WordsFault;
-<<<<<<< HEAD
-use crate::subcommands::{best, check, deal, replay, show, solve};
-=======
 use crate::replays::replay;
-use crate::subcommands::{batch, best, check, deal, show, solve};
->>>>>>> bcd85442d21af14a2e7c5a838392193ebb87a738
+use crate::subcommands::{best, check, deal, show, solve};
 use crate::table;
 use crate::tasks::Task;
 use clap::ArgMatches;

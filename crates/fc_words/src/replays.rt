@@ -7,7 +7,9 @@ ghost use Rattle.fc_words.specs.declared.options.TheConstants.{MOST_CELLS};
 use crate::commands::{BoardWord, MovesWord, ReplayWords};
 use crate::faults::WordsFault;
 use crate::forms::ReplayForm;
-use crate::options::{CELLS, GAME, KINGS, Kind, MOVES, NEEDED_BOARD, ROWS, Word, game, moves, needed_board};
+use crate::options::{
+    CELLS, GAME, KINGS, Kind, MOVES, NEEDED_BOARD, ROWS, Word, game, moves, needed_board,
+};
 use crate::subcommands::Subcommand;
 use clap::ArgMatches;
 

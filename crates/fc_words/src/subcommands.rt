@@ -4,24 +4,12 @@ ghost use Rattle.std.specs.Prelude.{◌≤◌, IfOk, IfSome};
 ghost use Rattle.fc_words.specs.declared.options.TheConstants.{MOST_CELLS};
 
 use crate::batching::BATCHING;
-use crate::commands::{
-<<<<<<< HEAD
-    BestWords, BoardWord, CheckWords, DealWords, MovesWord, ReplayWords, ShowWords, SolveWords,
-};
+use crate::commands::{BestWords, CheckWords, DealWords, ShowWords, SolveWords};
 use crate::faults::WordsFault;
 use crate::options::{
     BOARDS, BOUND, BUDGET, CELLS, COLOR, DEAL, EXPAND, GAME, IN_JSON, IN_SEQUENCES, KINGS, Kind,
-    MOVES, NEEDED_BOARD, OPTIONAL_BOARD, ROWS, RULE, WITHIN, WORDS, Word, best_search, colours,
-    form, game, moves, needed_board, optional_board, search,
-=======
-    BatchSearch, BatchWords, BestWords, CheckWords, DealWords, ShowWords, SolveWords,
-};
-use crate::faults::WordsFault;
-use crate::options::{
-    BOARDS, BOUND, BUDGET, CELLS, COLOR, DEAL, EXPAND, GAME, IN_SEQUENCES, KINGS, Kind,
     NEEDED_BOARD, OPTIONAL_BOARD, ROWS, RULE, WITHIN, WORDS, Word, best_search, colours, form,
     game, needed_board, optional_board, search,
->>>>>>> bcd85442d21af14a2e7c5a838392193ebb87a738
 };
 use crate::replays::REPLAYING;
 use crate::tasks::Task;
@@ -276,125 +264,5 @@ pub(crate) fn check<'a>(words: &ArgMatches<'a>) -> Option<CheckWords<'a>>
         board: needed_board(words)?,
         cert: words.get_str(CERT.name)?,
         is_json: words.get_flag(CLAIM_IN_JSON.name),
-    })
-}
-
-<<<<<<< HEAD
-// `replay [--numbered] [--sequences] [GAME] BOARD MOVES`.
-static REPLAYING: Subcommand = Subcommand {
-    about: "Prints the board after each move, up to the first that isn't allowed",
-    after_help: "It says on standard error whether the board is won at the end, or why a move isn't allowed.
-
-Examples:
-  fc_solve replay boards/three-spades.txt moves.txt
-  fc_solve 941 | fc_solve replay 941 -
-  fc-solve -m -sn board.txt | fc_solve replay --sequences board.txt -",
-    words: &[
-        NUMBERED,
-        SEQUENCES,
-        GAME,
-        KINGS,
-        CELLS,
-        ROWS,
-        NEEDED_BOARD,
-        MOVES,
-    ],
-};
-
-const NUMBERED: Word = Word {
-    name: "numbered",
-    kind: Kind::Flag,
-    help: "Prints the number and the move above each board",
-};
-
-const SEQUENCES: Word = Word {
-    name: "sequences",
-    kind: Kind::Flag,
-    help: "Expands entries that move several cards, as other solvers print them",
-};
-
-/// What `replay` asks for.
-pub(crate) fn replay<'a>(words: &ArgMatches<'a>) -> Result<ReplayWords<'a>, WordsFault>
-    ensures cells { IfOk result (λ replay. replay.game.cells ≤ MOST_CELLS) }
-    ensures one_input { IfOk result HasOneInput }
-{
-    let (Some(game), Some(board), Some(moves)) = (game(words), needed_board(words), moves(words))
-    else {
-        return Err(WordsFault::Missing);
-    };
-    if let (BoardWord::Input, MovesWord::Input) = (board.word, moves) {
-        return Err(WordsFault::OneInput);
-    }
-    Ok(ReplayWords {
-        game,
-        board,
-        moves,
-        is_numbered: words.get_flag(NUMBERED.name),
-        has_sequences: words.get_flag(SEQUENCES.name),
-=======
-// `batch FROM TO [--table] [--budget B] [--best | [--within W] [--bound NAME] [--expand NAME]] [GAME] [--rule R]`.
-static BATCHING: Subcommand = Subcommand {
-    about: "Solves up to 32 numbered deals side by side, and prints a line for each, without moves",
-    after_help: "Status: the greatest of the lines': 0 a solution, 1 can't be won, 2 gave up, 4 want of memory;
-and 3 for what was asked and isn't right, 5 where writing failed.
-
-Example: fc_solve batch 11982 11982",
-    words: &[
-        FROM, TO, TABLE, BUDGET, BEST, WITHIN, BOUND, EXPAND, GAME, KINGS, CELLS, RULE,
-    ],
-};
-
-const FROM: Word = Word {
-    name: "FROM",
-    kind: Kind::DealNumber,
-    help: "The number of the first deal, 1 to 1000000",
-};
-
-const TO: Word = Word {
-    name: "TO",
-    kind: Kind::DealNumber,
-    help: "The number of the last deal",
-};
-
-const TABLE: Word = Word {
-    name: "table",
-    kind: Kind::Flag,
-    help: "Prints a table parted by tabs, with numbers of each search",
-};
-
-const BEST: Word = Word {
-    name: "best",
-    kind: Kind::FlagInPlaceOf(&["within", "bound", "expand"]),
-    help: "The best answer that the budget gives of each deal, as by `best`",
-};
-
-// How the words of `batch` ask to search.
-fn batch_search(words: &ArgMatches<'_>) -> Result<BatchSearch, WordsFault> {
-    if words.get_flag(BEST.name) {
-        Ok(BatchSearch::Best(best_search(words)?))
-    } else {
-        Ok(BatchSearch::By(search(words)?))
-    }
-}
-
-/// What `batch` asks for.
-pub(crate) fn batch(words: &ArgMatches<'_>) -> Result<BatchWords, WordsFault>
-    ensures cells { IfOk result (λ batch. batch.game.cells ≤ MOST_CELLS) }
-{
-    let search = batch_search(words)?;
-    let (Some(from), Some(to), Some(game)) = (
-        words.get_one::<u32>(FROM.name),
-        words.get_one::<u32>(TO.name),
-        game(words),
-    ) else {
-        return Err(WordsFault::Missing);
-    };
-    Ok(BatchWords {
-        game,
-        from,
-        to,
-        search,
-        is_table: words.get_flag(TABLE.name),
->>>>>>> bcd85442d21af14a2e7c5a838392193ebb87a738
     })
 }

@@ -1,0 +1,35 @@
+//! Files of several boards.
+
+use crate::boards::open;
+use crate::endings::{Ending, tell_of_reading};
+use fc_io::{FromReader, ReadFault, read_to_vec};
+use fc_runs::{Input, ProgramFault};
+
+// The most bytes that a file of boards may have.
+const LONGEST_LIST: usize = 1 << 26;
+
+/// The text of a file of boards, or of standard input where it is called `-`.
+pub fn read_list(rt: &HostRuntime, path: &str) -> Result<Vec<u8>, Ending> {
+    let read = if path == "-" {
+        read_to_vec(rt.alloc(), &mut FromReader::new(rt.stdin()), LONGEST_LIST)
+    } else {
+        read_to_vec(rt.alloc(), &mut open(rt, path, Input::Board)?, LONGEST_LIST)
+    };
+    match read {
+        Ok(text) => Ok(text),
+        Err(ReadFault::Failed) => Err(tell_of_reading(rt, Input::Board, path)),
+        Err(ReadFault::TooLong) => Err(Ending::Fault(ProgramFault::TooLong(Input::Board))),
+        Err(ReadFault::Memory) => Err(Ending::Fault(ProgramFault::Memory)),
+    }
+}
+
+/// Whether a line parts boards: three dashes or more, and blanks.
+pub fn is_rule(line: &[u8]) -> bool {
+    let line = line.trim_ascii();
+    line.len() >= 3 && line.iter().all(|byte| *byte == b'-')
+}
+
+/// Whether a text has nothing but blanks.
+pub fn is_blank(text: &[u8]) -> bool {
+    text.iter().all(|byte| byte.is_ascii_whitespace())
+}
