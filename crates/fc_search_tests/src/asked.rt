@@ -22,6 +22,7 @@ Freecells: - - - -
 :
 :
 ";
+
 const CARRIED: &str = "\
 Foundations: H-J C-K D-K S-J
 Freecells: - - - -
@@ -78,6 +79,7 @@ fn not_won(moves: u32) -> Result<Ended, ProgramFault> {
 fn bad(step: u32) -> Result<Ended, ProgramFault> {
     Err(ProgramFault::Moves(ReplayFault::BadMove(step)))
 }
+
 fn refused(step: u32) -> Result<Ended, ProgramFault> {
     Err(ProgramFault::Moves(ReplayFault::NotAllowed(step)))
 }

@@ -221,18 +221,53 @@ fn says(rt: &impl Abort, words: &[&[u8]], wanted: Option<Pair>) {
 fn entries_are_read_from_words(rt: HostRuntime) {
     let (first, fourth, cell) = (Place::Column(0), Place::Column(3), Place::Cell(2));
     let sayings: [(&[u8], &[u8], [&[u8]; 4], Option<Pair>); 8] = [
-        (b"12", b"cards", [b"stack", b"0", b"stack", b"3"], entry(first, fourth, Some(12))),
-        (b"1", b"cards", [b"stack", b"3", b"stack", b"0"], entry(fourth, first, Some(1))),
-        (b"a", b"card", [b"stack", b"3", b"freecell", b"2"], entry(fourth, cell, None)),
-        (b"a", b"card", [b"freecell", b"2", b"the", b"foundations"], entry(cell, Place::Home, None)),
-        (b"a", b"card", [b"the", b"foundations", b"stack", b"3"], None),
+        (
+            b"12",
+            b"cards",
+            [b"stack", b"0", b"stack", b"3"],
+            entry(first, fourth, Some(12)),
+        ),
+        (
+            b"1",
+            b"cards",
+            [b"stack", b"3", b"stack", b"0"],
+            entry(fourth, first, Some(1)),
+        ),
+        (
+            b"a",
+            b"card",
+            [b"stack", b"3", b"freecell", b"2"],
+            entry(fourth, cell, None),
+        ),
+        (
+            b"a",
+            b"card",
+            [b"freecell", b"2", b"the", b"foundations"],
+            entry(cell, Place::Home, None),
+        ),
+        (
+            b"a",
+            b"card",
+            [b"the", b"foundations", b"stack", b"3"],
+            None,
+        ),
         (b"0", b"cards", [b"stack", b"0", b"stack", b"3"], None),
         (b"a", b"card", [b"stack", b"8", b"stack", b"3"], None),
         (b"a", b"cards", [b"stack", b"0", b"freecell", b"4"], None),
     ];
     for (number, cards, [from, name, to, last], wanted) in sayings {
-        says(&rt, &[b"Move", number, cards, b"from", from, name, b"to", to, last], wanted);
-        says(&rt, &[b"Moves", number, cards, b"from", from, name, b"to", to, last], None);
+        says(
+            &rt,
+            &[b"Move", number, cards, b"from", from, name, b"to", to, last],
+            wanted,
+        );
+        says(
+            &rt,
+            &[
+                b"Moves", number, cards, b"from", from, name, b"to", to, last,
+            ],
+            None,
+        );
     }
     says(&rt, &[b"Move", b"a", b"card"], None);
 }

@@ -283,7 +283,9 @@ fn tells_the_card_of_a_refused_move(rt: HostRuntime) {
     let stop = first_stop(&game, &start, b"1a 12").expect(&rt, "a stop");
     let refused = stop.refused.expect(&rt, "a refused move");
     assert!(rt; stop.token == b"12".as_slice() && refused.told.number == 2);
-    assert!(rt; refused.told.card == Card::read(b"QS") && refused.told.beneath == Card::read(b"KS"));
+    assert!(rt;
+        refused.told.card == Card::read(b"QS") && refused.told.beneath == Card::read(b"KS")
+    );
 }
 
 #[test]
