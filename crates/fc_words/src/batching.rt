@@ -90,7 +90,7 @@ const CERTS: Word = Word {
         value: "FOLDER",
         default: None,
     },
-    help: "Writes a proof of each answer to FOLDER: N.cert for deal N, or for the table's Nth board",
+    help: "Writes proofs of the answers: N.cert, for deal N or the Nth board",
 };
 
 const TOTALS: Word = Word {

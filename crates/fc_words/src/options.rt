@@ -64,7 +64,7 @@ pub(crate) struct Word {
 pub(crate) const GAME: Word = Word {
     name: "game",
     kind: Kind::Name(&GameName::NAMES),
-    help: "freecell (columns in turning colours) or bakers (in suit)",
+    help: "freecell (in turning colours) or bakers (in suit)",
 };
 
 fn game_name(words: &ArgMatches<'_>) -> Option<GameName> {
@@ -114,7 +114,7 @@ pub(crate) const BUDGET: Word = Word {
         value: "B",
         default: Some("100000"),
     },
-    help: "How many positions to keep before giving up, to 4M or max",
+    help: "Positions to keep before giving up, to 4M or max",
 };
 
 fn budget(words: &ArgMatches<'_>) -> Result<u32, WordsFault> {
@@ -132,7 +132,7 @@ pub(crate) const RULE: Word = Word {
         range: (0, GREATEST_RULE),
         default: "2",
     },
-    help: "Cards that go home at once: none (0), safe ones (1), more safe ones (2)",
+    help: "Cards sent home at once: none (0), safe (1), more safe (2)",
 };
 
 fn rule(words: &ArgMatches<'_>) -> Option<HomeRule> {
@@ -145,7 +145,7 @@ pub(crate) const WITHIN: Word = Word {
         value: "W",
         default: Some("1"),
     },
-    help: "At most W times the fewest moves, 1.0 to 10.0; found far sooner",
+    help: "At most W times the fewest moves, 1.0 to 10.0; found sooner",
 };
 
 fn weight(words: &ArgMatches<'_>) -> Result<Weight, WordsFault> {
