@@ -80,7 +80,7 @@ def sweep_reads(words, given, files, inputs):
     count = 0
     for number, ran in sweep.each("FAIL_READ"):
         count += 1
-        sweep.check(f"read the {faults[min(number, len(faults)) - 1]}", number, ran, b"", files if words[0] != "solve" else [b""])
+        sweep.check(f"read the {faults[min(number, len(faults)) - 1]}", number, ran, b"", files)
     expect(count == len(faults), f"{words}: {count} reads, {len(faults)} expected")
     return count
 
