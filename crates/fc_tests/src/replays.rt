@@ -9,7 +9,9 @@ use fc_cards::{Card, Place};
 use fc_io::testing::Failing;
 use fc_io::{Sink, ToArray};
 use fc_moves::{Game, Kings, Move, Refusal, refusal_of};
-use fc_replay::{Ended, Page, ReplayFault, first_stop, play, read_token, replay, replay_as};
+use fc_replay::{
+    Ended, Page, RefusedMove, ReplayFault, Stop, first_stop, play, read_token, replay, replay_as,
+};
 use std::fmt::Write;
 use std::process::Abort;
 
@@ -233,9 +235,21 @@ fn writes_pages(rt: HostRuntime) {
 fn stops<G: Game>(rt: &impl Abort, game: &G, list: &[u8], step: u32, refusal: Option<Refusal>) {
     let start = board_for(rt, game, TWO_KINGS);
     assert!(rt; list.len() < 100, "a long list");
-    let stop = first_stop(game, &start, list).expect(rt, "a stop");
-    let why = stop.refused.map(|refused| refused.refusal);
-    assert!(rt; stop.step == step && why == refusal);
+    let Some(
+        Stop {
+            step: told,
+            refused,
+            ..
+        },
+    ) = first_stop(game, &start, list)
+    else {
+        return rt.panic("no stop");
+    };
+    let why = match refused {
+        Some(RefusedMove { refusal, .. }) => Some(refusal),
+        None => None,
+    };
+    assert!(rt; told == step && why == refusal);
 }
 
 #[test]
@@ -280,12 +294,14 @@ fn a_list_that_plays_has_no_stop(rt: HostRuntime) {
 fn tells_the_card_of_a_refused_move(rt: HostRuntime) {
     let game = free_cell(&rt, 4);
     let start = board_for(&rt, &game, TWO_KINGS);
-    let stop = first_stop(&game, &start, b"1a 12").expect(&rt, "a stop");
-    let refused = stop.refused.expect(&rt, "a refused move");
-    assert!(rt; stop.token == b"12".as_slice() && refused.told.number == 2);
-    assert!(rt;
-        refused.told.card == Card::read(b"QS") && refused.told.beneath == Card::read(b"KS")
-    );
+    let Some(Stop { token, refused, .. }) = first_stop(&game, &start, b"1a 12") else {
+        return rt.panic("no stop");
+    };
+    let Some(RefusedMove { told, .. }) = refused else {
+        return rt.panic("no refused move");
+    };
+    assert!(rt; token == b"12".as_slice() && told.number == 2);
+    assert!(rt; told.card == Card::read(b"QS") && told.beneath == Card::read(b"KS"));
 }
 
 #[test]
