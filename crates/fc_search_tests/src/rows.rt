@@ -1,6 +1,6 @@
 //! Rows of boards, with and without certificates.
 
-ghost use Rattle.fc_position.specs.Position.{Fits};
+ghost use Rattle.std.specs.Prelude.{◌<◌};
 
 use crate::given::{board, budget, free_cell, home_rule};
 use fc_answers::Outcome;
@@ -11,6 +11,7 @@ use fc_position::Position;
 use fc_runs::{Far, Output, ProgramFault, Row, Sought, answer_row};
 use fc_search::Question;
 use fc_tests::boards::{LOCKED, ONE_KING, TWO_KINGS};
+use std::alloc::Global;
 use std::process::Abort;
 
 // A sink of certificates.
@@ -29,26 +30,35 @@ static ANSWERS: [(&str, u32, Outcome, bool); 4] = [
     (TWO_KINGS, 1, Outcome::GaveUp(1), false),
 ];
 
+// What the row of a board tells, and that of its certificate.
+fn told(rt: &impl Abort, row: Result<Row, ProgramFault>) -> Option<Outcome> {
+    match row {
+        Ok(row) => row.told,
+        Err(_) => rt.panic("refused"),
+    }
+}
+
+// What is sought of a board is answered so, and with a certificate or without.
+fn answers_so(rt: &impl Abort, alloc: Global, sought: Sought, row: usize)
+    requires there { row < 4 }
+{
+    let (text, classes, wanted, has_certificate) = ANSWERS[row];
+    let question = question(rt, classes);
+    let start = board(rt, question.game(), text);
+    let mut cert = Certificate::new();
+    let certified = answer_row(alloc, &question, sought, &start, Some(&mut cert));
+    assert!(rt; told(rt, certified) == Some(wanted));
+    assert!(rt; cert.held().starts_with(b"FCC") == has_certificate);
+    let none: Option<&mut Certificate> = None;
+    let plain = answer_row(alloc, &question, sought, &start, none);
+    assert!(rt; told(rt, plain) == Some(wanted));
+}
+
 #[test]
 fn rows_tell_answers_and_certify_them(rt: HostRuntime) {
-    for (text, classes, wanted, has_certificate) in ANSWERS {
-        let question = question(&rt, classes);
-        let start = board(&rt, question.game(), text);
-        for sought in [Sought::ByMethod, Sought::Best] {
-            let mut cert = Certificate::new();
-            let row = answer_row(rt.alloc(), &question, sought, &start, Some(&mut cert));
-            let row = row.ok().expect(&rt, "a row");
-            assert!(rt; row.told == Some(wanted));
-            assert!(rt; cert.held().starts_with(b"FCC") == has_certificate);
-            let plain = answer_row::<FreeCell, Certificate>(
-                rt.alloc(),
-                &question,
-                sought,
-                &start,
-                None,
-            );
-            assert!(rt; plain.ok().is_some_and(|row| row.told == Some(wanted)));
-        }
+    for row in 0..ANSWERS.len() {
+        answers_so(&rt, rt.alloc(), Sought::ByMethod, row);
+        answers_so(&rt, rt.alloc(), Sought::Best, row);
     }
 }
 
