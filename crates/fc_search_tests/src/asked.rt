@@ -54,8 +54,8 @@ fn ask<M: Source, K: Sink>(
 struct Row(Asked, bool, &'static str, Result<Ended, ProgramFault>);
 
 // The answer to a row's question is its own, and this is written.
-fn answers(rt: &impl Abort, alloc: Global, row: Row, written: &str) {
-    let Row(asked, has_sequences, list, wanted) = row;
+fn answers(rt: &impl Abort, alloc: Global, row: &Row, written: &str) {
+    let Row(asked, has_sequences, list, wanted) = *row;
     let mut moves = FromSlice::new(list.as_bytes());
     let mut out = ToArray::<400>::new();
     let question = ListQuestion {
@@ -102,7 +102,7 @@ fn one_card_moves_of_a_list(rt: HostRuntime) {
     ];
     for (has_sequences, list, wanted, written) in lines {
         let row = Row(Asked::Line, has_sequences, list, wanted);
-        answers(&rt, rt.alloc(), row, written);
+        answers(&rt, rt.alloc(), &row, written);
     }
 }
 
@@ -120,7 +120,7 @@ fn the_board_after_some_entries(rt: HostRuntime) {
     ];
     for (entries, has_sequences, list, wanted, written) in boards {
         let row = Row(Asked::BoardAfter(entries), has_sequences, list, wanted);
-        answers(&rt, rt.alloc(), row, written);
+        answers(&rt, rt.alloc(), &row, written);
     }
 }
 
