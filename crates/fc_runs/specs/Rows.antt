@@ -7,13 +7,11 @@ use Rattle.fc_answers.specs.declared.answers.Outcome.TheVariants.{Shortest, Won,
 use Rattle.fc_answers.specs.declared.answers.Verdict.{Verdict}
 use Rattle.fc_answers.specs.Verdict.{outcome_of}
 use Rattle.fc_best.specs.Best.{IsBestVerdict, IsFloor}
-use Rattle.fc_search.specs.declared.listeners.Progress.{Progress}
 use Rattle.fc_search.specs.Problem.{problem_of}
 use Rattle.fc_board_runs.specs.declared.faults.Output.TheVariants.{Cert as of_certificate}
 use Rattle.fc_board_runs.specs.declared.faults.ProgramFault.{ProgramFault}
 use Rattle.fc_board_runs.specs.declared.faults.ProgramFault.TheVariants.{Write}
 use Rattle.fc_board_runs.specs.Devices.{Device, IsUntouched}
-use Rattle.fc_best.specs.declared.listeners.BestProgress.{BestProgress}
 use Rattle.fc_runs.specs.declared.rows.Far.{Far}
 use Rattle.fc_runs.specs.declared.rows.Row.{Row}
 use Rattle.fc_runs.specs.declared.rows.Sought.{Sought}
@@ -35,14 +33,6 @@ moves_of (Some (Won count floor)) = Some count
 moves_of (Some CannotWin) = None
 moves_of (Some (GaveUp budget)) = None
 moves_of None = None
-
--- what a row keeps of what a search tells
-abbrev pub far_of : Progress → Far
-far_of far = record { classes = far.classes; turns = far.turns; most_open = far.most_open; at_least = far.at_least }
-
--- and of what the searches for a best answer tell
-abbrev pub best_far_of : BestProgress → Far
-best_far_of far = record { classes = far.classes; turns = far.turns; most_open = far.most_open; at_least = far.at_least }
 
 -- the floor that was told last, if any was
 abbrev pub told_floor : Option Far → Option ℕ

@@ -2,3 +2,4 @@
 pub mod Batches
 pub mod Certificates
 pub mod Checking
+pub mod Rows

@@ -154,7 +154,7 @@ struct Last {
 
 impl Listener for Last {
     ghost use Rattle.std.specs.Prelude.{◌≡◌, Some};
-    ghost use Rattle.fc_runs.specs.Rows.{far_of};
+    ghost use Rattle.fc_runs.specs.inner.Rows.{far_of};
 
     ghost hears = { λ _ far new. new.far ≡ Some (far_of far) };
 
@@ -170,7 +170,7 @@ impl Listener for Last {
 
 impl BestListener for Last {
     ghost use Rattle.std.specs.Prelude.{◌≡◌, Some};
-    ghost use Rattle.fc_runs.specs.Rows.{best_far_of};
+    ghost use Rattle.fc_runs.specs.inner.Rows.{best_far_of};
 
     ghost hears = { λ _ far new. new.far ≡ Some (best_far_of far) };
 
