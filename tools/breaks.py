@@ -121,7 +121,7 @@ def functions_of(path, text):
     module = [] if path in ("src/lib.rt", "src/main.rt") else re.sub(r"(/mod)?\.rt$", "", path)[4:].split("/")
     found, at, impl, begun = [], 0, "", None
     for line in text.splitlines(True):
-        head = re.match(r"( *)(?:pub(?:\([^)]*\))? +|const +|final +|unsafe +)*fn +(\w+)", line)
+        head = re.match(r"( *)(?:pub(?:\([^)]*\))? +|const +|final +|unsafe +|extern +\"C\" +)*fn +(\w+)", line)
         if re.match(r"(pub +)?(impl|trait)\b", line):
             impl = text[at : text.find("{", at)]
         elif head:

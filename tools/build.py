@@ -1,10 +1,12 @@
 #!/usr/bin/env python3
-"""Proves and builds a program from nothing, with only what it stands on, crates that don't stand on each other side by side.
+"""Proves and builds a program or a static library from nothing, with only what it stands on, crates that don't stand on each other side
+by side.
 
 usage, at the top of a copy of the repository:  build.py NAME
+                                                build.py --over NAME    over the libraries that earlier checks left in out/
 
-It says on standard error how far it is, and leaves the program in crates/NAME/out/NAME. Where a crate is not proved, what the
-check said of it goes to standard output, and the status is 1.
+It says on standard error how far it is, and leaves the program in crates/NAME/out/NAME, or the library in
+crates/NAME/out/libNAME.a. Where a crate is not proved, what the check said of it goes to standard output, and the status is 1.
 """
 import os
 import subprocess
@@ -37,11 +39,15 @@ def prove(crate, words):
     return prove(crate, again) if again else status
 
 
+def compile_to(crate, words, to):
+    """Proves and compiles a program or a static library."""
+    return prove(crate, [*words, "--toolchain", f"{rt.KIT}/toolchain", "--backend", "llvm", "-o", to])
+
+
 def build_program(crate, words):
     """Proves and compiles a program, and links it to out/NAME."""
     to = f"out/{crate.name}"
-    status = prove(crate, [*words, "--toolchain", f"{rt.KIT}/toolchain", "--backend", "llvm", "-o", f"{to}.o"])
-    return status or crate.link(f"{to}.o", to)
+    return compile_to(crate, words, f"{to}.o") or crate.link(f"{to}.o", to)
 
 
 def build(crate, jobs, progress):
@@ -49,7 +55,12 @@ def build(crate, jobs, progress):
     words = crate.words(["--jobs", str(jobs)], keeps=False)
     os.makedirs(f"{crate.folder}/out/rlib", exist_ok=True)
     with tempfile.TemporaryFile("w+", errors="replace") as crate.out:
-        status = build_program(crate, words) if crate.is_program else prove(crate, [*words, "--statements", "-o", crate.rlib])
+        if crate.is_program:
+            status = build_program(crate, words)
+        elif crate.is_static:
+            status = compile_to(crate, words, f"out/lib{crate.name}.a")
+        else:
+            status = prove(crate, [*words, "--statements", "-o", crate.rlib])
         if status:
             crate.out.seek(0)
             print(f"{crate.name} is not proved:\n{crate.out.read()}", flush=True)
@@ -69,7 +80,7 @@ def longest_chains(crates):
 
 def build_all(crates, lanes, progress):
     """Builds each crate once those below it are built, first those with the longest chain above them. A check that no other waits
-    beside has two jobs: they take two thirds of the time, and a seventh more work. The last one, the program's, has all that there
+    beside has two jobs: they take two thirds of the time, and a seventh more work. The last one has all that there
     are: four take half of the time, and a third more work. Returns whether all are proved."""
     chains = longest_chains(crates)
     left, running, built = sorted(crates, key=lambda it: -chains[it.name]), {}, set()
@@ -90,16 +101,19 @@ def build_all(crates, lanes, progress):
     return True
 
 
-def main(name):
-    program = next((it for it in crates_of_gate() if it.name == name), None)
-    if not program or not program.is_program:
-        print(f"build: crates.txt names no program {name}", file=sys.stderr)
+def main(words):
+    name = words[-1] if words else ""
+    last = next((it for it in crates_of_gate() if it.name == name), None)
+    if not last or not (last.is_program or last.is_static):
+        print(f"build: crates.txt names no program and no static library {name}", file=sys.stderr)
         return 2
-    crates = sorted([*program.below(), program], key=lambda it: len(it.below()))
+    crates = sorted([*last.below(), last], key=lambda it: len(it.below()))
+    if words[:-1] == ["--over"]:
+        return 0 if build(last, 1, Progress(name, 1)) else 1
     # A check holds at most 3 GB.
     lanes = max(1, min(rt.processors(), rt.free() // 3_000_000_000))
     return 0 if build_all(crates, lanes, Progress(name, len(crates))) else 1
 
 
 if __name__ == "__main__":
-    sys.exit(main(sys.argv[1] if len(sys.argv) == 2 else ""))
+    sys.exit(main(sys.argv[1:]))

@@ -139,7 +139,7 @@ def read_source(path, names, is_whole):
     calls, ghosts = [], []
     owner, is_open, takes_all = "", False, False
     for at, line in enumerate(lines):
-        head = re.match(r"(pub trait|impl)\b.*\{$", line)
+        head, call = re.match(r"(pub trait|impl)\b.*\{$", line), re.match(r'pub (extern "C" )?fn (\w+)', line)
         if head:
             kind, _, of = without_generics(line[len(head[1]) : -1]).partition(" for ")
             owner = re.match(r"\w*", (of or kind).strip().lstrip("&"))[0]
@@ -151,7 +151,7 @@ def read_source(path, names, is_whole):
             calls.append(read_call(lines, at, owner))
         elif is_open and re.match(r"    ghost (?!use|invariant|laws|respects)", line):
             ghosts.append(line)
-        elif re.match(r"pub fn (\w+)", line) and (is_whole or re.match(r"pub fn (\w+)", line)[1] in names):
+        elif call and (is_whole or call[1] or call[2] in names):
             calls.append(read_call(lines, at, ""))
     return Source(path, calls, uses_of(text), ghosts)
 
@@ -223,7 +223,7 @@ def statement(call, definitions):
 
 def crates_in_order():
     with open("crates.txt", encoding="utf-8") as it:
-        named = re.findall(r"^(\w+):", it.read(), re.M)
+        named = re.findall(r"^(\w+)(?: staticlib)?:", it.read(), re.M)
     return [it for it in named if not OURS.search(it)]
 
 

@@ -61,11 +61,6 @@ counted_next text rest more count token so first = record {
   size = omega (arith, so.size, length-append so.front (token ∷ []));
 }
 
-pub counted_few : (text rest : List ℕ) (count : ℕ) → Counted text rest count → count ≤ length text
-counted_few text rest count so =
-    let size = ap length so.parts in
-    omega (arith, so.size, size, length-append so.front (move_tokens rest), length-tokens_between is_gap text)
-
 -- there is room for one token more
 pub counted_more : (text rest : List ℕ) (more : List (List ℕ)) (count : ℕ) (token : List ℕ) → Counted text rest count
     → move_tokens rest ≡ token ∷ more → count + 1 ≤ length text

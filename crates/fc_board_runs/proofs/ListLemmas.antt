@@ -1,5 +1,5 @@
 -- Lists of one-card moves, made one by one; where moves lead; and why a question about a list has no answer.
-use Rattle.std.proofs.Common.{◌≡◌, inr, ℕ, zero, suc, ◌+◌, ◌<◌, ◌≤◌, Bool, true, false, List, [], ◌∷◌, ◌++◌, length, take, refl, sym, ◌∙◌, ap, subst, length-append, arith}
+use Rattle.std.proofs.Common.{◌≡◌, inr, ℕ, zero, suc, ◌+◌, ◌<◌, ◌≤◌, Bool, true, false, List, [], ◌∷◌, ◌++◌, length, take, sym, ap, subst, length-append, arith}
 use Rattle.std.specs.Prelude.{All}
 use Rattle.fc_io.specs.Moves.{Stays}
 use Rattle.fc_position.specs.Board.{Board}
@@ -11,7 +11,7 @@ use Rattle.fc_moves.specs.Step.{Step, Allows}
 use Rattle.fc_moves.proofs.StepLemmas.{allowed_has_text, step_keeps, step_once}
 use Rattle.fc_text.proofs.PartLemmas.{length-tokens_between}
 use Rattle.fc_sequences.proofs.RunLemmas.{expands_run}
-use Rattle.fc_replay.specs.Played.{Plays, StopsAt, board_after}
+use Rattle.fc_replay.specs.Played.{Plays, StopsAt}
 use Rattle.fc_replay.specs.Token.{is_gap, move_tokens, SpellsMove}
 use Rattle.fc_replay.proofs.PlayLemmas.{played_tokens_run, spelled_length}
 use Rattle.fc_replay.proofs.ReplayLoop.{Course, Spelled, course_none, course_next, spelled_none, spelled_next, stops_here}

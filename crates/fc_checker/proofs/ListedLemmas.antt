@@ -1,5 +1,5 @@
 -- The class of a position is listed exactly where its key is found, at the cost that is found.
-use Rattle.std.proofs.Common.{◌≡◌, ℕ, zero, suc, ◌+◌, ◌≤◌, ◌↔◌, Option, Some, None, List, [], ◌∷◌, get_or, IsTrue, refl, sym, ◌∙◌, ap, subst, ⊎_elim, nat_le, arith}
+use Rattle.std.proofs.Common.{◌≡◌, ℕ, zero, suc, ◌≤◌, ◌↔◌, Option, Some, None, List, [], ◌∷◌, get_or, IsTrue, refl, sym, ◌∙◌, ap, subst, ⊎_elim, nat_le, arith}
 use Rattle.std.specs.Prelude.{Contains, MatchOption}
 use Rattle.std.proofs.lemmas.Bool.{cases_lt}
 use Rattle.std.proofs.lemmas.Bool.Decides.{nat_tests}
@@ -97,7 +97,3 @@ listed_by rows x moves cost other lists same = (
 
     tested_back : (a b : ℕ) → a ≤ b → IsTrue (nat_le a b)
     tested_back a b le = grind (arith, nat_tests)
-
--- what reaches the level by a bound that is no greater does so by the bound
-pub seen_reach : (level moves guide low : ℕ) → guide ≤ low → IsTrue (nat_le level (moves + guide)) → level ≤ moves + low
-seen_reach level moves guide low under true = grind (arith, nat_tests)

@@ -4,7 +4,6 @@ use Rattle.fc_best_first.specs.Graph.{Task}
 use Rattle.fc_best_first.proofs.FloorLemmas.{least_begins, least_counts, least_ends, least_stale, next_waits, none_told, present_at, some_told, told_so, waiting_high, waiting_within}
 use Rattle.fc_best_first.proofs.KeptLemmas.{entry_low}
 use Rattle.fc_best_first.proofs.floors.least_open.Goals as goal
-use Rattle.fc_best_first.proofs.floors.least_open.Goals.{After-present_bound}
 
 pub loop-f-init : goal.loop-f-init
 loop-f-init g c limit =

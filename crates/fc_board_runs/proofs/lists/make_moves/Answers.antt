@@ -1,8 +1,7 @@
-use Rattle.std.proofs.Common.{rules, ◌≡◌, ◌+◌, ◌<◌, ◌≤◌, length, List, ℕ, ◌∙◌, sym, ap, subst, length-append, arith, ◌∷◌, []}
+use Rattle.std.proofs.Common.{rules, ◌≡◌, ◌+◌, ◌≤◌, length, List, ℕ, ◌∙◌, sym, ap, subst, length-append, arith, ◌∷◌, []}
 use Rattle.std.specs.Prelude.{take}
 use Rattle.std.proofs.lemmas.Bool.{false≢true}
 use Rattle.fc_position.specs.Board.{Board}
-use Rattle.fc_position.specs.Position.{Fits, IsPosition}
 use Rattle.fc_moves.specs.GameRules.{IsPositionOf}
 use Rattle.fc_replay.specs.Played.{IsNotAllowed, StopsAt}
 use Rattle.fc_replay.specs.Token.{move_tokens, IsNoMove}

@@ -1,4 +1,4 @@
-use Rattle.std.proofs.Common.{rules, ◌≡◌, ◌+◌, ◌<◌, ◌∷◌, [], arith, length, length-append, sym, ap, subst}
+use Rattle.std.proofs.Common.{rules, ◌≡◌, ◌+◌, ◌∷◌, [], arith, length, length-append, sym, ap, subst}
 use Rattle.std.specs.Prelude.{take}
 use Rattle.fc_replay.specs.Token.{move_tokens}
 use Rattle.fc_board_runs.specs.Sequences.{IsFirstNoPair, IsUnread}

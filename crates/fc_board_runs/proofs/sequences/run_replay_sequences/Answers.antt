@@ -1,5 +1,5 @@
 use Rattle.std.proofs.Common.{rules, ◌<◌, ◌≤◌, length, Ok, Err, refl, sym, subst}
-use Rattle.std.specs.Prelude.{IfErr, IsTrue, take}
+use Rattle.std.specs.Prelude.{IfErr, IsTrue}
 use Rattle.fc_moves.specs.Run.{Run}
 use Rattle.fc_sequences.proofs.RunLemmas.{expands_run}
 use Rattle.fc_replay.specs.Played.{PlaysAs, sink_change}

@@ -1,4 +1,4 @@
-use Rattle.std.proofs.Common.{◌≡◌, ◌+◌, ◌-◌, ◌<◌, ◌≤◌, ℕ, min, IsTrue, ltb, ap, subst, arith}
+use Rattle.std.proofs.Common.{◌≡◌, ◌+◌, ◌-◌, ◌≤◌, min, subst, arith}
 use Rattle.fc_bound.specs.Kinds.{guide_of}
 use Rattle.fc_bound.proofs.KindLemmas.{guides_under}
 use Rattle.fc_checker.proofs.FarLemmas.{counted_within, tested, tested_back}

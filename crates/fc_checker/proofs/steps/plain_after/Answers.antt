@@ -1,4 +1,4 @@
-use Rattle.std.proofs.Common.{◌≡◌, ◌≤◌, ℕ, sym, subst}
+use Rattle.std.proofs.Common.{◌≡◌, ◌≤◌, sym, subst}
 use Rattle.fc_bound.specs.Kinds.{guide_of, low_of}
 use Rattle.fc_checker.proofs.FarLemmas.{cell_after, told_after}
 use Rattle.fc_checker.proofs.steps.plain_after.Goals as goal

@@ -1,0 +1,94 @@
+//! What C and other languages call: each export calls `fc_library`, and puts what that hands over into rooms of the caller's.
+//! To C a slice is a pointer, which may not be null, and a length; a `Global` is nothing; the structs are those of
+//! `lib/luffaknife.h`.
+#![tactic(auto)]
+
+ghost use Rattle.std.specs.Prelude.{Result, MatchResult};
+ghost use Rattle.fc_library.specs.Answers.{IsBestCertified, IsBestRefused, IsBestTold};
+ghost use Rattle.fc_library.specs.Checks.{IsAccepted, IsCheckRefused};
+ghost use Rattle.fc_library.specs.Deals.{IsDealRefused, IsDealTold};
+ghost use Rattle.fc_library.specs.Replays.{IsReplayRefused, IsReplayTold};
+ghost use Rattle.fc_library.specs.Rooms.{IsHandedOver, IsHandedOverBoth};
+ghost use Rattle.fc_library.specs.declared.answers.Certified.{Certified};
+ghost use Rattle.fc_library.specs.declared.answers.Told.{Told};
+ghost use Rattle.fc_library.specs.declared.refusals.Refusal.{Refusal};
+
+use fc_library::{
+    Call, GameName, best, best_certified, check_bytes, deal_of, hand_over, hand_over_certified,
+    replay_list,
+};
+use std::alloc::Global;
+
+/// The columns of a numbered deal, 1 to 1,000,000, a line each: at most 200 bytes.
+#[unsafe(no_mangle)]
+pub extern "C" fn luffaknife_deal(alloc: Global, number: u32, text: &mut [u8]) -> Call
+    ensures handed { (told : Result Told Refusal) × MatchResult told (IsDealTold number) (IsDealRefused number)
+        × IsHandedOver told text.old text.new result }
+{
+    hand_over(&deal_of(alloc, number), text)
+}
+
+/// The best answer, within a budget of 1 to 4,000,000 classes of positions, for a board's text: what the program prints.
+#[unsafe(no_mangle)]
+pub extern "C" fn luffaknife_best(
+    alloc: Global,
+    name: GameName,
+    budget: u32,
+    board: &[u8],
+    text: &mut [u8],
+) -> Call
+    ensures handed { (told : Result Told Refusal) × MatchResult told (IsBestTold name board.now budget) (IsBestRefused name board.now budget)
+        × IsHandedOver told text.old text.new result }
+{
+    hand_over(&best(alloc, name, board, budget), text)
+}
+
+/// The same, with the certificate of the answer.
+#[unsafe(no_mangle)]
+pub extern "C" fn luffaknife_best_certified(
+    alloc: Global,
+    name: GameName,
+    budget: u32,
+    board: &[u8],
+    text: &mut [u8],
+    certificate: &mut [u8],
+) -> Call
+    ensures handed { (told : Result Certified Refusal) × MatchResult told (IsBestCertified name board.now budget) (IsBestRefused name board.now budget)
+        × IsHandedOverBoth told (text.old, certificate.old) (text.new, certificate.new) result }
+{
+    hand_over_certified(
+        &best_certified(alloc, name, board, budget),
+        text,
+        certificate,
+    )
+}
+
+/// The claim that a certificate proves of a board's text, as the program prints it. Nothing is searched.
+#[unsafe(no_mangle)]
+pub extern "C" fn luffaknife_check(
+    alloc: Global,
+    name: GameName,
+    board: &[u8],
+    certificate: &[u8],
+    text: &mut [u8],
+) -> Call
+    ensures handed { (told : Result Told Refusal) × MatchResult told (IsAccepted name board.now certificate.now) (IsCheckRefused name board.now certificate.now)
+        × IsHandedOver told text.old text.new result }
+{
+    hand_over(&check_bytes(alloc, name, board, certificate), text)
+}
+
+/// The boards after the first move of a list, the second, and so on, from a board's text, as the program prints them.
+#[unsafe(no_mangle)]
+pub extern "C" fn luffaknife_replay(
+    alloc: Global,
+    name: GameName,
+    board: &[u8],
+    list: &[u8],
+    text: &mut [u8],
+) -> Call
+    ensures handed { (told : Result Told Refusal) × MatchResult told (IsReplayTold name board.now list.now) (IsReplayRefused name board.now list.now)
+        × IsHandedOver told text.old text.new result }
+{
+    hand_over(&replay_list(alloc, name, board, list), text)
+}

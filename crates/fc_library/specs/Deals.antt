@@ -1,0 +1,19 @@
+-- What telling deals promises.
+use Rattle.std.specs.Prelude.{◌≡◌, ℕ}
+use Rattle.fc_deal.specs.Deal.{IsDealNumber, dealt_board}
+use Rattle.fc_deal.specs.DealText.{deal_text}
+use Rattle.fc_library.specs.declared.answers.Told.{Told}
+use Rattle.fc_library.specs.declared.refusals.Refusal.{Refusal}
+use Rattle.fc_library.specs.declared.refusals.Refusal.TheVariants as refused
+
+-- a deal was told: the number is one of a deal, and this is its text
+pub record IsDealTold (n : ℕ) (told : Told) : Type 0 where
+  pub number : IsDealNumber n
+  pub written : told.text.items ≡ deal_text (dealt_board n)
+  pub status : told.status ≡ 0
+
+-- why it wasn't: the number is no deal's, or memory was wanted
+abbrev pub IsDealRefused : ℕ → Refusal → Type 0
+IsDealRefused number refused.Deal = IsDealNumber number → ⊥
+IsDealRefused number refused.Memory = IsDealNumber number
+IsDealRefused number other = ⊥

@@ -1,0 +1,33 @@
+-- What is handed over in rooms of a caller's.
+use Rattle.std.specs.Prelude.{◌≡◌, ℕ, ◌<◌, ◌≤◌, ◌⊎◌, List, ◌++◌, length, drop, Result, Ok, Err}
+use Rattle.fc_library.specs.Numbers.{number_of, place_of}
+use Rattle.fc_library.specs.declared.answers.Certified.{Certified}
+use Rattle.fc_library.specs.declared.answers.Told.{Told}
+use Rattle.fc_library.specs.declared.numbers.TheConstants.{NO_ROOM}
+use Rattle.fc_library.specs.declared.refusals.Refusal.{Refusal}
+use Rattle.fc_library.specs.declared.rooms.Call.{Call}
+
+-- how a call ended that was refused
+abbrev pub refused_call : Refusal → Call
+refused_call refusal = record { status = number_of refusal; place = place_of refusal; text_len = 0; certificate_len = 0 }
+
+-- the bytes stand in the front of a room, and behind them what stood there
+abbrev pub IsPut : List ℕ → List ℕ → List ℕ → Type 0
+IsPut bytes old new = new ≡ bytes ++ drop (length bytes) old
+
+-- a text was put into a room and the status told, where it fits; else that there is no room; of a refusal, which
+abbrev pub IsHandedOver : Result Told Refusal → List ℕ → List ℕ → Call → Type 0
+IsHandedOver (Err refusal) old new call = (call ≡ refused_call refusal) × (new ≡ old)
+IsHandedOver (Ok told) old new call =
+    let ended : ℕ → Call = λ status. record { status = status; place = 0; text_len = length told.text.items; certificate_len = 0 } in
+    ((length told.text.items ≤ length old) × IsPut told.text.items old new × (call ≡ ended told.status))
+    ⊎ ((length old < length told.text.items) × (new ≡ old) × (call ≡ ended NO_ROOM))
+
+-- the same of a text and a certificate with a room each: both are put there where both fit
+abbrev pub IsHandedOverBoth : Result Certified Refusal → List ℕ × List ℕ → List ℕ × List ℕ → Call → Type 0
+IsHandedOverBoth (Err refusal) old new call = (call ≡ refused_call refusal) × (new ≡ old)
+IsHandedOverBoth (Ok told) old new call =
+    let ended : ℕ → Call = λ status. record { status = status; place = 0; text_len = length told.text.items; certificate_len = length told.certificate.items } in
+    ((length told.text.items ≤ length old.0) × (length told.certificate.items ≤ length old.1) × IsPut told.text.items old.0 new.0
+    × IsPut told.certificate.items old.1 new.1 × (call ≡ ended told.status))
+    ⊎ (((length old.0 < length told.text.items) ⊎ (length old.1 < length told.certificate.items)) × (new ≡ old) × (call ≡ ended NO_ROOM))

@@ -1,0 +1,47 @@
+//! Certificates checked for boards.
+ghost use Rattle.std.specs.Prelude.{IfOk, IfErr};
+ghost use Rattle.fc_library.specs.Checks.{IsAccepted, IsCheckRefused};
+
+use crate::answers::Told;
+use crate::boards::start_of;
+use crate::games::{GameName, game_of};
+use crate::refusals::Refusal;
+use fc_answer_text::accepted_text;
+use fc_cert::LONGEST_CERTIFICATE;
+use fc_checker::check;
+use fc_moves::Game;
+use std::alloc::Global;
+
+/// The text of the claim that the bytes prove of a board of the game of this name, as the program prints
+/// it. Nothing is searched.
+///
+/// # Errors
+/// In this order: `Game`; `Board`; `TooLong` for more than 1 GiB; `Certificate`, the first thing that is asked of one and
+/// doesn't hold, or want of memory; `Memory`.
+pub fn check_bytes(
+    alloc: Global,
+    name: GameName,
+    board: &[u8],
+    bytes: &[u8],
+) -> Result<Told, Refusal>
+    ensures accepted { IfOk result (IsAccepted name board.now bytes.now) }
+    ensures refused { IfErr result (IsCheckRefused name board.now bytes.now) }
+{
+    let Some(game) = game_of(name) else {
+        return Err(Refusal::Game);
+    };
+    let start = match start_of(board, name.cells) {
+        Ok(start) => start,
+        Err(fault) => return Err(Refusal::Board(fault)),
+    };
+    if bytes.len() > LONGEST_CERTIFICATE {
+        return Err(Refusal::TooLong);
+    }
+    match check(alloc, &game, &start, bytes) {
+        Ok(claim) => match accepted_text(alloc, claim) {
+            Ok(text) => Ok(Told { status: 0, text }),
+            Err(_) => Err(Refusal::Memory),
+        },
+        Err(fault) => Err(Refusal::Certificate(fault)),
+    }
+}

@@ -1,0 +1,48 @@
+//! Lists of moves played on boards.
+ghost use Rattle.std.specs.Prelude.{IfOk, IfErr};
+ghost use Rattle.fc_library.specs.Replays.{IsReplayRefused, IsReplayTold};
+
+use crate::answers::Told;
+use crate::boards::start_of;
+use crate::games::{GameName, game_of};
+use crate::refusals::Refusal;
+use crate::sinks::ToVec;
+use fc_board_runs::LONGEST_MOVES;
+use fc_moves::Game;
+use fc_replay::{Page, replay_as};
+use std::alloc::Global;
+
+/// The boards after the first move of a list, the second, and so on, from a board of the game of this name.
+/// The status tells whether the last board is won: 0, or 3 where it isn't.
+///
+/// # Errors
+/// In this order: `Game`; `Board`; `TooLong` for a list of more than 1,048,576 bytes; then at its step `Moves`, a token that is
+/// no move or a move that isn't allowed, or `Memory`.
+pub fn replay_list(
+    alloc: Global,
+    name: GameName,
+    board: &[u8],
+    list: &[u8],
+) -> Result<Told, Refusal>
+    ensures told { IfOk result (IsReplayTold name board.now list.now) }
+    ensures refused { IfErr result (IsReplayRefused name board.now list.now) }
+{
+    let Some(game) = game_of(name) else {
+        return Err(Refusal::Game);
+    };
+    let start = match start_of(board, name.cells) {
+        Ok(start) => start,
+        Err(fault) => return Err(Refusal::Board(fault)),
+    };
+    if list.len() > LONGEST_MOVES {
+        return Err(Refusal::TooLong);
+    }
+    let mut boards = ToVec::new(alloc);
+    match replay_as(&game, &start, list, Page::Board, &mut boards) {
+        Ok(ended) => Ok(Told {
+            status: if ended.is_won { 0 } else { 3 },
+            text: boards.into_bytes(),
+        }),
+        Err(fault) => Err(Refusal::Moves(fault)),
+    }
+}

@@ -1,0 +1,85 @@
+//! What a call hands over, put into rooms of the caller's.
+ghost use Rattle.std.specs.Prelude.{◌≡◌};
+ghost use Rattle.fc_library.specs.Rooms.{IsHandedOver, IsHandedOverBoth, refused_call};
+
+use crate::answers::{Certified, Told};
+use crate::numbers::NO_ROOM;
+use crate::refusals::Refusal;
+
+/// How a call ended.
+#[repr(C)]
+#[derive(Clone, Copy, Debug, PartialEq, Eq)]
+pub struct Call {
+    /// The status of what was handed over, or the number that tells why nothing was.
+    pub status: u32,
+    /// Where a refusal lies, else 0.
+    pub place: u32,
+    /// How many bytes the text has that was to be handed over, whether or not there was room.
+    pub text_len: usize,
+    /// How many bytes the certificate has.
+    pub certificate_len: usize,
+}
+
+/// Puts the text into the front of the room, where it fits; else the room stays as it was, as at a refusal.
+pub fn hand_over(told: &Result<Told, Refusal>, room: &mut [u8]) -> Call
+    ensures handed { IsHandedOver told.now room.old room.new result }
+{
+    let told = match told {
+        Ok(told) => told,
+        Err(refusal) => return refused(refusal),
+    };
+    let text = told.text.as_slice();
+    let mut call = Call {
+        status: u32::from(told.status),
+        place: 0,
+        text_len: text.len(),
+        certificate_len: 0,
+    };
+    if text.len() <= room.len() {
+        room[..text.len()].copy_from_slice(text);
+    } else {
+        call.status = NO_ROOM;
+    }
+    call
+}
+
+/// The same of a text and a certificate: both fit their rooms, or neither is put there.
+pub fn hand_over_certified(
+    told: &Result<Certified, Refusal>,
+    room: &mut [u8],
+    certificate_room: &mut [u8],
+) -> Call
+    ensures handed { IsHandedOverBoth told.now (room.old, certificate_room.old) (room.new, certificate_room.new) result }
+{
+    let told = match told {
+        Ok(told) => told,
+        Err(refusal) => return refused(refusal),
+    };
+    let text = told.text.as_slice();
+    let certificate = told.certificate.as_slice();
+    let mut call = Call {
+        status: u32::from(told.status),
+        place: 0,
+        text_len: text.len(),
+        certificate_len: certificate.len(),
+    };
+    if text.len() <= room.len() && certificate.len() <= certificate_room.len() {
+        room[..text.len()].copy_from_slice(text);
+        certificate_room[..certificate.len()].copy_from_slice(certificate);
+    } else {
+        call.status = NO_ROOM;
+    }
+    call
+}
+
+// How a call ended that was refused.
+fn refused(refusal: &Refusal) -> Call
+    ensures value { result ≡ refused_call refusal.now }
+{
+    Call {
+        status: refusal.number(),
+        place: refusal.place(),
+        text_len: 0,
+        certificate_len: 0,
+    }
+}

@@ -1,0 +1,52 @@
+/* Deals 941, looks for the best answer, has its certificate checked, and plays the list; then asks what can't be asked.
+   cc -I lib lib/example.c lib/out/libluffaknife.a -o /tmp/example && /tmp/example 941 */
+#include <stdio.h>
+#include <stdlib.h>
+#include <string.h>
+
+#include "luffaknife.h"
+
+enum { TEXT_ROOM = 65536, BUDGET = 100000, CERTIFICATE_ROOM = 72 * BUDGET + 10000 };
+
+static const struct luffaknife_game FREE_CELL = {0, 4};
+
+int main(int count, char **words) {
+    uint32_t number = count > 1 ? (uint32_t)strtoul(words[1], NULL, 10) : 941;
+    uint8_t board[200], text[TEXT_ROOM], told[TEXT_ROOM], *certificate = malloc(CERTIFICATE_ROOM);
+    if (!certificate)
+        return 4;
+    struct luffaknife_call call = luffaknife_deal(number, board, sizeof board);
+    if (call.status != LUFFAKNIFE_DONE) {
+        printf("no deal: %u\n", call.status);
+        return 3;
+    }
+    size_t board_len = call.text_len;
+
+    call = luffaknife_best_certified(FREE_CELL, BUDGET, board, board_len, text, sizeof text, certificate, CERTIFICATE_ROOM);
+    size_t text_len = call.text_len, certificate_len = call.certificate_len;
+    printf("best: %u\n%.*s", call.status, (int)text_len, text);
+    printf("a certificate of %zu bytes\n", certificate_len);
+    call = luffaknife_check(FREE_CELL, board, board_len, certificate, certificate_len, told, sizeof told);
+    printf("check: %u, %.*s", call.status, (int)call.text_len, told);
+
+    uint8_t *list = memchr(text, '\n', text_len);
+    size_t list_len = list ? text_len - (size_t)(list - text) : 0;
+    call = luffaknife_replay(FREE_CELL, board, board_len, list ? list : text, list_len, told, sizeof told);
+    printf("replay: %u, %zu bytes of boards\n", call.status, call.text_len);
+
+    certificate[0] = 'G';
+    call = luffaknife_check(FREE_CELL, board, board_len, certificate, certificate_len, told, sizeof told);
+    printf("another first byte: %u\n", call.status);
+    call = luffaknife_replay(FREE_CELL, board, board_len, (const uint8_t *)"1a 1b 99", 8, told, sizeof told);
+    printf("a list that stops: %u at %u\n", call.status, call.place);
+    call = luffaknife_best(FREE_CELL, BUDGET, board, board_len, text, 5);
+    printf("a room of 5 bytes: %u for %zu\n", call.status, call.text_len);
+    call = luffaknife_best((struct luffaknife_game){7, 4}, BUDGET, board, board_len, text, sizeof text);
+    printf("no such game: %u\n", call.status);
+    call = luffaknife_best(FREE_CELL, 0, board, board_len, text, sizeof text);
+    printf("no budget: %u\n", call.status);
+    call = luffaknife_best(FREE_CELL, BUDGET, (const uint8_t *)"QQ\n", 3, text, sizeof text);
+    printf("no board: %u at %u\n", call.status, call.place);
+    free(certificate);
+    return 0;
+}
