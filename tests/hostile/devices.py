@@ -9,6 +9,7 @@ reads and writes; reading a file takes as many reads as it has bytes, and one mo
 """
 import os
 import pty
+import re
 import subprocess
 import sys
 import tempfile
@@ -25,11 +26,14 @@ FIVE_BOARDS = b"".join(
     b"Foundations: %b\nFreecells: %b - - -\n:%b\n:%b\n:\n:\n:\n:\n:\n:\n" % it
     for it in [(b"H-J C-K D-K S-J", b"KH", b" QS", b" QH KS"), (b"H-J C-K D-K S-Q", b"KH", b"", b" QH KS"),
                (b"H-J C-K D-K S-K", b"KH", b"", b" QH"), (b"H-Q C-K D-K S-K", b"KH", b"", b""), (b"H-K C-K D-K S-K", b"-", b"", b"")])
+SECOND_BOARD = FIVE_BOARDS[: FIVE_BOARDS.index(b"Foundations", 1)]
 
 CHECK = ["check", "-", "/dev/fd/3"]
 SOLVE = ["solve", "--cert", "/dev/fd/3"]
 REPLAY = ["replay", "-", "/dev/fd/3"]
 SEQUENCES = ["replay", "--sequences", "-", "/dev/fd/3"]
+EXPANDED = ["replay", "--expanded", "-", "/dev/fd/3"]
+BOARD_AT = ["replay", "--board-at", "2", "-", "/dev/fd/3"]
 BATCH = ["batch", "24", "25", "--budget", "1"]
 
 
@@ -119,16 +123,18 @@ def sweep_growth(words, given, files, file, reads, grown):
 
 
 def name_of(words):
-    return " ".join(word for word in words if word.isalpha() or word in ("--cert", "--sequences", "--boards", "--table"))
+    return " ".join(word for word in words if re.fullmatch(r"(--)?[a-z-]*[a-z]", word) and word != "--budget")
 
 
 def sweep_all():
     board, cert, moves = (("board", len(TWO_KINGS)), ("certificate", len(CERTIFICATE)), ("moves", len(MOVES)))
     for words, files, inputs in [(CHECK, [CERTIFICATE], [board, cert]), (SOLVE, [b"before"], [board]), (REPLAY, [MOVES], [board, moves]),
-                                 (SEQUENCES, [MOVES], [board, moves]), (["show"], [], [board])]:
+                                 (SEQUENCES, [MOVES], [board, moves]), (EXPANDED, [MOVES], [board, moves]),
+                                 (BOARD_AT, [MOVES], [board, moves]), (["show"], [], [board])]:
         print(f"{name_of(words)}: each of {sweep_reads(words, TWO_KINGS, files, inputs)} reads failed")
     for words, files, out in [(CHECK, [CERTIFICATE], b"accepted: shortest 5\n"), (SOLVE, [b""], b"shortest 5\n1a 1h 2h 2h ah\n"),
-                              (REPLAY, [MOVES], FIVE_BOARDS), (SEQUENCES, [MOVES], FIVE_BOARDS), (BATCH, [], b"24 gave up 1\n25 gave up 1\n"),
+                              (REPLAY, [MOVES], FIVE_BOARDS), (SEQUENCES, [MOVES], FIVE_BOARDS), (EXPANDED, [MOVES], MOVES),
+                              (BOARD_AT, [MOVES], SECOND_BOARD), (BATCH, [], b"24 gave up 1\n25 gave up 1\n"),
                               (["solve", "--boards"], [], b""), ([*BATCH, "--table"], [], b"")]:
         counts = [sweep_writes(words, TWO_KINGS, files, len(out), with_what) for with_what in ("EIO", "ENOSPC", "0")]
         print(f"{name_of(words)}: each {f'of {counts[0]} writes' if out else 'write'} failed, in three ways")
@@ -138,7 +144,7 @@ def sweep_all():
             (CHECK, [CERTIFICATE], "/dev/fd/3", [board, cert], (3, "fc_solve: certificate refused: Trailing", b"")),
             (REPLAY, [MOVES], "/dev/fd/3", [board, moves], (3, sixth, FIVE_BOARDS)),
             # (a list whose entries may move sequences is read whole before a board is printed)
-            (SEQUENCES, [MOVES], "/dev/fd/3", [board, moves], (3, sixth, b""))]:
+            (SEQUENCES, [MOVES], "/dev/fd/3", [board, moves], (3, sixth, b"")), (EXPANDED, [MOVES], "/dev/fd/3", [board, moves], (3, sixth, b""))]:
         reads = sweep_growth(words, TWO_KINGS, files, file, sum(size + 1 for _, size in inputs), grown)
         print(f"{name_of(words)}: the {inputs[-1][0]} grew before each of {reads} reads")
 
@@ -161,6 +167,9 @@ TABLE = [
     ("solve --boards board >/dev/full", 5, "cannot write the answer"),
     ("replay board moves >/dev/full", 5, "cannot write the answer"),
     ("replay --sequences board moves >/dev/full", 5, "cannot write the answer"),
+    ("replay --must-win board moves >/dev/full", 5, "cannot write the answer"),
+    ("replay --expanded board moves >/dev/full", 5, "cannot write the answer"),
+    ("replay --board-at 2 board moves >/dev/full", 5, "cannot write the answer"),
     ("batch 24 24 --budget 1 >/dev/full", 5, "cannot write the answer"),
     ("batch 24 24 --budget 1 --table >/dev/full", 5, "cannot write the answer"),
     ("deal 1 >/dev/full", 5, "cannot write the answer"),
@@ -173,6 +182,8 @@ TABLE = [
     ("check board folder", 5, "cannot read the certificate"),
     ("replay folder moves", 5, "cannot read the board"),
     ("replay board folder", 5, "cannot read the moves"),
+    ("replay --expanded board folder", 5, "cannot read the moves"),
+    ("replay --board-at 2 board folder", 5, "cannot read the moves"),
     ("show folder", 5, "cannot read the board"),
     # no such file, and one that may not be opened
     ("check none cert", 5, "cannot read the board"),
@@ -190,6 +201,8 @@ TABLE = [
     ("yes | {} solve", 3, "board: too long"),
     ("yes 1a | {} replay board -", 3, "moves: too long"),
     ("yes 1a | {} replay --sequences board -", 3, "moves: too long"),
+    ("yes 1a | {} replay --expanded board -", 3, "moves: too long"),
+    ("yes 1a | {} replay --board-at 2 board -", 3, "moves: too long"),
 ]
 
 # Standard files that are closed: no file that is opened takes their place.
@@ -207,6 +220,8 @@ CLOSED = [
     ("solve --cert new 11982 <&- >&-", 5, "cannot write the answer"),
     ("check board cert >&-", 5, "cannot write the answer"),
     ("replay board moves >&-", 5, "cannot write the answer"),
+    ("replay --expanded board moves >&-", 5, "cannot write the answer"),
+    ("replay --board-at 2 board moves >&-", 5, "cannot write the answer"),
     ("batch 24 24 --budget 1 >&-", 5, "cannot write the answer"),
     ("deal 1 >&-", 5, "cannot write the answer"),
     ("show 1 >&-", 5, "cannot write the answer"),

@@ -16,6 +16,9 @@ from certificates import made, read_file
 # What stands in a certificate's file before a run.
 BEFORE = b"what stood here before\n"
 
+# The options of a replay.
+REPLAYS = [], ["--numbered"], ["--sequences"], ["--must-win"], ["--expanded"], ["--board-at", "2"]
+
 
 def judge(words, ample, ran):
     """What is wrong with a run in which an allocation was refused, or None."""
@@ -69,7 +72,7 @@ def tasks_of(what):
     tasks = [(["solve"], boards["one-king"], [])] + [(solve, board, [BEFORE]) for board in boards.values()]
     tasks += [([*solve, "--within", "2", "--bound", "clearing"], boards["two-kings"], [BEFORE])]
     tasks += [(check, boards[name], [certs[name]]) for name in certs]
-    tasks += [([*replay, *flags], boards["two-kings"], [b"1a 1h 2h 2h ah\n"]) for flags in ([], ["--numbered"], ["--sequences"])]
+    tasks += [([*replay, *flags], boards["two-kings"], [b"1a 1h 2h 2h ah\n"]) for flags in REPLAYS]
     tasks += [(["show"], boards["two-kings"], [])]
     batches = ("1 1 --budget 1", "24 24 --budget 1", "24 26 --budget 50", "24 26 --budget 50 --table")
     tasks += [(["batch", *words.split()], b"", []) for words in batches]
