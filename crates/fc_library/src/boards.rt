@@ -20,8 +20,5 @@ pub fn start_of(text: &[u8], cells: u8) -> Result<Position, BoardFault>
         return Err(BoardFault::TooLong);
     }
     let plain = PlainText::of(text).unwrap();
-    match read_board(plain.bytes(), cells) {
-        Ok(start) => Ok(start),
-        Err(fault) => Err(fault),
-    }
+    read_board(plain.bytes(), cells)
 }
