@@ -1,7 +1,8 @@
 -- Rows of tables: those inside a number, and all at no cost.
-use Rattle.std.proofs.Common.{◌≡◌, ◌≢◌, ℕ, zero, suc, ◌+◌, ◌<◌, ◌≤◌, Bool, true, List, [], ◌∷◌, length, get_or, Some, refl, sym, ◌∙◌, ap, subst, arith, nat_lt}
+use Rattle.std.proofs.Common.{◌≡◌, ◌≢◌, ℕ, zero, suc, ◌+◌, ◌<◌, ◌≤◌, Bool, true, List, [], ◌∷◌, ◌++◌, length, take, drop, get_or, Some, refl, sym, ◌∙◌, ap, subst, arith, nat_lt}
 use Rattle.std.specs.Prelude.{Contains, slice_get}
 use Rattle.std.specs.Option.{option_map}
+use Rattle.std.proofs.Math.Seq.{take-append_seam}
 use Rattle.std.proofs.lemmas.Option.{slice_get_read, slice_get-map}
 use Rattle.std.proofs.lemmas.Bool.Decides.{nat_tests}
 use Rattle.std.proofs.lemmas.List.{length-map, get_or-map}
@@ -11,15 +12,15 @@ use Rattle.std.proofs.lemmas.List.Sums.{length-filter, count_by-le-length}
 use Rattle.fc_moves.specs.inner.GameLaws.{Contains-filter, Contains-from_filter}
 use Rattle.fc_position.specs.Board.{Board}
 use Rattle.fc_canonical.specs.Spelled.{spelled}
-use Rattle.fc_answers.specs.declared.tables.Row.{Row}
-use Rattle.fc_answers.specs.Table.{HaveKeysOnce, pairs_of}
+use Rattle.fc_answers.specs.declared.rows.Row.{Row}
+use Rattle.fc_answers.specs.Table.{HaveKeysOnce, key_by, pairs_by}
 use Rattle.fc_answers.specs.inner.Table.{at_no_cost, inside}
 
 -- the pair of the row with this number
-pub pair_there : (rows : List Row) (i : ℕ) (row : Row) → row ≡ get_or rows i row → i < length (pairs_of rows)
-    → slice_get (pairs_of rows) i ≡ Some (row.key.items, row.cost)
-pair_there rows i row here lt =
-    let pair : Row → List ℕ × ℕ = λ r. (r.key.items, r.cost) in
+pub pair_there : (start : Board) (rows : List Row) (i : ℕ) (row : Row) → row ≡ get_or rows i row → i < length (pairs_by start rows)
+    → slice_get (pairs_by start rows) i ≡ Some (key_by start row.code, row.cost)
+pair_there start rows i row here lt =
+    let pair : Row → List ℕ × ℕ = λ r. (key_by start r.code, r.cost) in
     let within : i < length rows = omega (arith, lt, length-map rows pair) in
     slice_get-map pair rows i ∙ ap (option_map pair) (slice_get_read rows (length rows) i row refl within here)
 
@@ -37,17 +38,18 @@ no_cost_once table once i j d lt within same =
     once i j d lt (omega (arith, within, long)) (sym (ap (λ p. p.0) a) ∙ same ∙ ap (λ p. p.0) b)
 
 -- what is listed of a table is no more than the table
-pub inside_few : (low : Board → ℕ) (n : ℕ) (table : List (List ℕ × ℕ)) (rows : List Row) → pairs_of rows ≡ inside low n table
-    → length rows ≤ length table
-inside_few low n table rows same =
+pub inside_few : (start : Board) (low : Board → ℕ) (n : ℕ) (table : List (List ℕ × ℕ)) (rows : List Row)
+    → pairs_by start rows ≡ inside low n table → length rows ≤ length table
+inside_few start low n table rows same =
     let test : (List ℕ × ℕ) → Bool = λ e. nat_lt (e.1 + low (spelled e.0)) n in
-    let pair : Row → List ℕ × ℕ = λ r. (r.key.items, r.cost) in
+    let pair : Row → List ℕ × ℕ = λ r. (key_by start r.code, r.cost) in
     omega (arith, sym (length-map rows pair), ap length same, length-filter test table, count_by-le-length test table)
 
-pub all_few : (table : List (List ℕ × ℕ)) (rows : List Row) → pairs_of rows ≡ at_no_cost table → length rows ≤ length table
-all_few table rows same =
+pub all_few : (start : Board) (table : List (List ℕ × ℕ)) (rows : List Row) → pairs_by start rows ≡ at_no_cost table
+    → length rows ≤ length table
+all_few start table rows same =
     let free : (List ℕ × ℕ) → List ℕ × ℕ = λ e. (e.0, 0) in
-    let pair : Row → List ℕ × ℕ = λ r. (r.key.items, r.cost) in
+    let pair : Row → List ℕ × ℕ = λ r. (key_by start r.code, r.cost) in
     omega (arith, sym (length-map rows pair), ap length same, length-map table free)
 
 -- a pair that is listed at no cost is listed at some cost
@@ -79,3 +81,9 @@ pub listed_inside : (low : Board → ℕ) (n : ℕ) (table : List (List ℕ × �
 listed_inside low n table e there below =
     let test : nat_lt (e.1 + low (spelled e.0)) n ≡ true = grind (arith, nat_tests) in
     Contains-filter (λ f. nat_lt (f.1 + low (spelled f.0)) n) table e there test
+
+-- rows that were changed as a slice, as many as there were
+pub written_back : (n : ℕ) (new was : List Row) → length new ≡ length was → n ≡ length was
+    → take n (new ++ drop (length new) was) ≡ new
+written_back n new was same long =
+    ap (λ k. take k (new ++ drop (length new) was)) (long ∙ sym same) ∙ take-append_seam new (drop (length new) was)

@@ -1,12 +1,15 @@
 -- Tables of answers: rows of a key's bytes and a cost.
 use Rattle.std.specs.Prelude.{◌≢◌, ℕ, ◌+◌, ◌<◌, ◌≤◌, List, length, AllPairs, Contains, slice_index_or, map}
+use Rattle.fc_position.specs.Board.{Board}
 use Rattle.fc_moves.specs.GameRules.{GameRules}
+use Rattle.fc_canonical.specs.Key.{board_bytes}
 use Rattle.fc_canonical.specs.KeyOrder.{IsBefore}
 use Rattle.fc_canonical.specs.Spelled.{IsKeyIn}
+use Rattle.fc_codes.specs.Spelled.{board_of_code}
 use Rattle.fc_home.specs.declared.settling.TheConstants.{GREATEST_RULE}
 use Rattle.fc_bound.specs.declared.kinds.BoundKind.{BoundKind}
 use Rattle.fc_answers.specs.declared.tables.TheConstants.{MOST_CLASSES}
-use Rattle.fc_answers.specs.declared.tables.Row.{Row}
+use Rattle.fc_answers.specs.declared.rows.Row.{Row}
 
 -- rows, each a key and a cost in moves from the start, under a home rule and a kind of bound
 pub record Listing : Type 0 where
@@ -34,6 +37,10 @@ pub record IsTable (g : GameRules) (table : Listing) : Type 0 where
 abbrev pub HaveKeysOnce : List (List ℕ × ℕ) → Type 0
 HaveKeysOnce rows = AllPairs (λ x y. x.0 ≢ y.0) rows
 
--- the rows of a table as pairs of a key's bytes and a cost
-abbrev pub pairs_of : List Row → List (List ℕ × ℕ)
-pairs_of rows = map (λ r. (r.key.items, r.cost)) rows
+-- the key of the class that a code names, as seen from the board at the start
+abbrev pub key_by : Board → List ℕ → List ℕ
+key_by start code = board_bytes (board_of_code start code)
+
+-- rows of codes as pairs of a key and a cost, as seen from the board at the start
+abbrev pub pairs_by : Board → List Row → List (List ℕ × ℕ)
+pairs_by start rows = map (λ r. (key_by start r.code, r.cost)) rows

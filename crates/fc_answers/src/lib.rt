@@ -3,8 +3,11 @@
 #![tactic(auto)]
 
 pub use answers::{Answer, MOST_MOVES, MoveList, Outcome, Verdict};
-pub use tables::{MOST_CLASSES, Row, Table};
+pub use rows::Row;
+pub use tables::{MOST_CLASSES, Table};
 
 mod answers;
 pub mod laws;
+mod rows;
+mod sorting;
 mod tables;

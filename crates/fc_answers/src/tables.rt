@@ -1,70 +1,93 @@
-ghost use Rattle.std.specs.Prelude.{◌≡◌, ◌<◌, ◌≤◌, ◌↔◌, ℕ, List, [], length, Some, slice_get, IsTrue};
+ghost use Rattle.std.specs.Prelude.{◌≡◌, ◌<◌, ◌≤◌, ◌↔◌, ℕ, List, [], length, All, IfOk, Some, slice_get, IsTrue};
 ghost use Rattle.std.specs.List.Sorted.{IsPermutation};
-ghost use Rattle.fc_answers.specs.Table.{HaveKeysOnce, IsRising, pairs_of};
+ghost use Rattle.fc_answers.specs.Table.{HaveKeysOnce, IsRising, pairs_by};
+ghost use Rattle.fc_answers.specs.inner.Table.{IsRowOf};
 
+use crate::rows::Row;
+use crate::sorting::put_in_order;
 use fc_bound::BoundKind;
 use fc_canonical::Key;
+use fc_codes::Layout;
 use fc_home::{GREATEST_RULE, HomeRule};
+use std::alloc::{AllocError, Global};
 use std::marker::Model;
 
 /// The most classes that a table lists.
 pub const MOST_CLASSES: u32 = 4_000_000;
 
-/// A class, by its key, and a cost in moves from the start.
-#[derive(PartialEq, Eq, PartialOrd, Ord, Drop)]
-pub struct Row {
-    pub key: Key,
-    pub cost: u32,
-}
-
 /// Classes, each with a cost in moves from the start, under a home rule and a kind of bound: at most 4,000,000 rows of a key
-/// and a cost, each key before the next, byte by byte.
+/// and a cost, each key before the next, byte by byte. A row is kept by its class's code, and its key made when it is asked for.
 #[derive(Drop)]
 pub struct Table {
     rule: u8,
     bound: BoundKind,
+    layout: Layout,
     rows: Vec<Row>,
 }
 
 impl Model for Table {
-    ghost use Rattle.std.specs.Prelude.{◌≤◌, length};
+    ghost use Rattle.std.specs.Prelude.{◌≤◌, length, All};
     ghost use Rattle.fc_home.specs.declared.settling.TheConstants.{GREATEST_RULE};
-    ghost use Rattle.fc_answers.specs.Table.{Listing, IsRising, pairs_of};
+    ghost use Rattle.fc_answers.specs.Table.{Listing, IsRising, pairs_by};
+    ghost use Rattle.fc_answers.specs.inner.Table.{IsRowOf};
     ghost use Rattle.fc_answers.specs.declared.tables.TheConstants.{MOST_CLASSES};
 
     ghost Value = { Listing };
 
-    ghost view = { λ s. record { rule = s.rule; bound = s.bound; rows = pairs_of s.rows.items } };
+    ghost view = { λ s. record { rule = s.rule; bound = s.bound; rows = pairs_by s.layout s.rows.items } };
 
-    ghost invariant = { λ s. (s.rule ≤ GREATEST_RULE) × (length s.rows.items ≤ MOST_CLASSES) × IsRising (pairs_of s.rows.items) };
+    ghost invariant = { λ s. (s.rule ≤ GREATEST_RULE) × (length s.rows.items ≤ MOST_CLASSES) × IsRising (pairs_by s.layout s.rows.items)
+        × All (IsRowOf s.layout) s.rows.items };
 }
 
 impl Table {
-    /// The table of these rows, in order, under a home rule and a kind of bound. No two rows may have one key.
-    pub fn sorted(rule: HomeRule, bound: BoundKind, rows: Vec<Row>) -> Self
+    /// The table of these rows, in order, under a home rule and a kind of bound, their codes as seen from the layout's start.
+    /// No two rows may have one key.
+    ///
+    /// # Errors
+    /// A growth was refused.
+    pub fn sorted(
+        alloc: Global,
+        rule: HomeRule,
+        bound: BoundKind,
+        layout: Layout,
+        rows: Vec<Row>,
+    ) -> Result<Self, AllocError>
         requires few { length rows.items ≤ MOST_CLASSES }
-        requires once { HaveKeysOnce (pairs_of rows.items) }
-        ensures rule { result.rule ≡ rule }
-        ensures known { result.rule ≤ GREATEST_RULE }
-        ensures bound { result.bound ≡ bound }
-        ensures rows { IsPermutation (pairs_of rows.items) result.rows }
-        ensures rising { IsRising result.rows }
+        requires rows { All (IsRowOf layout) rows.items }
+        requires once { HaveKeysOnce (pairs_by layout rows.items) }
+        ensures rule { IfOk result (λ table. table.rule ≡ rule) }
+        ensures known { IfOk result (λ table. table.rule ≤ GREATEST_RULE) }
+        ensures bound { IfOk result (λ table. table.bound ≡ bound) }
+        ensures rows { IfOk result (λ table. IsPermutation (pairs_by layout rows.items) table.rows) }
+        ensures rising { IfOk result (λ table. IsRising table.rows) }
     {
         let mut rows = rows;
-        rows.sort_unstable();
-        Table {
+        put_in_order(alloc, &layout, rows.as_mut_slice())?;
+        Ok(Table {
             rule: rule.get(),
             bound,
+            layout,
             rows,
-        }
+        })
     }
 
     /// The same classes and costs, under another kind of bound.
     pub fn with_bound(self, bound: BoundKind) -> Self
         ensures value { result ≡ record { rule = self.rule; bound = bound; rows = self.rows } }
     {
-        let Table { rule, rows, .. } = self;
-        Table { rule, bound, rows }
+        let Table {
+            rule,
+            layout,
+            rows,
+            ..
+        } = self;
+        Table {
+            rule,
+            bound,
+            layout,
+            rows,
+        }
     }
 
     /// The home rule that the classes were searched by, 0 to 2.
@@ -99,11 +122,11 @@ impl Table {
     }
 
     /// The key of the class with this number, from 0 to below `len`.
-    pub fn key(&self, i: usize) -> &Key
+    pub fn key(&self, i: usize) -> Key
         requires within { i < length self.now.rows }
-        ensures value { (cost : ℕ) × (slice_get self.now.rows i ≡ Some (result.now.items, cost)) }
+        ensures value { (cost : ℕ) × (slice_get self.now.rows i ≡ Some (result.items, cost)) }
     {
-        &self.rows[i].key
+        self.rows[i].key(&self.layout)
     }
 
     /// The cost of the class with this number, from 0 to below `len`.

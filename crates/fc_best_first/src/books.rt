@@ -5,11 +5,10 @@ ghost use Rattle.fc_best_first.specs.Limits.{IsWeight};
 ghost use Rattle.fc_best_first.specs.Store.{Store, IsStored, IsNew, Lowers, NotesLast, Stores, opens_at, weighed};
 ghost use Rattle.fc_best_first.specs.Turn.{Reopens};
 
-use crate::keys::ExactKey;
 use crate::limits::{MOST_BUDGET, Weight};
 use crate::strategies::{Expansion, Strategy};
 use crate::turns::{MOST_COST, MOST_OVER};
-use fc_frontier::{Frontier, Full, Pairs};
+use fc_frontier::{ExactKey, Frontier, Full, Pairs};
 use indexmap::IndexMap;
 use std::alloc::Global;
 use std::marker::Model;

@@ -4,11 +4,10 @@ ghost use Rattle.fc_best_first.specs.Kept.{IsSound};
 ghost use Rattle.fc_best_first.specs.Shown.{IsLeastOpen, TellsAt};
 
 use crate::books::{Book, Opening};
-use crate::keys::ExactKey;
 use crate::limits::{MOST_BUDGET, Weight};
 use crate::spaces::Space;
 use crate::strategies::Strategy;
-use fc_frontier::Frontier;
+use fc_frontier::{ExactKey, Frontier};
 
 // The bound of a key, and how far above its weighed cost it is open: where its opening is noted that is told, else that is its weighed
 // bound.

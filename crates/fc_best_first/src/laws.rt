@@ -2,8 +2,8 @@
 
 ghost use Rattle.fc_best_first.specs.Laws.{OpenFloorsHold};
 
-use crate::keys::ExactKey;
 use crate::spaces::Space;
+use fc_frontier::ExactKey;
 
 /// In a search that found a won key, each stored key whose cost plus bound, the bound counted once, is below that of
 /// every open key and below the won cost is expanded; and no answer is below that floor.

@@ -3,7 +3,6 @@
 #![tactic(auto)]
 
 pub use books::{Book, Mark, Offered, Opening};
-pub use keys::ExactKey;
 pub use limits::{Budget, MOST_BUDGET, MOST_WEIGHT, TENTHS, Weight};
 pub use searches::{Search, SearchFault, Step};
 pub use spaces::{Child, Space};
@@ -12,7 +11,6 @@ pub use turns::{MOST_COST, MOST_OVER, Placing, Status};
 
 mod books;
 mod floors;
-mod keys;
 pub mod laws;
 mod limits;
 mod offers;

@@ -9,12 +9,11 @@ ghost use Rattle.fc_best_first.specs.Turn.{TellsBound, candidate_of};
 ghost use Rattle.fc_best_first.specs.inner.Turn.{IsPutOffNear};
 
 use crate::books::{Book, Mark, Offered, Opening};
-use crate::keys::ExactKey;
 use crate::limits::{MOST_BUDGET, Weight};
 use crate::spaces::{Child, Space};
 use crate::strategies::{Expansion, Strategy};
 use crate::turns::MOST_COST;
-use fc_frontier::{Frontier, Full};
+use fc_frontier::{ExactKey, Frontier, Full};
 
 impl Opening {
     // At the weighed bound above the weighed cost.

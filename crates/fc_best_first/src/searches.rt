@@ -9,13 +9,12 @@ ghost use Rattle.fc_best_first.specs.Turn.{work_left};
 
 use crate::books::{Book, Mark, Opening};
 use crate::floors::{least_open, told_by};
-use crate::keys::ExactKey;
 use crate::limits::Budget;
 use crate::offers::bound_of;
 use crate::spaces::{Child, Space};
 use crate::strategies::Strategy;
 use crate::turns::{Status, advance};
-use fc_frontier::{Frontier, Full};
+use fc_frontier::{ExactKey, Frontier, Full};
 use std::alloc::Global;
 use std::marker::Model;
 use thiserror::Error;

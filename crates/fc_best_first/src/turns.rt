@@ -6,12 +6,11 @@ ghost use Rattle.fc_best_first.specs.Turn.{Advances, AreChildren, Closes, Expand
 ghost use Rattle.fc_best_first.specs.inner.Turn.{AreReached, Becomes, IsLaterNear, IsReady};
 
 use crate::books::{Book, Mark, Offered, Opening};
-use crate::keys::ExactKey;
 use crate::limits::{MOST_BUDGET, Weight};
 use crate::offers::{Taken, offer};
 use crate::spaces::{Child, Space};
 use crate::strategies::Strategy;
-use fc_frontier::{Frontier, Full};
+use fc_frontier::{ExactKey, Frontier, Full};
 
 /// The most that a start or an edge may cost.
 pub const MOST_COST: u8 = 53;

@@ -194,7 +194,7 @@ fn write_rows<K: Sink>(table: &Table, sink: &mut K) -> Result<(), Failed>
     let mut piece = ArrayVec::new();
     for i in 0..table.len() {
         make_room(&mut piece, sink)?;
-        push_record(&mut piece, table.cost(i), table.key(i));
+        push_record(&mut piece, table.cost(i), &table.key(i));
     }
     write_all(sink, piece.as_slice())
 }

@@ -7,8 +7,8 @@ ghost use Rattle.fc_codes.specs.State.{IsCodeOf};
 ghost use Rattle.fc_codes.specs.Words.{digit};
 ghost use Rattle.fc_codes.specs.inner.Words.{with_number};
 
-use fc_best_first::ExactKey;
 use fc_cards::Card;
+use fc_frontier::ExactKey;
 use std::hash::{Hash, Hasher};
 use std::marker::Model;
 

@@ -10,6 +10,7 @@
 pub use buckets::BucketFrontier;
 pub use either::EitherFrontier;
 pub use frontiers::{Frontier, Full};
+pub use keys::ExactKey;
 pub use lists::ListFrontier;
 pub use tie_buckets::TieBucketFrontier;
 pub use ties::TieFrontier;
@@ -18,6 +19,7 @@ pub use walks::Pairs;
 mod buckets;
 mod either;
 mod frontiers;
+mod keys;
 pub mod laws;
 mod lists;
 mod stacks;

@@ -12,6 +12,7 @@ ghost use Rattle.fc_classes.specs.Namings.{IsNaming, by_codes};
 ghost use Rattle.fc_methods.specs.Method.{shortest_asked};
 ghost use Rattle.fc_search.specs.Problem.{problem_below, problem_of, shortest_from, task_of_problem};
 ghost use Rattle.fc_search.specs.Search.{Answers, IsVerdict, IsOfStatus, IsRefused, IsUnanswered};
+ghost use Rattle.fc_answers.specs.inner.Table.{IsCoded};
 ghost use Rattle.fc_search.specs.inner.Search.{IsFloorOf, Spells};
 
 use fc_answers::{Answer, MoveList, Verdict};
@@ -216,16 +217,17 @@ impl<F: Frontier + Drop, G: Game + Drop> Search<F, G> {
         self.search.entry(number).unwrap()
     }
 
-    // The position that the code of the class with this number spells, and its mark.
-    pub(crate) fn position_at(&self, number: u32) -> (Position, Mark)
+    // The position that the code of the class with this number spells, the code, and the class's mark.
+    pub(crate) fn position_at(&self, number: u32) -> (Position, &Code, Mark)
         requires sound { IsSound (task_of_problem self.now.problem) self.now.store }
         requires within { number < length self.now.store.stored }
-        ensures spells { Spells self.now number result.0 result.1 }
+        ensures spells { Spells self.now number result.0 result.1.now result.2 }
+        ensures coded { IsCoded self.now.problem.start result.1.now }
     {
         self.known();
         let (code, mark) = self.at(number);
         let space = self.search.space();
-        (space.position(code), mark)
+        (space.position(code), code, mark)
     }
 
     // What is known of each search: its limits are in range, its start fits the game, and codes name the classes from there.

@@ -113,7 +113,7 @@ impl<F: Frontier + Drop, G: Game + Drop> Search<F, G> {
         ensures value { IsFloorBut self.now number result }
     {
         self.known();
-        let (position, mark) = self.position_at(number);
+        let (position, _code, mark) = self.position_at(number);
         let bound = self.search.space().rules.kind.guide(&position);
         let most = mark.cost + u32::from(bound);
         self.search.least_open(self.capped(most))

@@ -1,21 +1,22 @@
 //! The table that backs the answer of a search that is done.
 
-ghost use Rattle.std.specs.Prelude.{◌≡◌, ◌+◌, ◌<◌, ◌≤◌, ◌∷◌, ◌++◌, [], length, option_to_list, take, IfOk};
+ghost use Rattle.std.specs.Prelude.{◌≡◌, ◌+◌, ◌<◌, ◌≤◌, ◌∷◌, ◌++◌, [], length, option_to_list, take, All, IfOk, IfSome};
 ghost use Rattle.std.specs.List.Sorted.{IsPermutation};
 ghost use Rattle.fc_best_first.specs.Kept.{IsSound};
 ghost use Rattle.fc_bound.specs.Kinds.{guide_of};
-ghost use Rattle.fc_answers.specs.Table.{IsRising, pairs_of};
-ghost use Rattle.fc_answers.specs.inner.Table.{at_no_cost, inside};
+ghost use Rattle.fc_answers.specs.Table.{IsRising, pairs_by};
+ghost use Rattle.fc_answers.specs.inner.Table.{IsRowOf, at_no_cost, inside};
 ghost use Rattle.fc_search.specs.Problem.{task_of_problem};
 ghost use Rattle.fc_search.specs.inner.Stored.{costs_of};
 
 use crate::searches::Search;
 use fc_answers::{Row, Table};
 use fc_best_first::MOST_BUDGET;
-use fc_canonical::key;
+use fc_codes::Layout;
 use fc_frontier::Frontier;
 use fc_home::GREATEST_RULE;
 use fc_moves::Game;
+use fc_space::Positions;
 use std::alloc::AllocError;
 
 impl<F: Frontier + Drop, G: Game + Drop> Search<F, G> {
@@ -31,14 +32,17 @@ impl<F: Frontier + Drop, G: Game + Drop> Search<F, G> {
     {
         self.known();
         let rows = self.rows_below(n)?;
-        let rules = &self.search.space().rules;
-        Ok(Table::sorted(rules.rule, rules.kind, rows))
+        let Positions { rules, start, .. } = self.search.space();
+        let layout = Layout::new(start);
+        let table = Table::sorted(self.alloc, rules.rule, rules.kind, layout, rows)?;
+        Ok(table)
     }
 
     // Their rows, in the order in which they were stored.
     fn rows_below(&self, n: usize) -> Result<Vec<Row>, AllocError>
         requires sound { IsSound (task_of_problem self.now.problem) self.now.store }
-        ensures rows { IfOk result (λ rows. pairs_of rows.items ≡ inside (guide_of self.now.problem.method.bound) n (costs_of self.now.problem.start self.now.store)) }
+        ensures rows { IfOk result (λ rows. pairs_by self.now.problem.start rows.items ≡ inside (guide_of self.now.problem.method.bound) n (costs_of self.now.problem.start self.now.store)) }
+        ensures coded { IfOk result (λ rows. All (IsRowOf self.now.problem.start) rows.items) }
     {
         let mut rows = Vec::new(self.alloc);
         for number in 0..self.count() {
@@ -56,15 +60,13 @@ impl<F: Frontier + Drop, G: Game + Drop> Search<F, G> {
         requires within { number < length self.now.store.stored }
         requires few { number < MOST_BUDGET }
         ensures row { inside (guide_of self.now.problem.method.bound) n (take (number + 1) (costs_of self.now.problem.start self.now.store))
-            ≡ inside (guide_of self.now.problem.method.bound) n (take number (costs_of self.now.problem.start self.now.store)) ++ pairs_of (option_to_list result) }
+            ≡ inside (guide_of self.now.problem.method.bound) n (take number (costs_of self.now.problem.start self.now.store)) ++ pairs_by self.now.problem.start (option_to_list result) }
+        ensures coded { IfSome result (IsRowOf self.now.problem.start) }
     {
-        let (position, mark) = self.position_at(number);
+        let (position, code, mark) = self.position_at(number);
         let bound = self.search.space().rules.kind.guide(&position);
         if ((mark.cost + u32::from(bound)) as usize) < n {
-            return Some(Row {
-                key: key(&position),
-                cost: mark.cost,
-            });
+            return Some(Row::new(*code, &position, mark.cost));
         }
         None
     }
@@ -81,14 +83,17 @@ impl<F: Frontier + Drop, G: Game + Drop> Search<F, G> {
     {
         self.known();
         let rows = self.rows_of_all()?;
-        let rules = &self.search.space().rules;
-        Ok(Table::sorted(rules.rule, rules.kind, rows))
+        let Positions { rules, start, .. } = self.search.space();
+        let layout = Layout::new(start);
+        let table = Table::sorted(self.alloc, rules.rule, rules.kind, layout, rows)?;
+        Ok(table)
     }
 
     // Their rows, in the order in which they were stored.
     fn rows_of_all(&self) -> Result<Vec<Row>, AllocError>
         requires sound { IsSound (task_of_problem self.now.problem) self.now.store }
-        ensures rows { IfOk result (λ rows. pairs_of rows.items ≡ at_no_cost (costs_of self.now.problem.start self.now.store)) }
+        ensures rows { IfOk result (λ rows. pairs_by self.now.problem.start rows.items ≡ at_no_cost (costs_of self.now.problem.start self.now.store)) }
+        ensures coded { IfOk result (λ rows. All (IsRowOf self.now.problem.start) rows.items) }
     {
         let mut rows = Vec::new(self.alloc);
         for number in 0..self.count() {
@@ -102,13 +107,11 @@ impl<F: Frontier + Drop, G: Game + Drop> Search<F, G> {
         requires sound { IsSound (task_of_problem self.now.problem) self.now.store }
         requires within { number < length self.now.store.stored }
         ensures row { at_no_cost (take (number + 1) (costs_of self.now.problem.start self.now.store))
-            ≡ at_no_cost (take number (costs_of self.now.problem.start self.now.store)) ++ pairs_of (result ∷ []) }
+            ≡ at_no_cost (take number (costs_of self.now.problem.start self.now.store)) ++ pairs_by self.now.problem.start (result ∷ []) }
+        ensures coded { IsRowOf self.now.problem.start result }
     {
-        let (position, _mark) = self.position_at(number);
-        Row {
-            key: key(&position),
-            cost: 0,
-        }
+        let (position, code, _mark) = self.position_at(number);
+        Row::new(*code, &position, 0)
     }
 
     // How many classes are stored, which is no more than may be.

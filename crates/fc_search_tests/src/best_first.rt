@@ -7,10 +7,10 @@ ghost use Rattle.fc_search_tests.specs.Sums.{IsChildOf, number_exact, sums, sums
 
 use crate::given::{budget, sure};
 use fc_best_first::{
-    Book, Budget, Child, ExactKey, Expansion, Mark, Offered, Opening, Search, Space, Status, Step,
+    Book, Budget, Child, Expansion, Mark, Offered, Opening, Search, Space, Status, Step,
     Strategy, Weight,
 };
-use fc_frontier::{BucketFrontier, EitherFrontier, Frontier, ListFrontier};
+use fc_frontier::{BucketFrontier, EitherFrontier, ExactKey, Frontier, ListFrontier};
 use std::alloc::{AllocError, Global};
 use std::marker::Model;
 use std::process::Abort;

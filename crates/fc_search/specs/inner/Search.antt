@@ -14,9 +14,8 @@ abbrev pub IsFloorOf : State → ℕ → ℕ → Type 0
 IsFloorOf s number floor = (x : List ℕ) × (mark : Mark) × IsStored s.store number x mark
     × IsLeastOpen (task_of_problem s.problem) s.store mark.cost floor
 
--- the board is what the code of the class with this number and mark spells, and the code names it
-pub record Spells (s : State) (number : ℕ) (b : Board) (mark : Mark) : Type 0 where
-  pub code : List ℕ
+-- the code is stored under the number with this mark and names a class, and the board is what it spells
+pub record Spells (s : State) (number : ℕ) (b : Board) (code : List ℕ) (mark : Mark) : Type 0 where
   pub stands : IsStored s.store number code mark
   pub board : b ≡ board_of_code s.problem.start code
   pub name : IsName (by_codes s.problem.start) s.problem.game code

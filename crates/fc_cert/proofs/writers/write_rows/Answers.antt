@@ -28,7 +28,7 @@ pub loop-i-preserved : goal.loop-i-preserved
 loop-i-preserved g c =
     let rows = c.args.table.now.rows in
     let i = c.loop-i.i in
-    let row : List ℕ × ℕ = (c.key.result.now.items, c.cost.result) in
+    let row : List ℕ × ℕ = (c.key.result.items, c.cost.result) in
     let there = row_read rows i row.0 c.cost.ensures.value.0 row.1 c.key.ensures.value.0 c.key.ensures.value.1 c.cost.ensures.value.1 in
     gathers_next record_bytes (four_bytes (length rows)) rows i row row (slice_get_within rows i row there)
     (sym (get_or_from_slice_get rows i row row there)) c.push_record.ensures.value

@@ -1,31 +1,34 @@
-use Rattle.std.proofs.Common.{ℕ, List, arith}
-use Rattle.std.proofs.lemmas.List.Sorted.{IsPermutation-map}
-use Rattle.fc_answers.specs.declared.tables.Row.{Row}
-use Rattle.fc_answers.specs.Table.{pairs_of}
-use Rattle.fc_answers.proofs.RisingLemmas.{once_rearranged, rising}
+use Rattle.std.proofs.Common.{◌≡◌, ℕ, List, length, map, sym, ap, subst, arith}
+use Rattle.std.specs.Prelude.{All}
+use Rattle.std.specs.List.Sorted.{IsPermutation}
+use Rattle.std.proofs.lemmas.List.Sorted.{All-permutation, IsPermutation-map, length_permutation}
+use Rattle.fc_answers.specs.declared.rows.Row.{Row}
+use Rattle.fc_answers.specs.Table.{IsRising, key_by, pairs_by}
+use Rattle.fc_answers.specs.inner.Table.{IsRowOf}
+use Rattle.fc_answers.proofs.RowLemmas.{written_back}
 use Rattle.fc_answers.proofs.tables.Table.sorted.Goals as goal
 
 pub invariant_of-result : goal.invariant_of-result
 invariant_of-result c =
-    let old = c.args.rows.items in
-    let new = c.sort_unstable.new.self.items in
-    let pair : Row → List ℕ × ℕ = λ r. (r.key.items, r.cost) in
-    let moved = IsPermutation-map pair old new c.sort_unstable.ensures.permutation in
-    let long = c.sort_unstable.ensures.len in (
+    let start = c.args.layout in
+    let was = c.args.rows.items in
+    let new = c.put_in_order.new.rows in
+    let moved : IsPermutation was new = subst (λ l. IsPermutation l new) c.as_mut_slice.ensures.value c.put_in_order.ensures.permutation in
+    let same = length_permutation was new moved in
+    let long : c.args.rows.len ≡ length was = omega (arith, c.as_mut_slice.ensures.len, ap length c.as_mut_slice.ensures.value) in
+    let back = sym (written_back c.args.rows.len new was same long) in (
       omega (arith, c.get.ensures.value, c.get.ensures.known),
-      omega (arith, long, c.requires.few),
-      rising new c.sort_unstable.ensures.sorted (once_rearranged (pairs_of old) (pairs_of new) moved c.requires.once),
+      omega (arith, ap length back, same, c.requires.few),
+      subst (λ l. IsRising (pairs_by start l)) back c.in_ok-put_in_order.ensures.rising,
+      subst (All (IsRowOf start)) back (All-permutation (IsRowOf start) was new moved c.requires.rows),
     )
 
 pub returns-clause-rows : goal.returns-clause-rows
 returns-clause-rows c =
-    let pair : Row → List ℕ × ℕ = λ r. (r.key.items, r.cost) in
-    IsPermutation-map pair c.args.rows.items c.sort_unstable.new.self.items c.sort_unstable.ensures.permutation
-
-pub returns-clause-rising : goal.returns-clause-rising
-returns-clause-rising c =
-    let old = c.args.rows.items in
-    let new = c.sort_unstable.new.self.items in
-    let pair : Row → List ℕ × ℕ = λ r. (r.key.items, r.cost) in
-    let moved = IsPermutation-map pair old new c.sort_unstable.ensures.permutation in
-    rising new c.sort_unstable.ensures.sorted (once_rearranged (pairs_of old) (pairs_of new) moved c.requires.once)
+    let pair : Row → List ℕ × ℕ = λ r. (key_by c.args.layout r.code, r.cost) in
+    let was = c.args.rows.items in
+    let new = c.put_in_order.new.rows in
+    let moved : IsPermutation was new = subst (λ l. IsPermutation l new) c.as_mut_slice.ensures.value c.put_in_order.ensures.permutation in
+    let long : c.args.rows.len ≡ length was = omega (arith, c.as_mut_slice.ensures.len, ap length c.as_mut_slice.ensures.value) in
+    let back = sym (written_back c.args.rows.len new was (length_permutation was new moved) long) in
+    subst (λ l. IsPermutation (map pair was) (map pair l)) back (IsPermutation-map pair was new moved)

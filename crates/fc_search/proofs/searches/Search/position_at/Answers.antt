@@ -1,7 +1,7 @@
 use Rattle.std.proofs.Common.{ap, sym, ◌∙◌, subst}
 use Rattle.fc_codes.specs.Spelled.{board_of_code}
 use Rattle.fc_classes.specs.Namings.{IsCodeIn}
-use Rattle.fc_search.proofs.RowLemmas.{stored_name}
+use Rattle.fc_search.proofs.RowLemmas.{coded_there, stored_name}
 use Rattle.fc_search.proofs.searches.Search.position_at.Goals as goal
 
 pub position-requires : goal.position-requires
@@ -16,17 +16,20 @@ position-requires g c =
           (subst (λ s. IsCodeIn s.problem.start s.problem.game code) (sym c.self.view_is) own);
     }
 
-pub returns : goal.returns
-returns g c =
+pub returns-clause-spells : goal.returns-clause-spells
+returns-clause-spells g c =
     let now = c.args.self.now in
     let code = c.at.result.0.now in
-    let is = stored_name now.problem now.store c.known.ensures.names c.known.ensures.fits c.requires.sound c.args.number code c.at.result.1 c.at.ensures.stands in
     let start = ap (λ s. s.start) c.space-space.ensures.value ∙ ap (λ s. s.problem.start) c.self.view_is in
     record {
-      spells = record {
-        code = code;
-        stands = c.at.ensures.stands;
-        board = c.position.ensures.value ∙ ap (λ s. board_of_code s code) start;
-        name = is;
-      };
+      stands = c.at.ensures.stands;
+      board = c.position.ensures.value ∙ ap (λ s. board_of_code s code) start;
+      name = stored_name now.problem now.store c.known.ensures.names c.known.ensures.fits c.requires.sound c.args.number code c.at.result.1 c.at.ensures.stands;
     }
+
+pub returns-clause-coded : goal.returns-clause-coded
+returns-clause-coded g c =
+    let now = c.args.self.now in
+    let code = c.at.result.0.now in
+    coded_there now.problem.start now.problem.game code c.known.ensures.fits.position
+    (stored_name now.problem now.store c.known.ensures.names c.known.ensures.fits c.requires.sound c.args.number code c.at.result.1 c.at.ensures.stands)
