@@ -44,7 +44,7 @@ impl<F: Frontier + Drop, G: Game + Drop> Search<F, G> {
         ensures rows { IfOk result (λ rows. pairs_by self.now.problem.start rows.items ≡ inside (guide_of self.now.problem.method.bound) n (costs_of self.now.problem.start self.now.store)) }
         ensures coded { IfOk result (λ rows. All (IsRowOf self.now.problem.start) rows.items) }
     {
-        let mut rows = Vec::new(self.alloc);
+        let mut rows = Vec::with_capacity(self.alloc, self.len())?;
         for number in 0..self.count() {
             let Some(row) = self.row_below(number, n) else {
                 continue;
@@ -95,7 +95,7 @@ impl<F: Frontier + Drop, G: Game + Drop> Search<F, G> {
         ensures rows { IfOk result (λ rows. pairs_by self.now.problem.start rows.items ≡ at_no_cost (costs_of self.now.problem.start self.now.store)) }
         ensures coded { IfOk result (λ rows. All (IsRowOf self.now.problem.start) rows.items) }
     {
-        let mut rows = Vec::new(self.alloc);
+        let mut rows = Vec::with_capacity(self.alloc, self.len())?;
         for number in 0..self.count() {
             rows.push(self.free_row(number))?;
         }

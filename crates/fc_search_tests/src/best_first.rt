@@ -7,8 +7,8 @@ ghost use Rattle.fc_search_tests.specs.Sums.{IsChildOf, number_exact, sums, sums
 
 use crate::given::{budget, sure};
 use fc_best_first::{
-    Book, Budget, Child, Expansion, Mark, Offered, Opening, Search, Space, Status, Step,
-    Strategy, Weight,
+    Book, Budget, Child, Expansion, Mark, Offered, Opening, Search, Space, Status, Step, Strategy,
+    Weight,
 };
 use fc_frontier::{BucketFrontier, EitherFrontier, ExactKey, Frontier, ListFrontier};
 use std::alloc::{AllocError, Global};

@@ -1,4 +1,4 @@
-use Rattle.std.proofs.Common.{◌≡◌, ◌+◌, refl, sym, ◌∙◌, ap, arith}
+use Rattle.std.proofs.Common.{◌≡◌, ◌+◌, sym, ◌∙◌, ap, arith}
 use Rattle.fc_bound.specs.Kinds.{guide_of}
 use Rattle.fc_canonical.specs.Spelled.{spelled}
 use Rattle.fc_answers.specs.Table.{key_by}
