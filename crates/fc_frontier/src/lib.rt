@@ -4,7 +4,7 @@
 //! A caller needs the trait alone, which sees a queue as its pairs, each as often as it stands there. The queues say more.
 //! Of equal f `ListFrontier` and `BucketFrontier` give the pair that was pushed last, and `TieFrontier` and
 //! `TieBucketFrontier` the one of least tie, and of equal ties the one that was pushed last. `EitherFrontier` is one of the
-//! last three.
+//! last three. What a search stores under a node is an `ExactKey`: keys that compare equal are the same.
 #![tactic(auto)]
 
 pub use buckets::BucketFrontier;
