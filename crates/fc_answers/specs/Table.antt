@@ -1,11 +1,13 @@
 -- Tables of answers: rows of a key's bytes and a cost.
-use Rattle.std.specs.Prelude.{◌≢◌, ℕ, ◌+◌, ◌<◌, ◌≤◌, List, length, AllPairs, Contains, slice_index_or, map}
+use Rattle.std.specs.Prelude.{◌≡◌, ◌≢◌, ℕ, ◌+◌, ◌*◌, ◌<◌, ◌≤◌, List, [], ◌∷◌, length, AllPairs, Contains, slice_index, slice_index_or, map}
 use Rattle.fc_position.specs.Board.{Board}
+use Rattle.fc_position.specs.Position.{IsPosition}
 use Rattle.fc_moves.specs.GameRules.{GameRules}
 use Rattle.fc_canonical.specs.Key.{board_bytes}
 use Rattle.fc_canonical.specs.KeyOrder.{IsBefore}
 use Rattle.fc_canonical.specs.Spelled.{IsKeyIn}
 use Rattle.fc_codes.specs.Spelled.{board_of_code}
+use Rattle.fc_codes.specs.State.{IsCodeOf}
 use Rattle.fc_home.specs.declared.settling.TheConstants.{GREATEST_RULE}
 use Rattle.fc_bound.specs.declared.kinds.BoundKind.{BoundKind}
 use Rattle.fc_answers.specs.declared.tables.TheConstants.{MOST_CLASSES}
@@ -44,3 +46,20 @@ key_by start code = board_bytes (board_of_code start code)
 -- rows of codes as pairs of a key and a cost, as seen from the board at the start
 abbrev pub pairs_by : Board → List Row → List (List ℕ × ℕ)
 pairs_by start rows = map (λ r. (key_by start r.code, r.cost)) rows
+
+-- the code is that of some position, as seen from a position at the start
+abbrev pub IsCoded : Board → List ℕ → Type 0
+IsCoded start code = IsPosition start × ((b : Board) × IsPosition b × IsCodeOf start b code)
+
+-- what is kept of the front of a key: its counts, two a byte, and what its first two cells hold
+abbrev pub front_of : List ℕ → List ℕ
+front_of key = (slice_index key 0 * 16 + slice_index key 1) ∷ (slice_index key 2 * 16 + slice_index key 3)
+    ∷ slice_index key 4 ∷ slice_index key 5 ∷ []
+
+-- the row's front is that of its class's key
+abbrev pub IsFronted : Board → Row → Type 0
+IsFronted start row = row.front ≡ front_of (key_by start row.code)
+
+-- the row is one of a class, as seen from the board at the start
+abbrev pub IsRowOf : Board → Row → Type 0
+IsRowOf start row = IsCoded start row.code × IsFronted start row

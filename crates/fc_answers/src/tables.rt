@@ -1,7 +1,6 @@
 ghost use Rattle.std.specs.Prelude.{◌≡◌, ◌<◌, ◌≤◌, ◌↔◌, ℕ, List, [], length, All, IfOk, Some, slice_get, IsTrue};
 ghost use Rattle.std.specs.List.Sorted.{IsPermutation};
-ghost use Rattle.fc_answers.specs.Table.{HaveKeysOnce, IsRising, pairs_by};
-ghost use Rattle.fc_answers.specs.inner.Table.{IsRowOf};
+ghost use Rattle.fc_answers.specs.Table.{HaveKeysOnce, IsRising, IsRowOf, pairs_by};
 
 use crate::rows::Row;
 use crate::sorting::put_in_order;
@@ -28,8 +27,7 @@ pub struct Table {
 impl Model for Table {
     ghost use Rattle.std.specs.Prelude.{◌≤◌, length, All};
     ghost use Rattle.fc_home.specs.declared.settling.TheConstants.{GREATEST_RULE};
-    ghost use Rattle.fc_answers.specs.Table.{Listing, IsRising, pairs_by};
-    ghost use Rattle.fc_answers.specs.inner.Table.{IsRowOf};
+    ghost use Rattle.fc_answers.specs.Table.{IsRising, IsRowOf, Listing, pairs_by};
     ghost use Rattle.fc_answers.specs.declared.tables.TheConstants.{MOST_CLASSES};
 
     ghost Value = { Listing };

@@ -12,7 +12,7 @@ ghost use Rattle.fc_classes.specs.Namings.{IsNaming, by_codes};
 ghost use Rattle.fc_methods.specs.Method.{shortest_asked};
 ghost use Rattle.fc_search.specs.Problem.{problem_below, problem_of, shortest_from, task_of_problem};
 ghost use Rattle.fc_search.specs.Search.{Answers, IsVerdict, IsOfStatus, IsRefused, IsUnanswered};
-ghost use Rattle.fc_answers.specs.inner.Table.{IsCoded};
+ghost use Rattle.fc_answers.specs.Table.{IsCoded};
 ghost use Rattle.fc_search.specs.inner.Search.{IsFloorOf, Spells};
 
 use fc_answers::{Answer, MoveList, Verdict};

@@ -4,8 +4,8 @@ ghost use Rattle.std.specs.Prelude.{◌≡◌, ◌+◌, ◌<◌, ◌≤◌, ◌�
 ghost use Rattle.std.specs.List.Sorted.{IsPermutation};
 ghost use Rattle.fc_best_first.specs.Kept.{IsSound};
 ghost use Rattle.fc_bound.specs.Kinds.{guide_of};
-ghost use Rattle.fc_answers.specs.Table.{IsRising, pairs_by};
-ghost use Rattle.fc_answers.specs.inner.Table.{IsRowOf, at_no_cost, inside};
+ghost use Rattle.fc_answers.specs.Table.{IsRising, IsRowOf, pairs_by};
+ghost use Rattle.fc_answers.specs.inner.Table.{at_no_cost, inside};
 ghost use Rattle.fc_search.specs.Problem.{task_of_problem};
 ghost use Rattle.fc_search.specs.inner.Stored.{costs_of};
 

@@ -2,8 +2,7 @@ use Rattle.std.proofs.Common.{◌≡◌, ◌<◌, List, ℕ, length, slice_get, 
 use Rattle.std.proofs.lemmas.List.{length-map}
 use Rattle.std.proofs.lemmas.List.Elements.{All-get_or}
 use Rattle.fc_answers.specs.declared.rows.Row.{Row}
-use Rattle.fc_answers.specs.Table.{key_by, pairs_by}
-use Rattle.fc_answers.specs.inner.Table.{IsCoded, IsRowOf}
+use Rattle.fc_answers.specs.Table.{IsCoded, IsRowOf, key_by, pairs_by}
 use Rattle.fc_answers.proofs.RowLemmas.{pair_there}
 use Rattle.fc_answers.proofs.tables.Table.key.Goals as goal
 

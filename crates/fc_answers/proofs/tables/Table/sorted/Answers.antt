@@ -3,8 +3,7 @@ use Rattle.std.specs.Prelude.{All}
 use Rattle.std.specs.List.Sorted.{IsPermutation}
 use Rattle.std.proofs.lemmas.List.Sorted.{All-permutation, IsPermutation-map, length_permutation}
 use Rattle.fc_answers.specs.declared.rows.Row.{Row}
-use Rattle.fc_answers.specs.Table.{IsRising, key_by, pairs_by}
-use Rattle.fc_answers.specs.inner.Table.{IsRowOf}
+use Rattle.fc_answers.specs.Table.{IsRising, IsRowOf, key_by, pairs_by}
 use Rattle.fc_answers.proofs.RowLemmas.{written_back}
 use Rattle.fc_answers.proofs.tables.Table.sorted.Goals as goal
 

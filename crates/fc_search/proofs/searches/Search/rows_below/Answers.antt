@@ -2,8 +2,8 @@ use Rattle.std.proofs.Common.{◌+◌, ◌≤◌, length, take, sym, ◌∙◌, 
 use Rattle.std.specs.Prelude.{All}
 use Rattle.std.proofs.lemmas.List.Elements.{All-push}
 use Rattle.fc_bound.specs.Kinds.{guide_of}
-use Rattle.fc_answers.specs.Table.{pairs_by}
-use Rattle.fc_answers.specs.inner.Table.{IsRowOf, inside}
+use Rattle.fc_answers.specs.Table.{IsRowOf, pairs_by}
+use Rattle.fc_answers.specs.inner.Table.{inside}
 use Rattle.fc_search.specs.inner.Stored.{costs_of}
 use Rattle.fc_search.proofs.RowLemmas.{looked, one_more}
 use Rattle.fc_search.proofs.searches.Search.rows_below.Goals as goal

@@ -1,8 +1,8 @@
 use Rattle.std.proofs.Common.{◌≡◌, take}
 use Rattle.std.specs.Prelude.{All}
 use Rattle.fc_bound.specs.Kinds.{guide_of}
-use Rattle.fc_answers.specs.Table.{pairs_by}
-use Rattle.fc_answers.specs.inner.Table.{IsRowOf, inside}
+use Rattle.fc_answers.specs.Table.{IsRowOf, pairs_by}
+use Rattle.fc_answers.specs.inner.Table.{inside}
 use Rattle.fc_search.specs.inner.Stored.{costs_of}
 use Rattle.fc_search.proofs.searches.Search.rows_below.Given as goal
 

@@ -1,8 +1,8 @@
 use Rattle.std.proofs.Common.{◌+◌, ◌≤◌, length, take, sym, ◌∙◌, ap, subst, arith}
 use Rattle.std.specs.Prelude.{All}
 use Rattle.std.proofs.lemmas.List.Elements.{All-push}
-use Rattle.fc_answers.specs.Table.{pairs_by}
-use Rattle.fc_answers.specs.inner.Table.{IsRowOf, at_no_cost}
+use Rattle.fc_answers.specs.Table.{IsRowOf, pairs_by}
+use Rattle.fc_answers.specs.inner.Table.{at_no_cost}
 use Rattle.fc_search.specs.inner.Stored.{costs_of}
 use Rattle.fc_search.proofs.RowLemmas.{looked, one_more}
 use Rattle.fc_search.proofs.searches.Search.rows_of_all.Goals as goal

@@ -1,7 +1,7 @@
 use Rattle.std.proofs.Common.{◌≡◌, take}
 use Rattle.std.specs.Prelude.{All}
-use Rattle.fc_answers.specs.Table.{pairs_by}
-use Rattle.fc_answers.specs.inner.Table.{IsRowOf, at_no_cost}
+use Rattle.fc_answers.specs.Table.{IsRowOf, pairs_by}
+use Rattle.fc_answers.specs.inner.Table.{at_no_cost}
 use Rattle.fc_search.specs.inner.Stored.{costs_of}
 use Rattle.fc_search.proofs.searches.Search.rows_of_all.Given as goal
 

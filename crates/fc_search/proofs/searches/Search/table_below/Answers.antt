@@ -5,8 +5,7 @@ use Rattle.std.specs.Prelude.{All}
 use Rattle.std.specs.List.Sorted.{IsPermutation}
 use Rattle.fc_bound.specs.Kinds.{guide_of}
 use Rattle.fc_answers.specs.declared.rows.Row.{Row}
-use Rattle.fc_answers.specs.Table.{HaveKeysOnce, key_by, pairs_by}
-use Rattle.fc_answers.specs.inner.Table.{IsRowOf}
+use Rattle.fc_answers.specs.Table.{HaveKeysOnce, IsRowOf, key_by, pairs_by}
 use Rattle.fc_search.specs.inner.Stored.{costs_of}
 use Rattle.fc_answers.proofs.RowLemmas.{inside_few, inside_once}
 use Rattle.fc_search.proofs.RowLemmas.{stored_once, stored_long}

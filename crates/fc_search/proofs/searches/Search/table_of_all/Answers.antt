@@ -4,8 +4,7 @@ use Rattle.std.proofs.lemmas.List.Sorted.{length_permutation}
 use Rattle.std.specs.Prelude.{All}
 use Rattle.std.specs.List.Sorted.{IsPermutation}
 use Rattle.fc_answers.specs.declared.rows.Row.{Row}
-use Rattle.fc_answers.specs.Table.{HaveKeysOnce, key_by, pairs_by}
-use Rattle.fc_answers.specs.inner.Table.{IsRowOf}
+use Rattle.fc_answers.specs.Table.{HaveKeysOnce, IsRowOf, key_by, pairs_by}
 use Rattle.fc_search.specs.inner.Stored.{costs_of}
 use Rattle.fc_answers.proofs.RowLemmas.{all_few, no_cost_once}
 use Rattle.fc_search.proofs.RowLemmas.{stored_once, stored_long}
