@@ -258,14 +258,16 @@ impl<K: ExactKey, F: Frontier + Drop> Book<K, F> {
         Ok(())
     }
 
-    // Where the table is full, asks for three times the room that it has, up to so many keys more: each growth makes its
-    // index anew, so few large ones are cheaper. What is refused here is asked for again where a key is put in.
+    // Where the table is full, asks for three times the room that it has, and for all that the budget leaves once a sixteenth of
+    // it is stored: so many keys more. Each growth makes the index anew, so few large ones are cheaper. What is refused here is
+    // asked for again where a key is put in.
     fn make_room(&mut self, most: usize)
         ensures same { self.new ≡ self.old }
     {
         let number = self.table.len();
         if number == self.table.capacity() {
-            let _ = self.table.reserve(most.min(number.saturating_mul(3)));
+            let more = if number < most / 15 { number * 3 } else { most };
+            let _ = self.table.reserve(more);
         }
     }
 }
