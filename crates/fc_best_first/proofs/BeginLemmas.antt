@@ -13,7 +13,7 @@ use Rattle.fc_best_first.specs.declared.strategies.Expansion.TheVariants as expa
 use Rattle.fc_best_first.specs.declared.strategies.Strategy.{Strategy}
 use Rattle.fc_best_first.specs.Graph.{Task, Reached, IsLawful}
 use Rattle.fc_best_first.specs.Limits.{ReachesLimit}
-use Rattle.fc_best_first.specs.Store.{Store, Candidate, IsStored, NotesLast, Stores, opens_at, weighed}
+use Rattle.fc_best_first.specs.Store.{Store, Candidate, IsStored, Stores, opens_at, weighed}
 use Rattle.fc_best_first.specs.Turn.{opening_of}
 use Rattle.fc_best_first.specs.Kept.{AreNoted, Comes, IsKept, IsNeeded, IsOpenAt, IsOpenOrExpanded, f_of}
 use Rattle.fc_best_first.specs.Shown.{IsFloor}
@@ -23,7 +23,7 @@ use Rattle.fc_best_first.proofs.KeptLemmas.{added_there, added_cases, open_under
 pub first_stored : {K : Type 0} (strategy : Strategy) (empty new : Store K) (offer : Candidate K) (o : Offered K)
     → empty.stored ≡ [] → empty.waiting ≡ [] → empty.openings ≡ [] → 1 ≤ strategy.budget → Stores strategy empty new offer o
     → (new.stored ≡ (offer.key, offer.mark) ∷ []) × Adds [] new.waiting (opens_at (weighed strategy offer.mark) offer.opening, 0)
-    × NotesLast strategy.expansion [] new.openings offer.opening
+    × (new.openings ≡ offer.opening ∷ [])
 first_stored strategy empty new offer Known none quiet unnoted some_room h = absurd h
 first_stored strategy empty new offer Lowered none quiet unnoted some_room h = absurd h
 first_stored strategy empty new offer (PutOff f) none quiet unnoted some_room h = absurd h
@@ -32,13 +32,13 @@ first_stored strategy empty new offer Added none quiet unnoted some_room (lt, st
   stored ∙ ap (λ es. es ++ (offer.key, offer.mark) ∷ []) none,
   subst (λ es. Adds [] new.waiting (opens_at (weighed strategy offer.mark) offer.opening, length es)) none
       (subst (λ ps. Adds ps new.waiting (opens_at (weighed strategy offer.mark) offer.opening, length empty.stored)) quiet opened),
-  subst (λ os. NotesLast strategy.expansion os new.openings offer.opening) unnoted noted,
+  noted ∙ ap (λ os. os ++ offer.opening ∷ []) unnoted,
 )
 first_stored strategy empty new offer (Full y) none quiet unnoted some_room (same, full, kept) =
     absurd (let size = ap length none in omega (arith, size, full, some_room))
 
 module _ {K : Type 0} (task : Task K) (s : Store K) (x : K) (e : Mark) (stored : s.stored ≡ (x, e) ∷ [])
-    (opened : Adds [] s.waiting (f_of task x e, 0)) (notes : NotesLast task.strategy.expansion [] s.openings (opening_of task x)) where
+    (opened : Adds [] s.waiting (f_of task x e, 0)) (notes : s.openings ≡ opening_of task x ∷ []) where
   first_alone : (i : ℕ) (y : K) (n : Mark) → IsStored s i y n → (i ≡ 0) × (x ≡ y) × (e ≡ n)
   first_alone i y n at = by i (subst (λ es. slice_get es i ≡ Some (y, n)) stored at)
     where
@@ -54,18 +54,15 @@ module _ {K : Type 0} (task : Task K) (s : Store K) (x : K) (e : Mark) (stored :
       let one = first_alone i y n at in
       subst (λ k. P k y n) (sym one.0) (subst (λ v. P 0 v n) one.1 (subst (λ m. P 0 x m) one.2 here))
 
-  first_noted : (expansion : Expansion) → NotesLast expansion [] s.openings (opening_of task x) → AreNoted expansion task.graph s
-  first_noted expansion.Full same = same
-  first_noted expansion.Partial is = (
-    ap length is ∙ sym (ap length stored),
+  first_noted : AreNoted task.graph s
+  first_noted = (
+    ap length notes ∙ sym (ap length stored),
     first_each (λ i y n. (opening : Opening) × (slice_get s.openings i ≡ Some opening) × (opening.bound ≡ task.graph.bound y))
-        (opening_of task x, ap (λ os. slice_get os 0) is, refl),
+        (opening_of task x, ap (λ os. slice_get os 0) notes, refl),
   )
 
-  first_open : (expansion : Expansion) → NotesLast expansion [] s.openings (opening_of task x) → IsOpenAt expansion s 0 (weighed task.strategy e) (f_of task x e)
-  first_open expansion.Full same = added_there [] s.waiting (f_of task x e, 0) opened
-  first_open expansion.Partial is =
-      (added_there [] s.waiting (f_of task x e, 0) opened, (opening_of task x, ap (λ os. slice_get os 0) is, refl))
+  first_open : IsOpenAt s 0 (weighed task.strategy e) (f_of task x e)
+  first_open = (added_there [] s.waiting (f_of task x e, 0) opened, (opening_of task x, ap (λ os. slice_get os 0) notes, refl))
 
   module _ (lawful : IsLawful task.graph) (heavy : task.strategy.weight.parts ≤ task.strategy.weight.times) (start : task.graph.starts x e.cost)
       (alone : (y : K) (d : ℕ) → task.graph.starts y d → (y ≡ x) × (e.cost ≤ d)) where
@@ -114,7 +111,7 @@ module _ {K : Type 0} (task : Task K) (s : Store K) (x : K) (e : Mark) (stored :
                 (x, e, here, le))
                 (λ none. absurd (omega (arith, none.1)))
                 (added_cases [] s.waiting (f_of task x e, 0) (h, i) opened there);
-            noted = first_noted task.strategy.expansion notes;
+            noted = first_noted;
             under = first_each (λ i y m. (n : ℕ) → task.graph.wins n → ReachesLimit task.limit n → m.cost + task.graph.bound y ≤ n)
                 (λ n wins reach. begins_least n wins);
             near = λ h i there. ⊎_elim
@@ -122,5 +119,5 @@ module _ {K : Type 0} (task : Task K) (s : Store K) (x : K) (e : Mark) (stored :
                 (λ none. absurd (omega (arith, none.1)))
                 (added_cases [] s.waiting (f_of task x e, 0) (h, i) opened there);
           };
-          settled = first_each (IsOpenOrExpanded task s) (inl (first_open task.strategy.expansion notes));
+          settled = first_each (IsOpenOrExpanded task s) (inl first_open);
         }

@@ -56,32 +56,19 @@ limit_within (Some limit) times f n within reach =
     omega (arith, all, within)
 
 -- where a key with this mark is open
-abbrev pub IsAt : {K : Type 0} → Expansion → Task K → Store K → ℕ → K → Mark → ℕ → Type 0
-IsAt expansion task s number x mark f = IsWhereOpen expansion s number (weighed task.strategy mark) (f_of task x mark) f
+abbrev pub IsAt : {K : Type 0} → Task K → Store K → ℕ → Mark → ℕ → Type 0
+IsAt task s number mark f = IsWhereOpen s number (weighed task.strategy mark) f
 
 module _ {K : Type 0} where
-  pub open_waits : (expansion : Expansion) (s : Store K) (i cost f : ℕ) → IsOpenAt expansion s i cost f → Contains s.waiting (f, i)
-  open_waits Full s i cost f is_open = is_open
-  open_waits Partial s i cost f is_open = is_open.0
-
-  -- what is open at its weighed cost plus bound is open where it is
-  own_at : (expansion : Expansion) (task : Task K) (s : Store K) (i : ℕ) (x : K) (m : Mark)
-      → IsOpenAt expansion s i (weighed task.strategy m) (f_of task x m) → IsAt expansion task s i x m (f_of task x m)
-  own_at Full task s i x m is_open = refl
-  own_at Partial task s i x m is_open = is_open.1
-
   -- an older pair isn't where its key is open
-  pub stale_elsewhere : (expansion : Expansion) (task : Task K) (s : Store K) (i : ℕ) (x : K) (m : Mark) (f h : ℕ)
-      → IsStale expansion s i (weighed task.strategy m) (f_of task x m) f → IsAt expansion task s i x m h → h ≡ f → ⊥
-  stale_elsewhere Full task s i x m f h stale at same = omega (arith, stale, at, same)
-  stale_elsewhere Partial task s i x m f h (opening, there, other) (last, here, at) same =
+  pub stale_elsewhere : (s : Store K) (i cost f h : ℕ) → IsStale s i cost f → IsWhereOpen s i cost h → h ≡ f → ⊥
+  stale_elsewhere s i cost f h (opening, there, other) (last, here, at) same =
       let one : opening ≡ last = (let both = sym there ∙ here in cc) in
-      other (sym same ∙ at ∙ ap (λ o. opens_at (weighed task.strategy m) o) (sym one))
+      other (sym same ∙ at ∙ ap (λ o. opens_at cost o) (sym one))
 
-  pub noted_same : (expansion : Expansion) (g : Graph K) (old new : Store K) → new.stored ≡ old.stored → new.openings ≡ old.openings
-      → AreNoted expansion g old → AreNoted expansion g new
-  noted_same Full g old new kept same noted = same ∙ noted
-  noted_same Partial g old new kept same noted = (
+  pub noted_same : (g : Graph K) (old new : Store K) → new.stored ≡ old.stored → new.openings ≡ old.openings
+      → AreNoted g old → AreNoted g new
+  noted_same g old new kept same noted = (
     ap length same ∙ noted.0 ∙ sym (ap length kept),
     λ i x m at.
         let was = noted.1 i x m (subst (λ es. slice_get es i ≡ Some (x, m)) kept at) in
@@ -187,10 +174,9 @@ module _ {K : Type 0} where
       (added_cases new.waiting old.waiting p (h, i) taken waits)
 
   -- where a pair that isn't its own is taken, a key stays open
-  kept_open : (expansion : Expansion) (old new : Store K) (p : ℕ × ℕ) (i cost h : ℕ) → new.openings ≡ old.openings
-      → Adds new.waiting old.waiting p → (h ≡ p.0 → i ≡ p.1 → ⊥) → IsOpenAt expansion old i cost h → IsOpenAt expansion new i cost h
-  kept_open Full old new p i cost h noted taken other waits = kept_waits old new p i h taken other waits
-  kept_open Partial old new p i cost h noted taken other (waits, (last, there, at)) = (
+  kept_open : (old new : Store K) (p : ℕ × ℕ) (i cost h : ℕ) → new.openings ≡ old.openings
+      → Adds new.waiting old.waiting p → (h ≡ p.0 → i ≡ p.1 → ⊥) → IsOpenAt old i cost h → IsOpenAt new i cost h
+  kept_open old new p i cost h noted taken other (waits, (last, there, at)) = (
     kept_waits old new p i h taken other waits,
     (last, ap (λ os. slice_get os i) noted ∙ there, at),
   )
@@ -198,12 +184,12 @@ module _ {K : Type 0} where
   -- and so does one that is open later
   kept_later : (expansion : Expansion) (task : Task K) (old new : Store K) (p : ℕ × ℕ) (i : ℕ) (x : K) (m : Mark)
       → new.stored ≡ old.stored → new.openings ≡ old.openings → Adds new.waiting old.waiting p
-      → ((h : ℕ) → IsAt expansion task old i x m h → h ≡ p.0 → i ≡ p.1 → ⊥)
+      → ((h : ℕ) → IsAt task old i m h → h ≡ p.0 → i ≡ p.1 → ⊥)
       → IsOpenLater expansion task old i x m → IsOpenLater expansion task new i x m
   kept_later Full task old new p i x m kept noted taken other later = later
   kept_later Partial task old new p i x m kept noted taken other (h, is_open, below) = (
     h,
-    kept_open Partial old new p i (weighed task.strategy m) h noted taken (other h is_open.1) is_open,
+    kept_open old new p i (weighed task.strategy m) h noted taken (other h is_open.1) is_open,
     kept_below task old new x m.cost h kept below,
   )
 
@@ -222,7 +208,7 @@ module _ {K : Type 0} (task : Task K) where
     needed = h.needed;
     starts = h.starts;
     pairs = λ f i there. h.pairs f i (fewer (f, i) there);
-    noted = noted_same task.strategy.expansion task.graph (record { stored = stored; waiting = old; openings = was })
+    noted = noted_same task.graph (record { stored = stored; waiting = old; openings = was })
         (record { stored = stored; waiting = new; openings = is }) refl same h.noted;
     under = h.under;
     near = λ f i there. h.near f i (fewer (f, i) there);
@@ -245,7 +231,7 @@ module _ {K : Type 0} (task : Task K) where
       → IsDone task.strategy.expansion task s y l.cost f
   below_least s f i kept least j y l at lt = elim (kept.settled j y l at) [
     | inl is_open ↦ absurd (
-        let le = least_below f i (f_of task y l) j s.waiting least (open_waits task.strategy.expansion s j (weighed task.strategy l) (f_of task y l) is_open) in
+        let le = least_below f i (f_of task y l) j s.waiting least is_open.0 in
         omega (arith, le, lt))
     | inr (inl done) ↦ expanded_done task.strategy.expansion task s y l.cost f done
     | inr (inr later) ↦ later_done task.strategy.expansion task s j y l f i least later
@@ -253,11 +239,11 @@ module _ {K : Type 0} (task : Task K) where
 
   -- a key other than the one that is taken stays open, or expanded
   pub others_settled : (old new : Store K) (f i : ℕ) (x : K) (m : Mark) → IsKept task old → IsTaken old new f i x m
-      → (j : ℕ) (y : K) (l : Mark) → ((h : ℕ) → IsAt task.strategy.expansion task old j y l h → h ≡ f → j ≡ i → ⊥) → IsStored new j y l
+      → (j : ℕ) (y : K) (l : Mark) → ((h : ℕ) → IsAt task old j l h → h ≡ f → j ≡ i → ⊥) → IsStored new j y l
       → IsOpenOrExpanded task new j y l
   others_settled old new f i x m kept t j y l other at = elim (kept.settled j y l (kept_back old new j y l t.kept at)) [
-    | inl is_open ↦ inl (kept_open task.strategy.expansion old new (f, i) j (weighed task.strategy l) (f_of task y l) t.noted t.taken
-        (other (f_of task y l) (own_at task.strategy.expansion task old j y l is_open)) is_open)
+    | inl is_open ↦ inl (kept_open old new (f, i) j (weighed task.strategy l) (f_of task y l) t.noted t.taken
+        (other (f_of task y l) is_open.1) is_open)
     | inr (inl done) ↦ inr (inl (kept_expanded task old new y l.cost t.kept done))
     | inr (inr later) ↦ inr (inr (kept_later task.strategy.expansion task old new (f, i) j y l t.kept t.noted t.taken other later))
   ]

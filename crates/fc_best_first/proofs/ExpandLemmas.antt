@@ -10,14 +10,14 @@ use Rattle.fc_best_first.specs.declared.strategies.Expansion.{Expansion}
 use Rattle.fc_best_first.specs.declared.strategies.Expansion.TheVariants.{Full, Partial}
 use Rattle.fc_best_first.specs.declared.turns.Placing.{Placing}
 use Rattle.fc_best_first.specs.declared.turns.Placing.TheVariants.{Whole, Later, NoRoom}
-use Rattle.fc_best_first.specs.Graph.{Reached, IsLawful, Task}
+use Rattle.fc_best_first.specs.Graph.{Graph, Reached, IsLawful, Task}
 use Rattle.fc_best_first.specs.Limits.{IsBelowLimit, IsWithinLimit, ReachesLimit, weigh}
 use Rattle.fc_best_first.specs.Store.{Store, Candidate, IsStored, Admits, Offers, weighed}
-use Rattle.fc_best_first.specs.Turn.{Expands, IsPresent, candidate_of, opening_of, put_off, work_left}
-use Rattle.fc_best_first.specs.Kept.{AreNoted, HasAt, IsDone, IsMet, IsOpenOrExpanded, IsNeeded, Comes, IsSound, f_of}
+use Rattle.fc_best_first.specs.Turn.{Expands, candidate_of, opening_of, put_off, work_left}
+use Rattle.fc_best_first.specs.Kept.{AreNoted, HasAt, IsDone, IsMet, IsOpenOrExpanded, IsNeeded, IsWhereOpen, Comes, IsSound, f_of}
 use Rattle.fc_best_first.specs.Shown.{IsFloor, IsGivenUp}
 use Rattle.fc_best_first.proofs.KeptLemmas.{front_there, front_cases, stands_within, Notes, Puts, puts_lowered, puts_added, still_done, still_has, other_number, still_sound, still_settled}
-use Rattle.fc_best_first.proofs.ClosedLemmas.{IsAt, has_met, past_met, stays_met}
+use Rattle.fc_best_first.proofs.ClosedLemmas.{has_met, past_met, stays_met}
 use Rattle.fc_best_first.proofs.TurnLemmas.{off_past, offers_room}
 use Rattle.fc_best_first.proofs.WorkLemmas.{lowered_work, added_work}
 
@@ -40,26 +40,28 @@ off_near (Some limit) times later Whole near = near
 off_near (Some limit) times later (Later g) near = omega (arith, near)
 off_near (Some limit) times later (NoRoom y) near = tt
 
--- all children found their places, or some were put off past what was taken
-abbrev pub IsPast : {K : Type 0} → ℕ → Placing K → Type 0
-IsPast taken Whole = Unit {0}
-IsPast taken (Later later) = taken < later
-IsPast taken (NoRoom y) = ⊥
+-- all children found their places, or some were put off past what was taken, which is by partial expansion alone
+abbrev pub IsPast : {K : Type 0} → Expansion → ℕ → Placing K → Type 0
+IsPast expansion taken Whole = Unit {0}
+IsPast expansion taken (Later later) = (taken < later) × (expansion ≡ Partial)
+IsPast expansion taken (NoRoom y) = ⊥
 
-off_here : {K : Type 0} (taken later f : ℕ) (others : Placing K) → IsPast taken others → later ≤ f → PutOffTo (put_off later others) f
-off_here taken later f Whole past le = le
-off_here taken later f (Later g) past le = omega (arith, le)
-off_here taken later f (NoRoom y) past le = absurd past
+off_here : {K : Type 0} (expansion : Expansion) (taken later f : ℕ) (others : Placing K) → IsPast expansion taken others → later ≤ f
+    → PutOffTo (put_off later others) f
+off_here expansion taken later f Whole past le = le
+off_here expansion taken later f (Later g) past le = omega (arith, le)
+off_here expansion taken later f (NoRoom y) past le = absurd past
 
 off_there : {K : Type 0} (later f : ℕ) (others : Placing K) → PutOffTo others f → PutOffTo (put_off later others) f
 off_there later f Whole le = absurd le
 off_there later f (Later g) le = omega (arith, le)
 off_there later f (NoRoom y) le = absurd le
 
-off_on : {K : Type 0} (taken later : ℕ) (others : Placing K) → taken < later → IsPast taken others → IsPast taken (put_off later others)
-off_on taken later Whole lt past = lt
-off_on taken later (Later g) lt past = omega (arith, lt, past)
-off_on taken later (NoRoom y) lt past = absurd past
+off_on : {K : Type 0} (expansion : Expansion) (taken later : ℕ) (others : Placing K) → taken < later → expansion ≡ Partial
+    → IsPast expansion taken others → IsPast expansion taken (put_off later others)
+off_on expansion taken later Whole lt partial past = (lt, partial)
+off_on expansion taken later (Later g) lt partial past = (omega (arith, lt, past.0), partial)
+off_on expansion taken later (NoRoom y) lt partial past = absurd past
 
 -- what is below the limit is no more than what reaches it
 below_under : (limit : Option ℕ) (cost n : ℕ) → IsBelowLimit limit cost → ReachesLimit limit n → cost ≤ n
@@ -67,12 +69,9 @@ below_under None cost n below reach = absurd reach
 below_under (Some limit) cost n below reach = omega (arith, below, reach)
 
 -- a pair that is present stays so while other keys are put in
-still_present : {K : Type 0} (expansion : Expansion) (task : Task K) (old new : Store K) (opening : Opening) (i busy : ℕ) (x : K) (m : Mark)
-    (f : ℕ) → Notes expansion old new i opening → AreNoted expansion task.graph old → (busy ≡ i → ⊥)
-    → IsPresent expansion old busy (weighed task.strategy m) (f_of task x m) f
-    → IsPresent expansion new busy (weighed task.strategy m) (f_of task x m) f
-still_present Full task old new opening i busy x m f notes noted ne present = present
-still_present Partial task old new opening i busy x m f notes noted ne (last, there, at) = (last, notes.2 noted.0 busy ne ∙ there, at)
+still_present : {K : Type 0} (g : Graph K) (old new : Store K) (opening : Opening) (i busy cost f : ℕ) → Notes old new i opening
+    → AreNoted g old → (busy ≡ i → ⊥) → IsWhereOpen old busy cost f → IsWhereOpen new busy cost f
+still_present g old new opening i busy cost f notes noted ne (last, there, at) = (last, notes.2 noted.0 busy ne ∙ there, at)
 
 module _ {K : Type 0} (task : Task K) where
   module _ (busy : ℕ) (xb : K) (mb : Mark) (taken : ℕ) (high : f_of task xb mb ≤ taken)
@@ -86,14 +85,8 @@ module _ {K : Type 0} (task : Task K) where
       pub sound : IsSound task s
       pub settled : (j : ℕ) (y : K) (l : Mark) → (j ≡ busy → ⊥) → IsStored s j y l → IsOpenOrExpanded task s j y l
       pub stands : IsStored s busy xb mb
-      pub present : IsPresent task.strategy.expansion s busy (weighed task.strategy mb) (f_of task xb mb) taken
+      pub present : IsWhereOpen s busy (weighed task.strategy mb) taken
       pub done : f_of task xb mb < taken → IsDone task.strategy.expansion task s xb mb.cost taken
-
-    -- a pair that is present is where its key is open
-    present_at_own : (expansion : Expansion) (s : Store K) → IsPresent expansion s busy (weighed task.strategy mb) (f_of task xb mb) taken
-        → IsAt expansion task s busy xb mb taken
-    present_at_own Full s present = (omega (arith, present, high))
-    present_at_own Partial s present = present
 
     -- the child as it is offered
     abbrev child_offer : Child K → Candidate K
@@ -116,7 +109,7 @@ module _ {K : Type 0} (task : Task K) where
         (mb.cost + child.cost, child_reached s child edge d, λ n wins. let le = floor n wins in omega (arith, le, admits))
 
     puts_doing : (old new : Store K) (child : Child K) (i : ℕ) → IsChild child → Doing old → length new.stored ≤ task.strategy.budget
-        → Puts task.strategy.expansion task.strategy.weight old new child.key (child_offer child).mark (opening_of task child.key) i
+        → Puts task.strategy.weight old new child.key (child_offer child).mark (opening_of task child.key) i
         → mb.cost + child.cost ≤ 53 * i + 53 → IsNeeded task.strategy.expansion task.graph task.strategy.weight child.key
         → ((n : ℕ) → task.graph.wins n → ReachesLimit task.limit n → mb.cost + child.cost + task.graph.bound child.key ≤ n) → Doing new
     puts_doing old new child i edge d room puts low needed under =
@@ -125,14 +118,14 @@ module _ {K : Type 0} (task : Task K) where
         let self : mb.cost + child.cost ≤ mb.cost + child.cost = omega arith in
         let comes : Comes task.graph old i child.key e = inr (xb, mb, child.cost, d.stands, edge, self) in
         let more : mb.cost ≤ e.cost = omega arith in
-        let other = other_number task.strategy.expansion task.strategy.weight old new child.key e (opening_of task child.key) i puts busy xb mb d.stands more in
+        let other = other_number task.strategy.weight old new child.key e (opening_of task child.key) i puts busy xb mb d.stands more in
         record {
           sound = still_sound task old new child.key e i puts d.sound room reached low comes needed heavy under;
           settled = still_settled task old new child.key e i puts d.sound room reached low comes needed heavy under busy d.settled;
           stands = puts.on busy xb mb other d.stands;
-          present = still_present task.strategy.expansion task old new (opening_of task child.key) i busy xb mb taken puts.notes
+          present = still_present task.graph old new (opening_of task child.key) i busy (weighed task.strategy mb) taken puts.notes
               d.sound.noted other d.present;
-          done = λ lt. still_done task.strategy.expansion task.strategy.weight old new child.key e (opening_of task child.key) i puts
+          done = λ lt. still_done task.strategy.weight old new child.key e (opening_of task child.key) i puts
               task.strategy.expansion task xb mb.cost taken (d.done lt);
         }
 
@@ -160,7 +153,7 @@ module _ {K : Type 0} (task : Task K) where
         let self : mb.cost + child.cost ≤ mb.cost + child.cost = omega arith in (
           puts_doing old new child i edge d room p low (d.sound.needed i child.key was at)
               (λ n wins reach. let le = d.sound.under i child.key was at n wins reach in omega (arith, le, lt)),
-          still_has task.strategy.expansion task.strategy.weight old new child.key e (opening_of task child.key) i p,
+          still_has task.strategy.weight old new child.key e (opening_of task child.key) i p,
           has_met task.limit task.graph new child.key (mb.cost + child.cost) (i, e, p.here, self),
           lowered_work task.strategy old new i child.key was e (opening_of task child.key) at lt lowers,
         )
@@ -179,7 +172,7 @@ module _ {K : Type 0} (task : Task K) where
         let self : mb.cost + child.cost ≤ mb.cost + child.cost = omega arith in (
           puts_doing old new child (length old.stored) edge d room p low (child_needed task.strategy.expansion old child edge d admits)
               (λ n wins reach. below_under task.limit (mb.cost + child.cost + task.graph.bound child.key) n short reach),
-          still_has task.strategy.expansion task.strategy.weight old new child.key e (opening_of task child.key) (length old.stored) p,
+          still_has task.strategy.weight old new child.key e (opening_of task child.key) (length old.stored) p,
           has_met task.limit task.graph new child.key (mb.cost + child.cost) (length old.stored, e, p.here, self),
           added_work task.strategy old new (child_offer child) stores low,
         )
@@ -200,7 +193,7 @@ module _ {K : Type 0} (task : Task K) where
     -- after all children: each is stored or put off past what was taken, or one found no place
     abbrev pub Done : List (Child K) → Store K → Store K → Placing K → Type 0
     Done children old new placing =
-        (IsPast taken placing × Doing new × ((x : K) (d : ℕ) → HasAt old x d → HasAt new x d)
+        (IsPast task.strategy.expansion taken placing × Doing new × ((x : K) (d : ℕ) → HasAt old x d → HasAt new x d)
         × ((child : Child K) → Contains children child → IsPlaced new placing child)
         × (work_left task.strategy.budget new ≤ work_left task.strategy.budget old)
         × IsNearLimit task.limit task.strategy.weight.times placing)
@@ -224,17 +217,17 @@ module _ {K : Type 0} (task : Task K) where
         )
 
     done_off : (child : Child K) (children : List (Child K)) (old new : Store K) (others : Placing K) (later : ℕ) → taken < later
-        → later ≤ weigh task.strategy.weight (mb.cost + child.cost) (task.graph.bound child.key)
+        → task.strategy.expansion ≡ Partial → later ≤ weigh task.strategy.weight (mb.cost + child.cost) (task.graph.bound child.key)
         → IsWithinLimit task.limit task.strategy.weight.times later
         → Done children old new others → Done (child ∷ children) old new (put_off later others)
-    done_off child children old new others later lt le within (inr (y, out, gave_up)) = inr (y, ap (put_off later) out, gave_up)
-    done_off child children old new others later lt le within (inl (past, doing, stays, all, less, near)) =
+    done_off child children old new others later lt partial le within (inr (y, out, gave_up)) = inr (y, ap (put_off later) out, gave_up)
+    done_off child children old new others later lt partial le within (inl (past, doing, stays, all, less, near)) =
         inl (
-          off_on taken later others lt past,
+          off_on task.strategy.expansion taken later others lt partial past,
           doing,
           stays,
           λ c there. ⊎_elim
-              (λ same. subst (IsPlaced new (put_off later others)) same (inr (off_here taken later _ others past le)))
+              (λ same. subst (IsPlaced new (put_off later others)) same (inr (off_here task.strategy.expansion taken later _ others past le)))
               (λ behind. ⊎_elim (λ has. inl has) (λ off. inr (off_there later _ others off)) (all c behind))
               (front_cases child c children there),
           less,
@@ -247,7 +240,7 @@ module _ {K : Type 0} (task : Task K) where
     expands_done lawful [] old new placing edges d (same, whole) =
         let left : work_left task.strategy.budget new ≡ work_left task.strategy.budget old = ap (work_left task.strategy.budget) same in
         inl (
-          subst (IsPast taken) (sym whole) tt,
+          subst (IsPast task.strategy.expansion taken) (sym whole) tt,
           subst Doing (sym same) d,
           λ x c h. subst (λ s. HasAt s x c) (sym same) h,
           λ child there. absurd (omega (arith, there.1)),
@@ -264,7 +257,7 @@ module _ {K : Type 0} (task : Task K) where
             no_room,
             fresh,
             child_needed task.strategy.expansion old child edge d admits,
-            (xb, mb, child.cost, taken, record { stands = d.stands; at = present_at_own task.strategy.expansion old d.present; done = d.done }, edge),
+            (xb, mb, child.cost, taken, record { stands = d.stands; at = d.present; done = d.done }, edge),
             d.settled,
           ),
         )
@@ -281,6 +274,6 @@ module _ {K : Type 0} (task : Task K) where
     expands_done lawful (child ∷ children) old new placing edges d (inr (inr (later, (fresh, off, within, same), (others, rest, is)))) =
         subst (Done (child ∷ children) old new) (sym is)
         (done_off child children old new others later (off_past task.strategy.expansion taken _ later off).0
-        (off_past task.strategy.expansion taken _ later off).1 within
+        (off_past task.strategy.expansion taken _ later off).2 (off_past task.strategy.expansion taken _ later off).1 within
         (expands_done lawful children old new others
         (λ c there. edges c (Contains-append_right (child ∷ []) children c there)) d rest))

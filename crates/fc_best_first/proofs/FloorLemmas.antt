@@ -1,13 +1,11 @@
 -- Lemmas on the least that the keys tell that are open.
-use Rattle.std.proofs.Common.{◌≡◌, ℕ, ◌+◌, ◌-◌, ◌*◌, ◌<◌, ◌≤◌, ◌⊎◌, suc, Option, Some, None, List, [], ◌∷◌, length, refl, sym, ◌∙◌, ap, subst, inl, inr, ⊎_elim, arith}
-use Rattle.std.specs.Prelude.{◌≢◌, Contains, MatchOption, min, slice_get}
+use Rattle.std.proofs.Common.{◌≡◌, ℕ, ◌+◌, ◌*◌, ◌<◌, ◌≤◌, ◌⊎◌, suc, Option, Some, None, List, [], ◌∷◌, length, refl, sym, ◌∙◌, ap, subst, inl, inr, ⊎_elim, arith}
+use Rattle.std.specs.Prelude.{Contains, min}
 use Rattle.std.specs.List.Sorted.{IsPermutation}
 use Rattle.std.proofs.lemmas.Bool.{cases_eq, cases_lt}
-use Rattle.std.proofs.lemmas.Option.{none-some}
 use Rattle.std.proofs.lemmas.List.Elements.{Contains-append_right}
 use Rattle.std.proofs.lemmas.List.Sorted.{Contains-permutation, IsPermutation-sym}
 use Rattle.fc_best_first.specs.declared.books.Mark.{Mark}
-use Rattle.fc_best_first.specs.declared.books.Opening.{Opening}
 use Rattle.fc_best_first.specs.declared.strategies.Expansion.{Expansion}
 use Rattle.fc_best_first.specs.declared.strategies.Expansion.TheVariants.{Full, Partial}
 use Rattle.fc_best_first.specs.Graph.{Graph, Task}
@@ -15,46 +13,11 @@ use Rattle.fc_best_first.specs.Store.{Store, IsStored, opens_at, weighed}
 use Rattle.fc_best_first.specs.Limits.{IsUpTo, ReachesLimit, weigh}
 use Rattle.std.proofs.lemmas.Nat.{mul-le}
 use Rattle.std.proofs.Math.Nat.{mul-le-mul_left}
-use Rattle.fc_best_first.specs.Kept.{AreNoted, IsCoveredBelow, IsDone, IsOpenAt, IsOpenLater, IsSound, f_of}
+use Rattle.fc_best_first.specs.Kept.{IsCoveredBelow, IsDone, IsOpenAt, IsOpenLater, IsSound, IsWhereOpen, f_of}
 use Rattle.fc_best_first.specs.Laws.{OpenFloorsHold}
 use Rattle.fc_best_first.specs.Shown.{AreSettledBut, IsLeastOpen, IsOpen, IsTold, IsUnder}
 use Rattle.fc_best_first.proofs.KeptLemmas.{front_cases, front_there, same_entry, stands_within}
 use Rattle.fc_best_first.proofs.ClosedLemmas.{IsAt, closed_inside, expanded_covered, limit_cases, met_covered}
-
--- what is told where nothing, or this, is
-pub none_told : (A : Type 0) (B : ℕ → Type 0) (told : Option ℕ) → ((b : ℕ) → told ≡ Some b → ⊥) → MatchOption told A B → A
-none_told A B None other h = h
-none_told A B (Some b) other h = absurd (other b refl)
-
-pub some_told : (A : Type 0) (B : ℕ → Type 0) (told : Option ℕ) (b : ℕ) → told ≡ Some b → MatchOption told A B → B b
-some_told A B told b is h = subst (λ o. MatchOption o A B) is h
-
-module _ {K : Type 0} where
-  -- what a pair so far above the weighed cost of its key tells, by what is noted of the key
-  pub present_at : (expansion : Expansion) (task : Task K) (s : Store K) (i : ℕ) (x : K) (m : Mark) (f over : ℕ)
-      (noted : Option Opening) (told : Option ℕ) → AreNoted expansion task.graph s → IsStored s i x m → f_of task x m ≤ f
-      → over ≡ f - weighed task.strategy m
-      → MatchOption noted (length s.openings ≤ i) (λ o. slice_get s.openings i ≡ Some o)
-      → MatchOption noted
-      (MatchOption told (over ≢ task.strategy.weight.times * task.graph.bound x)
-      (λ b. (b ≡ task.graph.bound x) × (over ≡ task.strategy.weight.times * task.graph.bound x)))
-      (λ o. MatchOption told (over ≢ o.over) (λ b. (b ≡ o.bound) × (over ≡ o.over)))
-      → MatchOption told (IsAt expansion task s i x m f → ⊥) (λ b. IsAt expansion task s i x m f × (b ≡ task.graph.bound x))
-  present_at Full task s i x m f over (Some o) told are at high above is tells =
-      absurd (none-some o (ap (λ os. slice_get os i) (sym are) ∙ is))
-  present_at Full task s i x m f over None None are at high above is tells = λ same. tells (omega (arith, above, same))
-  present_at Full task s i x m f over None (Some b) are at high above is (bound, same) =
-      ((omega (arith, above, same, high)), bound)
-  present_at Partial task s i x m f over None told are at high above is tells =
-      absurd (let lt = stands_within s i x m at in let long = are.0 in omega (arith, lt, long, is))
-  present_at Partial task s i x m f over (Some o) None are at high above is tells = λ (last, there, same).
-      let one : o ≡ last = (let both = sym is ∙ there in cc) in
-      let level = ap (λ q. q.over) one in
-      tells (omega (arith, above, same, level))
-  present_at Partial task s i x m f over (Some o) (Some b) are at high above is (bound, same) =
-      let own = are.1 i x m at in
-      let one : o ≡ own.0 = (let both = sym is ∙ own.1 in cc) in
-      ((o, is, omega (arith, above, same, high)), bound ∙ ap (λ q. q.bound) one ∙ own.2)
 
 -- what reaches the limit is no less than what is no more than that
 reach_up : (limit : Option ℕ) (n floor : ℕ) → ReachesLimit limit n → IsUpTo limit floor → floor ≤ n
@@ -62,12 +25,10 @@ reach_up None n floor reach up = absurd reach
 reach_up (Some limit) n floor reach up = omega (arith, reach, up)
 
 -- a key is open at one f
-pub at_same : {K : Type 0} (expansion : Expansion) (task : Task K) (s : Store K) (i : ℕ) (x : K) (m : Mark) (f h : ℕ)
-    → IsAt expansion task s i x m f → IsAt expansion task s i x m h → f ≡ h
-at_same Full task s i x m f h here there = here ∙ sym there
-at_same Partial task s i x m f h (last, is, at) (other, was, where_it_is) =
+pub at_same : {K : Type 0} (s : Store K) (i cost f h : ℕ) → IsWhereOpen s i cost f → IsWhereOpen s i cost h → f ≡ h
+at_same s i cost f h (last, is, at) (other, was, where_it_is) =
     let one : last ≡ other = (let both = sym is ∙ was in cc) in
-    at ∙ ap (λ o. opens_at (weighed task.strategy m) o) one ∙ sym where_it_is
+    at ∙ ap (λ o. opens_at cost o) one ∙ sym where_it_is
 
 -- what is no more than a lesser number
 pub under_less : {K : Type 0} (task : Task K) (x : K) (m : Mark) (f n floor : ℕ) → floor ≤ n → IsUnder task x m f n → IsUnder task x m f floor
@@ -86,22 +47,6 @@ told_so task x m f bound times told same counts own most under = record {
   under = subst (λ b. (told ≤ m.cost + b) ⊎ (task.strategy.weight.times * told < f + task.strategy.weight.times)) same
       (subst (λ t. (told ≤ m.cost + bound) ⊎ (t * told < f + t)) counts under);
 }
-
--- where a key is open, by what is noted of it
-pub noted_at : {K : Type 0} (expansion : Expansion) (task : Task K) (s : Store K) (i : ℕ) (x : K) (m : Mark) (noted : Option Opening) (bound over : ℕ)
-    → AreNoted expansion task.graph s → IsStored s i x m
-    → MatchOption noted (length s.openings ≤ i) (λ o. slice_get s.openings i ≡ Some o)
-    → MatchOption noted ((bound ≡ task.graph.bound x) × (over ≡ task.strategy.weight.times * task.graph.bound x))
-    (λ o. (bound ≡ o.bound) × (over ≡ o.over))
-    → IsAt expansion task s i x m (weighed task.strategy m + over) × (bound ≡ task.graph.bound x)
-noted_at Full task s i x m (Some o) bound over are at is tells = absurd (none-some o (ap (λ os. slice_get os i) (sym are) ∙ is))
-noted_at Full task s i x m None bound over are at is (same, level) = (ap (λ n. weighed task.strategy m + n) level, same)
-noted_at Partial task s i x m None bound over are at is tells =
-    absurd (let lt = stands_within s i x m at in let long = are.0 in omega (arith, lt, long, is))
-noted_at Partial task s i x m (Some o) bound over are at is (same, level) =
-    let own = are.1 i x m at in
-    let one : o ≡ own.0 = (let both = sym is ∙ own.1 in cc) in
-    ((o, is, ap (λ n. weighed task.strategy m + n) level), same ∙ ap (λ q. q.bound) one ∙ own.2)
 
 module _ {K : Type 0} (task : Task K) (s : Store K) (most : ℕ) where
   -- a floor of the open keys, but of those of the pairs that are left
@@ -161,15 +106,15 @@ module _ {K : Type 0} (task : Task K) (s : Store K) (most : ℕ) where
           subst (λ v. P i v m) (sym both.0) (subst (λ n. P i y n) (sym both.1) (subst (λ k. P k y mark) (sym same) p))
 
       -- a pair whose f isn't its key's present one is passed over
-      pub least_stale : (IsAt task.strategy.expansion task s i x m f → ⊥) → IsLeastBut floor rest
+      pub least_stale : (IsAt task s i m f → ⊥) → IsLeastBut floor rest
       least_stale stale = record {
         inside = rest_inside;
         within = h.within;
         least = λ number y mark k is. ⊎_elim
             (λ under. inl under)
             (λ later. ⊎_elim
-            (λ here. absurd (stale (same_key number y mark (λ n z l. IsAt task.strategy.expansion task s n z l f) is.stands here.1
-            (subst (IsAt task.strategy.expansion task s number y mark) (sym here.0) is.at))))
+            (λ here. absurd (stale (same_key number y mark (λ n z l. IsAt task s n l f) is.stands here.1
+            (subst (IsAt task s number mark) (sym here.0) is.at))))
             (λ behind. inr behind)
             later)
             (next_cases number y mark k is);
@@ -177,7 +122,7 @@ module _ {K : Type 0} (task : Task K) (s : Store K) (most : ℕ) where
       }
 
       -- an open key is counted
-      pub least_counts : (told new : ℕ) → IsAt task.strategy.expansion task s i x m f → IsTold task x m f told → new ≡ min floor told
+      pub least_counts : (told new : ℕ) → IsAt task s i m f → IsTold task x m f told → new ≡ min floor told
           → IsLeastBut new rest
       least_counts told new present tells is_min = ⊎_elim (λ lt. by_floor lt) (λ le. by_key le) (cases_lt floor told)
         where
@@ -263,20 +208,16 @@ module _ {K : Type 0} (task : Task K) (s : Store K) (heavy : task.strategy.weigh
   -- a key that is open at its own f, or later, is covered below what is open
   open_covered : (most floor : ℕ) (i : ℕ) (y : K) (m : Mark) → IsLeastOpen task s most floor → IsUpTo task.limit floor → IsStored s i y m
       → m.cost + task.graph.bound y < floor → (expansion : Expansion) → expansion ≡ task.strategy.expansion
-      → IsOpenAt expansion s i (weighed task.strategy m) (f_of task y m) ⊎ IsOpenLater expansion task s i y m
+      → IsOpenAt s i (weighed task.strategy m) (f_of task y m) ⊎ IsOpenLater expansion task s i y m
       → IsCoveredBelow task.graph s y m.cost floor
-  open_covered most floor i y m least up there lt Full is (inl waits) =
+  open_covered most floor i y m least up there lt expansion is (inl (waits, at)) =
       under_covered y m (f_of task y m) floor up
-      (least.least i y m (f_of task y m) (record { stands = there; at = subst (λ e. IsAt e task s i y m (f_of task y m)) is refl; waits = waits }))
-      lt (λ less. absurd (omega (arith, less)))
-  open_covered most floor i y m least up there lt Partial is (inl (waits, at)) =
-      under_covered y m (f_of task y m) floor up
-      (least.least i y m (f_of task y m) (record { stands = there; at = subst (λ e. IsAt e task s i y m (f_of task y m)) is at; waits = waits }))
+      (least.least i y m (f_of task y m) (record { stands = there; at = at; waits = waits }))
       lt (λ less. absurd (omega (arith, less)))
   open_covered most floor i y m least up there lt Full is (inr later) = absurd later
   open_covered most floor i y m least up there lt Partial is (inr (h, (waits, at), below)) =
       under_covered y m h floor up
-      (least.least i y m h (record { stands = there; at = subst (λ e. IsAt e task s i y m h) is at; waits = waits }))
+      (least.least i y m h (record { stands = there; at = at; waits = waits }))
       lt (λ less. subst (λ e. IsDone e task s y m.cost h) is below)
 
 module _ {K : Type 0} where
@@ -330,11 +271,3 @@ module _ {K : Type 0} where
   waiting_within task s f i sound there =
       let h = sound.pairs f i there in
       stands_within s i h.0 h.1 h.2
-
-  -- its f is no less than the weighed cost plus bound of its key
-  pub waiting_high : (task : Task K) (s : Store K) (f i : ℕ) (x : K) (m : Mark) → IsSound task s → Contains s.waiting (f, i)
-      → IsStored s i x m → f_of task x m ≤ f
-  waiting_high task s f i x m sound there at =
-      let h = sound.pairs f i there in
-      let both = same_entry s i h.0 x h.1 m h.2 at in
-      subst (λ v. f_of task v m ≤ f) both.0 (subst (λ n. f_of task h.0 n ≤ f) both.1 h.3)

@@ -1,6 +1,6 @@
 -- Lemmas on what a search keeps: what a pair that is taken tells, and what stays when a key is put in.
-use Rattle.std.proofs.Common.{◌≡◌, ℕ, ◌+◌, ◌*◌, ◌<◌, ◌≤◌, ◌⊎◌, max, suc, zero, Option, Some, None, List, [], ◌∷◌, length, refl, sym, ◌∙◌, ap, subst, inl, inr, ⊎_elim, arith}
-use Rattle.std.specs.Prelude.{slice_get, Contains}
+use Rattle.std.proofs.Common.{◌≡◌, ℕ, ◌+◌, ◌*◌, ◌<◌, ◌≤◌, ◌⊎◌, max, suc, zero, Option, Some, None, List, [], ◌∷◌, ◌++◌, length, refl, sym, ◌∙◌, ap, subst, inl, inr, ⊎_elim, arith}
+use Rattle.std.specs.Prelude.{slice_get, slice_set, Contains}
 use Rattle.std.proofs.lemmas.Bool.{cases_eq}
 use Rattle.std.proofs.lemmas.Nat.{mul-le}
 use Rattle.std.proofs.Math.Nat.{mul-le-mul_left}
@@ -18,7 +18,7 @@ use Rattle.fc_best_first.specs.declared.strategies.Expansion.TheVariants.{Full, 
 use Rattle.fc_best_first.specs.declared.strategies.Strategy.{Strategy}
 use Rattle.fc_best_first.specs.Graph.{Graph, Task, Reached}
 use Rattle.fc_best_first.specs.Limits.{Ratio, ReachesLimit, weigh}
-use Rattle.fc_best_first.specs.Store.{Store, Candidate, IsStored, IsNew, Lowers, NotesAnew, NotesLast, Stores, opens_at, weighed}
+use Rattle.fc_best_first.specs.Store.{Store, Candidate, IsStored, IsNew, Lowers, Stores, opens_at, weighed}
 use Rattle.fc_best_first.specs.Turn.{TakesFloor, opening_of}
 use Rattle.fc_best_first.specs.Kept.{AreNoted, HasAt, IsDone, IsExpanded, IsExpandedBelow, IsMet, IsOpenAt, IsOpenLater, IsOpenOrExpanded, IsNeeded, Comes, IsSound, f_of}
 use Rattle.fc_best_first.proofs.StoreLemmas.{set_here, set_elsewhere, push_here, push_elsewhere, slot_here, slot_elsewhere, length-slot}
@@ -104,38 +104,33 @@ module _ {K : Type 0} (task : Task K) where
       let room = sound.room in
       omega arith
 
--- what an opening that is noted leaves: by full expansion none is; by partial expansion each stored key has one, this key
--- that one, and all others theirs
-abbrev pub Notes : {K : Type 0} → Expansion → Store K → Store K → ℕ → Opening → Type 0
-Notes Full old new i opening = new.openings ≡ old.openings
-Notes Partial old new i opening = (length old.openings ≡ length old.stored → length new.openings ≡ length new.stored)
+-- what an opening that is noted leaves: each stored key has one, this key that one, and all others theirs
+abbrev pub Notes : {K : Type 0} → Store K → Store K → ℕ → Opening → Type 0
+Notes old new i opening = (length old.openings ≡ length old.stored → length new.openings ≡ length new.stored)
     × (length old.openings ≡ length old.stored → slice_get new.openings i ≡ Some opening)
     × (length old.openings ≡ length old.stored → (j : ℕ) → (j ≡ i → ⊥) → slice_get new.openings j ≡ slice_get old.openings j)
 
 module _ {K : Type 0} where
   -- a key is stored under the number with this mark and open there, as it was not or at more before; all others stay
-  pub record Puts (expansion : Expansion) (weight : Ratio) (old new : Store K) (y : K) (e : Mark) (opening : Opening) (i : ℕ) : Type 0 where
+  pub record Puts (weight : Ratio) (old new : Store K) (y : K) (e : Mark) (opening : Opening) (i : ℕ) : Type 0 where
     pub here : IsStored new i y e
     pub back : (j : ℕ) (x : K) (m : Mark) → (j ≡ i → ⊥) → IsStored new j x m → IsStored old j x m
     pub on : (j : ℕ) (x : K) (m : Mark) → (j ≡ i → ⊥) → IsStored old j x m → IsStored new j x m
     pub opened : Adds old.waiting new.waiting (opens_at (weight.parts * e.cost) opening, i)
     pub was : (IsNew old y × (i ≡ length old.stored)) ⊎ ((m : Mark) × IsStored old i y m × (e.cost < m.cost))
-    pub notes : Notes expansion old new i opening
+    pub notes : Notes old new i opening
 
-  pub anew_notes : (expansion : Expansion) (old new : Store K) (i : ℕ) (opening : Opening) → i < length old.stored
-      → length new.stored ≡ length old.stored → NotesAnew expansion old.openings new.openings i opening
-      → Notes expansion old new i opening
-  anew_notes Full old new i opening lt size same = same
-  anew_notes Partial old new i opening lt size is = (
+  pub anew_notes : (old new : Store K) (i : ℕ) (opening : Opening) → i < length old.stored
+      → length new.stored ≡ length old.stored → new.openings ≡ slice_set old.openings i opening → Notes old new i opening
+  anew_notes old new i opening lt size is = (
     λ long. ap length is ∙ length-slot old.openings i opening ∙ long ∙ sym size,
     λ long. ap (λ os. slice_get os i) is ∙ slot_here old.openings i opening (omega (arith, lt, long)),
     λ long j ne. ap (λ os. slice_get os j) is ∙ slot_elsewhere old.openings i j opening ne,
   )
 
-  last_notes : (expansion : Expansion) (old new : Store K) (opening : Opening) → length new.stored ≡ suc (length old.stored)
-      → NotesLast expansion old.openings new.openings opening → Notes expansion old new (length old.stored) opening
-  last_notes Full old new opening size same = same
-  last_notes Partial old new opening size is = (
+  last_notes : (old new : Store K) (opening : Opening) → length new.stored ≡ suc (length old.stored)
+      → new.openings ≡ old.openings ++ opening ∷ [] → Notes old new (length old.stored) opening
+  last_notes old new opening size is = (
     λ long. let more = ap length is ∙ length_push old.openings opening in omega (arith, more, long, size),
     λ long. subst (λ n. slice_get new.openings n ≡ Some opening) long
         (ap (λ os. slice_get os (length old.openings)) is ∙ push_here old.openings opening),
@@ -144,32 +139,32 @@ module _ {K : Type 0} where
 
   pub puts_lowered : (strategy : Strategy) (old new : Store K) (y : K) (e was : Mark) (opening : Opening) (i : ℕ)
       → IsStored old i y was → e.cost < was.cost → Lowers strategy old new i e opening
-      → Puts strategy.expansion strategy.weight old new y e opening i
+      → Puts strategy.weight old new y e opening i
   puts_lowered strategy old new y e was opening i at lt (stored, opened, noted) = record {
     here = subst (λ es. slice_get es i ≡ Some (y, e)) (sym stored) (set_here old.stored i y was e at);
     back = λ j x n ne there. sym (set_elsewhere old.stored i j e ne) ∙ ap (λ es. slice_get es j) (sym stored) ∙ there;
     on = λ j x n ne there. ap (λ es. slice_get es j) stored ∙ set_elsewhere old.stored i j e ne ∙ there;
     opened = opened;
     was = inr (was, at, lt);
-    notes = anew_notes strategy.expansion old new i opening (stands_within old i y was at)
+    notes = anew_notes old new i opening (stands_within old i y was at)
         (ap length stored ∙ length-set_value_at old.stored i e) noted;
   }
 
   pub puts_added : (strategy : Strategy) (old new : Store K) (offer : Candidate K) → IsNew old offer.key
       → Stores strategy old new offer Added
-      → Puts strategy.expansion strategy.weight old new offer.key offer.mark offer.opening (length old.stored)
+      → Puts strategy.weight old new offer.key offer.mark offer.opening (length old.stored)
   puts_added strategy old new offer fresh (lt, stored, opened, noted) = record {
     here = ap (λ es. slice_get es (length old.stored)) stored ∙ push_here old.stored (offer.key, offer.mark);
     back = λ j x n ne there. sym (push_elsewhere old.stored (offer.key, offer.mark) j ne) ∙ ap (λ es. slice_get es j) (sym stored) ∙ there;
     on = λ j x n ne there. ap (λ es. slice_get es j) stored ∙ push_elsewhere old.stored (offer.key, offer.mark) j ne ∙ there;
     opened = opened;
     was = inl (fresh, refl);
-    notes = last_notes strategy.expansion old new offer.opening
+    notes = last_notes old new offer.opening
         (let more = ap length stored ∙ length_push old.stored (offer.key, offer.mark) in omega (arith, more)) noted;
   }
 
-  module _ (expansion : Expansion) (weight : Ratio) (old new : Store K) (y : K) (e : Mark) (opening : Opening) (i : ℕ)
-      (puts : Puts expansion weight old new y e opening i) where
+  module _ (weight : Ratio) (old new : Store K) (y : K) (e : Mark) (opening : Opening) (i : ℕ)
+      (puts : Puts weight old new y e opening i) where
     -- a stored key still stands under its number, at no more
     pub still : (j : ℕ) (x : K) (m : Mark) → IsStored old j x m → (n : Mark) × IsStored new j x n × (n.cost ≤ m.cost)
     still j x m at =
@@ -240,30 +235,27 @@ module _ {K : Type 0} where
     ]
 
   -- what is open stays so, and so does what is noted
-  pub still_open : (expansion : Expansion) (g : Graph K) (old new : Store K) (opening : Opening) (i j cost : ℕ) (p : ℕ × ℕ) (f : ℕ)
-      → Adds old.waiting new.waiting p → Notes expansion old new i opening → AreNoted expansion g old → (j ≡ i → ⊥)
-      → IsOpenAt expansion old j cost f → IsOpenAt expansion new j cost f
-  still_open Full g old new opening i j cost p f opened notes noted ne waits = added_stays old.waiting new.waiting p (f, j) opened waits
-  still_open Partial g old new opening i j cost p f opened notes noted ne (waits, (last, there, at)) = (
+  pub still_open : (g : Graph K) (old new : Store K) (opening : Opening) (i j cost : ℕ) (p : ℕ × ℕ) (f : ℕ)
+      → Adds old.waiting new.waiting p → Notes old new i opening → AreNoted g old → (j ≡ i → ⊥)
+      → IsOpenAt old j cost f → IsOpenAt new j cost f
+  still_open g old new opening i j cost p f opened notes noted ne (waits, (last, there, at)) = (
     added_stays old.waiting new.waiting p (f, j) opened waits,
     (last, notes.2 noted.0 j ne ∙ there, at),
   )
 
-  opened_here : (expansion : Expansion) (g : Graph K) (old new : Store K) (opening : Opening) (i cost : ℕ)
-      → Adds old.waiting new.waiting (opens_at cost opening, i) → Notes expansion old new i opening → AreNoted expansion g old
-      → IsOpenAt expansion new i cost (opens_at cost opening)
-  opened_here Full g old new opening i cost opened notes noted = added_there old.waiting new.waiting (opens_at cost opening, i) opened
-  opened_here Partial g old new opening i cost opened notes noted =
+  opened_here : (g : Graph K) (old new : Store K) (opening : Opening) (i cost : ℕ)
+      → Adds old.waiting new.waiting (opens_at cost opening, i) → Notes old new i opening → AreNoted g old
+      → IsOpenAt new i cost (opens_at cost opening)
+  opened_here g old new opening i cost opened notes noted =
       (added_there old.waiting new.waiting (opens_at cost opening, i) opened, (opening, notes.1 noted.0, refl))
 
-  pub still_noted : (expansion : Expansion) (weight : Ratio) (g : Graph K) (old new : Store K) (y : K) (e : Mark) (opening : Opening) (i : ℕ)
-      → Puts expansion weight old new y e opening i → opening.bound ≡ g.bound y → AreNoted expansion g old → AreNoted expansion g new
-  still_noted Full weight g old new y e opening i puts told noted = puts.notes ∙ noted
-  still_noted Partial weight g old new y e opening i puts told noted = (
+  pub still_noted : (weight : Ratio) (g : Graph K) (old new : Store K) (y : K) (e : Mark) (opening : Opening) (i : ℕ)
+      → Puts weight old new y e opening i → opening.bound ≡ g.bound y → AreNoted g old → AreNoted g new
+  still_noted weight g old new y e opening i puts told noted = (
     puts.notes.0 noted.0,
     λ j x m at. ⊎_elim
         (λ same.
-        let both = at_here Partial weight old new y e opening i puts j x m same at in (
+        let both = at_here weight old new y e opening i puts j x m same at in (
           opening,
           subst (λ k. slice_get new.openings k ≡ Some opening) (sym same) (puts.notes.1 noted.0),
           told ∙ ap (λ v. g.bound v) (sym both.0),
@@ -275,29 +267,29 @@ module _ {K : Type 0} where
   )
 
   still_later : (expansion : Expansion) (task : Task K) (old new : Store K) (y : K) (e : Mark) (opening : Opening) (i : ℕ)
-      → Puts expansion task.strategy.weight old new y e opening i → AreNoted expansion task.graph old → (j : ℕ) (x : K) (m : Mark) → (j ≡ i → ⊥)
+      → Puts task.strategy.weight old new y e opening i → AreNoted task.graph old → (j : ℕ) (x : K) (m : Mark) → (j ≡ i → ⊥)
       → IsOpenLater expansion task old j x m → IsOpenLater expansion task new j x m
   still_later Full task old new y e opening i puts noted j x m ne later = later
   still_later Partial task old new y e opening i puts noted j x m ne (f, is_open, below) = (
     f,
-    still_open Partial task.graph old new opening i j (weighed task.strategy m) (opens_at (weighed task.strategy e) opening, i) f puts.opened puts.notes noted ne is_open,
-    still_below Partial task.strategy.weight old new y e opening i puts task x m.cost f below,
+    still_open task.graph old new opening i j (weighed task.strategy m) (opens_at (weighed task.strategy e) opening, i) f puts.opened puts.notes noted ne is_open,
+    still_below task.strategy.weight old new y e opening i puts task x m.cost f below,
   )
 
   module _ (task : Task K) (old new : Store K) (y : K) (e : Mark) (i : ℕ)
-      (puts : Puts task.strategy.expansion task.strategy.weight old new y e (opening_of task y) i) (sound : IsSound task old)
+      (puts : Puts task.strategy.weight old new y e (opening_of task y) i) (sound : IsSound task old)
       (room : length new.stored ≤ task.strategy.budget) (reached : Reached task.graph y e.cost) (low : e.cost ≤ 53 * i + 53)
       (comes : Comes task.graph old i y e) (needed : IsNeeded task.strategy.expansion task.graph task.strategy.weight y)
       (heavy : task.strategy.weight.parts ≤ task.strategy.weight.times)
       (under : (n : ℕ) → task.graph.wins n → ReachesLimit task.limit n → e.cost + task.graph.bound y ≤ n) where
     again : (j : ℕ) (x : K) (m : Mark) → IsStored old j x m → (n : Mark) × IsStored new j x n × (n.cost ≤ m.cost)
-    again = still task.strategy.expansion task.strategy.weight old new y e (opening_of task y) i puts
+    again = still task.strategy.weight old new y e (opening_of task y) i puts
 
     here_again : (j : ℕ) (x : K) (m : Mark) → j ≡ i → IsStored new j x m → (x ≡ y) × (m ≡ e)
-    here_again = at_here task.strategy.expansion task.strategy.weight old new y e (opening_of task y) i puts
+    here_again = at_here task.strategy.weight old new y e (opening_of task y) i puts
 
     own_again : (j : ℕ) (m : Mark) → IsStored old j y m → j ≡ i
-    own_again j m at = own_number task.strategy.expansion task.strategy.weight old new y e (opening_of task y) i puts j m at sound.once
+    own_again j m at = own_number task.strategy.weight old new y e (opening_of task y) i puts j m at sound.once
 
     once : (j k : ℕ) (x : K) (m n : Mark) → IsStored new j x m → IsStored new k x n → j ≡ k
     once j k x m n a b =
@@ -331,10 +323,10 @@ module _ {K : Type 0} where
       reached = each (λ j x m. Reached task.graph x m.cost) reached sound.reached;
       low = each (λ j x m. m.cost ≤ 53 * j + 53) low sound.low;
       comes = each (Comes task.graph new)
-          (still_comes task.strategy.expansion task.strategy.weight old new y e (opening_of task y) i puts task.graph i y e comes)
-          (λ j x m at. still_comes task.strategy.expansion task.strategy.weight old new y e (opening_of task y) i puts task.graph j x m (sound.comes j x m at));
+          (still_comes task.strategy.weight old new y e (opening_of task y) i puts task.graph i y e comes)
+          (λ j x m at. still_comes task.strategy.weight old new y e (opening_of task y) i puts task.graph j x m (sound.comes j x m at));
       needed = each (λ j x m. IsNeeded task.strategy.expansion task.graph task.strategy.weight x) needed sound.needed;
-      starts = λ x d start. still_has task.strategy.expansion task.strategy.weight old new y e (opening_of task y) i puts x d (sound.starts x d start);
+      starts = λ x d start. still_has task.strategy.weight old new y e (opening_of task y) i puts x d (sound.starts x d start);
       pairs = λ h j there. ⊎_elim
           (λ same.
           let here : IsStored new j y e = subst (λ k. IsStored new k y e) (ap (λ p. p.1) same) puts.here in
@@ -347,7 +339,7 @@ module _ {K : Type 0} where
           let le : f_of task was.0 now.0 ≤ h = (let a = was.3 in omega (arith, mul-le-mul_left task.strategy.weight.parts now.2, a)) in
           (was.0, now.0, now.1, le))
           (added_cases old.waiting new.waiting (f_of task y e, i) (h, j) puts.opened there);
-      noted = still_noted task.strategy.expansion task.strategy.weight task.graph old new y e (opening_of task y) i puts refl sound.noted;
+      noted = still_noted task.strategy.weight task.graph old new y e (opening_of task y) i puts refl sound.noted;
       under = each (λ j x m. (n : ℕ) → task.graph.wins n → ReachesLimit task.limit n → m.cost + task.graph.bound x ≤ n)
           under sound.under;
       near = λ h j there. ⊎_elim
@@ -363,14 +355,14 @@ module _ {K : Type 0} where
     still_settled busy settled j x m ne at =
         ⊎_elim
         (λ same. let both = here_again j x m same at in
-        inl (subst (λ k. IsOpenAt task.strategy.expansion new k (weighed task.strategy m) (f_of task x m)) (sym same)
-        (subst (λ v. IsOpenAt task.strategy.expansion new i (weighed task.strategy m) (f_of task v m)) (sym both.0)
-        (subst (λ n. IsOpenAt task.strategy.expansion new i (weighed task.strategy n) (f_of task y n)) (sym both.1)
-        (opened_here task.strategy.expansion task.graph old new (opening_of task y) i (weighed task.strategy e) puts.opened puts.notes sound.noted)))))
+        inl (subst (λ k. IsOpenAt new k (weighed task.strategy m) (f_of task x m)) (sym same)
+        (subst (λ v. IsOpenAt new i (weighed task.strategy m) (f_of task v m)) (sym both.0)
+        (subst (λ n. IsOpenAt new i (weighed task.strategy n) (f_of task y n)) (sym both.1)
+        (opened_here task.graph old new (opening_of task y) i (weighed task.strategy e) puts.opened puts.notes sound.noted)))))
         (λ other. elim (settled j x m ne (puts.back j x m other at)) [
-          | inl is_open ↦ inl (still_open task.strategy.expansion task.graph old new (opening_of task y) i j (weighed task.strategy m) (f_of task y e, i) (f_of task x m)
+          | inl is_open ↦ inl (still_open task.graph old new (opening_of task y) i j (weighed task.strategy m) (f_of task y e, i) (f_of task x m)
               puts.opened puts.notes sound.noted other is_open)
-          | inr (inl done) ↦ inr (inl (still_expanded task.strategy.expansion task.strategy.weight old new y e (opening_of task y) i puts task x m.cost done))
+          | inr (inl done) ↦ inr (inl (still_expanded task.strategy.weight old new y e (opening_of task y) i puts task x m.cost done))
           | inr (inr later) ↦ inr (inr (still_later task.strategy.expansion task old new y e (opening_of task y) i
               puts sound.noted j x m other later))
         ])

@@ -2,13 +2,10 @@
 use Rattle.std.proofs.Common.{◌≡◌, ℕ, ◌+◌, ◌*◌, ◌<◌, ◌≤◌, Option, Some, None, length, sym, ◌∙◌, ap, arith}
 use Rattle.std.specs.Prelude.{slice_get}
 use Rattle.std.proofs.Math.Nat.{mul-le-mul_left}
-use Rattle.std.proofs.lemmas.Option.{none-some}
 use Rattle.fc_best_first.specs.declared.books.Mark.{Mark}
 use Rattle.fc_best_first.specs.declared.books.Opening.{Opening}
 use Rattle.fc_best_first.specs.declared.books.Offered.{Offered}
 use Rattle.fc_best_first.specs.declared.books.Offered.TheVariants as offered
-use Rattle.fc_best_first.specs.declared.strategies.Expansion.{Expansion}
-use Rattle.fc_best_first.specs.declared.strategies.Expansion.TheVariants.{Full, Partial}
 use Rattle.fc_best_first.specs.declared.strategies.Strategy.{Strategy}
 use Rattle.fc_best_first.specs.Graph.{Graph, Task}
 use Rattle.fc_best_first.specs.Kept.{AreNoted}
@@ -64,18 +61,15 @@ module _ {K : Type 0} where
   stores_near strategy old new offer (offered.PutOff f) cost h = absurd h
   stores_near strategy old new offer offered.Past cost h = tt
 
-  -- of a stored key an opening is noted where expansion is partial
-  pub noted_within : (expansion : Expansion) (g : Graph K) (s : Store K) (i : ℕ) (x : K) (m : Mark) → AreNoted expansion g s
-      → IsStored s i x m → expansion ≡ Partial → i < length s.openings
-  noted_within Full g s i x m noted at same = absurd (cc)
-  noted_within Partial g s i x m noted at same =
+  -- of a stored key an opening is noted
+  pub noted_within : (g : Graph K) (s : Store K) (i : ℕ) (x : K) (m : Mark) → AreNoted g s → IsStored s i x m → i < length s.openings
+  noted_within g s i x m noted at =
       let long = noted.0 in let lt = stands_within s i x m at in omega (arith, long, lt)
 
   -- what is noted of a stored key tells its bound
-  pub noted_bound : (expansion : Expansion) (g : Graph K) (s : Store K) (i : ℕ) (x : K) (m : Mark) (o : Opening) → AreNoted expansion g s
+  pub noted_bound : (g : Graph K) (s : Store K) (i : ℕ) (x : K) (m : Mark) (o : Opening) → AreNoted g s
       → IsStored s i x m → slice_get s.openings i ≡ Some o → o.bound ≡ g.bound x
-  noted_bound Full g s i x m o noted at there = absurd (none-some o (ap (λ os. slice_get os i) (sym noted) ∙ there))
-  noted_bound Partial g s i x m o noted at there =
+  noted_bound g s i x m o noted at there =
       let own = noted.1 i x m at in
       let one : o ≡ own.0 = (let both = sym there ∙ own.1 in cc) in
       ap (λ q. q.bound) one ∙ own.2

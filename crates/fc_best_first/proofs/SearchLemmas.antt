@@ -19,12 +19,12 @@ use Rattle.fc_best_first.specs.declared.turns.Status.TheVariants.{Running, Won, 
 use Rattle.fc_best_first.specs.Graph.{Task, IsLawful}
 use Rattle.fc_best_first.specs.Limits.{weigh}
 use Rattle.fc_best_first.specs.Store.{Store, IsStored, IsTaken, opens_at, weighed}
-use Rattle.fc_best_first.specs.Turn.{Advances, AreChildren, Closes, DropsTaken, ExpandsTaken, Expands, IsPresent, Reopens, work_left}
-use Rattle.fc_best_first.specs.Kept.{AreNoted, Comes, IsExpanded, IsExpandedBelow, IsMet, IsOpenLater, IsOpenOrExpanded, IsNeeded, IsSound, IsKept, f_of}
+use Rattle.fc_best_first.specs.Turn.{Advances, AreChildren, Closes, DropsTaken, ExpandsTaken, Expands, Reopens, work_left}
+use Rattle.fc_best_first.specs.Kept.{AreNoted, Comes, IsExpanded, IsExpandedBelow, IsMet, IsOpenLater, IsOpenOrExpanded, IsNeeded, IsSound, IsKept, IsWhereOpen, f_of}
 use Rattle.fc_best_first.specs.Shown.{IsFloor, IsFound, IsExhausted, IsGivenUp, Holds, Shows}
 use Rattle.fc_best_first.proofs.KeptLemmas.{Notes, added_cases, added_there, anew_notes, open_under, same_entry, stands_within, still_open}
 use Rattle.fc_best_first.proofs.WorkLemmas.{reopened_work, taken_work}
-use Rattle.fc_best_first.proofs.ClosedLemmas.{IsAt, closed_inside, below_least, expanded_covered, kept_back, kept_below, kept_done, kept_expanded, kept_has, kept_met, least_floor, less_done, limit_cases, limit_within, more_met, none_below, open_waits, others_settled, rows, stale_elsewhere, taken_high, taken_sound}
+use Rattle.fc_best_first.proofs.ClosedLemmas.{IsAt, closed_inside, below_least, expanded_covered, kept_back, kept_below, kept_done, kept_expanded, kept_has, kept_met, least_floor, less_done, limit_cases, limit_within, more_met, none_below, others_settled, rows, stale_elsewhere, taken_high, taken_sound}
 use Rattle.fc_best_first.proofs.ExpandLemmas.{Done, IsNearLimit, IsPlaced, PutOffTo, expands_done}
 
 -- a key of a list of keys is a stored one, or the one at the end
@@ -44,31 +44,22 @@ module _ {K : Type 0} (task : Task K) (after new : Store K) (number : ℕ) (x : 
   abbrev next : Opening
   next = reopens.1
 
-  -- no opening is noted by full expansion
-  none_noted : after.openings ≡ [] → ⊥
-  none_noted none = none-some reopens.0 (ap (λ os. slice_get os number) (sym none) ∙ reopens.2)
+  reopened_notes : IsStored after number x mark → Notes after new number next
+  reopened_notes at = anew_notes after new number next (stands_within after number x mark at) (ap length reopens.6) reopens.8
 
-  reopened_notes : (expansion : Expansion) → AreNoted expansion task.graph after → IsStored after number x mark
-      → Notes expansion after new number next
-  reopened_notes expansion.Full noted at = absurd (none_noted noted)
-  reopened_notes expansion.Partial noted at =
-      anew_notes expansion.Partial after new number next (stands_within after number x mark at) (ap length reopens.6) reopens.8
-
-  reopened_later : (expansion : Expansion) → AreNoted expansion task.graph after → IsStored after number x mark
+  reopened_later : (by : Expansion) → by ≡ expansion.Partial → AreNoted task.graph after → IsStored after number x mark
       → IsExpandedBelow task new x mark.cost later
-      → IsOpenLater expansion task new number x mark
-  reopened_later expansion.Full noted at below = absurd (none_noted noted)
-  reopened_later expansion.Partial noted at below = (
+      → IsOpenLater by task new number x mark
+  reopened_later expansion.Full partial noted at below = absurd (cc)
+  reopened_later expansion.Partial partial noted at below = (
     later,
-    (added_there after.waiting new.waiting (later, number) reopens.7, (next, (reopened_notes expansion.Partial noted at).1 noted.0, reopens.5)),
+    (added_there after.waiting new.waiting (later, number) reopens.7, (next, (reopened_notes at).1 noted.0, reopens.5)),
     below,
   )
 
-  reopened_noted : (expansion : Expansion) → AreNoted expansion task.graph after → IsStored after number x mark
-      → AreNoted expansion task.graph new
-  reopened_noted expansion.Full noted at = absurd (none_noted noted)
-  reopened_noted expansion.Partial noted at =
-      let notes = reopened_notes expansion.Partial noted at in (
+  reopened_noted : AreNoted task.graph after → IsStored after number x mark → AreNoted task.graph new
+  reopened_noted noted at =
+      let notes = reopened_notes at in (
         notes.0 noted.0,
         λ j z l there.
             let before = kept_back after new j z l reopens.6 there in
@@ -85,10 +76,9 @@ module _ {K : Type 0} (task : Task K) (after new : Store K) (number : ℕ) (x : 
       )
 
   -- it was open at what was taken, which is less
-  reopened_rises : (expansion : Expansion) (f : ℕ) → AreNoted expansion task.graph after → IsPresent expansion after number (weighed task.strategy mark) (f_of task x mark) f
+  reopened_rises : (f : ℕ) → IsWhereOpen after number (weighed task.strategy mark) f
       → f < later → opens_at (weighed task.strategy mark) reopens.0 < later
-  reopened_rises expansion.Full f noted present lt = absurd (none_noted noted)
-  reopened_rises expansion.Partial f noted (last, there, at) lt =
+  reopened_rises f (last, there, at) lt =
       let one : last ≡ reopens.0 = (let both = sym there ∙ reopens.2 in cc) in
       let level = ap (λ o. o.over) one in
       omega (arith, lt, at, level)
@@ -115,7 +105,7 @@ module _ {K : Type 0} (task : Task K) (after new : Store K) (number : ℕ) (x : 
         let was = sound.pairs h i before in
         (was.0, was.1, subst (λ es. slice_get es i ≡ Some (was.0, was.1)) (sym reopens.6) was.2, was.3))
         (added_cases after.waiting new.waiting (later, number) (h, i) reopens.7 there);
-    noted = reopened_noted task.strategy.expansion sound.noted at;
+    noted = reopened_noted sound.noted at;
     under = λ i y m a. sound.under i y m (kept_back after new i y m reopens.6 a);
     near = λ h i there. ⊎_elim
         (λ same n wins reach. subst (λ k. k ≤ task.strategy.weight.times * n) (ap (λ p. p.0) same)
@@ -127,26 +117,24 @@ module _ {K : Type 0} (task : Task K) (after new : Store K) (number : ℕ) (x : 
   reopened_others : IsSound task after → IsStored after number x mark → (j : ℕ) (y : K) (l : Mark) → (j ≡ number → ⊥)
       → IsOpenOrExpanded task after j y l → IsOpenOrExpanded task new j y l
   reopened_others sound at j y l ne h = elim h [
-    | inl is_open ↦ inl (still_open task.strategy.expansion task.graph after new next number j (weighed task.strategy l) (later, number) (f_of task y l) reopens.7
-        (reopened_notes task.strategy.expansion sound.noted at) sound.noted ne is_open)
+    | inl is_open ↦ inl (still_open task.graph after new next number j (weighed task.strategy l) (later, number) (f_of task y l) reopens.7
+        (reopened_notes at) sound.noted ne is_open)
     | inr (inl done) ↦ inr (inl (kept_expanded task after new y l.cost reopens.6 done))
-    | inr (inr is_open) ↦ inr (inr (by task.strategy.expansion sound.noted (reopened_notes task.strategy.expansion sound.noted at) is_open))
+    | inr (inr is_open) ↦ inr (inr (by task.strategy.expansion is_open))
   ]
     where
-      by : (expansion : Expansion) → AreNoted expansion task.graph after → Notes expansion after new number next
-          → IsOpenLater expansion task after j y l
-          → IsOpenLater expansion task new j y l
-      by expansion.Full noted notes is_open = absurd is_open
-      by expansion.Partial noted notes (f, is_open, below) = (
+      by : (expansion : Expansion) → IsOpenLater expansion task after j y l → IsOpenLater expansion task new j y l
+      by expansion.Full is_open = absurd is_open
+      by expansion.Partial (f, is_open, below) = (
         f,
-        still_open expansion.Partial task.graph after new next number j (weighed task.strategy l) (later, number) f reopens.7 notes noted ne is_open,
+        still_open task.graph after new next number j (weighed task.strategy l) (later, number) f reopens.7 (reopened_notes at) sound.noted ne is_open,
         kept_below task after new y l.cost f reopens.6 below,
       )
 
 module _ {K : Type 0} (task : Task K) where
   module _ (lawful : IsLawful task.graph) (heavy : task.strategy.weight.parts ≤ task.strategy.weight.times) (old new : Store K) (kept : IsKept task old) where
     module _ (number : ℕ) (f : ℕ) (x : K) (mark : Mark) (mid : Store K) (taken : IsTaken old mid f number x mark)
-        (present : IsPresent task.strategy.expansion old number (weighed task.strategy mark) (f_of task x mark) f) (not_won : task.graph.won x → ⊥)
+        (present : IsWhereOpen old number (weighed task.strategy mark) f) (not_won : task.graph.won x → ⊥)
         (children : List (Child K)) (are : AreChildren task.graph x children) (after : Store K) where
       high : f_of task x mark ≤ f
       high = taken_high task old mid f number x mark kept.sound taken
@@ -161,21 +149,16 @@ module _ {K : Type 0} (task : Task K) where
       offered : (placing : Placing K) → Expands task f (record { cost = mark.cost; parent = number }) children mid after placing
           → Offered placing
       offered placing expands =
-          expands_done task number x mark f high floor heavy lawful children mid after placing (λ child there. (are.edges child there).0)
+          expands_done task number x mark f high floor heavy lawful children mid after placing are.edges
           (record {
             sound = taken_sound task old mid f number kept.sound taken.kept taken.noted taken.taken;
             settled = λ j y l ne at. others_settled task old mid f number x mark kept taken j y l (λ h is same e. ne e) at;
             stands = subst (λ es. slice_get es number ≡ Some (x, mark)) (sym taken.kept) taken.stands;
-            present = kept_present task.strategy.expansion present;
+            present = (present.0, ap (λ os. slice_get os number) taken.noted ∙ present.1, present.2);
             done = λ lt. kept_done task.strategy.expansion task old mid x mark.cost f taken.kept
                 (below_least task old f number kept taken.least number x mark taken.stands lt);
           })
           expands
-        where
-          kept_present : (expansion : Expansion) → IsPresent expansion old number (weighed task.strategy mark) (f_of task x mark) f
-              → IsPresent expansion mid number (weighed task.strategy mark) (f_of task x mark) f
-          kept_present expansion.Full is = is
-          kept_present expansion.Partial (last, there, at) = (last, ap (λ os. slice_get os number) taken.noted ∙ there, at)
 
       -- each edge's end is stored, or can wait until what the children were put off to
       ends : (placing : Placing K) → ((child : Child K) → Contains children child → IsPlaced task number x mark f high floor heavy after placing child)
@@ -219,7 +202,7 @@ module _ {K : Type 0} (task : Task K) where
               (all child.0 child.1)
       closed_kept Whole (inr (y, out, gave_up)) closes = absurd (cc)
       closed_kept (Later later) (inl (past, doing, stays, all, less, near)) (reopens, none) =
-          let up : f_of task x mark ≤ later = omega (arith, past, high) in record {
+          let up : f_of task x mark ≤ later = omega (arith, past.0, high) in record {
             sound = reopened_sound task after new number x mark later reopens doing.sound doing.stands up near;
             settled = λ j y l at.
                 let before = kept_back after new j y l reopens.6 at in
@@ -229,7 +212,7 @@ module _ {K : Type 0} (task : Task K) where
                 inr (inr (subst (λ k. IsOpenLater task.strategy.expansion task new k y l) (sym e)
                 (subst (λ v. IsOpenLater task.strategy.expansion task new number v l) (sym both.0)
                 (subst (λ m. IsOpenLater task.strategy.expansion task new number x m) (sym both.1)
-                (reopened_later task after new number x mark later reopens task.strategy.expansion doing.sound.noted doing.stands (
+                (reopened_later task after new number x mark later reopens task.strategy.expansion past.1 doing.sound.noted doing.stands (
                   not_won,
                   λ c z edge. ⊎_elim
                       (λ met. inl (kept_met task.limit task.graph after new z (mark.cost + c) reopens.6 met))
@@ -265,7 +248,7 @@ module _ {K : Type 0} (task : Task K) where
           by Whole (inr (y, out, gave_up)) closes = absurd (cc)
           by (Later later) (inl (past, doing, stays, all, less, near)) (reopens, none) =
               let again = reopened_work task.strategy.budget after new number (weighed task.strategy mark) reopens.0 later reopens.2
-              (reopened_rises task after new number x mark later reopens task.strategy.expansion f doing.sound.noted doing.present past) reopens in
+              (reopened_rises task after new number x mark later reopens f doing.present past.0) reopens in
               omega (arith, again, less)
           by (Later later) (inr (y, out, gave_up)) closes = absurd (cc)
           by (NoRoom y) done (same, out) = absurd (none-some y out)
@@ -302,10 +285,8 @@ module _ {K : Type 0} (task : Task K) where
           (λ h is same e.
           let there = kept_back old new j y l taken.kept at in
           let both = same_entry old number y x l mark (subst (λ k. IsStored old k y l) e there) taken.stands in
-          stale_elsewhere task.strategy.expansion task old number x mark f h stale
-          (subst (λ v. IsAt task.strategy.expansion task old number v mark h) both.0
-          (subst (λ m. IsAt task.strategy.expansion task old number y m h) both.1
-          (subst (λ k. IsAt task.strategy.expansion task old k y l h) e is))) same) at;
+          stale_elsewhere old number (weighed task.strategy mark) f h stale
+          (subst (λ m. IsAt task old number m h) both.1 (subst (λ k. IsAt task old k l h) e is)) same) at;
     }
 
     won_found : (number : ℕ) → Advances task old new (Won number) → IsFound task new number
@@ -328,7 +309,7 @@ module _ {K : Type 0} (task : Task K) where
     none_exhausted (empty, same) = subst (IsExhausted task) (sym same) (
       kept.sound,
       λ i y m at. elim (kept.settled i y m at) [
-        | inl is_open ↦ absurd (none_waits (f_of task y m) i (open_waits task.strategy.expansion old i (weighed task.strategy m) (f_of task y m) is_open))
+        | inl is_open ↦ absurd (none_waits (f_of task y m) i is_open.0)
         | inr (inl done) ↦ done
         | inr (inr later) ↦ absurd (by task.strategy.expansion i y m later)
       ],

@@ -1,15 +1,12 @@
 -- Lemmas on offering the children of a key one after the other.
-use Rattle.std.proofs.Common.{◌≡◌, ℕ, ◌+◌, ◌*◌, ◌<◌, ◌≤◌, ◌⊎◌, suc, Option, Some, None, List, [], ◌∷◌, length, refl, sym, ◌∙◌, ap, subst, inl, inr, ⊎_elim, arith}
-use Rattle.std.specs.Prelude.{◌↔◌, IsTrue, MatchOption, Bool, min, slice_get}
-use Rattle.std.proofs.lemmas.Bool.{cases_lt}
-use Rattle.std.proofs.lemmas.Option.{none-some}
+use Rattle.std.proofs.Common.{◌≡◌, ℕ, ◌+◌, ◌<◌, ◌≤◌, ◌⊎◌, suc, Option, Some, None, List, [], ◌∷◌, length, refl, sym, ◌∙◌, ap, subst, inl, inr, ⊎_elim, arith}
+use Rattle.std.specs.Prelude.{MatchOption, min}
 use Rattle.std.proofs.lemmas.List.{length_push}
 use Rattle.indexmap.specs.Layout.{length-set_value_at}
 use Rattle.fc_best_first.specs.declared.books.Mark.{Mark}
 use Rattle.fc_best_first.specs.declared.books.Offered.{Offered}
 use Rattle.fc_best_first.specs.declared.books.Offered.TheVariants.{Known, Lowered, Added, Full, PutOff, Past}
 use Rattle.fc_best_first.specs.declared.spaces.Child.{Child}
-use Rattle.fc_best_first.specs.declared.books.Opening.{Opening}
 use Rattle.fc_best_first.specs.declared.strategies.Expansion.{Expansion}
 use Rattle.fc_best_first.specs.declared.strategies.Expansion.TheVariants as expansion
 use Rattle.fc_best_first.specs.declared.strategies.Expansion.TheVariants.{Partial}
@@ -18,11 +15,11 @@ use Rattle.fc_best_first.specs.declared.turns.Status.TheVariants.{Running, Won, 
 use Rattle.fc_best_first.specs.declared.turns.Placing.{Placing}
 use Rattle.fc_best_first.specs.declared.turns.Placing.TheVariants.{Whole, Later, NoRoom}
 use Rattle.fc_best_first.specs.Graph.{Graph, Task, Reached}
-use Rattle.fc_best_first.specs.Store.{Store, Candidate, IsStored, Offers, PutsOff, weighed}
-use Rattle.fc_best_first.specs.Turn.{Advances, AreChildren, Closes, Expands, ExpandsTaken, IsPresent, IsStale, candidate_of, opening_of, put_off}
-use Rattle.fc_best_first.specs.Kept.{AreNoted, f_of}
+use Rattle.fc_best_first.specs.Store.{Store, Candidate, Offers, PutsOff}
+use Rattle.fc_best_first.specs.Turn.{Advances, AreChildren, Closes, Expands, ExpandsTaken, candidate_of, opening_of, put_off}
+use Rattle.fc_best_first.specs.Kept.{AreNoted}
 use Rattle.fc_best_first.specs.inner.Turn.{AreReached, Becomes, IsLaterNear, IsReady}
-use Rattle.fc_best_first.proofs.KeptLemmas.{puts_added, puts_lowered, stands_within, still_noted}
+use Rattle.fc_best_first.proofs.KeptLemmas.{puts_added, puts_lowered, still_noted}
 
 -- so many children were put off before the others
 abbrev pub put_off_first : {K : Type 0} → Option ℕ → Placing K → Placing K
@@ -82,22 +79,22 @@ module _ {K : Type 0} where
 
   -- and each keeps what is noted
   pub offers_noted : (task : Task K) (taken : ℕ) (old new : Store K) (offer : Candidate K) (o : Offered K)
-      → offer.opening.bound ≡ task.graph.bound offer.key → AreNoted task.strategy.expansion task.graph old → Offers task taken old new offer o
-      → AreNoted task.strategy.expansion task.graph new
+      → offer.opening.bound ≡ task.graph.bound offer.key → AreNoted task.graph old → Offers task taken old new offer o
+      → AreNoted task.graph new
   offers_noted task taken old new offer Known told noted (i, was, at, le, same) =
-      subst (AreNoted task.strategy.expansion task.graph) (sym same) noted
+      subst (AreNoted task.graph) (sym same) noted
   offers_noted task taken old new offer Lowered told noted (i, was, at, lt, lowers) =
-      still_noted task.strategy.expansion task.strategy.weight task.graph old new offer.key offer.mark offer.opening i
+      still_noted task.strategy.weight task.graph old new offer.key offer.mark offer.opening i
       (puts_lowered task.strategy old new offer.key offer.mark was offer.opening i at lt lowers) told noted
   offers_noted task taken old new offer Added told noted (fresh, admits, short, stores) =
-      still_noted task.strategy.expansion task.strategy.weight task.graph old new offer.key offer.mark offer.opening (length old.stored)
+      still_noted task.strategy.weight task.graph old new offer.key offer.mark offer.opening (length old.stored)
       (puts_added task.strategy old new offer fresh stores) told noted
   offers_noted task taken old new offer (Full y) told noted (fresh, admits, short, (is, full, same)) =
-      subst (AreNoted task.strategy.expansion task.graph) (sym same) noted
+      subst (AreNoted task.graph) (sym same) noted
   offers_noted task taken old new offer (PutOff later) told noted (fresh, off, within, same) =
-      subst (AreNoted task.strategy.expansion task.graph) (sym same) noted
+      subst (AreNoted task.graph) (sym same) noted
   offers_noted task taken old new offer Past told noted (fresh, past, same) =
-      subst (AreNoted task.strategy.expansion task.graph) (sym same) noted
+      subst (AreNoted task.graph) (sym same) noted
 
   -- a child as it is offered with a mark, and the mark that it has
   abbrev offered_with : Task K → Child K → Mark → Candidate K
@@ -198,33 +195,13 @@ module _ {K : Type 0} where
 
   -- a key of which children were put off can be opened again
   pub placing_ready : (expansion : Expansion) (g : Graph K) (s : Store K) (number taken cost : ℕ) (placing : Placing K)
-      → AreNoted expansion g s → number < length s.stored → cost ≤ taken → IsLaterNear expansion taken cost placing
+      → AreNoted g s → number < length s.stored → cost ≤ taken → IsLaterNear expansion taken cost placing
       → IsReady s number cost placing
   placing_ready expansion g s number taken cost Whole noted lt le near = tt
-  placing_ready expansion.Full g s number taken cost (Later f) noted lt le near = absurd (let e = near.0 in cc)
-  placing_ready expansion.Partial g s number taken cost (Later f) noted lt le near =
+  placing_ready expansion g s number taken cost (Later f) noted lt le near =
       let long = noted.0 in
       (omega (arith, long, lt), (let past = near.1 in omega (arith, past, le)), near.2)
   placing_ready expansion g s number taken cost (NoRoom y) noted lt le near = tt
-
-  -- whether the pair that was taken is the present one of its key, by what is noted of the key
-  pub taken_present : (expansion : Expansion) (task : Task K) (s : Store K) (i : ℕ) (x : K) (m : Mark) (f over : ℕ)
-      (noted : Option Opening) (told : Bool) → AreNoted expansion task.graph s → IsStored s i x m → weighed task.strategy m ≤ f → weighed task.strategy m + over ≡ f
-      → MatchOption noted (length s.openings ≤ i) (λ o. slice_get s.openings i ≡ Some o)
-      → MatchOption noted (IsTrue told ↔ (over ≤ task.strategy.weight.times * task.graph.bound x)) (λ o. IsTrue told ↔ (over ≡ o.over))
-      → (IsTrue told → IsPresent expansion s i (weighed task.strategy m) (f_of task x m) f) × ((IsTrue told → ⊥) → IsStale expansion s i (weighed task.strategy m) (f_of task x m) f)
-  taken_present expansion.Full task s i x m f over (Some o) told are at high above is tells =
-      absurd (none-some o (ap (λ os. slice_get os i) (sym are) ∙ is))
-  taken_present expansion.Full task s i x m f over None told are at high above is tells = (
-    λ yes. let le = tells.0 yes in omega (arith, above, le),
-    λ no. ⊎_elim (λ lt. omega (arith, above, lt)) (λ le. absurd (no (tells.1 le))) (cases_lt (task.strategy.weight.times * task.graph.bound x) over),
-  )
-  taken_present expansion.Partial task s i x m f over None told are at high above is tells =
-      absurd (let lt = stands_within s i x m at in let long = are.0 in omega (arith, lt, long, is))
-  taken_present expansion.Partial task s i x m f over (Some o) told are at high above is tells = (
-    λ yes. (o, is, let same = tells.0 yes in omega (arith, above, same)),
-    λ no. (o, is, λ same. no (tells.1 (omega (arith, above, same)))),
-  )
 
   -- a turn that expands a key, by what becomes of it
   pub becomes_advances : (task : Task K) (old after new : Store K) (number cost : ℕ) (placing : Placing K)
@@ -242,4 +219,4 @@ module _ {K : Type 0} where
       → AreReached g children
   children_reached g x children (d, (edges, reached)) are child there =
       let edge = are.edges child there in
-      ((d + child.cost, (suc edges, (x, d, child.cost, reached, edge.0, refl))), edge.1)
+      (d + child.cost, (suc edges, (x, d, child.cost, reached, edge, refl)))

@@ -1,5 +1,5 @@
 -- Lemmas on how much a search may still do.
-use Rattle.std.proofs.Common.{◌≡◌, ℕ, ◌+◌, ◌-◌, ◌*◌, ◌<◌, ◌≤◌, suc, zero, Some, List, [], ◌∷◌, length, refl, sym, ◌∙◌, ap, subst, arith}
+use Rattle.std.proofs.Common.{◌≡◌, ℕ, ◌+◌, ◌-◌, ◌*◌, ◌<◌, ◌≤◌, suc, zero, Some, List, [], ◌∷◌, ◌++◌, length, refl, sym, ◌∙◌, ap, subst, arith}
 use Rattle.std.specs.Prelude.{slice_get, slice_set, sum_by}
 use Rattle.std.proofs.lemmas.Nat.{mul-le}
 use Rattle.std.proofs.lemmas.Option.{none-some}
@@ -11,10 +11,8 @@ use Rattle.fc_frontier.specs.Queue.{Adds}
 use Rattle.fc_best_first.specs.declared.books.Mark.{Mark}
 use Rattle.fc_best_first.specs.declared.books.Opening.{Opening}
 use Rattle.fc_best_first.specs.declared.books.Offered.TheVariants.{Added}
-use Rattle.fc_best_first.specs.declared.strategies.Expansion.{Expansion}
-use Rattle.fc_best_first.specs.declared.strategies.Expansion.TheVariants.{Full, Partial}
 use Rattle.fc_best_first.specs.declared.strategies.Strategy.{Strategy}
-use Rattle.fc_best_first.specs.Store.{Store, Candidate, Lowers, NotesAnew, NotesLast, Stores, opens_at, weighed}
+use Rattle.fc_best_first.specs.Store.{Store, Candidate, Lowers, Stores, opens_at, weighed}
 use Rattle.fc_best_first.specs.Turn.{Reopens, costs_below, work_left}
 
 added_one : (old new : List (ℕ × ℕ)) (p : ℕ × ℕ) → Adds old new p → length new ≡ suc (length old)
@@ -50,15 +48,11 @@ rises_most (o ∷ os) (suc i) next = omega (
 )
 
 -- what is noted anew or last adds so much at most
-anew_most : (expansion : Expansion) (old new : List Opening) (i : ℕ) (opening : Opening) → NotesAnew expansion old new i opening
-    → rises new ≤ rises old + 28050
-anew_most Full old new i opening same = let e = ap (λ os. rises os) same in omega (arith, e)
-anew_most Partial old new i opening is = let e = ap (λ os. rises os) is in omega (arith, e, rises_most old i opening)
+anew_most : (old new : List Opening) (i : ℕ) (opening : Opening) → new ≡ slice_set old i opening → rises new ≤ rises old + 28050
+anew_most old new i opening is = let e = ap (λ os. rises os) is in omega (arith, e, rises_most old i opening)
 
-last_most : (expansion : Expansion) (old new : List Opening) (opening : Opening) → NotesLast expansion old new opening
-    → rises new ≤ rises old + 28050
-last_most Full old new opening same = let e = ap (λ os. rises os) same in omega (arith, e)
-last_most Partial old new opening is =
+last_most : (old new : List Opening) (opening : Opening) → new ≡ old ++ opening ∷ [] → rises new ≤ rises old + 28050
+last_most old new opening is =
     let e : rises new ≡ rises old + (28050 - opening.over) = ap (λ os. rises os) is ∙ sum_by_push (λ (q : Opening). 28050 - q.over) old opening in
     omega (arith, e)
 
@@ -121,7 +115,7 @@ module _ {K : Type 0} where
       (lowered_falls (sum_by (λ e. e.1.cost) old.stored) (sum_by (λ e. e.1.cost) new.stored) mark.cost was.cost
       (length old.waiting) (length new.waiting) (rises old.openings) (rises new.openings) (costs_below budget - costs_below (length old.stored)) sum lt
       (added_one old.waiting new.waiting (opens_at (weighed strategy mark) opening, i) opened)
-      (anew_most strategy.expansion old.openings new.openings i opening noted))
+      (anew_most old.openings new.openings i opening noted))
 
   pub added_work : (strategy : Strategy) (old new : Store K) (offer : Candidate K) → Stores strategy old new offer Added
       → offer.mark.cost ≤ 53 * length old.stored + 53 → work_left strategy.budget new ≤ work_left strategy.budget old
@@ -143,7 +137,7 @@ module _ {K : Type 0} where
       (added_falls (sum_by (λ e. e.1.cost) old.stored) offer.mark.cost n here total (length old.waiting) (length new.waiting)
       (rises old.openings) (rises new.openings) room low
       (added_one old.waiting new.waiting (opens_at (weighed strategy offer.mark) offer.opening, n) opened)
-      (last_most strategy.expansion old.openings new.openings offer.opening noted))
+      (last_most old.openings new.openings offer.opening noted))
 
   -- a pair that is taken leaves less
   pub taken_work : (budget : ℕ) (old new : Store K) (p : ℕ × ℕ) → new.stored ≡ old.stored → new.openings ≡ old.openings

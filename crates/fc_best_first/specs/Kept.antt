@@ -1,5 +1,5 @@
 -- What a search keeps from turn to turn.
-use Rattle.std.specs.Prelude.{◌≡◌, ℕ, ◌+◌, ◌*◌, ◌≤◌, ◌⊎◌, [], length, slice_get, Option, Some, None, Contains}
+use Rattle.std.specs.Prelude.{◌≡◌, ℕ, ◌+◌, ◌*◌, ◌≤◌, ◌⊎◌, length, slice_get, Option, Some, None, Contains}
 use Rattle.fc_best_first.specs.declared.books.Mark.{Mark}
 use Rattle.fc_best_first.specs.declared.books.Opening.{Opening}
 use Rattle.fc_best_first.specs.declared.strategies.Expansion.{Expansion}
@@ -45,29 +45,23 @@ module _ {K : Type 0} where
   abbrev pub f_of : Task K → K → Mark → ℕ
   f_of task x mark = weigh task.strategy.weight mark.cost (task.graph.bound x)
 
-  -- the key with this number and weighed cost is open at this f: such a pair of it waits, and by partial expansion it was
-  -- opened there last
-  abbrev pub IsOpenAt : Expansion → Store K → ℕ → ℕ → ℕ → Type 0
-  IsOpenAt Full s number cost f = Contains s.waiting (f, number)
-  IsOpenAt Partial s number cost f = Contains s.waiting (f, number)
-      × ((opening : Opening) × (slice_get s.openings number ≡ Some opening) × (f ≡ opens_at cost opening))
+  -- where the key with this number and weighed cost is open, if it is: where it was opened last
+  abbrev pub IsWhereOpen : Store K → ℕ → ℕ → ℕ → Type 0
+  IsWhereOpen s number cost f = (opening : Opening) × (slice_get s.openings number ≡ Some opening) × (f ≡ opens_at cost opening)
 
-  -- where the key with this number, weighed cost and own f is open, if it is: by full expansion at its own f, by partial expansion where
-  -- it was opened last
-  abbrev pub IsWhereOpen : Expansion → Store K → ℕ → ℕ → ℕ → ℕ → Type 0
-  IsWhereOpen Full s number cost own f = f ≡ own
-  IsWhereOpen Partial s number cost own f = (opening : Opening) × (slice_get s.openings number ≡ Some opening)
-      × (f ≡ opens_at cost opening)
+  -- the key with this number and weighed cost is open at this f: such a pair of it waits, and it was opened there last
+  abbrev pub IsOpenAt : Store K → ℕ → ℕ → ℕ → Type 0
+  IsOpenAt s number cost f = Contains s.waiting (f, number) × IsWhereOpen s number cost f
 
   -- the key is open at some greater f, and expanded below it: never by full expansion
   abbrev pub IsOpenLater : Expansion → Task K → Store K → ℕ → K → Mark → Type 0
   IsOpenLater Full task s number x mark = ⊥
   IsOpenLater Partial task s number x mark =
-      (f : ℕ) × IsOpenAt Partial s number (weighed task.strategy mark) f × IsExpandedBelow task s x mark.cost f
+      (f : ℕ) × IsOpenAt s number (weighed task.strategy mark) f × IsExpandedBelow task s x mark.cost f
 
   -- the key is open at its weighed cost plus bound, or expanded, or open later
   abbrev pub IsOpenOrExpanded : Task K → Store K → ℕ → K → Mark → Type 0
-  IsOpenOrExpanded task s number x mark = IsOpenAt task.strategy.expansion s number (weighed task.strategy mark) (f_of task x mark)
+  IsOpenOrExpanded task s number x mark = IsOpenAt s number (weighed task.strategy mark) (f_of task x mark)
       ⊎ (IsExpanded task s x mark.cost
       ⊎ IsOpenLater task.strategy.expansion task s number x mark)
 
@@ -87,10 +81,9 @@ module _ {K : Type 0} where
   Comes g s number x mark = ((mark.parent ≡ number) × g.starts x mark.cost)
       ⊎ ((w : K) × (was : Mark) × (c : ℕ) × IsStored s mark.parent w was × g.edge w c x × (was.cost + c ≤ mark.cost))
 
-  -- the openings that are noted: none by full expansion, one for each stored key by partial expansion, which tells its bound
-  abbrev pub AreNoted : Expansion → Graph K → Store K → Type 0
-  AreNoted Full g s = s.openings ≡ []
-  AreNoted Partial g s = (length s.openings ≡ length s.stored)
+  -- the openings that are noted: one for each stored key, which tells its bound
+  abbrev pub AreNoted : Graph K → Store K → Type 0
+  AreNoted g s = (length s.openings ≡ length s.stored)
       × ((i : ℕ) (x : K) (m : Mark) → IsStored s i x m
       → (opening : Opening) × (slice_get s.openings i ≡ Some opening) × (opening.bound ≡ g.bound x))
 
@@ -106,7 +99,7 @@ module _ {K : Type 0} where
     pub starts : (x : K) (d : ℕ) → task.graph.starts x d → HasAt s x d
     pub pairs : (f i : ℕ) → Contains s.waiting (f, i)
         → (x : K) × (m : Mark) × IsStored s i x m × (f_of task x m ≤ f)
-    pub noted : AreNoted task.strategy.expansion task.graph s
+    pub noted : AreNoted task.graph s
     pub under : (i : ℕ) (x : K) (m : Mark) → IsStored s i x m → (n : ℕ) → task.graph.wins n
         → ReachesLimit task.limit n → m.cost + task.graph.bound x ≤ n
     pub near : (f i : ℕ) → Contains s.waiting (f, i) → (n : ℕ) → task.graph.wins n

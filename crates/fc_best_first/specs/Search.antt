@@ -10,7 +10,7 @@ use Rattle.fc_best_first.specs.declared.searches.SearchFault.TheVariants as faul
 use Rattle.fc_best_first.specs.declared.strategies.Strategy.{Strategy}
 use Rattle.fc_best_first.specs.Graph.{Graph, Task}
 use Rattle.fc_best_first.specs.Kept.{f_of}
-use Rattle.fc_best_first.specs.Store.{NotesLast, Store}
+use Rattle.fc_best_first.specs.Store.{Store}
 use Rattle.fc_best_first.specs.Turn.{Advances, TakesFloor, opening_of}
 
 -- a search: the space that it is of, its strategy, its limit, what it stores and has open, where it stands, and the greatest f
@@ -33,7 +33,7 @@ module _ {K : Type 0} where
   abbrev pub Begins : Task K → Store K → Type 0
   Begins task s = (x : K) × (cost : ℕ) × task.graph.starts x cost × (s.stored ≡ (x, record { cost = cost; parent = 0 }) ∷ [])
       × Adds [] s.waiting (f_of task x (record { cost = cost; parent = 0 }), 0)
-      × NotesLast task.strategy.expansion [] s.openings (opening_of task x)
+      × (s.openings ≡ opening_of task x ∷ [])
 
   -- what a turn answers, by the status that it leaves
   abbrev pub reply_of : Status K → Result Step SearchFault

@@ -34,7 +34,7 @@ module _ {K : Type 0} where
   -- the key with this number is where it was taken, and done with below that, if that is more than its weighed cost plus bound
   pub record IsTakenAt (task : Task K) (s : Store K) (number : ℕ) (x : K) (mark : Mark) (f : ℕ) : Type 0 where
     pub stands : IsStored s number x mark
-    pub at : IsWhereOpen task.strategy.expansion s number (weighed task.strategy mark) (f_of task x mark) f
+    pub at : IsWhereOpen s number (weighed task.strategy mark) f
     pub done : f_of task x mark < f → IsDone task.strategy.expansion task s x mark.cost f
 
   -- as many keys as the budget are stored, one more came by needed work from the key with this number, which was taken, and each
@@ -86,12 +86,12 @@ module _ {K : Type 0} where
   -- the number is what the key with this one tells, by where it is open
   abbrev pub TellsAt : Task K → Store K → ℕ → ℕ → Type 0
   TellsAt task s number told = (x : K) × (mark : Mark) × (f : ℕ) × IsStored s number x mark
-      × IsWhereOpen task.strategy.expansion s number (weighed task.strategy mark) (f_of task x mark) f × IsTold task x mark f told
+      × IsWhereOpen s number (weighed task.strategy mark) f × IsTold task x mark f told
 
   -- the key with this number and mark is open at f
   pub record IsOpen (task : Task K) (s : Store K) (number : ℕ) (x : K) (mark : Mark) (f : ℕ) : Type 0 where
     pub stands : IsStored s number x mark
-    pub at : IsWhereOpen task.strategy.expansion s number (weighed task.strategy mark) (f_of task x mark) f
+    pub at : IsWhereOpen s number (weighed task.strategy mark) f
     pub waits : Contains s.waiting (f, number)
 
   -- the least that the open keys tell, at most a number

@@ -12,8 +12,7 @@ use Rattle.fc_best_first.specs.declared.strategies.Strategy.{Strategy}
 use Rattle.fc_best_first.specs.Graph.{Task}
 use Rattle.fc_best_first.specs.Limits.{IsBelowLimit, IsWithinLimit, ReachesLimit}
 
--- stored keys in the order of their numbers, each with its mark, open pairs (f, number), and by partial expansion where
--- each key was opened last
+-- stored keys in the order of their numbers, each with its mark, open pairs (f, number), and where each key was opened last
 pub record Store (K : Type 0) : Type 0 where
   pub stored : List (K × Mark)
   pub waiting : List (ℕ × ℕ)
@@ -32,16 +31,6 @@ weighed strategy mark = strategy.weight.parts * mark.cost
 -- what is open at an opening of a key of this weighed cost is open at this f
 abbrev pub opens_at : ℕ → Opening → ℕ
 opens_at cost opening = cost + opening.over
-
--- a new opening is noted last by partial expansion; full expansion notes none
-abbrev pub NotesLast : Expansion → List Opening → List Opening → Opening → Type 0
-NotesLast expansion.Full old new opening = new ≡ old
-NotesLast expansion.Partial old new opening = new ≡ old ++ opening ∷ []
-
--- the opening under this number is noted anew by partial expansion; full expansion notes none
-abbrev pub NotesAnew : Expansion → List Opening → List Opening → ℕ → Opening → Type 0
-NotesAnew expansion.Full old new number opening = new ≡ old
-NotesAnew expansion.Partial old new number opening = new ≡ slice_set old number opening
 
 -- a new key that would be open at this f is stored when a pair of the f that was taken is expanded: by full expansion
 -- always, by partial expansion where it is no greater
@@ -64,20 +53,20 @@ module _ {K : Type 0} where
   abbrev pub IsNew : Store K → K → Type 0
   IsNew s x = (number : ℕ) (mark : Mark) → IsStored s number x mark → ⊥
 
-  -- what storing a new key does: it goes last and is open, where fewer than the budget are stored
+  -- what storing a new key does: it goes last and is open, which is noted, where fewer than the budget are stored
   abbrev pub Stores : Strategy → Store K → Store K → Candidate K → Offered K → Type 0
   Stores strategy old new offer Added =
       (length old.stored < strategy.budget) × (new.stored ≡ old.stored ++ (offer.key, offer.mark) ∷ [])
       × Adds old.waiting new.waiting (opens_at (weighed strategy offer.mark) offer.opening, length old.stored)
-      × NotesLast strategy.expansion old.openings new.openings offer.opening
+      × (new.openings ≡ old.openings ++ offer.opening ∷ [])
   Stores strategy old new offer (Full y) = (y ≡ offer.key) × (strategy.budget ≤ length old.stored) × (new ≡ old)
   Stores strategy old new offer _ = ⊥
 
-  -- a stored key takes the new mark and is open at its new f
+  -- a stored key takes the new mark and is open at its new f, which is noted
   abbrev pub Lowers : Strategy → Store K → Store K → ℕ → Mark → Opening → Type 0
   Lowers strategy old new number mark opening = (new.stored ≡ set_value_at old.stored number mark)
       × Adds old.waiting new.waiting (opens_at (weighed strategy mark) opening, number)
-      × NotesAnew strategy.expansion old.openings new.openings number opening
+      × (new.openings ≡ slice_set old.openings number opening)
 
   -- what offering a key does, when a pair of this f was taken: one that is stored is left where it is stored at no more, and
   -- else takes the new mark; a new one is stored, or put off, but where its cost plus bound reaches the limit

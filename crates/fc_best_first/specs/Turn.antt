@@ -1,20 +1,18 @@
 -- One turn of a search.
-use Rattle.std.specs.Prelude.{◌≡◌, ◌≢◌, ℕ, ◌+◌, ◌-◌, ◌*◌, ◌<◌, ◌≤◌, ◌⊎◌, zero, suc, max, min, List, [], ◌∷◌, length, slice_get, sum_by, IfSome, Contains, Option, Some, None}
+use Rattle.std.specs.Prelude.{◌≡◌, ◌≢◌, ℕ, ◌+◌, ◌-◌, ◌*◌, ◌≤◌, ◌⊎◌, zero, suc, max, min, List, [], ◌∷◌, length, slice_get, slice_set, sum_by, Contains, Option, Some, None}
 use Rattle.fc_frontier.specs.Queue.{Adds, IsLeast}
 use Rattle.fc_best_first.specs.declared.books.Mark.{Mark}
 use Rattle.fc_best_first.specs.declared.books.Opening.{Opening}
 use Rattle.fc_best_first.specs.declared.books.Offered.TheVariants.{Known, Lowered, Added, Full, PutOff, Past}
 use Rattle.fc_best_first.specs.declared.spaces.Child.{Child}
-use Rattle.fc_best_first.specs.declared.strategies.Expansion.{Expansion}
-use Rattle.fc_best_first.specs.declared.strategies.Expansion.TheVariants as expansion
 use Rattle.fc_best_first.specs.declared.turns.Placing.{Placing}
 use Rattle.fc_best_first.specs.declared.turns.Placing.TheVariants.{Whole, Later, NoRoom}
 use Rattle.fc_best_first.specs.declared.turns.Status.{Status}
 use Rattle.fc_best_first.specs.declared.turns.Status.TheVariants.{Running, Won, CannotWin, GaveUp, Stopped}
 use Rattle.fc_best_first.specs.declared.turns.TheConstants.{MOST_COST, MOST_OVER}
 use Rattle.fc_best_first.specs.Graph.{Graph, Task}
-use Rattle.fc_best_first.specs.Store.{Store, Candidate, NotesAnew, Offers, IsTaken, opens_at, weighed}
-use Rattle.fc_best_first.specs.Kept.{f_of}
+use Rattle.fc_best_first.specs.Store.{Store, Candidate, Offers, IsTaken, opens_at, weighed}
+use Rattle.fc_best_first.specs.Kept.{IsWhereOpen}
 
 -- the floor that a turn of a running search leaves, the greatest f that was taken: the same where no pair is open, else the
 -- greater of it and the least f of the open pairs
@@ -29,13 +27,9 @@ costs_below zero = 0
 costs_below (suc number) = costs_below number + (MOST_COST * number + (MOST_COST + 1))
 
 module _ {K : Type 0} where
-  -- the child's bound is that of its key, where it is told
-  abbrev pub TellsBound : Graph K → Child K → Type 0
-  TellsBound g child = IfSome child.bound (λ b. b ≡ g.bound child.key)
-
   -- the children of a key: each is at the end of an edge, and each edge's end is one, at no more
   pub record AreChildren (g : Graph K) (x : K) (children : List (Child K)) : Type 0 where
-    pub edges : (child : Child K) → Contains children child → g.edge x child.cost child.key × TellsBound g child
+    pub edges : (child : Child K) → Contains children child → g.edge x child.cost child.key
     pub whole : (c : ℕ) (y : K) → g.edge x c y
         → (child : Child K) × Contains children child × (child.key ≡ y) × (child.cost ≤ c)
 
@@ -79,7 +73,7 @@ module _ {K : Type 0} where
   abbrev pub Reopens : Store K → Store K → ℕ → ℕ → ℕ → Type 0
   Reopens old new number cost later = (was : Opening) × (next : Opening) × (slice_get old.openings number ≡ Some was)
       × (next.bound ≡ was.bound) × (next.over ≤ MOST_OVER) × (later ≡ opens_at cost next) × (new.stored ≡ old.stored)
-      × Adds old.waiting new.waiting (later, number) × NotesAnew expansion.Partial old.openings new.openings number next
+      × Adds old.waiting new.waiting (later, number) × (new.openings ≡ slice_set old.openings number next)
 
   -- what becomes of an expanded key of this weighed cost, by how its children were placed: where some were put off it is open
   -- again at the least f of those
@@ -88,25 +82,15 @@ module _ {K : Type 0} where
   Closes old new number cost (Later f) left_out = Reopens old new number cost f × (left_out ≡ None)
   Closes old new number cost (NoRoom y) left_out = (new ≡ old) × (left_out ≡ Some y)
 
-  -- a pair of this f is the present one of the key with this number and weighed cost: by full expansion it is no greater than
-  -- the key's own, its weighed cost plus bound, by partial expansion it is where the key was opened last
-  abbrev pub IsPresent : Expansion → Store K → ℕ → ℕ → ℕ → ℕ → Type 0
-  IsPresent expansion.Full s number cost own f = f ≤ own
-  IsPresent expansion.Partial s number cost own f =
-      (opening : Opening) × (slice_get s.openings number ≡ Some opening) × (f ≡ opens_at cost opening)
-
-  -- a pair of this f is an older one: by full expansion it is greater than the key's own, by partial expansion its key was
-  -- opened elsewhere since
-  abbrev pub IsStale : Expansion → Store K → ℕ → ℕ → ℕ → ℕ → Type 0
-  IsStale expansion.Full s number cost own f = own < f
-  IsStale expansion.Partial s number cost own f =
-      (opening : Opening) × (slice_get s.openings number ≡ Some opening) × (f ≢ opens_at cost opening)
+  -- a pair of this f is an older one of the key with this number and weighed cost: the key was opened elsewhere since
+  abbrev pub IsStale : Store K → ℕ → ℕ → ℕ → Type 0
+  IsStale s number cost f = (opening : Opening) × (slice_get s.openings number ≡ Some opening) × (f ≢ opens_at cost opening)
 
   -- a key that isn't won, taken by its present pair, is expanded
   abbrev pub ExpandsTaken : Task K → Store K → Store K → ℕ → Option K → Type 0
   ExpandsTaken task old new number left_out =
       (f : ℕ) × (x : K) × (mark : Mark) × (mid : Store K) × IsTaken old mid f number x mark
-      × (task.graph.won x → ⊥) × IsPresent task.strategy.expansion old number (weighed task.strategy mark) (f_of task x mark) f
+      × (task.graph.won x → ⊥) × IsWhereOpen old number (weighed task.strategy mark) f
       × ((children : List (Child K)) × AreChildren task.graph x children
       × ((after : Store K) × (placing : Placing K)
       × Expands task f (record { cost = mark.cost; parent = number }) children mid after placing
@@ -116,7 +100,7 @@ module _ {K : Type 0} where
   abbrev pub DropsTaken : Task K → Store K → Store K → Type 0
   DropsTaken task old new =
       (f : ℕ) × (number : ℕ) × (x : K) × (mark : Mark) × IsTaken old new f number x mark
-      × (task.graph.won x → ⊥) × IsStale task.strategy.expansion old number (weighed task.strategy mark) (f_of task x mark) f
+      × (task.graph.won x → ⊥) × IsStale old number (weighed task.strategy mark) f
 
   -- one turn of a running search, and the status that it leaves
   abbrev pub Advances : Task K → Store K → Store K → Status K → Type 0

@@ -2,7 +2,7 @@ ghost use Rattle.std.specs.Prelude.{◌≡◌, ◌+◌, ◌*◌, ◌^◌, ◌<�
 ghost use Rattle.std.specs.List.Sorted.{IsPermutation};
 ghost use Rattle.fc_frontier.specs.Queue.{Adds, IsLeast};
 ghost use Rattle.fc_best_first.specs.Limits.{IsWeight};
-ghost use Rattle.fc_best_first.specs.Store.{Store, IsStored, IsNew, Lowers, NotesLast, Stores, opens_at, weighed};
+ghost use Rattle.fc_best_first.specs.Store.{Store, IsStored, IsNew, Lowers, Stores, opens_at, weighed};
 ghost use Rattle.fc_best_first.specs.Turn.{Reopens};
 
 use crate::limits::{MOST_BUDGET, Weight};
@@ -72,8 +72,8 @@ pub enum Offered<K> {
     Past,
 }
 
-/// The keys that are stored, each with its mark, in the order of their numbers, the pairs that are open, and, by partial
-/// expansion, where each key was opened last.
+/// The keys that are stored, each with its mark, in the order of their numbers, the pairs that are open, and where each key was
+/// opened last.
 #[derive(Drop)]
 pub struct Book<K: ExactKey, F: Frontier + Drop> {
     table: IndexMap<K, Mark>,
@@ -167,11 +167,13 @@ impl<K: ExactKey, F: Frontier + Drop> Book<K, F> {
         Some((number as u32, *mark))
     }
 
-    /// Where the key with a number was opened last; `None` where that isn't noted, as by full expansion.
-    pub fn noted(&self, number: u32) -> Option<Opening>
-        ensures value { MatchOption result (length self.now.openings ≤ number) (λ opening. slice_get self.now.openings number ≡ Some opening) }
+    /// Where the key with a number was opened last, where that is noted.
+    pub fn opening(&self, number: u32) -> Opening
+        requires noted { number < length self.now.openings }
+        ensures value { slice_get self.now.openings number ≡ Some result }
     {
-        self.openings.get(number as usize).copied()
+        let at = number as usize;
+        self.openings[at]
     }
 
     /// Gives the key that is stored under a number another mark, and opens it. At `Err` a growth was refused, and nothing is
@@ -184,7 +186,7 @@ impl<K: ExactKey, F: Frontier + Drop> Book<K, F> {
         opening: Opening,
     ) -> Result<(), Full>
         requires within { number < length self.old.stored }
-        requires noted { strategy.now.expansion ≡ Expansion.Partial → number < length self.old.openings }
+        requires noted { number < length self.old.openings }
         requires low { mark.cost ≤ MOST_COST * MOST_BUDGET + 255 }
         ensures lowers { OnOk result (Lowers strategy.now self.old self.new number mark opening) }
     {
@@ -194,9 +196,7 @@ impl<K: ExactKey, F: Frontier + Drop> Book<K, F> {
             opening.bound,
             number,
         )?;
-        if let Expansion::Partial = strategy.expansion {
-            self.openings[number as usize] = opening;
-        }
+        self.openings[number as usize] = opening;
         Ok(())
     }
 
@@ -208,12 +208,12 @@ impl<K: ExactKey, F: Frontier + Drop> Book<K, F> {
         requires near { later ≤ cost + MOST_OVER }
         ensures reopens { OnOk result (Reopens self.old self.new number cost later) }
     {
-        let opening = Opening {
+        let next = Opening {
             over: (later - cost) as u16,
-            ..self.openings[number as usize]
+            ..self.opening(number)
         };
-        self.queue.push_tied(later, opening.bound, number)?;
-        self.openings[number as usize] = opening;
+        self.queue.push_tied(later, next.bound, number)?;
+        self.openings[number as usize] = next;
         Ok(())
     }
 
@@ -242,20 +242,8 @@ impl<K: ExactKey, F: Frontier + Drop> Book<K, F> {
             opening.bound,
             number as u32,
         )?;
-        self.note_last(strategy.expansion, opening)?;
+        self.openings.push(opening)?;
         Ok(Offered::Added)
-    }
-
-    // Notes the opening of a key that was stored last, by partial expansion.
-    fn note_last(&mut self, expansion: Expansion, opening: Opening) -> Result<(), Full>
-        ensures stored { self.new.stored ≡ self.old.stored }
-        ensures waiting { self.new.waiting ≡ self.old.waiting }
-        ensures noted { OnOk result (NotesLast expansion self.old.openings self.new.openings opening) }
-    {
-        if let Expansion::Partial = expansion {
-            self.openings.push(opening)?;
-        }
-        Ok(())
     }
 
     // Where the table is full, asks for three times the room that it has, and for all that the budget leaves once a sixteenth of

@@ -1,11 +1,11 @@
 //! A child of a key that is taken, as it finds its place: it is known, stored, or put off.
 
-ghost use Rattle.std.specs.Prelude.{◌≡◌, ◌+◌, ◌*◌, ◌<◌, ◌≤◌, ◌↔◌, ℕ, List, length, IfOk, IfSome, IsTrue};
+ghost use Rattle.std.specs.Prelude.{◌≡◌, ◌+◌, ◌*◌, ◌<◌, ◌≤◌, ◌↔◌, ℕ, List, length, IfOk, IsTrue};
 ghost use Rattle.fc_best_first.specs.Graph.{Graph, Reached, Task};
 ghost use Rattle.fc_best_first.specs.Kept.{AreNoted};
 ghost use Rattle.fc_best_first.specs.Limits.{IsBelowLimit, ReachesLimit};
 ghost use Rattle.fc_best_first.specs.Store.{IsNew, Offers, weighed};
-ghost use Rattle.fc_best_first.specs.Turn.{TellsBound, candidate_of};
+ghost use Rattle.fc_best_first.specs.Turn.{candidate_of};
 ghost use Rattle.fc_best_first.specs.inner.Turn.{IsPutOffNear};
 
 use crate::books::{Book, Mark, Offered, Opening};
@@ -51,28 +51,6 @@ impl Taken {
     }
 }
 
-// The bound of a key that was reached, which its space is asked for where it isn't told; the walk stands at the key.
-pub(crate) fn bound_of<K, S: Space<K>>(
-    space: &S,
-    walk: &mut S::Walk,
-    key: &K,
-    told: Option<u8>,
-) -> u8
-    requires reached { (d : ℕ) × Reached (S.graph space.now) key.now d }
-    requires owned { S.owns space.now walk.old }
-    requires at { S.at walk.old key.now }
-    requires told { IfSome told (λ bound. bound ≡ (S.graph space.now).bound key.now) }
-    ensures value { result ≡ (S.graph space.now).bound key.now }
-    ensures owned { S.owns space.now walk.new }
-    ensures rest { (children : List (Child K)) → S.rest walk.new children ↔ S.rest walk.old children }
-    ensures left { S.left walk.new ≡ S.left walk.old }
-{
-    match told {
-        Some(bound) => bound,
-        None => space.bound_within(walk, key, u8::MAX),
-    }
-}
-
 // A number that each bound is at most by which a key of this weighed cost is open at no more than was taken.
 fn most_within(weight: Weight, cost: u32, taken: u32) -> u8
     ensures most { (bound : ℕ) → bound ≤ 255 → cost + weight.times * bound ≤ taken → bound ≤ result }
@@ -95,7 +73,6 @@ fn store_or_put_off<K: ExactKey, F: Frontier + Drop, S: Space<K>>(
     requires reached { (d : ℕ) × Reached (S.graph space.now) child.key d }
     requires owned { S.owns space.now walk.old }
     requires at { S.at walk.old child.key }
-    requires told { TellsBound (S.graph space.now) child }
     requires new { IsNew book.old child.key }
     requires low { taken.now.origin.cost ≤ MOST_COST * MOST_BUDGET }
     requires partial { strategy.now.expansion ≡ Expansion.Partial }
@@ -106,14 +83,9 @@ fn store_or_put_off<K: ExactKey, F: Frontier + Drop, S: Space<K>>(
     ensures left { S.left walk.new ≡ S.left walk.old }
 {
     let mark = taken.origin.onward(child.cost);
-    let Child { key, bound, .. } = child;
-    let bound = match bound {
-        Some(bound) => bound,
-        None => {
-            let most = most_within(strategy.weight, mark.weighed(strategy.weight), taken.f);
-            space.bound_within(walk, &key, most)
-        }
-    };
+    let key = child.key;
+    let most = most_within(strategy.weight, mark.weighed(strategy.weight), taken.f);
+    let bound = space.bound_within(walk, &key, most);
     if taken.reaches_limit(mark.cost, bound) {
         return Ok(Offered::Past);
     }
@@ -125,8 +97,8 @@ fn store_or_put_off<K: ExactKey, F: Frontier + Drop, S: Space<K>>(
     book.add(strategy, key, mark, opening)
 }
 
-// Offers the child that a walk stands at, by what was taken. Where its bound isn't told, it is asked for only where the key is
-// new, or stored at more and not noted: of most keys that are offered it isn't wanted, and a bound may take longer than all else.
+// Offers the child that a walk stands at, by what was taken. Its bound is asked for only where the key is new: of most keys that
+// are offered it isn't wanted, and a bound may take longer than all else.
 // At `Err` a growth was refused, and nothing is known of the book.
 pub(crate) fn offer<K: ExactKey, F: Frontier + Drop, S: Space<K>>(
     space: &S,
@@ -139,9 +111,8 @@ pub(crate) fn offer<K: ExactKey, F: Frontier + Drop, S: Space<K>>(
     requires reached { (d : ℕ) × Reached (S.graph space.now) child.key d }
     requires owned { S.owns space.now walk.old }
     requires at { S.at walk.old child.key }
-    requires told { TellsBound (S.graph space.now) child }
     requires room { length book.old.stored ≤ strategy.now.budget }
-    requires noted { AreNoted strategy.now.expansion (S.graph space.now) book.old }
+    requires noted { AreNoted (S.graph space.now) book.old }
     requires low { taken.now.origin.cost ≤ MOST_COST * MOST_BUDGET }
     ensures offers { IfOk result (Offers (record { graph = S.graph space.now; strategy = strategy.now; limit = taken.now.limit }) taken.now.f book.old book.new (candidate_of (record { graph = S.graph space.now; strategy = strategy.now; limit = taken.now.limit }) taken.now.origin child)) }
     ensures near { IfOk result (IsPutOffNear (weighed strategy.now taken.now.origin)) }
@@ -156,8 +127,8 @@ pub(crate) fn offer<K: ExactKey, F: Frontier + Drop, S: Space<K>>(
         if let Expansion::Partial = strategy.expansion {
             return store_or_put_off(space, walk, book, strategy, taken, child);
         }
-        let Child { key, bound, .. } = child;
-        let bound = bound_of(space, walk, &key, bound);
+        let key = child.key;
+        let bound = space.bound_within(walk, &key, u8::MAX);
         if taken.reaches_limit(mark.cost, bound) {
             return Ok(Offered::Past);
         }
@@ -166,10 +137,7 @@ pub(crate) fn offer<K: ExactKey, F: Frontier + Drop, S: Space<K>>(
     if was.cost <= mark.cost {
         return Ok(Offered::Known);
     }
-    let bound = match book.noted(number) {
-        Some(opening) => opening.bound,
-        None => bound_of(space, walk, &child.key, child.bound),
-    };
-    book.lower(strategy, number, mark, Opening::new(strategy.weight, bound))?;
+    let opening = Opening::new(strategy.weight, book.opening(number).bound);
+    book.lower(strategy, number, mark, opening)?;
     Ok(Offered::Lowered)
 }

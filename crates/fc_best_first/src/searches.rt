@@ -10,7 +10,6 @@ ghost use Rattle.fc_best_first.specs.Turn.{work_left};
 use crate::books::{Book, Mark, Opening};
 use crate::floors::{least_open, told_by};
 use crate::limits::Budget;
-use crate::offers::bound_of;
 use crate::spaces::{Child, Space};
 use crate::strategies::Strategy;
 use crate::turns::{Status, advance};
@@ -114,8 +113,8 @@ impl<K: ExactKey, F: Frontier + Drop, S: Space<K> + Drop> Search<K, F, S> {
         // Their ranges, which the search keeps.
         let (_, _) = (weight.parts(), budget.get());
         let (start, mut walk) = space.start(alloc)?;
-        let Child { key, cost, bound } = start;
-        let opening = Opening::new(weight, bound_of(&space, &mut walk, &key, bound));
+        let Child { key, cost } = start;
+        let opening = Opening::new(weight, space.bound_within(&mut walk, &key, u8::MAX));
         let mark = Mark {
             cost: u32::from(cost),
             parent: 0,

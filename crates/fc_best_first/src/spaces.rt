@@ -1,15 +1,14 @@
 ghost use Rattle.std.specs.Prelude.{◌≡◌, ◌≤◌, ◌<◌, ◌↔◌, ℕ, List, [], ◌∷◌, IsTrue, IfOk, IfSome, MatchOption};
 ghost use Rattle.fc_best_first.specs.Graph.{Graph, IsLawful, Reached};
-ghost use Rattle.fc_best_first.specs.Turn.{AreChildren, TellsBound};
+ghost use Rattle.fc_best_first.specs.Turn.{AreChildren};
 
 use std::alloc::{AllocError, Global};
 
-/// A key at the end of an edge, what the edge costs, and the bound of the key where telling it costs next to nothing.
+/// A key at the end of an edge, and what the edge costs.
 #[derive(Default, Drop)]
 pub struct Child<K> {
     pub key: K,
     pub cost: u8,
-    pub bound: Option<u8>,
 }
 
 /// A question that a search can answer.
@@ -40,7 +39,6 @@ pub trait Space<K> {
     /// A growth was refused.
     fn start(&self, alloc: Global) -> Result<(Child<K>, Self::Walk), AllocError>
         ensures starts { IfOk result (λ begun. (graph self.now).starts begun.0.key begun.0.cost) }
-        ensures told { IfOk result (λ begun. TellsBound (graph self.now) begun.0) }
         ensures alone { IfOk result (λ begun. (x : K) (d : ℕ) → (graph self.now).starts x d → (x ≡ begun.0.key) × (begun.0.cost ≤ d)) }
         ensures owned { IfOk result (λ begun. owns self.now begun.1) }
         ensures at { IfOk result (λ begun. at begun.1 begun.0.key) };
@@ -50,14 +48,9 @@ pub trait Space<K> {
         requires reached { (d : ℕ) × Reached (graph self.now) key.now d }
         ensures value { IsTrue result ↔ (graph self.now).won key.now };
 
-    /// The lower bound of a key that was reached, wherever a walk stands.
-    fn bound(&self, key: &K) -> u8
-        requires reached { (d : ℕ) × Reached (graph self.now) key.now d }
-        ensures value { result ≡ (graph self.now).bound key.now };
-
     /// The lower bound of the key that a walk stands at, counted no further than is asked: where it is greater than `most`, any
-    /// number above that and no greater than the bound. A search asks it of the key that starts, and of each child that it opens,
-    /// one that is new, or stored at more, where the child doesn't tell it. Most children are stored at no more already.
+    /// number above that and no greater than the bound. A search asks it of the key that starts, and of each child that is new: most
+    /// are stored already.
     fn bound_within(&self, walk: &mut Self::Walk, key: &K, most: u8) -> u8
         requires reached { (d : ℕ) × Reached (graph self.now) key.now d }
         requires owned { owns self.now walk.old }
@@ -68,17 +61,8 @@ pub trait Space<K> {
         ensures rest { (children : List (Child K)) → rest walk.new children ↔ rest walk.old children }
         ensures left { left walk.new ≡ left walk.old };
 
-    /// The lower bound of a key that was reached, by which a pair that was opened at more is known. Its children take the place
-    /// of those that were left.
-    fn visit(&self, key: &K, walk: &mut Self::Walk) -> u8
-        requires reached { (d : ℕ) × Reached (graph self.now) key.now d }
-        requires owned { owns self.now walk.old }
-        ensures owned { owns self.now walk.new }
-        ensures bound { result ≡ (graph self.now).bound key.now }
-        ensures children { (children : List (Child K)) → rest walk.new children → AreChildren (graph self.now) key.now children };
-
-    /// Visits a key that was reached and whose bound is known.
-    fn revisit(&self, key: &K, bound: u8, walk: &mut Self::Walk)
+    /// Visits a key that was reached, whose bound is known: its children take the place of those that were left.
+    fn visit(&self, key: &K, bound: u8, walk: &mut Self::Walk)
         requires reached { (d : ℕ) × Reached (graph self.now) key.now d }
         requires bound { bound ≡ (graph self.now).bound key.now }
         requires owned { owns self.now walk.old }

@@ -1,12 +1,12 @@
-ghost use Rattle.std.specs.Prelude.{◌≡◌, ◌+◌, ◌*◌, ◌<◌, ◌≤◌, ◌↔◌, ℕ, List, length, min, slice_get, Some, IsTrue, IfOk, IfSome, MatchOption};
-ghost use Rattle.fc_best_first.specs.Graph.{Graph, Reached, Task};
+ghost use Rattle.std.specs.Prelude.{◌≡◌, ◌+◌, ◌*◌, ◌<◌, ◌≤◌, List, length, min, Some, IfOk, MatchOption};
+ghost use Rattle.fc_best_first.specs.Graph.{Graph, Task};
 ghost use Rattle.fc_best_first.specs.Kept.{AreNoted, IsKept};
 ghost use Rattle.fc_best_first.specs.Store.{Offers, weighed};
-ghost use Rattle.fc_best_first.specs.Turn.{Advances, AreChildren, Closes, Expands, TakesFloor};
+ghost use Rattle.fc_best_first.specs.Turn.{Advances, Closes, Expands, TakesFloor};
 ghost use Rattle.fc_best_first.specs.inner.Turn.{AreReached, Becomes, IsLaterNear, IsReady};
 
-use crate::books::{Book, Mark, Offered, Opening};
-use crate::limits::{MOST_BUDGET, Weight};
+use crate::books::{Book, Mark, Offered};
+use crate::limits::MOST_BUDGET;
 use crate::offers::{Taken, offer};
 use crate::spaces::{Child, Space};
 use crate::strategies::Strategy;
@@ -59,13 +59,13 @@ fn expand<K: ExactKey, F: Frontier + Drop, S: Space<K>>(
     taken: &Taken,
 ) -> Result<Placing<K>, Full>
     requires room { length book.old.stored ≤ strategy.now.budget }
-    requires noted { AreNoted strategy.now.expansion (S.graph space.now) book.old }
+    requires noted { AreNoted (S.graph space.now) book.old }
     requires low { taken.now.origin.cost ≤ MOST_COST * MOST_BUDGET }
     requires owned { S.owns space.now walk.old }
     requires reached { (children : List (Child K)) → S.rest walk.old children → AreReached (S.graph space.now) children }
     ensures expands { IfOk result (λ placing. (children : List (Child K)) × S.rest walk.old children × Expands (record { graph = S.graph space.now; strategy = strategy.now; limit = taken.now.limit }) taken.now.f taken.now.origin children book.old book.new placing) }
     ensures near { IfOk result (IsLaterNear strategy.now.expansion taken.now.f (weighed strategy.now taken.now.origin)) }
-    ensures noted { IfOk result (λ placing. AreNoted strategy.now.expansion (S.graph space.now) book.new) }
+    ensures noted { IfOk result (λ placing. AreNoted (S.graph space.now) book.new) }
     ensures owned { S.owns space.now walk.new }
 {
     let mut later: Option<u32> = None;
@@ -79,39 +79,6 @@ fn expand<K: ExactKey, F: Frontier + Drop, S: Space<K>>(
     match later {
         Some(f) => Ok(Placing::Later(f)),
         None => Ok(Placing::Whole),
-    }
-}
-
-// Visits a key of which a pair was taken that is so far above its weighed cost, where that is its present one, and says whether it
-// is: where its opening is noted, the one that is, else one that is no greater than its weighed bound.
-#[inline(always)]
-fn visit_present<K, S: Space<K>>(
-    space: &S,
-    walk: &mut S::Walk,
-    weight: Weight,
-    key: &K,
-    over: u32,
-    noted: Option<Opening>,
-) -> bool
-    requires reached { (d : ℕ) × Reached (S.graph space.now) key.now d }
-    requires owned { S.owns space.now walk.old }
-    requires noted { IfSome noted (λ opening. opening.bound ≡ (S.graph space.now).bound key.now) }
-    ensures owned { S.owns space.now walk.new }
-    ensures children { IsTrue result → (children : List (Child K)) → S.rest walk.new children → AreChildren (S.graph space.now) key.now children }
-    ensures present { MatchOption noted (IsTrue result ↔ (over ≤ weight.times * (S.graph space.now).bound key.now)) (λ opening. IsTrue result ↔ (over ≡ opening.over)) }
-{
-    match noted {
-        Some(opening) => {
-            if over != u32::from(opening.over) {
-                return false;
-            }
-            space.revisit(key, opening.bound, walk);
-            true
-        }
-        None => {
-            let bound = space.visit(key, walk);
-            over <= u32::from(weight.times()) * u32::from(bound)
-        }
     }
 }
 
@@ -162,11 +129,12 @@ pub(crate) fn advance<K: ExactKey, F: Frontier + Drop, S: Space<K>>(
     if space.is_won(key) {
         return Ok(Status::Won(number));
     }
-    let cost = mark.weighed(strategy.weight);
-    let over = f - cost;
-    if !visit_present(space, walk, strategy.weight, key, over, book.noted(number)) {
+    let opening = book.opening(number);
+    if f != mark.opens_at(strategy.weight, opening) {
         return Ok(Status::Running);
     }
+    space.visit(key, opening.bound, walk);
+    let cost = mark.weighed(strategy.weight);
     let origin = Mark {
         cost: mark.cost,
         parent: number,

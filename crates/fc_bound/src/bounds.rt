@@ -1,4 +1,4 @@
-ghost use Rattle.std.specs.Prelude.{◌≡◌, ℕ, ◌≤◌, ◌↔◌, IsTrue, count_by, true};
+ghost use Rattle.std.specs.Prelude.{◌≡◌, ℕ, ◌<◌, ◌≤◌, ◌↔◌, IsTrue, count_by};
 ghost use Rattle.std.specs.List.{list_any};
 ghost use Rattle.fc_position.specs.Board.{column, count_in_column};
 ghost use Rattle.fc_position.specs.Position.{IsPosition};
@@ -48,7 +48,7 @@ fn has_lower(cards: &[Card], card: Card) -> bool
 // Whether a card would stand above a lower card of its own suit on a column, where it isn't there yet.
 #[inline]
 pub(crate) fn is_above(position: &Position, i: u8, card: Card) -> bool
-    ensures value { IsTrue result → list_any (is_lower card) (column position.now i) ≡ true }
+    ensures value { i < 8 → result ≡ list_any (is_lower card) (column position.now i) }
 {
     i < 8 && has_lower(position.column(i), card)
 }

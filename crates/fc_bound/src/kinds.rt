@@ -1,19 +1,18 @@
-ghost use Rattle.std.specs.Prelude.{◌≡◌, ◌≢◌, ◌+◌, ◌≤◌, IfSome};
+ghost use Rattle.std.specs.Prelude.{◌≡◌, ◌≢◌, ◌≤◌, IfSome};
 ghost use Rattle.fc_cards.specs.declared.places.Place.TheVariants.{Home};
-ghost use Rattle.fc_position.specs.Board.{Board, lifted};
+ghost use Rattle.fc_position.specs.Board.{Board};
 ghost use Rattle.fc_position.specs.Position.{IsPosition};
-ghost use Rattle.fc_moves.specs.declared.steps.Move.{Move};
 ghost use Rattle.fc_moves.specs.GameRules.{GameRules};
 ghost use Rattle.fc_moves.specs.Step.{Step};
 ghost use Rattle.fc_bound.specs.Kinds.{guide_of, low_of};
 ghost use Rattle.fc_bound.specs.Rows.{IsTableOf};
 
-use crate::bounds::{GREATEST_BOUND, bound, is_above, is_held_back};
+use crate::bounds::{GREATEST_BOUND, bound};
 use crate::clearing::clearing_bound;
 use crate::counts::WholeCount;
+use crate::fares::{bound_after, knots_after};
 use crate::knots::{knot_bound, knot_bound_by, knot_bound_whole, knot_bound_within};
 use crate::rows::ColumnTable;
-use fc_cards::{Card, Place};
 use fc_moves::Move;
 use fc_position::Position;
 
@@ -82,47 +81,18 @@ impl BoundKind {
         }
     }
 
-    // What the playable card of a place adds to the bound by which a search of this kind goes, where that is plain to see: the
-    // position without the card has so much less. `None` where it would have to be counted.
-    fn fare(self, position: &Position, from: Place) -> Option<u8>
-        ensures fare { IfSome result (λ fare. guide_of self position.now ≡ fare + guide_of self (lifted position.now from)) }
-        ensures whole { IsPosition position.now }
-    {
-        let held = is_held_back(position, from);
-        match (self, from) {
-            (BoundKind::Clearing, Place::Column(_)) if held => Some(1),
-            (BoundKind::Clearing, Place::Cell(_)) => Some(0),
-            _ => None,
-        }
-    }
-
-    // What a card adds to the bound by which a search of this kind goes at the place to which a move takes it, where that is plain to
-    // see: `None` where it would have to be counted.
-    fn fare_there(self, position: &Position, card: Card, to: Place) -> Option<u8>
-        ensures fare { IfSome result (λ fare. (g : GameRules) (z : Board) (m : Move) (step : Step g position.now m z) → step.card ≡ card → m.to ≡ to
-            → guide_of self z ≡ fare + guide_of self (lifted z to)) }
-        ensures most { IfSome result (λ fare. fare ≤ 1) }
-        ensures whole { IsPosition position.now }
-    {
-        let _cell = position.cell(0);
-        match (to, self) {
-            (Place::Column(i), BoundKind::Clearing) if is_above(position, i, card) => Some(1),
-            (Place::Cell(_), BoundKind::Clearing) => Some(0),
-            _ => None,
-        }
-    }
-
     /// The bound by which a search of this kind goes of where a move leads that takes no card home, by the bound of where it is made,
-    /// where that is plain to see: it isn't counted.
+    /// where that is plain to see: it isn't counted. By the plain bound it always is.
     pub fn guide_after(self, position: &Position, m: Move, bound: u8) -> Option<u8>
         requires bound { bound ≡ guide_of self position.now }
         ensures value { IfSome result (λ after. (g : GameRules) (z : Board) → Step g position.now m z → m.to ≢ Home → after ≡ guide_of self z) }
         ensures whole { IsPosition position.now }
     {
-        let fare = self.fare(position, m.from)?;
         let card = position.playable(m.from)?;
-        let more = self.fare_there(position, card, m.to)?;
-        Some(bound - fare + more)
+        match self {
+            BoundKind::Plain => Some(bound_after(position, card, m, bound)),
+            BoundKind::Clearing => knots_after(position, card, m, bound),
+        }
     }
 
     /// The bound by which a table of this kind is closed, at most 104: the plain bound, or the clearing bound.

@@ -19,6 +19,7 @@ mod bounds;
 mod clearing;
 mod columns;
 mod counts;
+mod fares;
 mod kinds;
 mod knots;
 pub mod laws;

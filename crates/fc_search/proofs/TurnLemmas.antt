@@ -5,8 +5,6 @@ use Rattle.std.proofs.Math.Nat.{mul-le-mul}
 use Rattle.std.proofs.lemmas.List.Sorted.{length_permutation}
 use Rattle.fc_best_first.specs.declared.books.Mark.{Mark}
 use Rattle.fc_best_first.specs.declared.books.Opening.{Opening}
-use Rattle.fc_best_first.specs.declared.strategies.Expansion.{Expansion}
-use Rattle.fc_best_first.specs.declared.strategies.Expansion.TheVariants.{Full, Partial}
 use Rattle.fc_best_first.specs.declared.turns.Status.{Status}
 use Rattle.fc_best_first.specs.declared.turns.Status.TheVariants.{Running, Won, CannotWin, GaveUp, Stopped}
 use Rattle.fc_best_first.specs.declared.limits.TheConstants.{MOST_BUDGET}
@@ -15,7 +13,7 @@ use Rattle.fc_best_first.specs.declared.searches.Step.TheVariants.{Running as ru
 use Rattle.fc_best_first.specs.declared.searches.SearchFault.{SearchFault}
 use Rattle.fc_best_first.specs.declared.searches.SearchFault.TheVariants.{Memory}
 use Rattle.fc_best_first.specs.Graph.{Task, IsLawful}
-use Rattle.fc_best_first.specs.Store.{NotesLast, Store}
+use Rattle.fc_best_first.specs.Store.{Store}
 use Rattle.fc_best_first.specs.Search.{Begins, FloorAfter, Turns, TurnsOn, reply_of}
 use Rattle.fc_best_first.specs.Turn.{work_left}
 use Rattle.fc_best_first.proofs.WorkLemmas.{costs_twice}
@@ -97,10 +95,8 @@ ended_stopped (Ok step) status other replied = absurd (other step refl)
 ended_stopped (Err f) status other replied = replied.1
 
 -- how much a search may do that has had no turn
-first_rises : (expansion : Expansion) (new : List Opening) (opening : Opening) → NotesLast expansion [] new opening
-    → sum_by (λ o. 28050 - o.over) new ≤ 28050
-first_rises Full new opening none = let e = ap (sum_by (λ (o : Opening). 28050 - o.over)) none in omega (arith, e)
-first_rises Partial new opening one =
+first_rises : (new : List Opening) (opening : Opening) → new ≡ opening ∷ [] → sum_by (λ o. 28050 - o.over) new ≤ 28050
+first_rises new opening one =
     let e : sum_by (λ o. 28050 - o.over) new ≡ 28050 - opening.over =
     ap (sum_by (λ (o : Opening). 28050 - o.over)) one ∙ zero-add (28050 - opening.over) in
     omega (arith, e)
@@ -113,7 +109,7 @@ module _ {K : Type 0} (task : Task K) where
       let low : cost ≤ 53 = lawful.starts x cost starts in
       let one : length s.waiting ≡ 1 = length_permutation _ s.waiting waiting in
       let sum : sum_by (λ e. e.1.cost) s.stored ≡ cost = ap (sum_by (λ (e : K × Mark). e.1.cost)) stored ∙ zero-add cost in
-      let rise = first_rises task.strategy.expansion s.openings _ noted in
+      let rise = first_rises s.openings _ noted in
       let each : budget * (53 * budget + 55) ≤ 4000000 * (53 * 4000000 + 55) =
       mul-le-mul {n₂ = 4000000} {m₂ = 53 * 4000000 + 55} (omega (arith, few)) (omega (arith, few)) in
       omega (arith, low, one, sum, each, costs_twice budget, rise)

@@ -81,4 +81,4 @@ sums_lawful goal = record {
 abbrev pub IsChildOf : ℕ → ℕ → ℕ → ℕ → Option (Child ℕ) → Type 0
 IsChildOf goal x size cost None = goal < x + size
 IsChildOf goal x size cost (Some child) =
-    (child.key ≡ x + size) × (child.cost ≡ cost) × (x + size ≤ goal) × (child.bound ≡ None)
+    (child.key ≡ x + size) × (child.cost ≡ cost) × (x + size ≤ goal)

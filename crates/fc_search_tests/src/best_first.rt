@@ -59,7 +59,6 @@ impl Sums {
         Some(Child {
             key: Sum { value },
             cost,
-            bound: None,
         })
     }
 
@@ -91,7 +90,6 @@ impl Space<Sum> for Sums {
         let child = Child {
             key: Sum { value: 0 },
             cost: 0,
-            bound: Some(self.goal),
         };
         let walk = Addends {
             two: None,
@@ -105,20 +103,11 @@ impl Space<Sum> for Sums {
         key.value == u32::from(self.goal)
     }
 
-    fn bound(&self, key: &Sum) -> u8 {
+    fn bound_within(&self, _walk: &mut Addends, key: &Sum, _most: u8) -> u8 {
         u32::from(self.goal).saturating_sub(key.value) as u8
     }
 
-    fn bound_within(&self, _walk: &mut Addends, key: &Sum, _most: u8) -> u8 {
-        self.bound(key)
-    }
-
-    fn visit(&self, key: &Sum, walk: &mut Addends) -> u8 {
-        *walk = self.addends(*key);
-        self.bound(key)
-    }
-
-    fn revisit(&self, key: &Sum, _bound: u8, walk: &mut Addends) {
+    fn visit(&self, key: &Sum, _bound: u8, walk: &mut Addends) {
         *walk = self.addends(*key);
     }
 

@@ -1,6 +1,6 @@
 -- The children of a class are the ends of its edges.
 use Rattle.std.proofs.Common.{◌≡◌, ℕ, zero, suc, ◌+◌, ◌≤◌, List, [], ◌∷◌, ◌++◌, reverse, refl, sym, ◌∙◌, ap, subst, arith}
-use Rattle.std.specs.Prelude.{Contains, IfSome, None, Some}
+use Rattle.std.specs.Prelude.{Contains, Some}
 use Rattle.std.proofs.lemmas.List.{reverse-append}
 use Rattle.std.proofs.lemmas.List.Elements.{Contains-append_right}
 use Rattle.std.proofs.lemmas.List.Sorted.{Contains-permutation, IsPermutation-reverse}
@@ -52,14 +52,6 @@ class_spelled : (w : Frame) (q : Board) (x : List ℕ) → IsFrame w → IsPosit
     → SameClass q (board_of_code w.start x)
 class_spelled w q x f pq code = ((naming_of w f).spells q x pq code).1
 
--- a child's bound is that of its code
-pub child_bound : (w : Frame) (z : Board) (moves : ℕ) (child : Child (List ℕ)) → IsFrame w → IsPositionOf w.game z
-    → IsSettledChild w z moves child → IfSome child.bound (λ b. b ≡ guide_of w.kind (board_of_code w.start child.key))
-child_bound w z moves child f p (q, count, settles, code, cost, low) =
-    subst (λ k. IfSome child.bound (λ b. b ≡ k))
-    ((bounds_lower w.kind).0.alike q (board_of_code w.start child.key)
-    (class_spelled w q child.key f (settles_keep w.game w.rule z q count p settles) code)) low
-
 -- the bound of where the move led at which a walk of these classes stands is that of the code
 pub stands_guide : (v w : Frame) (kind : BoundKind) (b : Board) (m : Move) (code : List ℕ) → v ≡ w → IsFrame w
     → IsPositionOf v.game b → (at : StandsAt v b (Some m) code) → guide_of kind at.0 ≡ guide_of kind (board_of_code w.start code)
@@ -72,7 +64,7 @@ stands_guide v w kind b m code same f p (z, step, is, away) =
 pub child_once : (w : Frame) (x z : Board) (moves count : ℕ) (child : Child (List ℕ)) (y : List ℕ) → IsFrame w
     → IsPositionOf w.game x → IsPositionOf w.game z → SameClass x z → IsSettledChild w z moves child
     → SettlesTo (by_codes w.start) w.game w.rule x count y → (child.key ≡ y) × (child.cost ≡ moves + count)
-child_once w x z moves count child y f px pz same (r, number, there, code, cost, low) (q, settles, also) =
+child_once w x z moves count child y f px pz same (r, number, there, code, cost) (q, settles, also) =
     let mate = class_settle w.game w.rule x z q count same settles in
     let once = settles_once w.game w.rule z r mate.0 number count pz.position there mate.1 in
     let pr = settles_keep w.game w.rule z r number pz there in
@@ -89,8 +81,8 @@ child_exists w b code m f pb is (z, step) =
     let naming = naming_of w f in
     let name = named_settled (by_codes w.start) w.game w.rule w.start z settling.1 settling.0 naming
     (step_keeps w.game b z m pb step) (naming.steps b z m code pb is step) settling.2 in (
-      record { key = name.0; cost = 1 + settling.0; bound = None },
-      (z, step, (settling.1, settling.0, settling.2, name.1, refl, tt)),
+      record { key = name.0; cost = 1 + settling.0 },
+      (z, step, (settling.1, settling.0, settling.2, name.1, refl)),
     )
 
 -- allowed moves have their children
@@ -138,8 +130,7 @@ children_all w x moves children f valid lists are = record {
       let z = is.2.0 in
       let step = is.2.1 in
       let settled = is.2.2 in
-      let pz = step_keeps w.game at z m valid.position step in
-      ((valid, (m, z, settled.1, step, (settled.0, settled.2, settled.3), settled.4)), child_bound w z 1 child f pz settled);
+      (valid, (m, z, settled.1, step, (settled.0, settled.2, settled.3), settled.4));
   whole = λ c y edge.
       let at = board_of_code w.start x in
       let e = edge.1 in
@@ -168,7 +159,7 @@ next_child w b moves rest m child children e is are =
 -- this child starts
 pub settled_starts : (w : Frame) (child : Child (List ℕ)) → IsSettledChild w w.start 0 child
     → SettlesTo (by_codes w.start) w.game w.rule w.start child.cost child.key
-settled_starts w child (q, count, settles, code, cost, low) =
+settled_starts w child (q, count, settles, code, cost) =
     let same : count ≡ child.cost = omega (arith, cost) in
     subst (λ n. SettlesTo (by_codes w.start) w.game w.rule w.start n child.key) same (q, settles, code)
 

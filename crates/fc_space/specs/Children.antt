@@ -23,10 +23,10 @@ pub record Frame : Type 0 where
 abbrev pub frame_of : GameRules → ℕ → BoundKind → Board → Frame
 frame_of g rule kind start = record { game = g; rule = rule; kind = kind; start = start }
 
--- the child is of what the board settles to, at a cost of so many moves and those of settling, with its bound where it is told
+-- the child is of what the board settles to, at a cost of so many moves and those of settling
 abbrev pub IsSettledChild : Frame → Board → ℕ → Child (List ℕ) → Type 0
 IsSettledChild w z moves child = (q : Board) × (count : ℕ) × Settles w.game w.rule z count q × IsCodeOf w.start q child.key
-    × (child.cost ≡ moves + count) × IfSome child.bound (λ b. b ≡ guide_of w.kind q)
+    × (child.cost ≡ moves + count)
 
 -- the child is of where the move leads, once settled
 abbrev pub IsChildOf : Frame → Board → Move → Child (List ℕ) → Type 0

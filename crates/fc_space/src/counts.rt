@@ -1,4 +1,4 @@
-//! What is told of where a card is moved by where it is moved from: its bound, and whether a card may go home after it.
+//! Whether a card goes home once another was moved.
 
 ghost use Rattle.std.specs.Prelude.{◌≡◌, ◌≢◌, ℕ, IfSome, IsTrue, Some};
 ghost use Rattle.fc_cards.specs.declared.places.Place.TheVariants.{Home};
@@ -14,42 +14,11 @@ ghost use Rattle.fc_space.specs.inner.Codes.{IsCodeAfter};
 
 use crate::positions::ClassRules;
 use fc_best_first::Child;
-use fc_bound::{BoundKind, is_held_back};
 use fc_cards::{Card, Place};
 use fc_codes::Code;
 use fc_home::goes_home_from;
 use fc_moves::{Game, Move, apply};
 use fc_position::Position;
-
-// Moves a card, not home, and tells the plain bound of where it leads, by the bound of where it was moved from: it changes
-// only by whether the card is held back, before and after.
-pub(crate) fn shift<G: Game>(
-    game: &G,
-    kind: BoundKind,
-    position: &mut Position,
-    bound: u8,
-    m: Move,
-) -> Option<u8>
-    requires bound { bound ≡ guide_of kind position.old }
-    requires allowed { Allows (G.game game.now) position.old m }
-    requires away { m.to ≢ Home }
-    ensures step { Step (G.game game.now) position.old m position.new }
-    ensures bound { IfSome result (λ b. b ≡ guide_of kind position.new) }
-    ensures whole { IsPosition position.new }
-{
-    match kind {
-        BoundKind::Plain => {
-            let before = is_held_back(position, m.from) as u8;
-            apply(game, position, m);
-            let after = is_held_back(position, m.to) as u8;
-            Some(bound + after - before)
-        }
-        BoundKind::Clearing => {
-            apply(game, position, m);
-            None
-        }
-    }
-}
 
 // Whether the card beneath the playable one of a place is the next of its suit: no other one can go home once that is gone.
 #[inline(always)]
@@ -82,10 +51,8 @@ fn settled_already<G: Game + Drop>(
     rules: &ClassRules<G>,
     position: &Position,
     from: Place,
-    bound: Option<u8>,
     code: Code,
 ) -> Option<Child<Code>>
-    requires bound { IfSome bound (λ b. b ≡ guide_of rules.now.kind position.now) }
     requires others { OthersStay rules.now.rule (G.game rules.now.game) position.now from }
     ensures settled { (s : Board) → IsCodeOf s position.now code → IfSome result (IsSettledChild (frame_of (G.game rules.now.game) rules.now.rule rules.now.kind s) position.now 1) }
     ensures own { IfSome result (λ child. child.key ≡ code) }
@@ -93,11 +60,7 @@ fn settled_already<G: Game + Drop>(
     if goes_home_from(&rules.game, position, rules.rule, from) {
         return None;
     }
-    Some(Child {
-        key: code,
-        cost: 1,
-        bound,
-    })
+    Some(Child { key: code, cost: 1 })
 }
 
 // The child to which a move leads that takes no card home, to a position with this code, made by moving the card forth and back;
@@ -105,11 +68,9 @@ fn settled_already<G: Game + Drop>(
 pub(crate) fn child_shifted<G: Game + Drop>(
     rules: &ClassRules<G>,
     position: &mut Position,
-    bound: u8,
     m: Move,
     code: Code,
 ) -> Option<Child<Code>>
-    requires bound { bound ≡ guide_of rules.now.kind position.old }
     requires settled { NoneGoesHome rules.now.rule (G.game rules.now.game) position.old }
     requires whole { IsPosition position.old }
     requires allowed { Allows (G.game rules.now.game) position.old m }
@@ -120,8 +81,8 @@ pub(crate) fn child_shifted<G: Game + Drop>(
         → IfSome result (λ child. StandsAt (frame_of (G.game rules.now.game) rules.now.rule rules.now.kind s) position.old (Some m) child.key) }
     ensures same { position.new ≡ position.old }
 {
-    let bound = shift(&rules.game, rules.kind, position, bound, m);
-    let child = settled_already(rules, position, m.from, bound, code);
+    apply(&rules.game, position, m);
+    let child = settled_already(rules, position, m.from, code);
     position.shift(m.to, m.from);
     child
 }

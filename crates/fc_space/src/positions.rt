@@ -122,7 +122,7 @@ impl<G: Game + Drop> Positions<G> {
     }
 
     /// The canonical position of the class with this code, which is that of a position of the game.
-    #[inline]
+    #[inline(always)]
     pub fn position(&self, code: &Code) -> Position
         requires code { IsCodeIn self.now.start (G.game self.now.rules.game) code.now }
         ensures value { result ≡ board_of_code self.now.start code.now }
@@ -159,24 +159,21 @@ impl<G: Game + Drop> Positions<G> {
         })
     }
 
-    // Begins a walk of this space anew at a class that was reached. Its bound, which is counted where it isn't known.
-    fn set_out(&self, code: &Code, bound: Option<u8>, walk: &mut Children<G>) -> u8
+    // Begins a walk of this space anew at a class that was reached, whose bound is known.
+    fn set_out(&self, code: &Code, bound: u8, walk: &mut Children<G>)
         requires owned { IsWalkIn G.game (frame_of (G.game self.now.rules.game) self.now.rules.rule self.now.rules.kind self.now.start) walk.old }
         requires reached { (d : ℕ) × Reached (classes_in (frame_of (G.game self.now.rules.game) self.now.rules.rule self.now.rules.kind self.now.start)) code.now d }
-        requires bound { IfSome bound (λ known. known ≡ guide_of self.now.rules.kind (board_of_code self.now.start code.now)) }
+        requires bound { bound ≡ guide_of self.now.rules.kind (board_of_code self.now.start code.now) }
         ensures owned { IsWalkIn G.game (frame_of (G.game self.now.rules.game) self.now.rules.rule self.now.rules.kind self.now.start) walk.new }
         ensures children { (children : List (Child (List ℕ))) → AreChildrenBy (frame_of (G.game walk.new.game) walk.new.rule walk.new.kind walk.new.start) walk.new.position (reverse walk.new.moves) children
             → AreChildren (classes_in (frame_of (G.game self.now.rules.game) self.now.rules.rule self.now.rules.kind self.now.start)) code.now children }
-        ensures bound { result ≡ guide_of self.now.rules.kind (board_of_code self.now.start code.now) }
     {
         walk.position = self.position(code);
-        let bound = told_or_counted(self.rules.kind, &walk.position, bound);
         walk.code = *code;
         walk.bound = bound;
         walk.is_laid = false;
         list_distinct_moves(&self.rules.game, &walk.position, &mut walk.left);
         walk.last = None;
-        bound
     }
 
     // The bound of the class with this code, at which a walk of this space stands: what is told of it, by which it is counted no
@@ -216,18 +213,6 @@ impl<G: Game + Drop> Positions<G> {
     }
 }
 
-// The bound of a position, which is counted where it isn't told.
-#[inline(always)]
-fn told_or_counted(kind: BoundKind, position: &Position, told: Option<u8>) -> u8
-    requires told { IfSome told (λ bound. bound ≡ guide_of kind position.now) }
-    ensures value { result ≡ guide_of kind position.now }
-{
-    match told {
-        Some(bound) => bound,
-        None => kind.guide(position),
-    }
-}
-
 // The class that the position with this code settles to, where so many moves led to the position.
 fn settled<G: Game + Drop>(
     rules: &ClassRules<G>,
@@ -243,7 +228,6 @@ fn settled<G: Game + Drop>(
     Child {
         key: code,
         cost: moves + settling.len() as u8,
-        bound: None,
     }
 }
 
@@ -253,11 +237,9 @@ fn settled<G: Game + Drop>(
 pub(crate) fn child_by_shift<G: Game + Drop>(
     rules: &ClassRules<G>,
     position: &mut Position,
-    bound: u8,
     m: Move,
     code: Code,
 ) -> Option<Child<Code>>
-    requires bound { bound ≡ guide_of rules.now.kind position.old }
     requires settled { NoneGoesHome rules.now.rule (G.game rules.now.game) position.old }
     requires whole { IsPosition position.old }
     requires allowed { Allows (G.game rules.now.game) position.old m }
@@ -270,16 +252,11 @@ pub(crate) fn child_by_shift<G: Game + Drop>(
     if m.to == Place::Home {
         return None;
     }
-    // The clearing bound isn't told: nothing is asked of where the move leads but whether the card beneath goes home.
-    if rules.kind == BoundKind::Clearing && !frees_next(position, m.from) {
-        let bound = None;
-        return Some(Child {
-            key: code,
-            cost: 1,
-            bound,
-        });
+    // Of most moves nothing is asked but whether the card beneath is next.
+    if !frees_next(position, m.from) {
+        return Some(Child { key: code, cost: 1 });
     }
-    child_shifted(rules, position, bound, m, code)
+    child_shifted(rules, position, m, code)
 }
 
 // The child to which a move leads, to a position with this code, made on a copy of the position.
@@ -321,10 +298,6 @@ impl<G: Game + Drop> Space<Code> for Positions<G> {
         *code == Code::all_home()
     }
 
-    fn bound(&self, code: &Code) -> u8 {
-        self.rules.kind.guide(&self.position(code))
-    }
-
     fn bound_within(&self, walk: &mut Children<G>, code: &Code, most: u8) -> u8 {
         let place = walk.remembered.place(code);
         let (told, known) = walk.remembered.get(place, code, most);
@@ -341,13 +314,8 @@ impl<G: Game + Drop> Space<Code> for Positions<G> {
     }
 
     #[inline(always)]
-    fn visit(&self, code: &Code, walk: &mut Children<G>) -> u8 {
-        self.set_out(code, None, walk)
-    }
-
-    #[inline(always)]
-    fn revisit(&self, code: &Code, bound: u8, walk: &mut Children<G>) {
-        let _bound = self.set_out(code, Some(bound), walk);
+    fn visit(&self, code: &Code, bound: u8, walk: &mut Children<G>) {
+        self.set_out(code, bound, walk);
     }
 
     #[inline(always)]

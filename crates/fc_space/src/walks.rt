@@ -27,7 +27,7 @@ impl<G: Game + Drop> Children<G> {
             × (self.new.start ≡ self.old.start) × (self.new.position ≡ self.old.position) × (self.new.moves ≡ self.old.moves) }
     {
         let code = self.layout.moved(&self.code, &self.position, m);
-        match child_by_shift(&self.rules, &mut self.position, self.bound, m, code) {
+        match child_by_shift(&self.rules, &mut self.position, m, code) {
             Some(child) => {
                 self.last = Some(m);
                 child

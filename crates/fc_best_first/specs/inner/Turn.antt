@@ -12,12 +12,12 @@ use Rattle.fc_best_first.specs.declared.turns.Status.TheVariants.{Running, GaveU
 use Rattle.fc_best_first.specs.declared.turns.TheConstants.{MOST_OVER}
 use Rattle.fc_best_first.specs.Graph.{Graph, Reached}
 use Rattle.fc_best_first.specs.Store.{Store}
-use Rattle.fc_best_first.specs.Turn.{Closes, TellsBound}
+use Rattle.fc_best_first.specs.Turn.{Closes}
 
 module _ {K : Type 0} where
-  -- each of the children is a key that can be reached, and its bound is that of its key, where it is told
+  -- each of the children is a key that can be reached
   abbrev pub AreReached : Graph K → List (Child K) → Type 0
-  AreReached g children = (child : Child K) → Contains children child → ((d : ℕ) × Reached g child.key d) × TellsBound g child
+  AreReached g children = (child : Child K) → Contains children child → (d : ℕ) × Reached g child.key d
 
   -- a child of a key of this weighed cost was put off, if it was, until an f that is near
   abbrev pub IsPutOffNear : ℕ → Offered K → Type 0

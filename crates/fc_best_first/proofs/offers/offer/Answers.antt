@@ -6,13 +6,12 @@ use Rattle.fc_best_first.specs.Graph.{Task}
 use Rattle.fc_best_first.proofs.KeptLemmas.{stands_within}
 use Rattle.fc_best_first.proofs.OfferLemmas.{noted_bound, noted_within}
 use Rattle.fc_best_first.proofs.offers.offer.Goals as goal
-use Rattle.fc_best_first.proofs.offers.offer.Goals.{in-Some-noted, in-None}
 
 pub lower-requires-clause-within : goal.lower-requires-clause-within
 lower-requires-clause-within g c = stands_within c.args.book.now c.in-Some.number c.args.child.key c.in-Some.was c.in-Some.ensures.value
 
 pub lower-requires-clause-noted : goal.lower-requires-clause-noted
-lower-requires-clause-noted g c = noted_within c.args.strategy.now.expansion (g.S.Space.graph c.args.space.now) c.args.book.now
+lower-requires-clause-noted g c = noted_within (g.S.Space.graph c.args.space.now) c.args.book.now
     c.in-Some.number c.args.child.key c.in-Some.was c.requires.noted c.in-Some.ensures.value
 
 pub returns-clause-offers : goal.returns-clause-offers
@@ -20,13 +19,10 @@ returns-clause-offers g c =
     let graph = g.S.Space.graph c.args.space.now in
     let task : Task g.row.K.Denot = record { graph = graph; strategy = c.args.strategy.now; limit = c.args.taken.now.limit } in
     let number = c.in-Some.number in
-    let bound : c.match-noted.bound ≡ graph.bound c.args.child.key = elim c.match-noted.branch [
-      | in-Some-noted w ↦ w.bound-is ∙ noted_bound c.args.strategy.now.expansion graph c.args.book.now number c.args.child.key c.in-Some.was
-          w.in-Some-noted.opening c.requires.noted c.in-Some.ensures.value w.in-Some-noted.ensures.value
-      | in-None w ↦ w.bound-is ∙ w.bound_of-bound-in-None.ensures.value
-    ] in
-    let opening : c.new-2.result ≡ opening_of task c.args.child.key =
-    c.new-2.ensures.value ∙ ap (λ b. record { over = c.args.strategy.now.weight.times * b; bound = b }) bound in (
+    let bound = noted_bound graph c.args.book.now number c.args.child.key c.in-Some.was c.opening.result c.requires.noted
+    c.in-Some.ensures.value c.opening.ensures.value in
+    let opening : c.new-opening.result ≡ opening_of task c.args.child.key =
+    c.new-opening.ensures.value ∙ ap (λ b. record { over = c.args.strategy.now.weight.times * b; bound = b }) bound in (
       number,
       c.in-Some.was,
       c.in-Some.ensures.value,

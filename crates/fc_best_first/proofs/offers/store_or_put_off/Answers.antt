@@ -1,26 +1,21 @@
 use Rattle.std.proofs.Common.{◌≡◌, ◌+◌, ◌*◌, ◌≤◌, ap, subst, sym, refl, arith}
-use Rattle.std.specs.Prelude.{IfSome}
 use Rattle.fc_best_first.specs.declared.books.Mark.{Mark}
 use Rattle.fc_best_first.specs.declared.books.Opening.{Opening}
 use Rattle.fc_best_first.specs.Store.{PutsOff}
 use Rattle.fc_best_first.proofs.OfferLemmas.{off_own, off_within, open_near}
 use Rattle.fc_best_first.proofs.offers.store_or_put_off.Goals as goal
-use Rattle.fc_best_first.proofs.offers.store_or_put_off.Goals.{in-Some, in-None}
 
 pub returns-then-f-taken-clause-offers : goal.returns-then-f-taken-clause-offers
 returns-then-f-taken-clause-offers g c =
     let graph = g.S.Space.graph c.args.space.now in
     let weight = c.args.strategy.now.weight in
     let mark = c.onward-mark.result.cost in
-    let counted = c.match-bound.bound in
+    let counted = c.bound_within-bound.result in
     let later = c.opens_at-f.result in
     let level : mark ≡ c.args.taken.now.origin.cost + c.args.child.cost = ap (λ (m : Mark). m.cost) c.onward-mark.ensures.value in
     let over = ap (λ (o : Opening). o.over) c.new-opening.ensures.value in
     let is : later ≡ weight.parts * mark + weight.times * counted = omega (arith, c.opens_at-f.ensures.value, over) in
-    let under : counted ≤ graph.bound c.args.child.key = elim c.match-bound.branch [
-      | in-Some w ↦ let told = subst (λ o. IfSome o (λ b. b ≡ graph.bound c.args.child.key)) w.in-Some.is c.requires.told in omega (arith, told, w.bound-is)
-      | in-None w ↦ omega (arith, w.bound_within-bound.ensures.under, w.bound-is)
-    ] in
+    let under : counted ≤ graph.bound c.args.child.key = c.bound_within-bound.ensures.under in
     let own = off_own weight (c.args.taken.now.origin.cost + c.args.child.cost) mark counted (graph.bound c.args.child.key) later level under is in
     let below = c.if-reaches_limit.ensures.below (λ yes. let not_yes = c.if-reaches_limit.false in cc) in (
       c.requires.new,

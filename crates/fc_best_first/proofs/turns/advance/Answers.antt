@@ -1,16 +1,16 @@
-use Rattle.std.proofs.Common.{◌≡◌, ◌-◌, ◌≤◌, Option, Some, inl, length, subst, sym, arith, refl}
-use Rattle.std.specs.Prelude.{IfOk, IsTrue, MatchOption, slice_get}
+use Rattle.std.proofs.Common.{◌≡◌, ◌≤◌, Option, Some, ap, inl, length, subst, sym, arith}
+use Rattle.std.specs.Prelude.{IfOk, slice_get}
 use Rattle.std.proofs.lemmas.Result.{IfOk-weaker}
 use Rattle.fc_best_first.specs.Graph.{Task}
 use Rattle.fc_best_first.specs.Store.{IsTaken, weighed}
-use Rattle.fc_best_first.specs.Turn.{Advances, Closes, ExpandsTaken, IsPresent, IsStale}
+use Rattle.fc_best_first.specs.Turn.{Advances, Closes, ExpandsTaken}
 use Rattle.fc_best_first.specs.inner.Turn.{Becomes, IsReady}
-use Rattle.fc_best_first.specs.Kept.{f_of}
 use Rattle.fc_best_first.proofs.KeptLemmas.{entry_low, entry_reached, pair_high, stands_within, taken_floor, taken_within}
 use Rattle.fc_best_first.proofs.ClosedLemmas.{kept_back, noted_same}
-use Rattle.fc_best_first.proofs.TurnLemmas.{becomes_advances, children_reached, expands_grow, placing_ready, taken_present}
+use Rattle.fc_best_first.proofs.OfferLemmas.{noted_bound}
+use Rattle.fc_best_first.proofs.TurnLemmas.{becomes_advances, children_reached, expands_grow, placing_ready}
 use Rattle.fc_best_first.proofs.turns.advance.Goals as goal
-use Rattle.fc_best_first.proofs.turns.advance.Goals.{After-visit_present}
+use Rattle.fc_best_first.proofs.turns.advance.Goals.{After-opens_at}
 
 pub at-requires : goal.at-requires
 at-requires g c =
@@ -24,21 +24,42 @@ pub returns-then-is_won-clause-floor : goal.returns-then-is_won-clause-floor
 returns-then-is_won-clause-floor g c = taken_floor c.args.book.now.waiting c.take.new.self.waiting c.in-Some.f c.in-Some.number c.args.floor.now
     c.max.result c.in-Some.ensures.taken c.in-Some.ensures.least c.max.ensures
 
-pub overflow_sub-over : goal.overflow_sub-over
-overflow_sub-over g c =
+pub opening-opening-requires : goal.opening-opening-requires
+opening-opening-requires g c =
     let task : Task g.row.K.Denot = record { graph = g.S.Space.graph c.args.space.now; strategy = c.args.strategy.now; limit = c.args.limit } in
-    let stands = kept_back c.args.book.now c.take.new.self c.in-Some.number c.at.result.0.now c.at.result.1 c.in-Some.ensures.kept c.at.ensures.stands in
-    let high = pair_high task c.args.book.now c.in-Some.f c.in-Some.number c.take.new.self.waiting c.at.result.0.now c.at.result.1
-    c.requires.kept.sound c.in-Some.ensures.taken stands in
-    omega (arith, high)
+    let within = taken_within task c.args.book.now c.take.new.self c.in-Some.f
+    c.in-Some.number c.requires.kept.sound c.in-Some.ensures.taken c.in-Some.ensures.kept in
+    let size = ap length c.in-Some.ensures.kept in
+    let long = c.requires.kept.sound.noted.0 in
+    let same = ap length c.in-Some.ensures.noted in
+    record { noted = omega (arith, within, size, long, same) }
 
-pub visit_present-requires-clause-reached : goal.visit_present-requires-clause-reached
-visit_present-requires-clause-reached g c =
+pub opens_at-requires : goal.opens_at-requires
+opens_at-requires g c =
+    let most = entry_low (record { graph = g.S.Space.graph c.args.space.now; strategy = c.args.strategy.now; limit = c.args.limit }) c.args.book.now c.take.new.self c.in-Some.number _ _
+    c.requires.kept.sound c.get.ensures.range.greatest c.in-Some.ensures.kept c.at.ensures.stands in
+    record { low = omega (arith, most) }
+
+pub weighed-cost-requires : goal.weighed-cost-requires
+weighed-cost-requires g c =
+    let most = entry_low (record { graph = g.S.Space.graph c.args.space.now; strategy = c.args.strategy.now; limit = c.args.limit }) c.args.book.now c.take.new.self c.in-Some.number _ _
+    c.requires.kept.sound c.get.ensures.range.greatest c.in-Some.ensures.kept c.at.ensures.stands in
+    record { low = omega (arith, most) }
+
+pub visit-requires-clause-reached : goal.visit-requires-clause-reached
+visit-requires-clause-reached g c =
     entry_reached (record { graph = g.S.Space.graph c.args.space.now; strategy = c.args.strategy.now; limit = c.args.limit }) c.args.book.now c.take.new.self
     c.in-Some.number _ _ c.requires.kept.sound c.in-Some.ensures.kept c.at.ensures.stands
 
+pub visit-requires-clause-bound : goal.visit-requires-clause-bound
+visit-requires-clause-bound g c =
+    noted_bound (g.S.Space.graph c.args.space.now) c.args.book.now c.in-Some.number c.at.result.0.now c.at.result.1 c.opening-opening.result
+    c.requires.kept.sound.noted
+    (kept_back c.args.book.now c.take.new.self c.in-Some.number c.at.result.0.now c.at.result.1 c.in-Some.ensures.kept c.at.ensures.stands)
+    (subst (λ os. slice_get os c.in-Some.number ≡ Some c.opening-opening.result) c.in-Some.ensures.noted c.opening-opening.ensures.value)
+
 -- the pair that is taken
-taken : (g : _) (c : After-visit_present g) → IsTaken c.args.book.now c.take.new.self c.in-Some.f c.in-Some.number c.at.result.0.now c.at.result.1
+taken : (g : _) (c : After-opens_at g) → IsTaken c.args.book.now c.take.new.self c.in-Some.f c.in-Some.number c.at.result.0.now c.at.result.1
 taken g c = record {
   taken = c.in-Some.ensures.taken;
   least = c.in-Some.ensures.least;
@@ -48,46 +69,39 @@ taken g c = record {
 }
 
 -- its weighed cost is no more than its f
-low : (g : _) (c : After-visit_present g) → weighed c.args.strategy.now c.at.result.1 ≤ c.in-Some.f
+low : (g : _) (c : After-opens_at g) → weighed c.args.strategy.now c.at.result.1 ≤ c.in-Some.f
 low g c =
     let task : Task g.row.K.Denot = record { graph = g.S.Space.graph c.args.space.now; strategy = c.args.strategy.now; limit = c.args.limit } in
     let high = pair_high task c.args.book.now c.in-Some.f c.in-Some.number c.take.new.self.waiting c.at.result.0.now c.at.result.1
     c.requires.kept.sound c.in-Some.ensures.taken (taken g c).stands in
     omega (arith, high)
 
--- whether it is the present one of its key
-present : (g : _) (c : After-visit_present g)
-    → (IsTrue c.visit_present.result → IsPresent c.args.strategy.now.expansion c.args.book.now c.in-Some.number (weighed c.args.strategy.now c.at.result.1)
-    (f_of (record { graph = g.S.Space.graph c.args.space.now; strategy = c.args.strategy.now; limit = c.args.limit }) c.at.result.0.now c.at.result.1) c.in-Some.f)
-    × ((IsTrue c.visit_present.result → ⊥) → IsStale c.args.strategy.now.expansion c.args.book.now c.in-Some.number (weighed c.args.strategy.now c.at.result.1)
-    (f_of (record { graph = g.S.Space.graph c.args.space.now; strategy = c.args.strategy.now; limit = c.args.limit }) c.at.result.0.now c.at.result.1) c.in-Some.f)
-present g c =
-    let task : Task g.row.K.Denot = record { graph = g.S.Space.graph c.args.space.now; strategy = c.args.strategy.now; limit = c.args.limit } in
-    let le = low g c in
-    taken_present c.args.strategy.now.expansion task c.args.book.now c.in-Some.number c.at.result.0.now c.at.result.1 c.in-Some.f
-    (c.in-Some.f - c.weighed-cost.result) c.noted.result c.visit_present.result c.requires.kept.sound.noted (taken g c).stands le (omega (arith, le, c.weighed-cost.ensures.value))
-    (subst (λ os. MatchOption c.noted.result (length os ≤ c.in-Some.number) (λ o. slice_get os c.in-Some.number ≡ Some o)) c.in-Some.ensures.noted
-    c.noted.ensures.value)
-    c.visit_present.ensures.present
+-- where its key was opened last
+opened : (g : _) (c : After-opens_at g) → slice_get c.args.book.now.openings c.in-Some.number ≡ Some c.opening-opening.result
+opened g c = subst (λ os. slice_get os c.in-Some.number ≡ Some c.opening-opening.result) c.in-Some.ensures.noted c.opening-opening.ensures.value
 
-not_won : (g : _) (c : After-visit_present g) → (g.S.Space.graph c.args.space.now).won c.at.result.0.now → ⊥
+not_won : (g : _) (c : After-opens_at g) → (g.S.Space.graph c.args.space.now).won c.at.result.0.now → ⊥
 not_won g c won = let yes = c.is_won.ensures.value.1 won in let no = c.if-is_won.false in cc
 
-pub returns-then-not-visit_present-clause-floor : goal.returns-then-not-visit_present-clause-floor
-returns-then-not-visit_present-clause-floor g c = taken_floor c.args.book.now.waiting c.take.new.self.waiting c.in-Some.f c.in-Some.number c.args.floor.now
+pub returns-then-f-opens_at-clause-floor : goal.returns-then-f-opens_at-clause-floor
+returns-then-f-opens_at-clause-floor g c = taken_floor c.args.book.now.waiting c.take.new.self.waiting c.in-Some.f c.in-Some.number c.args.floor.now
     c.max.result c.in-Some.ensures.taken c.in-Some.ensures.least c.max.ensures
 
-pub returns-then-not-visit_present-clause-takes : goal.returns-then-not-visit_present-clause-takes
-returns-then-not-visit_present-clause-takes g c =
-    let now = goal.at.returns-then-not-visit_present-clause-takes g c in
+pub returns-then-f-opens_at-clause-takes : goal.returns-then-f-opens_at-clause-takes
+returns-then-f-opens_at-clause-takes g c =
+    let now = goal.at.returns-then-f-opens_at-clause-takes g c in
     inl (
       c.in-Some.f,
       c.in-Some.number,
       c.at.result.0.now,
       c.at.result.1,
-      taken g now.After-visit_present,
-      not_won g now.After-visit_present,
-      (present g now.After-visit_present).1 (λ yes. let no = c.if-not-visit_present.true in cc),
+      taken g now.After-opens_at,
+      not_won g now.After-opens_at,
+      (
+        c.opening-opening.result,
+        opened g now.After-opens_at,
+        λ same. let no = c.if-f-opens_at.true in omega (arith, c.opens_at.ensures.value, same, no),
+      ),
     )
 
 pub expand-requires-clause-low : goal.expand-requires-clause-low
@@ -96,7 +110,7 @@ expand-requires-clause-low g c =
     c.requires.kept.sound c.get.ensures.range.greatest c.in-Some.ensures.kept c.at.ensures.stands
 
 pub expand-requires-clause-noted : goal.expand-requires-clause-noted
-expand-requires-clause-noted g c = noted_same c.args.strategy.now.expansion (g.S.Space.graph c.args.space.now) c.args.book.now
+expand-requires-clause-noted g c = noted_same (g.S.Space.graph c.args.space.now) c.args.book.now
     c.take.new.self c.in-Some.ensures.kept c.in-Some.ensures.noted c.requires.kept.sound.noted
 
 pub expand-requires-clause-reached : goal.expand-requires-clause-reached
@@ -104,7 +118,7 @@ expand-requires-clause-reached g c = λ children rest.
     children_reached (g.S.Space.graph c.args.space.now) c.at.result.0.now children
     (entry_reached (record { graph = g.S.Space.graph c.args.space.now; strategy = c.args.strategy.now; limit = c.args.limit }) c.args.book.now c.take.new.self
     c.in-Some.number _ _ c.requires.kept.sound c.in-Some.ensures.kept c.at.ensures.stands)
-    (c.if-not-visit_present.ensures.children refl children rest)
+    (c.visit.ensures.children children rest)
 
 pub returns-in_err-placing-clause-floor : goal.returns-in_err-placing-clause-floor
 returns-in_err-placing-clause-floor g c = taken_floor c.args.book.now.waiting c.take.new.self.waiting c.in-Some.f c.in-Some.number c.args.floor.now
@@ -121,7 +135,7 @@ close-requires g c =
       later = subst (λ k. IsReady c.expand.new.book c.in-Some.number k c.in_ok-placing.placing) (sym c.weighed-cost.ensures.value)
           (placing_ready c.args.strategy.now.expansion (g.S.Space.graph c.args.space.now) c.expand.new.book c.in-Some.number c.in-Some.f
           (weighed c.args.strategy.now c.at.result.1) c.in_ok-placing.placing c.in_ok-placing.ensures.noted (omega (arith, lt, grow))
-          (low g now.After-visit_present) c.in_ok-placing.ensures.near);
+          (low g now.After-opens_at) c.in_ok-placing.ensures.near);
     }
 
 pub returns-clause-takes : goal.returns-clause-takes
@@ -135,12 +149,16 @@ returns-clause-takes g c =
       c.at.result.0.now,
       c.at.result.1,
       c.take.new.self,
-      taken g now.After-visit_present,
-      not_won g now.After-visit_present,
-      (present g now.After-visit_present).0 c.if-not-visit_present.false,
+      taken g now.After-opens_at,
+      not_won g now.After-opens_at,
+      (
+        c.opening-opening.result,
+        opened g now.After-opens_at,
+        let yes = c.if-f-opens_at.false in omega (arith, c.opens_at.ensures.value, yes),
+      ),
       (
         expands.0,
-        c.if-not-visit_present.ensures.children refl expands.0 expands.1,
+        c.visit.ensures.children expands.0 expands.1,
         (c.expand.new.book, c.in_ok-placing.placing, expands.2, closes),
       ),
     ) in

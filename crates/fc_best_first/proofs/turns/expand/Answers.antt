@@ -25,14 +25,8 @@ loop-child-init g c = record {
 pub offer-requires-clause-reached : goal.offer-requires-clause-reached
 offer-requires-clause-reached g c =
     let rest = c.in-Some.ensures.some in
-    (c.loop-child.invariant.reached (c.in-Some.child ∷ rest.0) (c.in-Some.ensures.next rest.0 rest.1) c.in-Some.child
-    (front_there c.in-Some.child rest.0)).0
-
-pub offer-requires-clause-told : goal.offer-requires-clause-told
-offer-requires-clause-told g c =
-    let rest = c.in-Some.ensures.some in
-    (c.loop-child.invariant.reached (c.in-Some.child ∷ rest.0) (c.in-Some.ensures.next rest.0 rest.1) c.in-Some.child
-    (front_there c.in-Some.child rest.0)).1
+    c.loop-child.invariant.reached (c.in-Some.child ∷ rest.0) (c.in-Some.ensures.next rest.0 rest.1) c.in-Some.child
+    (front_there c.in-Some.child rest.0)
 
 pub returns-in-Full-clause-expands : goal.returns-in-Full-clause-expands
 returns-in-Full-clause-expands g c =

@@ -13,7 +13,7 @@ abbrev pub invariant-loop-child : goal.invariant-loop-child
 invariant-loop-child g l = record {
   owned : g.S.Space.owns l.space l.walk;
   room : length l.book.stored ≤ l.strategy.budget;
-  noted : AreNoted l.strategy.expansion (g.S.Space.graph l.space) l.book;
+  noted : AreNoted (g.S.Space.graph l.space) l.book;
   near : IsLaterNear {K = g.row.K.Denot} l.strategy.expansion l.taken.f (weighed l.strategy l.taken.origin) (put_off_first l.later Whole);
   reached : (children : List (Child g.row.K.Denot)) → g.S.Space.rest l.walk children → AreReached (g.S.Space.graph l.space) children;
   onward : (new : Store g.row.K.Denot) (placing : Placing g.row.K.Denot) (children : List (Child g.row.K.Denot))

@@ -9,4 +9,4 @@ returns-clause-settled g c =
     let b = c.args.position.now in
     let game = g.G.Game.game c.args.rules.now.game in
     let stays = refuted c.goes_home_from.result c.goes_home_from.ensures.value c.if-goes_home_from.false in
-    (b, 0, settled_here c.args.rules.now.rule game b c.args.from c.requires.others stays, coded, refl, c.requires.bound)
+    (b, 0, settled_here c.args.rules.now.rule game b c.args.from c.requires.others stays, coded, refl)

@@ -17,7 +17,7 @@ returns-then-not-frees_next-clause-child g c s after =
     let step = c.requires.allowed.1 in
     let here = settled_here rule game z m.from (others_stay rule game b z m step away c.requires.settled)
     (beneath_stays rule game b z m c.frees_next.result step away c.frees_next.ensures.next c.if-not-frees_next.true) in
-    (z, step, (z, 0, here, after z step, refl, tt))
+    (z, step, (z, 0, here, after z step, refl))
 
 pub returns-then-not-frees_next-clause-stands : goal.returns-then-not-frees_next-clause-stands
 returns-then-not-frees_next-clause-stands g c s after =

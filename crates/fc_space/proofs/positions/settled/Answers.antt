@@ -9,6 +9,5 @@ returns g c = record {
     (c.settle_coded-settling.result.0.items, sym c.len.ensures.value, c.settle_coded-settling.ensures.settled),
     c.settle_coded-settling.ensures.coded s coded,
     refl,
-    tt,
   );
 }

@@ -1,7 +1,7 @@
 use Rattle.std.proofs.Common.{◌≡◌, ◌++◌, ◌∷◌, [], length, sym, ap, subst, ◌∙◌, arith}
 use Rattle.indexmap.proofs.CallerLemmas.{insert_entry-new}
 use Rattle.fc_frontier.specs.Queue.{Adds}
-use Rattle.fc_best_first.specs.Store.{IsStored, NotesLast, opens_at, weighed}
+use Rattle.fc_best_first.specs.Store.{IsStored}
 use Rattle.fc_best_first.proofs.StoreLemmas.{none_found, adds_along}
 use Rattle.fc_best_first.proofs.books.Book.add.Goals as goal
 
@@ -17,16 +17,14 @@ returns g c =
     let waiting : g.F.Frontier.pairs c.self-2.inside.queue ≡ c.args.self.now.waiting = ap (λ s. s.waiting) same in
     let openings : c.self-2.inside.openings.items ≡ c.args.self.now.openings = ap (λ s. s.openings) same in
     let number : c.len-number.result ≡ length c.args.self.now.stored = omega arith in
-    let noted = c.in_ok-note_last.ensures in
     record {
       stores = (
         omega arith,
-        noted.stored ∙ c.in_ok-insert.ensures.entries
+        c.in_ok-insert.ensures.entries
             ∙ insert_entry-new test c.self-2.inside.table c.args.key c.args.mark (rw stored fresh)
             ∙ ap (λ es. es ++ (c.args.key, c.args.mark) ∷ []) stored,
-        subst (λ ps. Adds c.args.self.now.waiting ps (opens_at (weighed c.args.strategy.now c.args.mark) c.args.opening, length c.args.self.now.stored)) (sym noted.waiting)
-            (subst (λ f. Adds c.args.self.now.waiting (g.F.Frontier.pairs c.push_tied.new.self) (f, length c.args.self.now.stored)) c.opens_at.ensures.value
+        (subst (λ f. Adds c.args.self.now.waiting (g.F.Frontier.pairs c.push_tied.new.self) (f, length c.args.self.now.stored)) c.opens_at.ensures.value
             (adds_along (g.F.Frontier.pairs c.self-2.inside.queue) c.args.self.now.waiting _ c.opens_at.result _ _ waiting number c.in_ok-push_tied.ensures.added)),
-        subst (λ os. NotesLast c.args.strategy.now.expansion os c.note_last.new.self.openings c.args.opening) openings noted.noted,
+        subst (λ os. c.push.new.self.items ≡ os ++ c.args.opening ∷ []) openings c.in_ok-push.ensures.items,
       );
     }

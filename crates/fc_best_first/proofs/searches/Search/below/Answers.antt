@@ -1,10 +1,10 @@
-use Rattle.std.proofs.Common.{◌≡◌, ◌*◌, ◌≤◌, ℕ, [], sym, subst, refl, ap, ◌∙◌}
+use Rattle.std.proofs.Common.{◌≡◌, ◌*◌, ◌≤◌, ℕ, [], ◌∷◌, sym, subst, refl, ap, ◌∙◌, arith}
 use Rattle.fc_frontier.specs.Queue.{Adds}
 use Rattle.fc_best_first.specs.declared.books.Mark.{Mark}
 use Rattle.fc_best_first.specs.declared.books.Opening.{Opening}
 use Rattle.fc_best_first.specs.Graph.{Task}
 use Rattle.fc_best_first.specs.Shown.{IsFloor}
-use Rattle.fc_best_first.specs.Store.{NotesLast, opens_at, weighed}
+use Rattle.fc_best_first.specs.Store.{opens_at, weighed}
 use Rattle.fc_best_first.specs.Turn.{opening_of}
 use Rattle.fc_best_first.proofs.BeginLemmas.{first_stored, begins_kept, begins_floor}
 use Rattle.fc_best_first.proofs.searches.Search.below.Goals as goal
@@ -12,8 +12,8 @@ use Rattle.fc_best_first.proofs.searches.Search.below.Goals as goal
 abbrev opening_at : ℕ → ℕ → Opening
 opening_at times bound = record { over = times * bound; bound = bound }
 
-pub bound_of-requires-clause-reached : goal.bound_of-requires-clause-reached
-bound_of-requires-clause-reached g c = (_, (0, c.in_ok-start.ensures.starts))
+pub bound_within-requires-clause-reached : goal.bound_within-requires-clause-reached
+bound_within-requires-clause-reached g c = (_, (0, c.in_ok-start.ensures.starts))
 
 pub invariant_of-result : goal.invariant_of-result
 invariant_of-result g c =
@@ -24,12 +24,12 @@ invariant_of-result g c =
     let some_room : 1 ≤ c.args.strategy.budget = c.get.ensures.range.least in
     let heavy : c.args.strategy.weight.parts ≤ c.args.strategy.weight.times = c.parts.ensures.range.above in
     let opening : c.new-opening.result ≡ opening_of task key =
-    c.new-opening.ensures.value ∙ ap (opening_at c.args.strategy.weight.times) c.bound_of.ensures.value in
+    c.new-opening.ensures.value ∙ ap (opening_at c.args.strategy.weight.times) (c.bound_within.ensures.exact (omega arith)) in
     let first = first_stored c.args.strategy c.new-book.result c.add.new.self
     (record { key = key; mark = mark; opening = c.new-opening.result }) c.in_ok-_stored._stored
     c.new-book.ensures.stored c.new-book.ensures.waiting c.new-book.ensures.openings some_room c.in_ok-_stored.ensures.stores in
     let opened = subst (λ (o : Opening). Adds [] c.add.new.self.waiting (opens_at (weighed c.args.strategy mark) o, 0)) opening first.1 in
-    let notes = subst (λ (o : Opening). NotesLast c.args.strategy.expansion [] c.add.new.self.openings o) opening first.2 in
+    let notes = first.2 ∙ ap (λ (o : Opening). o ∷ []) opening in
     let start = subst (graph.starts key) (sym c.from.ensures) c.in_ok-start.ensures.starts in
     let alone : (y : g.row.K.Denot) (d : ℕ) → graph.starts y d → (y ≡ key) × (c.from.result ≤ d) =
     λ y d h. let a = c.in_ok-start.ensures.alone y d h in (a.0, subst (λ k. k ≤ d) (sym c.from.ensures) a.1) in (
@@ -38,5 +38,5 @@ invariant_of-result g c =
       begins_kept task c.add.new.self key mark first.0 opened notes (g.met.S.Space.lawful c.args.space) heavy start alone some_room refl,
       subst (IsFloor graph c.args.strategy.weight) (sym (c.opens_at.ensures.value ∙ ap (opens_at (weighed c.args.strategy mark)) opening))
           (begins_floor task c.add.new.self key mark first.0 opened notes (g.met.S.Space.lawful c.args.space) heavy start alone),
-      c.bound_of.ensures.owned,
+      c.bound_within.ensures.owned,
     )

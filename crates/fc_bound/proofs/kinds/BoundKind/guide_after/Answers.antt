@@ -1,19 +1,16 @@
-use Rattle.std.proofs.Common.{◌≡◌, refl, sym, ◌∙◌, arith}
-use Rattle.fc_bound.proofs.FareLemmas.{guide_lifted, guide_small}
+use Rattle.std.proofs.Common.{◌≡◌, Option, Some, None, sym, subst, ◌∙◌, ap}
+use Rattle.std.specs.Prelude.{IfSome}
+use Rattle.fc_cards.specs.declared.places.Place.TheVariants.{Home}
+use Rattle.fc_position.specs.Board.{Board}
+use Rattle.fc_moves.specs.GameRules.{GameRules}
+use Rattle.fc_moves.specs.Step.{Step}
+use Rattle.fc_bound.specs.Kinds.{guide_of}
 use Rattle.fc_bound.proofs.kinds.BoundKind.guide_after.Goals as goal
 
-pub overflow_add-result : goal.overflow_add-result
-overflow_add-result c =
-    let b = c.args.position.now in
-    omega (arith, c.requires.bound, c.in_ok-more.ensures.most, guide_small c.args.self b c.playable.ensures.whole)
+pub returns-in-Plain-clause-value : goal.returns-in-Plain-clause-value
+returns-in-Plain-clause-value c g z step away = c.bound_after.ensures.value g z step away ∙ ap (λ k. guide_of k z) (sym c.in-Plain.is)
 
-pub returns-clause-value : goal.returns-clause-value
-returns-clause-value c g z step away =
-    let b = c.args.position.now in
-    let m = c.args.m in
-    let same : step.card ≡ c.in_ok-card.card =
-    let x = sym step.playable ∙ sym c.playable.ensures.value ∙ c.in_ok-card.was in cc in
-    let lifted_same = guide_lifted c.args.self g b z m step away in
-    let before = c.in_ok-fare.ensures.fare in
-    let after = c.in_ok-more.ensures.fare g z m step same refl in
-    omega (arith, c.requires.bound, before, after, lifted_same)
+pub returns-in-Clearing-clause-value : goal.returns-in-Clearing-clause-value
+returns-in-Clearing-clause-value c =
+    subst (λ k. IfSome c.knots_after.result (λ after. (g : GameRules) (z : Board) → Step g c.args.position.now c.args.m z → (c.args.m.to ≡ Home → ⊥) → after ≡ guide_of k z))
+    (sym c.in-Clearing.is) c.knots_after.ensures.value

@@ -1,4 +1,4 @@
-use Rattle.std.proofs.Common.{◌≡◌, IfSome, reverse, sym, subst, ap, ◌∙◌}
+use Rattle.std.proofs.Common.{◌≡◌, reverse, sym, subst, ap, ◌∙◌}
 use Rattle.fc_moves.specs.GameRules.{IsPositionOf}
 use Rattle.fc_canonical.specs.Distinct.{ListsClasses}
 use Rattle.fc_codes.specs.Spelled.{board_of_code}
@@ -18,11 +18,6 @@ position-walk-inside-requires g c =
     let f : IsFrame w = record { sound = g.met.G.Game.sound own.rules.game; fits = own.fits } in
     record { code = (reached_code w c.args.code.now c.requires.reached.0 f c.requires.reached.1).0 }
 
-pub told_or_counted-bound-requires : goal.told_or_counted-bound-requires
-told_or_counted-bound-requires g c = record {
-  told = subst (λ b. IfSome c.args.bound (λ known. known ≡ guide_of c.args.self.now.rules.kind b)) (sym c.position-walk-inside.ensures.value) c.requires.bound;
-}
-
 pub invariant_of-walk : goal.invariant_of-walk
 invariant_of-walk g c =
     let own = c.args.self.now in
@@ -38,11 +33,11 @@ invariant_of-walk g c =
     let valid = reached.0 in
     let same = sym c.position-walk-inside.ensures.value in
     let kept =
-    subst (λ (u : Frame). IsPositionOf u.game p × AreAllowed u.game p moves × (c.told_or_counted-bound.result ≡ guide_of u.kind p) × NoneGoesHome u.rule u.game p
+    subst (λ (u : Frame). IsPositionOf u.game p × AreAllowed u.game p moves × (c.args.bound ≡ guide_of u.kind p) × NoneGoesHome u.rule u.game p
     × IsCodeOf u.start p x) (sym here) (
       subst (IsPositionOf w.game) same valid.position,
       c.list_distinct_moves.ensures.classes.allowed,
-      c.told_or_counted-bound.ensures.value,
+      c.requires.bound ∙ ap (guide_of w.kind) same,
       subst (NoneGoesHome w.rule w.game) same (none_goes w.rule w.game (board_of_code w.start x) reached.1),
       subst (λ b. IsCodeOf w.start b x) same valid.coded,
     ) in
@@ -67,5 +62,4 @@ returns g c =
       children = λ children are. children_all w x moves children f valid lists
           (subst (λ b. AreChildrenBy w b (reverse moves) children) c.position-walk-inside.ensures.value
           (subst (λ (u : Frame). AreChildrenBy u p (reverse moves) children) here are));
-      bound = c.told_or_counted-bound.ensures.value ∙ ap (guide_of own.rules.kind) c.position-walk-inside.ensures.value;
     }

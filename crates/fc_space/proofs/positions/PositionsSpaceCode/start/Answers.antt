@@ -1,7 +1,7 @@
 use Rattle.std.proofs.Common.{sym, subst}
 use Rattle.fc_codes.specs.State.{IsCodeOf}
 use Rattle.fc_space.specs.Children.{frame_of, IsSettledChild}
-use Rattle.fc_space.proofs.ChildLemmas.{IsFrame, child_bound, settled_starts, start_alone}
+use Rattle.fc_space.proofs.ChildLemmas.{IsFrame, settled_starts, start_alone}
 use Rattle.fc_space.proofs.positions.PositionsSpaceCode.start.Goals as goal
 
 pub walk-requires : goal.walk-requires
@@ -39,15 +39,3 @@ returns-clause-alone g c =
     (subst (λ s. IsCodeOf s s c.start_code.result) own.laid c.start_code.ensures.value) in
     let settled = subst (λ b. IsSettledChild w b 0 child) c.copy.ensures.value (c.settled-child.ensures.settled w.start coded) in
     start_alone w child f settled
-
-pub returns-clause-told : goal.returns-clause-told
-returns-clause-told g c =
-    let own = c.args.self.now in
-    let w = frame_of (g.G.Game.game own.rules.game) own.rules.rule own.rules.kind own.start in
-    let f : IsFrame w = record { sound = g.met.G.Game.sound own.rules.game; fits = own.fits } in
-    let child = c.settled-child.result in
-    let coded : IsCodeOf w.start c.copy.result c.start_code.result =
-    subst (λ b. IsCodeOf w.start b c.start_code.result) (sym c.copy.ensures.value)
-    (subst (λ s. IsCodeOf s s c.start_code.result) own.laid c.start_code.ensures.value) in
-    let settled = subst (λ b. IsSettledChild w b 0 child) c.copy.ensures.value (c.settled-child.ensures.settled w.start coded) in
-    child_bound w w.start 0 child f own.fits settled

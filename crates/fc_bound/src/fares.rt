@@ -1,0 +1,84 @@
+//! What a move that takes no card home changes in a bound, where that is plain to see: what its card adds, before and after.
+
+ghost use Rattle.std.specs.Prelude.{◌≡◌, ◌≢◌, ◌+◌, ◌≤◌, Some, IfSome};
+ghost use Rattle.fc_cards.specs.declared.places.Place.TheVariants.{Home};
+ghost use Rattle.fc_position.specs.Board.{Board, lifted, playable};
+ghost use Rattle.fc_position.specs.Position.{IsPosition};
+ghost use Rattle.fc_moves.specs.declared.steps.Move.{Move};
+ghost use Rattle.fc_moves.specs.GameRules.{GameRules};
+ghost use Rattle.fc_moves.specs.Step.{Step};
+ghost use Rattle.fc_bound.specs.Bound.{bound, is_held_back};
+ghost use Rattle.fc_bound.specs.Knots.{knot_bound};
+
+use crate::bounds::{is_above, is_held_back};
+use fc_cards::{Card, Place};
+use fc_moves::Move;
+use fc_position::Position;
+
+// Whether a card is held back where it is put.
+#[inline]
+fn is_held_there(position: &Position, card: Card, to: Place) -> bool
+    ensures value { (g : GameRules) (z : Board) (m : Move) (step : Step g position.now m z) → step.card ≡ card → m.to ≡ to → to ≢ Home
+        → result ≡ is_held_back z card }
+{
+    let _cell = position.cell(0);
+    match to {
+        Place::Column(i) => is_above(position, i, card),
+        _ => false,
+    }
+}
+
+// The plain bound of where a move of this card leads that takes it not home, by the bound of where it is made: it changes only by
+// whether the card is held back, before and after.
+#[inline]
+pub(crate) fn bound_after(position: &Position, card: Card, m: Move, low: u8) -> u8
+    requires bound { low ≡ bound position.now }
+    requires card { playable position.now m.from ≡ Some card }
+    ensures value { (g : GameRules) (z : Board) → Step g position.now m z → m.to ≢ Home → result ≡ bound z }
+{
+    let before = is_held_back(position, m.from) as u8;
+    let after = is_held_there(position, card, m.to) as u8;
+    (low + after).saturating_sub(before)
+}
+
+// What the playable card of a place adds to the knot bound, where that is plain to see: the position without the card has so much
+// less. `None` where it would have to be counted.
+fn fare(position: &Position, from: Place) -> Option<u8>
+    ensures fare { IfSome result (λ fare. knot_bound position.now ≡ fare + knot_bound (lifted position.now from)) }
+    ensures whole { IsPosition position.now }
+{
+    let held = is_held_back(position, from);
+    match from {
+        Place::Column(_) if held => Some(1),
+        Place::Cell(_) => Some(0),
+        _ => None,
+    }
+}
+
+// What a card adds to the knot bound at the place to which a move takes it, where that is plain to see: `None` where it would have
+// to be counted.
+fn fare_there(position: &Position, card: Card, to: Place) -> Option<u8>
+    ensures fare { IfSome result (λ fare. (g : GameRules) (z : Board) (m : Move) (step : Step g position.now m z) → step.card ≡ card → m.to ≡ to
+        → knot_bound z ≡ fare + knot_bound (lifted z to)) }
+    ensures most { IfSome result (λ fare. fare ≤ 1) }
+    ensures whole { IsPosition position.now }
+{
+    let _cell = position.cell(0);
+    match to {
+        Place::Column(i) if is_above(position, i, card) => Some(1),
+        Place::Cell(_) => Some(0),
+        _ => None,
+    }
+}
+
+// The knot bound of where a move of this card leads that takes it not home, by the bound of where it is made, where that is plain to
+// see.
+pub(crate) fn knots_after(position: &Position, card: Card, m: Move, low: u8) -> Option<u8>
+    requires bound { low ≡ knot_bound position.now }
+    requires card { playable position.now m.from ≡ Some card }
+    ensures value { IfSome result (λ after. (g : GameRules) (z : Board) → Step g position.now m z → m.to ≢ Home → after ≡ knot_bound z) }
+{
+    let fare = fare(position, m.from)?;
+    let more = fare_there(position, card, m.to)?;
+    Some(low - fare + more)
+}
