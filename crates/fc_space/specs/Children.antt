@@ -1,5 +1,5 @@
 -- The children of a class: where the steps of its position lead, once settled.
-use Rattle.std.specs.Prelude.{◌≡◌, ◌≢◌, ℕ, ◌+◌, IfSome, List, [], ◌∷◌, Option, None, Some}
+use Rattle.std.specs.Prelude.{◌≡◌, ◌≢◌, ℕ, ◌+◌, List, [], ◌∷◌, Option, None, Some}
 use Rattle.fc_cards.specs.declared.places.Place.TheVariants.{Home}
 use Rattle.fc_position.specs.Board.{Board}
 use Rattle.fc_moves.specs.declared.steps.Move.{Move}
@@ -8,7 +8,6 @@ use Rattle.fc_moves.specs.Step.{Step}
 use Rattle.fc_codes.specs.State.{IsCodeOf}
 use Rattle.fc_home.specs.Settles.{Settles}
 use Rattle.fc_bound.specs.declared.kinds.BoundKind.{BoundKind}
-use Rattle.fc_bound.specs.Kinds.{guide_of}
 use Rattle.fc_best_first.specs.declared.spaces.Child.{Child}
 
 -- what makes the classes of a search: the game, the home rule, the kind of bound, and the position at the start, as seen

@@ -5,10 +5,11 @@ use Rattle.fc_space.proofs.ShiftLemmas.{child_of_step, child_stands}
 use Rattle.fc_space.proofs.StayLemmas.{others_stay}
 use Rattle.fc_space.proofs.counts.child_shifted.Goals as goal
 
-pub settled_already-child-requires-clause-others : goal.settled_already-child-requires-clause-others
-settled_already-child-requires-clause-others g c =
-    others_stay c.args.rules.now.rule (g.G.Game.game c.args.rules.now.game) c.args.position.now c.apply.new.position c.args.m c.apply.ensures.step c.requires.away
-    c.requires.settled
+pub settled_already-child-requires : goal.settled_already-child-requires
+settled_already-child-requires g c = record {
+  others = others_stay c.args.rules.now.rule (g.G.Game.game c.args.rules.now.game) c.args.position.now c.apply.new.position c.args.m c.apply.ensures.step c.requires.away
+      c.requires.settled;
+}
 
 pub shift-requires : goal.shift-requires
 shift-requires g c =
