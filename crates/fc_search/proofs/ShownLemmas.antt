@@ -1,5 +1,5 @@
 -- What a search that is done has found and shown.
-use Rattle.std.proofs.Common.{◌≡◌, ℕ, ◌+◌, ◌<◌, ◌≤◌, Option, Some, None, Ok, List, length, refl, sym, subst, arith}
+use Rattle.std.proofs.Common.{◌≡◌, ℕ, ◌+◌, ◌*◌, ◌<◌, ◌≤◌, Option, Some, None, Ok, List, length, refl, sym, subst, arith}
 use Rattle.std.specs.List.Sorted.{IsPermutation}
 use Rattle.std.proofs.lemmas.Option.{same_Some}
 use Rattle.std.specs.Prelude.{MatchOption}
@@ -100,10 +100,9 @@ module _ (s : State) (names : IsNaming (by_codes s.problem.start) s.problem.game
   at_holding y number floor held (most, (x, mark, f, at, is_at, told), least) =
       let taken = held.4.4 in
       let both = same_entry s.store number x held.4.0 mark held.4.1 at taken.stands in
-      let here : IsAt s.problem.method.strategy.expansion (task_of_problem s.problem) s.store number x mark held.4.3 =
-      subst (λ v. IsAt s.problem.method.strategy.expansion (task_of_problem s.problem) s.store number v mark held.4.3) (sym both.0)
-      (subst (λ m. IsAt s.problem.method.strategy.expansion (task_of_problem s.problem) s.store number held.4.0 m held.4.3) (sym both.1) taken.at) in
-      let same : f ≡ held.4.3 = at_same s.problem.method.strategy.expansion (task_of_problem s.problem) s.store number x mark f held.4.3 is_at here in
+      let here : IsAt (task_of_problem s.problem) s.store number mark held.4.3 =
+      subst (λ m. IsAt (task_of_problem s.problem) s.store number m held.4.3) (sym both.1) taken.at in
+      let same : f ≡ held.4.3 = at_same s.store number (s.problem.method.strategy.weight.parts * mark.cost) f held.4.3 is_at here in
       floor_at_holds s.problem s.store names fits heavy number x mark f (capped s.problem.limit most) floor held.0 held.5 at
       (under_less (task_of_problem s.problem) x mark f most (capped s.problem.limit most) (capped_most s.problem.limit most) told.under)
       (subst (λ h. f_of (task_of_problem s.problem) x mark < h → IsDone s.problem.method.strategy.expansion (task_of_problem s.problem) s.store x mark.cost h) (sym same)

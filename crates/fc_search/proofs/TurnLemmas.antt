@@ -1,5 +1,5 @@
 -- Turns that are made one after the other, and how many there may be.
-use Rattle.std.proofs.Common.{◌≡◌, ℕ, ◌+◌, ◌-◌, ◌*◌, ◌^◌, ◌≤◌, suc, zero, Result, Ok, Err, List, [], length, refl, sym, ◌∙◌, ap, subst, inl, inr, zero-add, arith}
+use Rattle.std.proofs.Common.{◌≡◌, ℕ, ◌+◌, ◌-◌, ◌*◌, ◌^◌, ◌≤◌, suc, zero, Result, Ok, Err, List, [], ◌∷◌, length, refl, sym, ◌∙◌, ap, subst, inl, inr, zero-add, arith}
 use Rattle.std.specs.Prelude.{MatchResult, sum_by}
 use Rattle.std.proofs.Math.Nat.{mul-le-mul}
 use Rattle.std.proofs.lemmas.List.Sorted.{length_permutation}

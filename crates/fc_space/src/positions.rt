@@ -122,7 +122,7 @@ impl<G: Game + Drop> Positions<G> {
     }
 
     /// The canonical position of the class with this code, which is that of a position of the game.
-    #[inline(always)]
+    #[inline]
     pub fn position(&self, code: &Code) -> Position
         requires code { IsCodeIn self.now.start (G.game self.now.rules.game) code.now }
         ensures value { result ≡ board_of_code self.now.start code.now }
