@@ -1,8 +1,8 @@
 //! What a move that takes no card home changes in a bound, where that is plain to see: what its card adds, before and after.
 
-ghost use Rattle.std.specs.Prelude.{◌≡◌, ◌≢◌, ◌+◌, ◌≤◌, Some, IfSome};
+ghost use Rattle.std.specs.Prelude.{◌≡◌, ◌≢◌, ◌+◌, ◌≤◌, IfSome};
 ghost use Rattle.fc_cards.specs.declared.places.Place.TheVariants.{Home};
-ghost use Rattle.fc_position.specs.Board.{Board, lifted, playable};
+ghost use Rattle.fc_position.specs.Board.{Board, lifted};
 ghost use Rattle.fc_position.specs.Position.{IsPosition};
 ghost use Rattle.fc_moves.specs.declared.steps.Move.{Move};
 ghost use Rattle.fc_moves.specs.GameRules.{GameRules};
@@ -28,17 +28,18 @@ fn is_held_there(position: &Position, card: Card, to: Place) -> bool
     }
 }
 
-// The plain bound of where a move of this card leads that takes it not home, by the bound of where it is made: it changes only by
-// whether the card is held back, before and after.
+// The plain bound of where a move leads that takes no card home, by the bound of where it is made: it changes only by whether the
+// card is held back, before and after. `None` where there is no card to move.
 #[inline]
-pub(crate) fn bound_after(position: &Position, card: Card, m: Move, low: u8) -> u8
+pub(crate) fn bound_after(position: &Position, m: Move, low: u8) -> Option<u8>
     requires bound { low ≡ bound position.now }
-    requires card { playable position.now m.from ≡ Some card }
-    ensures value { (g : GameRules) (z : Board) → Step g position.now m z → m.to ≢ Home → result ≡ bound z }
+    ensures value { IfSome result (λ after. (g : GameRules) (z : Board) → Step g position.now m z → m.to ≢ Home → after ≡ bound z) }
+    ensures whole { IsPosition position.now }
 {
+    let card = position.playable(m.from)?;
     let before = is_held_back(position, m.from) as u8;
     let after = is_held_there(position, card, m.to) as u8;
-    (low + after).saturating_sub(before)
+    Some((low + after).saturating_sub(before))
 }
 
 // What the playable card of a place adds to the knot bound, where that is plain to see: the position without the card has so much
@@ -71,14 +72,15 @@ fn fare_there(position: &Position, card: Card, to: Place) -> Option<u8>
     }
 }
 
-// The knot bound of where a move of this card leads that takes it not home, by the bound of where it is made, where that is plain to
-// see.
-pub(crate) fn knots_after(position: &Position, card: Card, m: Move, low: u8) -> Option<u8>
+// The knot bound of where a move leads that takes no card home, by the bound of where it is made, where that is plain to see.
+#[inline]
+pub(crate) fn knots_after(position: &Position, m: Move, low: u8) -> Option<u8>
     requires bound { low ≡ knot_bound position.now }
-    requires card { playable position.now m.from ≡ Some card }
     ensures value { IfSome result (λ after. (g : GameRules) (z : Board) → Step g position.now m z → m.to ≢ Home → after ≡ knot_bound z) }
+    ensures whole { IsPosition position.now }
 {
     let fare = fare(position, m.from)?;
+    let card = position.playable(m.from)?;
     let more = fare_there(position, card, m.to)?;
     Some(low - fare + more)
 }

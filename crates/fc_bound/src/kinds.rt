@@ -88,10 +88,9 @@ impl BoundKind {
         ensures value { IfSome result (λ after. (g : GameRules) (z : Board) → Step g position.now m z → m.to ≢ Home → after ≡ guide_of self z) }
         ensures whole { IsPosition position.now }
     {
-        let card = position.playable(m.from)?;
         match self {
-            BoundKind::Plain => Some(bound_after(position, card, m, bound)),
-            BoundKind::Clearing => knots_after(position, card, m, bound),
+            BoundKind::Plain => bound_after(position, m, bound),
+            BoundKind::Clearing => knots_after(position, m, bound),
         }
     }
 

@@ -8,14 +8,13 @@ overflow_add-result c =
     let b = c.args.position.now in
     omega (arith, c.requires.bound, c.in_ok-more.ensures.most, guide_small Clearing b c.fare.ensures.whole)
 
-pub returns : goal.returns
-returns c = record {
-  value = λ g z step away.
-      let b = c.args.position.now in
-      let m = c.args.m in
-      let same : step.card ≡ c.args.card = let x = sym step.playable ∙ c.requires.card in cc in
-      let lifted_same = guide_lifted Clearing g b z m step away in
-      let before = c.in_ok-fare.ensures.fare in
-      let after = c.in_ok-more.ensures.fare g z m step same refl in
-      omega (arith, c.requires.bound, before, after, lifted_same);
-}
+pub returns-clause-value : goal.returns-clause-value
+returns-clause-value c g z step away =
+    let b = c.args.position.now in
+    let m = c.args.m in
+    let same : step.card ≡ c.in_ok-card.card =
+    let x = sym step.playable ∙ sym c.playable.ensures.value ∙ c.in_ok-card.was in cc in
+    let lifted_same = guide_lifted Clearing g b z m step away in
+    let before = c.in_ok-fare.ensures.fare in
+    let after = c.in_ok-more.ensures.fare g z m step same refl in
+    omega (arith, c.requires.bound, before, after, lifted_same)

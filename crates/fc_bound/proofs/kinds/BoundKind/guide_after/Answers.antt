@@ -1,4 +1,4 @@
-use Rattle.std.proofs.Common.{◌≡◌, Option, Some, None, sym, subst, ◌∙◌, ap}
+use Rattle.std.proofs.Common.{◌≡◌, sym, subst}
 use Rattle.std.specs.Prelude.{IfSome}
 use Rattle.fc_cards.specs.declared.places.Place.TheVariants.{Home}
 use Rattle.fc_position.specs.Board.{Board}
@@ -8,7 +8,9 @@ use Rattle.fc_bound.specs.Kinds.{guide_of}
 use Rattle.fc_bound.proofs.kinds.BoundKind.guide_after.Goals as goal
 
 pub returns-in-Plain-clause-value : goal.returns-in-Plain-clause-value
-returns-in-Plain-clause-value c g z step away = c.bound_after.ensures.value g z step away ∙ ap (λ k. guide_of k z) (sym c.in-Plain.is)
+returns-in-Plain-clause-value c =
+    subst (λ k. IfSome c.bound_after.result (λ after. (g : GameRules) (z : Board) → Step g c.args.position.now c.args.m z → (c.args.m.to ≡ Home → ⊥) → after ≡ guide_of k z))
+    (sym c.in-Plain.is) c.bound_after.ensures.value
 
 pub returns-in-Clearing-clause-value : goal.returns-in-Clearing-clause-value
 returns-in-Clearing-clause-value c =
