@@ -58,7 +58,7 @@ def run_cases():
     *told, last = ran.stdout.strip().split("\n")
     for line in told:
         print(line)
-    passed, _, failed, _ = last.replace(",", "").split()
+    passed, _, failed, *_ = last.replace(",", "").split()
     return int(passed), int(failed)
 
 

@@ -1,0 +1,157 @@
+"""The lock of judged edits: which wrong edits the prover refused, and a sum of all that each judgement read.
+
+A crate's file breaks/judged.txt has a line for each edit of breaks/ and breaks/more/: the sum, the edit's name, and the functions
+that were refused. The sum is of the kit, the crate's line in crates.txt, its sources, definitions and proofs, what its check reads
+of the crates below, and the edit's text. Rattle's own tokens are summed, so neither comments nor layout count.
+
+Of a crate below a check reads the public interface and the statements: here its definitions, its lemmas, and its sources without
+the bodies of functions. What a constant function gives can decide another crate's constant, so its body counts. A static library
+links the code of all below it, so of those all counts.
+"""
+import functools
+import hashlib
+import json
+import os
+import random
+import re
+import subprocess
+
+from kit import rt, rtlib
+
+LOCK = "judged.txt"
+# Another number judges all edits anew: for a change of what counts as refused.
+RULES = 1
+# Files of the proof of one function, which no other function's proof reads.
+OF_ONE_FUNCTION = {"Answers.antt", "Invariants.antt", "Proof.antt"}
+QUALIFIERS = {"pub", "crate", "super", "in", "(", ")", "const", "final", "unsafe", "extern"}
+
+
+def bytes_of(path):
+    with open(path, "rb") as it:
+        return it.read()
+
+
+def read(path):
+    return bytes_of(path).decode("utf-8")
+
+
+@functools.lru_cache(maxsize=None)
+def kit_sum():
+    """A sum of what names the toolchain, and of the prover itself."""
+    total = hashlib.sha256(repr(RULES).encode())
+    for file in ("KIT-ID", "WHAT", "bin/rattle"):
+        total.update(bytes_of(f"{rt.KIT}/{file}"))
+    return total.hexdigest()
+
+
+def tokens_of(folder):
+    """The tokens of each file of src/, specs/ and proofs/ as a check reads them, comments left out: their kinds and texts by path."""
+    files = sorted(rtlib.files_of(folder))
+    if not files:
+        return {}
+    ran = subprocess.run([rtlib.RATTLE, "fmt", "--tokens", *files], capture_output=True, text=True, check=False)
+    if ran.returncode:
+        rtlib.stop(f"rattle cannot read {folder}: {ran.stderr}")
+    parts = re.split(r"(?m)^file \d+\n", ran.stdout)[1:]
+    rows = [[row.split(" ", 4)[3:] for row in part.splitlines()] for part in parts]
+    return {os.path.relpath(file, folder): row for file, row in zip(files, rows)}
+
+
+def is_constant(tokens, at):
+    """Whether the function whose `fn` stands there is a constant one."""
+    for kind, text in reversed(tokens[:at]):
+        if kind == "Code" and json.loads(text) == "const":
+            return True
+        if kind != "Literal" and json.loads(text) not in QUALIFIERS:
+            return False
+    return False
+
+
+def without_bodies(tokens):
+    """The tokens of a source but for the bodies of functions that aren't constant."""
+    left, depth, head, body = [], 0, None, None
+    for at, (kind, text) in enumerate(tokens):
+        sign = json.loads(text) if kind == "Code" else ""
+        if sign == "fn" and body is None and tokens[at + 1 : at + 2] and tokens[at + 1][1] != '"("':
+            head = (depth, is_constant(tokens, at))
+        depth += (sign in {"(", "[", "{"}) - (sign in {")", "]", "}"})
+        if head and sign == ";" and depth == head[0]:
+            head = None
+        elif head and sign == "{" and depth == head[0] + 1:
+            body = None if head[1] else head[0]
+            head = None
+        if body is None:
+            left.append((kind, text))
+        elif sign == "}" and depth == body:
+            body = None
+    return left
+
+
+def sum_of(value):
+    return hashlib.sha256(repr(value).encode()).hexdigest()
+
+
+@functools.lru_cache(maxsize=None)
+def own_sum(folder):
+    """A sum of all of a crate's sources, definitions and proofs."""
+    return sum_of(sorted(tokens_of(folder).items()))
+
+
+@functools.lru_cache(maxsize=None)
+def stated_sum(folder):
+    """A sum of what the check of a library above reads of a crate."""
+    stated = {}
+    for path, tokens in tokens_of(folder).items():
+        if os.path.basename(path) not in OF_ONE_FUNCTION or not path.startswith("proofs/"):
+            stated[path] = without_bodies(tokens) if path.startswith("src/") else tokens
+    return sum_of(sorted(stated.items()))
+
+
+def sum_of_crate(crate):
+    """A sum of what the judgement of each of a crate's edits reads beside the edit."""
+    of_each = own_sum if crate.is_static or crate.is_program else stated_sum
+    below = sorted((it.name, it.of_kit, of_each(it.folder)) for it in crate.below())
+    return sum_of((kit_sum(), crate.name, crate.of_kit, crate.is_static, own_sum(crate.folder), below))
+
+
+class Judged:
+    """The lines of a crate's lock, and the sums that they would have today."""
+
+    def __init__(self, crate, names):
+        self.path = f"{crate.folder}/breaks/{LOCK}"
+        self.known, base = {}, sum_of_crate(crate)
+        self.sums = {name: sum_of((base, name, read(f"{crate.folder}/breaks/{name}"))) for name in names}
+        if os.path.isfile(self.path):
+            rows = [re.fullmatch(r"([0-9a-f]{64}) (\S+) (.+)", it) for it in read(self.path).splitlines()]
+            self.known = {row[2]: (row[1], row[3]) for row in rows if row}
+
+    def has(self, name):
+        """Whether a line says that the edit was refused over all that is read today."""
+        return self.known.get(name, ("", ""))[0] == self.sums[name]
+
+    def write(self, refused):
+        """Writes the lines: those that hold, and those of the edits that were refused now, by their functions."""
+        lines = {name: self.known[name][1] for name in self.sums if self.has(name)}
+        lines.update({name: ", ".join(sorted(functions)) for name, functions in refused.items()})
+        kit = read(f"{rt.KIT}/KIT-ID").strip()
+        head = f"# The sum of all that a judgement read, the edit, and the functions in which the prover refused it, by {kit}.\n# tools/breaks.py --lock writes this.\n"
+        with open(self.path, "w", encoding="utf-8") as it:
+            it.write(head + "".join(f"{self.sums[name]} {name} {lines[name]}\n" for name in sorted(lines)))
+
+
+def seed_of(root):
+    """A sum of all files of the tree, which no two commits share."""
+    total = hashlib.sha256()
+    for at, folders, names in os.walk(root):
+        folders[:] = sorted(it for it in folders if it not in (".git", "out", "__pycache__"))
+        for name in sorted(names):
+            path = f"{at}/{name}"
+            total.update(os.path.relpath(path, root).encode() + b"\0")
+            if os.path.isfile(path):
+                total.update(bytes_of(path))
+    return total.hexdigest()[:16]
+
+
+def drawn(judged, count, seed):
+    """So many of the judged edits, by the seed."""
+    return random.Random(seed).sample(sorted(judged), min(count, len(judged)))
