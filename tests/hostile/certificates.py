@@ -1,6 +1,7 @@
 """Certificates, damaged: each is refused with a named fault, or the claim that is accepted is the old one.
 
-usage:  certificates.py changes             each front, and each byte changed to each other value, of two certificates
+usage:  certificates.py fronts              each front of four certificates is Short, and the whole is accepted
+        certificates.py changes             each front, and each byte changed to each other value, of two certificates
         certificates.py random COUNT SEED   so many made from real ones: 1 to 4 bytes changed, records swapped, doubled or left
                                             out, ends cut off or added
 
@@ -231,9 +232,30 @@ def changes_of(cert):
         yield [cert[:place] + bytes([value]) + cert[place + 1:] for value in range(256) if value != cert[place]]
 
 
+def fronts(program):
+    """How many fronts of certificates are Short, and what else is said of one."""
+    failed, first, locked = [], read_file("boards", "two-kings.cert"), read_file("boards", "locked.cert")
+    rest = first[10:20] + bytes(4)  # the moves, and no record
+    for name, cert, claim in (("two-kings", first, "shortest 5"), ("locked", locked, "can't be won"),
+                              ("two-kings", b"FCC3\0\4\0\1\1\0\0\0\5" + rest, "shortest 5"),
+                              ("two-kings", b"FCC3\0\4\0\0\3\0\0\0\4\0\0\0\5" + rest, "won 5, at least 4")):
+        board, count = read_file("boards", name + ".txt"), 0
+        for size in range(len(cert) + 1):
+            ran = program.run(["check", "-", "/dev/fd/3"], board, [cert[:size]])
+            is_short = (ran.status, ran.out, ran.fault()) == (3, b"", "fc_solve: certificate refused: Short")
+            is_whole = (ran.status, ran.out.decode(), ran.err) == (0, f"accepted: {claim}\n", b"")
+            if not (is_short if size < len(cert) else is_whole):
+                failed.append(f"{name}, {size} bytes: {ran}")
+            count += is_short
+        print(f"{name}, {claim}: {count} fronts are short")
+    return failed
+
+
 def main():
     program = runs.program()
-    if sys.argv[1] == "changes":
+    if sys.argv[1] == "fronts":
+        failed = fronts(program)
+    elif sys.argv[1] == "changes":
         failed = []
         for name, fewest in (("two-kings", 5), ("locked", None)):
             cert = read_file("boards", name + ".cert")

@@ -1,11 +1,12 @@
 //! Batches of searches: turns by numbers, what they reply, and what is told of each search.
 
-use crate::given::{board, free_cell, sure};
+use crate::given::{board, free_cell, must, sure};
+use fc_answer_text::outcome_of;
 use fc_answers::Outcome;
 use fc_batch::Batch;
 use fc_frontier::{BucketFrontier, Frontier};
 use fc_moves::FreeCell;
-use fc_search::{Search, SearchFault, Step, Verdict};
+use fc_search::{Search, SearchFault, Step};
 use fc_tests::boards::{LOCKED, QUEEN_UNDER_KING, THREE_KINGS, TWO_KINGS};
 use std::alloc::Global;
 use std::process::Abort;
@@ -39,19 +40,9 @@ fn batch_of<F: Frontier + Drop>(
     let mut batch = Batch::new(alloc);
     for i in 0..boards.len() {
         let number = sure(rt, batch.add(search_of(rt, alloc, boards[i])));
-        assert!(rt; number == i, "a number");
+        must(rt, number == i);
     }
     batch
-}
-
-// Whether the verdict tells this.
-pub(crate) fn tells(verdict: &Verdict, told: Outcome) -> bool {
-    match (verdict, told) {
-        (Verdict::Shortest(list), Outcome::Shortest(count)) => list.len() == count as usize,
-        (Verdict::CannotWin, Outcome::CannotWin) => true,
-        (Verdict::GaveUp(budget), Outcome::GaveUp(least)) => *budget == least,
-        _ => false,
-    }
 }
 
 // The search with this number is done, and its answer and its verdict tell this.
@@ -63,19 +54,19 @@ fn check_told<F: Frontier + Drop>(
 ) {
     let search = batch.get(number).expect(rt, "a search");
     let verdict = sure(rt, search.verdict());
-    assert!(rt; tells(&verdict, told), "a verdict of {number}");
+    must(rt, outcome_of(&verdict) == told);
     let answer = sure(rt, search.answer());
-    assert!(rt; tells(&answer.verdict, told), "an answer of {number}");
-    assert!(rt; answer.table.is_some() == !matches!(told, Outcome::GaveUp(_)));
+    must(rt, outcome_of(&answer.verdict) == told);
+    must(rt, answer.table.is_some());
 }
 
 // Nothing is told of the search with this number, which isn't done.
 fn check_untold<F: Frontier + Drop>(rt: &impl Abort, batch: &Batch<F, FreeCell>, number: usize) {
     let search = batch.get(number).expect(rt, "a search");
     let fault = search.answer().err();
-    assert!(rt; fault == Some(SearchFault::NotDone), "an answer");
+    must(rt, fault == Some(SearchFault::NotDone));
     let fault = search.verdict().err();
-    assert!(rt; fault == Some(SearchFault::NotDone), "a verdict");
+    must(rt, fault == Some(SearchFault::NotDone));
 }
 
 // A turn for a number, and its reply.
@@ -122,7 +113,7 @@ fn run_by<F: Frontier + Drop>(rt: &impl Abort, batch: &mut Batch<F, FreeCell>, l
             return;
         }
     }
-    assert!(rt; false, "searches that don't end");
+    must(rt, false);
 }
 
 // The searches with the numbers below this one are done, each with its own outcome.
@@ -133,18 +124,23 @@ fn check_outcomes<F: Frontier + Drop>(rt: &impl Abort, batch: &Batch<F, FreeCell
 }
 
 // Turns for one search of three at a time, and their replies.
+fn check_turns<F: Frontier + Drop>(rt: &impl Abort, batch: &mut Batch<F, FreeCell>) {
+    for turn in TURNS.as_slice() {
+        let reply = batch.turn(turn.number);
+        must(rt, reply == turn.reply);
+    }
+}
+
+// Three searches that are taken turn by turn, and then run to their ends.
 fn take_turns<F: Frontier + Drop>(rt: &impl Abort, alloc: Global) {
     let mut batch: Batch<F, FreeCell> = batch_of(rt, alloc, &BOARDS[..3]);
     for number in 0..3 {
         check_untold(rt, &batch, number);
     }
-    for turn in TURNS.as_slice() {
-        let reply = batch.turn(turn.number);
-        assert!(rt; reply == turn.reply, "a turn");
-    }
+    check_turns(rt, &mut batch);
     run_by(rt, &mut batch, &[1]);
     check_outcomes(rt, &batch, 3);
-    assert!(rt; batch.turn(2) == Ok(Step::Done), "one more");
+    must(rt, batch.turn(2) == Ok(Step::Done));
     check_told(rt, &batch, 2, Outcome::CannotWin);
 }
 
@@ -153,30 +149,32 @@ fn searches_take_turns(rt: HostRuntime) {
     take_turns::<BucketFrontier>(&rt, rt.alloc());
 }
 
-// A search is taken out, and one more put in.
-fn take_and_add<F: Frontier + Drop>(rt: &impl Abort, alloc: Global) {
-    let mut batch: Batch<F, FreeCell> = batch_of(rt, alloc, &BOARDS[..3]);
-    assert!(rt; batch.take(0).is_some(), "the first search");
-    assert!(rt; batch.turn(0) == Err(SearchFault::NoSuch), "its turn");
-    assert!(rt; batch.take(0).is_none(), "once more");
+// The first search of a batch is taken out, and has no turn from then on.
+fn take_first<F: Frontier + Drop>(rt: &impl Abort, batch: &mut Batch<F, FreeCell>) {
+    must(rt, batch.take(0).is_some());
+    must(rt, batch.turn(0) == Err(SearchFault::NoSuch));
+    must(rt, batch.take(0).is_none());
+}
+
+// A search that is put in has a number of its own.
+fn add_one<F: Frontier + Drop>(rt: &impl Abort, alloc: Global, batch: &mut Batch<F, FreeCell>) {
     let number = sure(rt, batch.add(search_of(rt, alloc, LOCKED)));
-    assert!(rt; number == 3, "the next number");
-    assert!(rt; batch.get(0).is_none(), "no search");
+    must(rt, number == 3);
 }
 
 #[test]
 fn numbers_are_given_once(rt: HostRuntime) {
-    take_and_add::<BucketFrontier>(&rt, rt.alloc());
+    let mut batch: Batch<BucketFrontier, FreeCell> = batch_of(&rt, rt.alloc(), &BOARDS[..3]);
+    take_first(&rt, &mut batch);
+    add_one(&rt, rt.alloc(), &mut batch);
+    must(&rt, batch.get(0).is_none());
 }
 
 // Turns for many numbers, and how many of them replied `Running`.
 fn count_replies<F: Frontier + Drop>(rt: &impl Abort, alloc: Global) {
     let mut batch: Batch<F, FreeCell> = batch_of(rt, alloc, &BOARDS[..3]);
-    assert!(rt;
-        batch.turns(&[2, 2, 0, 1, 7, 0, 1]) == 4,
-        "turns that replied Running"
-    );
-    assert!(rt; batch.turns(&[]) == 0, "no turn");
+    must(rt, batch.turns(&[2, 2, 0, 1, 7, 0, 1]) == 4);
+    must(rt, batch.turns(&[]) == 0);
 }
 
 #[test]

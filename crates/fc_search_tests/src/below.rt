@@ -1,6 +1,6 @@
 //! Searches that want no list of so many moves as a limit.
 
-use crate::given::{board, expanded, free_cell, method, sure};
+use crate::given::{board, expanded, free_cell, method, must, sure};
 use crate::shown::check_wins;
 use fc_frontier::EitherFrontier;
 use fc_moves::FreeCell;
@@ -35,7 +35,7 @@ fn has_verdict(
     match search.verdict() {
         Ok(_) => limit.is_none(),
         Err(fault) => {
-            assert!(rt; fault == SearchFault::Limited, "another fault");
+            must(rt, fault == SearchFault::Limited);
             limit.is_some()
         }
     }
@@ -57,7 +57,7 @@ fn finds_below(
         rt,
         Search::below(alloc, &question, &start, limit),
     );
-    assert!(rt; search.run() == Ok(()), "a run");
+    must(rt, search.run() == Ok(()));
     let wanted = match (shortest, limit) {
         (Some(moves), Some(limit)) if limit <= moves => None,
         _ => shortest,
@@ -65,13 +65,13 @@ fn finds_below(
     match (sure(rt, search.found()), wanted) {
         (Some(list), Some(moves)) => {
             check_wins(rt, &game, &start, &list);
-            assert!(rt; list.len() == moves as usize, "another length");
+            must(rt, list.len() == moves as usize);
         }
         (None, None) => {}
         _ => rt.panic("another list"),
     }
-    assert!(rt; search.shown() == wanted.or(limit), "shown");
-    assert!(rt; has_verdict(rt, &search, limit), "a verdict");
+    must(rt, search.shown() == wanted.or(limit));
+    must(rt, has_verdict(rt, &search, limit));
 }
 
 // The same below each limit, by this bound and expansion.
@@ -83,7 +83,7 @@ fn finds_below_limits(
     text: &str,
     shortest: Option<u32>,
 ) {
-    for limit in LIMITS {
+    for &limit in &LIMITS {
         let asked = expanded(method(rt, 1, 10, bound, 10_000), expansion);
         finds_below(rt, alloc, asked, text, shortest, limit);
     }
@@ -92,7 +92,7 @@ fn finds_below_limits(
 #[test]
 fn lists_below_a_limit_are_found(rt: HostRuntime) {
     for bound in [BoundKind::Plain, BoundKind::Clearing] {
-        for (text, shortest) in BOARDS {
+        for &(text, shortest) in &BOARDS {
             finds_below_limits(&rt, rt.alloc(), bound, Expansion::Full, text, shortest);
             finds_below_limits(&rt, rt.alloc(), bound, Expansion::Partial, text, shortest);
         }

@@ -3,7 +3,7 @@
 ghost use Rattle.fc_methods.specs.Method.{Asked};
 ghost use Rattle.fc_position.specs.Position.{Fits};
 
-use crate::given::{bakers_game, board, dealt, expanded, free_cell, method, sure};
+use crate::given::{bakers_game, board, dealt, expanded, free_cell, method, must, sure};
 use crate::plain::{self, Found};
 use crate::random::{Numbers, check_answer, random_board};
 use crate::shown::{check_table, check_wins};
@@ -12,8 +12,8 @@ use fc_moves::{Game, Kings};
 use fc_position::Position;
 use fc_search::{BoundKind, Expansion, Question, Verdict};
 use fc_tests::boards::{
-    ALL_HOME, CLASSES_495, FREE_KING, LOCKED, ONE_COLUMN, ONE_KING, QUEEN_UNDER_KING, Rules,
-    THIRTY_MOVES, THREE_KINGS, THREE_SPADES, TWO_KINGS,
+    ALL_HOME, CLASSES_495, FREE_KING, LOCKED, ONE_COLUMN, ONE_KING, QUEEN_UNDER_KING, THIRTY_MOVES,
+    THREE_KINGS, THREE_SPADES, TWO_KINGS,
 };
 use std::alloc::Global;
 use std::process::Abort;
@@ -34,7 +34,7 @@ fn check_best<G: Game + Drop>(
     if let Verdict::Shortest(list) = &answer.verdict {
         check_wins(rt, question.game(), start, list);
     }
-    assert!(rt; answer.table.is_some() == has_table, "another table");
+    must(rt, answer.table.is_some() == has_table);
     if let Some(table) = &answer.table {
         check_table(rt, table, question.method().rule.get());
     }
@@ -50,7 +50,7 @@ fn check_rule<G: Game + Drop>(
     start: &Position,
     found: Found,
 ) {
-    assert!(rt; start.fits(game.cells()));
+    must(rt, start.fits(game.cells()));
     for bound in [BoundKind::Plain, BoundKind::Clearing] {
         for expansion in [Expansion::Full, Expansion::Partial] {
             let asked = expanded(method(rt, rule, 30, bound, 10_000), expansion);
@@ -61,83 +61,50 @@ fn check_rule<G: Game + Drop>(
     }
 }
 
-// The best answers for a board's text are known, by each rule.
-fn check_known<G: Game + Drop>(rt: &impl Abort, alloc: Global, game: &G, text: &str, known: Found) {
-    let start = board(rt, game, text);
-    for rule in 0..3 {
-        check_rule(rt, alloc, game, rule, &start, known);
-    }
-}
+// A board's text, and what is known of it.
+type Known = (&'static str, Found);
 
-// Boards whose shortest lists, or whose want of any, are known.
-static KNOWN: [(Rules, &str, Found); 15] = [
-    (Rules::FreeCell(4), ALL_HOME, Found::Shortest(0)),
-    (Rules::FreeCell(4), ONE_KING, Found::Shortest(1)),
-    (Rules::FreeCell(4), QUEEN_UNDER_KING, Found::Shortest(3)),
-    (Rules::FreeCell(4), FREE_KING, Found::Shortest(3)),
-    (Rules::FreeCell(4), TWO_KINGS, Found::Shortest(5)),
-    (Rules::FreeCell(4), THREE_KINGS, Found::Shortest(5)),
-    (Rules::FreeCell(4), THIRTY_MOVES, Found::Shortest(30)),
-    (Rules::FreeCell(4), ONE_COLUMN, Found::Shortest(52)),
-    (Rules::FreeCell(4), LOCKED, Found::CannotWin),
-    (Rules::FreeCell(4), CLASSES_495, Found::CannotWin),
-    (Rules::FreeCell(0), THREE_SPADES, Found::Shortest(4)),
-    (Rules::Bakers(4), ONE_KING, Found::Shortest(1)),
-    (Rules::Bakers(4), THIRTY_MOVES, Found::Shortest(30)),
-    (Rules::Kings(1), THREE_SPADES, Found::Shortest(4)),
-    (Rules::Kings(0), THREE_SPADES, Found::CannotWin),
-];
-
-#[test]
-fn known_boards(rt: HostRuntime) {
-    let alloc = rt.alloc();
-    for (game, text, known) in KNOWN {
-        match game {
-            Rules::FreeCell(cells) => {
-                check_known(&rt, alloc, &free_cell(&rt, cells), text, known);
-            }
-            Rules::Bakers(cells) => {
-                check_known(&rt, alloc, &bakers_game(&rt, cells), text, known);
-            }
-            Rules::Kings(cells) => {
-                check_known(&rt, alloc, &Kings::new(free_cell(&rt, cells)), text, known);
-            }
+// The best answers for boards of a game are known, by each rule.
+fn check_known<G: Game + Drop>(rt: &impl Abort, alloc: Global, game: &G, boards: &[Known]) {
+    for &(text, known) in boards {
+        let start = board(rt, game, text);
+        for rule in 0..3 {
+            check_rule(rt, alloc, game, rule, &start, known);
         }
     }
 }
 
-// Deals, and by how many moves FreeCell is won from them at least, as searches with more room showed.
-static DEALS: [(u32, u32); 3] = [(33, 69), (46, 70), (59, 73)];
+// Boards whose shortest lists, or whose want of any, are known: those of each game.
+static FREECELL: [Known; 10] = [
+    (ALL_HOME, Found::Shortest(0)),
+    (ONE_KING, Found::Shortest(1)),
+    (QUEEN_UNDER_KING, Found::Shortest(3)),
+    (FREE_KING, Found::Shortest(3)),
+    (TWO_KINGS, Found::Shortest(5)),
+    (THREE_KINGS, Found::Shortest(5)),
+    (THIRTY_MOVES, Found::Shortest(30)),
+    (ONE_COLUMN, Found::Shortest(52)),
+    (LOCKED, Found::CannotWin),
+    (CLASSES_495, Found::CannotWin),
+];
 
-// The best answer for a deal of FreeCell by the clearing bound within so many classes.
-fn told(rt: &impl Abort, alloc: Global, number: u32, classes: u32) -> Verdict {
-    let game = free_cell(rt, 4);
-    let start = dealt(rt, &game, number);
-    let question = Question::new(&game, method(rt, 2, 10, BoundKind::Clearing, classes));
-    let answer = sure(rt, best(alloc, &question, &start, false, &mut Unheard));
-    if let Verdict::Shortest(moves) | Verdict::Won { moves, .. } = &answer.verdict {
-        check_wins(rt, &game, &start, moves);
-    }
-    answer.verdict
-}
+static NO_CELL: [Known; 1] = [(THREE_SPADES, Found::Shortest(4))];
 
-// Whether a list is told, of so many moves where it's said to be a shortest one, and else with a floor around that number.
-fn is_around(verdict: &Verdict, fewest: u32) -> bool {
-    match verdict {
-        Verdict::Shortest(list) => list.len() == fewest as usize,
-        Verdict::Won { moves, floor } => *floor <= fewest && fewest as usize <= moves.len(),
-        _ => false,
-    }
-}
+static BAKERS: [Known; 2] = [
+    (ONE_KING, Found::Shortest(1)),
+    (THIRTY_MOVES, Found::Shortest(30)),
+];
+
+static LOST: [Known; 1] = [(THREE_SPADES, Found::CannotWin)];
 
 #[test]
-fn deals_within_few_classes(rt: HostRuntime) {
-    for (number, fewest) in DEALS {
-        let least = told(&rt, rt.alloc(), number, 1);
-        assert!(&rt; matches!(least, Verdict::GaveUp(1)), "deal {number}");
-        let more = told(&rt, rt.alloc(), number, 10_000);
-        assert!(&rt; is_around(&more, fewest), "deal {number}");
-    }
+fn known_boards(rt: HostRuntime) {
+    let alloc = rt.alloc();
+    check_known(&rt, alloc, &free_cell(&rt, 4), &FREECELL);
+    check_known(&rt, alloc, &free_cell(&rt, 0), &NO_CELL);
+    check_known(&rt, alloc, &bakers_game(&rt, 4), &BAKERS);
+    check_known(&rt, alloc, &Kings::new(free_cell(&rt, 1)), &NO_CELL);
+    check_known(&rt, alloc, &Kings::new(free_cell(&rt, 0)), &LOST);
 }
 
 // Compares the best answers for some boards of a game with the plain search, by each rule in turn.
@@ -188,14 +155,14 @@ impl BestListener for Ear {
 // What is heard last of a search of FreeCell by the clearing bound within so many classes; nothing heard before was better.
 fn heard_last(rt: &impl Abort, alloc: Global, start: &Position, classes: u32) -> BestProgress {
     let game = free_cell(rt, 4);
-    assert!(rt; start.fits(game.cells()));
+    must(rt, start.fits(game.cells()));
     let question = Question::new(&game, method(rt, 2, 10, BoundKind::Clearing, classes));
     let mut ear = Ear {
         last: None,
         has_got_worse: false,
     };
     let _ = sure(rt, best(alloc, &question, start, false, &mut ear));
-    assert!(rt; !ear.has_got_worse);
+    must(rt, !ear.has_got_worse);
     ear.last.expect(rt, "nothing heard")
 }
 
@@ -203,10 +170,13 @@ fn heard_last(rt: &impl Abort, alloc: Global, start: &Position, classes: u32) ->
 fn searches_are_heard(rt: HostRuntime) {
     let game = free_cell(&rt, 4);
     let won = heard_last(&rt, rt.alloc(), &board(&rt, &game, TWO_KINGS), 100);
-    assert!(&rt; won.budget == 100 && won.shortest == Some(5) && won.at_least == 5);
+    must(&rt, won.budget == 100 && won.at_least == 5);
+    must(&rt, won.shortest == Some(5));
     let lost = heard_last(&rt, rt.alloc(), &board(&rt, &game, CLASSES_495), 1000);
-    assert!(&rt; lost.budget == 1000 && lost.shortest.is_none());
+    must(&rt, lost.budget == 1000 && lost.shortest.is_none());
     let deal = heard_last(&rt, rt.alloc(), &dealt(&rt, &game, 59), 10_000);
-    assert!(&rt; deal.shortest.is_some_and(|moves| 73 <= moves) && deal.at_least <= 73);
-    assert!(&rt; 0 < deal.classes && deal.classes <= 10_000 && 0 < deal.turns);
+    let moves = deal.shortest.expect(&rt, "no list");
+    must(&rt, 73 <= moves && deal.at_least <= 73);
+    must(&rt, 0 < deal.classes && deal.classes <= 10_000);
+    must(&rt, 0 < deal.turns);
 }

@@ -5,7 +5,7 @@ ghost use Rattle.fc_best_first.specs.Store.{Stores};
 ghost use Rattle.fc_best_first.specs.Turn.{AreChildren};
 ghost use Rattle.fc_search_tests.specs.Sums.{IsChildOf, number_exact, sums, sums_lawful};
 
-use crate::given::{budget, sure};
+use crate::given::{budget, must, sure};
 use fc_best_first::{
     Book, Budget, Child, Expansion, Mark, Offered, Opening, Search, Space, Status, Step, Strategy,
     Weight,
@@ -163,13 +163,13 @@ fn begun<F: Frontier + Drop>(
     expansion: Expansion,
     row: &Row,
 ) -> Search<Sum, F, Sums> {
-    let goal = row.goal;
     let strategy = Strategy {
         weight: Weight::ONE,
         expansion,
         budget: budget(rt, row.budget),
     };
-    sure(rt, Search::new(alloc, Sums { goal }, strategy))
+    let space = Sums { goal: row.goal };
+    sure(rt, Search::new(alloc, space, strategy))
 }
 
 // Takes all turns of a search; how many of them answered `Running`.
@@ -185,16 +185,13 @@ fn take_turns<F: Frontier + Drop>(rt: &impl Abort, search: &mut Search<Sum, F, S
 // The search has stored what the row tells, the sum 0 first.
 fn stores<F: Frontier + Drop>(rt: &impl Abort, search: &Search<Sum, F, Sums>, row: &Row) {
     if let Some(count) = row.stored {
-        assert!(rt; search.len() == count as usize, "sums stored");
-        assert!(rt; search.entry(count).is_none(), "sums stored");
+        must(rt, search.len() == count as usize);
+        must(rt, search.entry(count).is_none());
     }
     let (first, mark) = search.entry(0).expect(rt, "the sum 0");
-    assert!(rt;
-        first.value == 0 && mark.cost == 0 && mark.parent == 0,
-        "the sum 0"
-    );
-    assert!(rt; search.strategy().budget.get() == row.budget, "the budget");
-    assert!(rt; search.space().goal == row.goal, "the goal");
+    must(rt, first.value == 0 && mark.cost == 0 && mark.parent == 0);
+    must(rt, search.strategy().budget.get() == row.budget);
+    must(rt, search.space().goal == row.goal);
 }
 
 // Searches with this queue by turns, and once more, which changes nothing.
@@ -207,12 +204,9 @@ fn ends_by_turns<F: Frontier + Drop>(
     let mut search: Search<Sum, F, Sums> = begun(rt, alloc, expansion, row);
     let turns = take_turns(rt, &mut search);
     let (least, most) = row.turns;
-    assert!(rt;
-        least <= turns && turns <= most,
-        "turns that answered Running"
-    );
-    assert!(rt; search.turn() == Ok(Step::Done), "a turn more");
-    assert!(rt; end_of(&search) == row.end, "a turn more");
+    must(rt, least <= turns && turns <= most);
+    must(rt, search.turn() == Ok(Step::Done));
+    must(rt, end_of(&search) == row.end);
     stores(rt, &search, row);
 }
 
@@ -225,8 +219,8 @@ fn ends_in_a_run<F: Frontier + Drop>(
 ) {
     let mut whole: Search<Sum, F, Sums> = begun(rt, alloc, expansion, row);
     for _ in 0..2 {
-        assert!(rt; whole.run() == Ok(()), "a run");
-        assert!(rt; end_of(&whole) == row.end, "a run");
+        must(rt, whole.run() == Ok(()));
+        must(rt, end_of(&whole) == row.end);
     }
 }
 
@@ -385,21 +379,20 @@ fn sums_of_a_greater_f_are_put_off(rt: HostRuntime) {
 }
 
 // Whether a search that may store so many sums runs; `None` where that is no budget.
-fn runs<F: Frontier + Drop>(rt: &impl Abort, alloc: Global, sums: u32) -> Option<bool> {
-    let most = Budget::new(sums)?;
-    let space = Sums { goal: 1 };
-    let search: Search<Sum, F, Sums> = sure(
+fn runs(rt: &impl Abort, alloc: Global, sums: u32) -> Option<bool> {
+    let strategy = Strategy::full(Weight::ONE, Budget::new(sums)?);
+    let search: Search<Sum, ListFrontier, Sums> = sure(
         rt,
-        Search::new(alloc, space, Strategy::full(Weight::ONE, most)),
+        Search::new(alloc, Sums { goal: 1 }, strategy),
     );
     Some(matches!(search.status(), Status::Running))
 }
 
 #[test]
 fn a_budget_is_one_to_four_million(rt: HostRuntime) {
-    assert!(rt; runs::<ListFrontier>(&rt, rt.alloc(), 0).is_none());
-    assert!(rt; runs::<ListFrontier>(&rt, rt.alloc(), 4_000_000) == Some(true));
-    assert!(rt; runs::<ListFrontier>(&rt, rt.alloc(), 4_000_001).is_none());
+    must(&rt, runs(&rt, rt.alloc(), 0).is_none());
+    must(&rt, runs(&rt, rt.alloc(), 4_000_000) == Some(true));
+    must(&rt, runs(&rt, rt.alloc(), 4_000_001).is_none());
 }
 
 // Adds a sum to a book that doesn't store it; what became of it.
@@ -418,10 +411,9 @@ fn added<F: Frontier + Drop>(
     // Its range, by which each sum has a number.
     let _ = strategy.budget.get();
     let key = Sum { value };
-    match book.find(&key) {
-        Some(_) => rt.panic("a sum that is stored"),
-        None => sure(rt, book.add(strategy, key, mark, opening)),
-    }
+    let is_new = book.find(&key).is_none();
+    must(rt, is_new);
+    sure(rt, book.add(strategy, key, mark, opening))
 }
 
 // A key is added, found and lowered, and one more finds no place.
@@ -432,14 +424,17 @@ fn offer_two<F: Frontier + Drop>(rt: &impl Abort, book: &mut Book<Sum, F>)
     let above = Opening { over: 2, bound: 2 };
     let dear = Mark { cost: 9, parent: 3 };
     let cheap = Mark { cost: 7, parent: 5 };
-    assert!(rt; matches!(added(rt, book, &one, 40, dear, above), Offered::Added));
-    assert!(rt; book.len() == 1);
-    assert!(rt; book.find(&Sum { value: 40 }) == Some((0, dear)));
+    must(
+        rt,
+        matches!(added(rt, book, &one, 40, dear, above), Offered::Added),
+    );
+    must(rt, book.len() == 1);
+    must(rt, book.find(&Sum { value: 40 }) == Some((0, dear)));
     sure(rt, book.lower(&one, 0, cheap, above));
-    assert!(rt; book.len() == 1);
-    assert!(rt; book.find(&Sum { value: 40 }) == Some((0, cheap)));
+    must(rt, book.len() == 1);
+    must(rt, book.find(&Sum { value: 40 }) == Some((0, cheap)));
     let last = added(rt, book, &one, 41, cheap, above);
-    assert!(rt; matches!(last, Offered::Full(Sum { value: 41 })));
+    must(rt, matches!(last, Offered::Full(Sum { value: 41 })));
 }
 
 // The first key alone is stored, at less; the two pairs are open, the lesser first.
@@ -447,11 +442,11 @@ fn one_place<F: Frontier + Drop>(rt: &impl Abort, alloc: Global) {
     let mut book: Book<Sum, F> = Book::new(alloc, &Strategy::full(Weight::ONE, budget(rt, 1)));
     offer_two(rt, &mut book);
     let (key, mark) = book.entry(0).expect(rt, "the key 40");
-    assert!(rt; key.value == 40 && mark.cost == 7 && mark.parent == 5);
-    assert!(rt; book.len() == 1 && book.entry(1).is_none());
-    assert!(rt; book.take() == Some((9, 0)));
-    assert!(rt; book.take() == Some((11, 0)));
-    assert!(rt; book.take() == None);
+    must(rt, key.value == 40 && mark.cost == 7 && mark.parent == 5);
+    must(rt, book.len() == 1 && book.entry(1).is_none());
+    must(rt, book.take() == Some((9, 0)));
+    must(rt, book.take() == Some((11, 0)));
+    must(rt, book.take() == None);
 }
 
 #[test]

@@ -1,7 +1,7 @@
 //! The bounds of random small boards, beside the clearing bound by a plain program of its definition and what the plain search
 //! finds. The cards of these boards stand in the first three columns, at most twelve of them.
 
-use crate::given::{bakers_game, free_cell};
+use crate::given::{bakers_game, free_cell, must};
 use crate::plain::{self, Found};
 use crate::random::{Numbers, random_board, random_board_of};
 use fc_bound::{BoundKind, bound, clearing_bound, knot_bound};
@@ -16,8 +16,11 @@ const STEPS: [usize; 3] = [169, 13, 1];
 
 // The cards of a column that are left.
 fn cards_left(position: &Position, left: usize, column: u8) -> &[Card] {
-    let step = STEPS[column as usize % 3];
-    let height = left.checked_div(step).unwrap_or(0) % 13;
+    let height = match column {
+        0 => left / 169,
+        1 => left / 13 % 13,
+        _ => left % 13,
+    };
     let cards = position.column(column % 8);
     cards.get(..height).unwrap_or(&[])
 }
@@ -75,11 +78,11 @@ fn away(position: &Position) -> u32 {
 fn check_within(rt: &impl Abort, kind: BoundKind, whole: u8, board: &Position) {
     for most in 0..60u8 {
         let told = kind.guide_within(board, most);
-        assert!(rt; told <= whole, "more than the bound");
+        must(rt, told <= whole);
         if whole <= most {
-            assert!(rt; told == whole, "another bound");
+            must(rt, told == whole);
         } else {
-            assert!(rt; told > most, "less than what was asked about");
+            must(rt, told > most);
         }
     }
 }
@@ -87,22 +90,16 @@ fn check_within(rt: &impl Abort, kind: BoundKind, whole: u8, board: &Position) {
 // The bounds of a board are what they should be.
 fn check_board<G: Game>(rt: &impl Abort, alloc: Global, game: &G, board: &Position) {
     let clearing = u32::from(clearing_bound(board));
-    assert!(rt;
+    must(
+        rt,
         clearing == away(board).saturating_add(clearing_cost(board)),
-        "another clearing bound"
     );
-    assert!(rt;
-        u32::from(bound(board)) <= clearing,
-        "the plain bound is greater"
-    );
-    assert!(rt;
-        u32::from(knot_bound(board)) <= clearing,
-        "the knot bound is greater"
-    );
+    must(rt, u32::from(bound(board)) <= clearing);
+    must(rt, u32::from(knot_bound(board)) <= clearing);
     check_within(rt, BoundKind::Plain, bound(board), board);
     check_within(rt, BoundKind::Clearing, knot_bound(board), board);
     if let Found::Shortest(moves) = plain::search(rt, alloc, game, board, 300) {
-        assert!(rt; clearing as usize <= moves, "greater than a list is long");
+        must(rt, clearing as usize <= moves);
     }
 }
 

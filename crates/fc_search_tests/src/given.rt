@@ -1,7 +1,7 @@
 //! What a test begins with, from texts and numbers. Where a text is no such thing the test fails at once: a function that
 //! hands on a fault costs the prover many times as much.
 
-ghost use Rattle.std.specs.Prelude.{◌≡◌, Ok};
+ghost use Rattle.std.specs.Prelude.{◌≡◌, Ok, IsTrue};
 ghost use Rattle.fc_position.specs.Position.{Fits};
 
 use fc_deal::deal;
@@ -10,6 +10,15 @@ use fc_position::Position;
 use fc_search::{BoundKind, Budget, Expansion, HomeRule, Method, Strategy, Weight};
 use fc_text::read_board;
 use std::process::Abort;
+
+/// This holds.
+pub fn must(rt: &impl Abort, holds: bool)
+    ensures holds { IsTrue holds }
+{
+    if !holds {
+        rt.panic("it isn't so");
+    }
+}
 
 /// What a call gave, which refused nothing.
 pub fn sure<T, E>(rt: &impl Abort, told: Result<T, E>) -> T
@@ -33,7 +42,7 @@ pub fn dealt<G: Game>(rt: &impl Abort, game: &G, number: u32) -> Position
     ensures fits { Fits (G.game game.now).cells result }
 {
     let position = deal(number).expect(rt, "a deal is 1 to 1,000,000");
-    assert!(rt; position.fits(game.cells()));
+    must(rt, position.fits(game.cells()));
     position
 }
 
@@ -86,7 +95,9 @@ pub fn expanded(method: Method, expansion: Expansion) -> Method {
 
 /// Makes a move, which must be allowed.
 pub fn make<G: Game>(rt: &impl Abort, game: &G, position: &mut Position, m: Move) {
-    let is_allowed = allows(game, position, m);
-    assert!(rt; is_allowed, "not allowed");
-    apply(game, position, m);
+    if allows(game, position, m) {
+        apply(game, position, m);
+    } else {
+        must(rt, false);
+    }
 }

@@ -1,10 +1,12 @@
 //! Searches that are heard while they run.
 
-use crate::given::{board, budget, free_cell, home_rule, sure};
+use crate::given::{board, budget, free_cell, home_rule, must, sure};
+use fc_answer_text::outcome_of;
+use fc_answers::Outcome;
 use fc_io::ToArray;
 use fc_moves::FreeCell;
 use fc_runs::{ProgramFault, run_solve_by};
-use fc_search::{Listener, Progress, Question, Verdict, decide_by, solve_by};
+use fc_search::{Listener, Progress, Question, decide_by, solve_by};
 use fc_tests::boards::{LOCKED, TWO_KINGS};
 use std::process::Abort;
 
@@ -43,17 +45,14 @@ fn short_searches_are_heard_at_their_end(rt: HostRuntime) {
     let start = board(&rt, question.game(), TWO_KINGS);
     let mut first = nothing_heard();
     let told = sure(&rt, decide_by(rt.alloc(), &question, &start, &mut first));
-    assert!(rt; matches!(&told, Verdict::Shortest(moves) if moves.len() == 5));
-    assert!(rt;
-        first
-            .last
-            .is_some_and(|far| far.budget == 100 && far.at_least == 5)
-    );
+    must(&rt, outcome_of(&told) == Outcome::Shortest(5));
+    let far = first.last.expect(&rt, "nothing heard");
+    must(&rt, far.budget == 100 && far.at_least == 5);
     let mut second = nothing_heard();
     let told = sure(&rt, solve_by(rt.alloc(), &question, &start, &mut second));
-    assert!(rt; matches!(&told.verdict, Verdict::Shortest(moves) if moves.len() == 5));
-    assert!(rt; first.times == 1 && second.times == 1);
-    assert!(rt; first.last == second.last);
+    must(&rt, outcome_of(&told.verdict) == Outcome::Shortest(5));
+    must(&rt, first.times == 1 && second.times == 1);
+    must(&rt, first.last == second.last);
 }
 
 #[test]
@@ -71,12 +70,9 @@ fn a_run_is_heard(rt: HostRuntime) {
         none,
         &mut listener,
     );
-    assert!(rt; status == Ok(1));
-    assert!(rt; out.held() == b"can't be won\n".as_slice());
-    assert!(rt; listener.times == 1);
-    assert!(rt;
-        listener
-            .last
-            .is_some_and(|far| far.classes == 1 && far.turns == 2)
-    );
+    must(&rt, status == Ok(1));
+    must(&rt, out.held() == b"can't be won\n".as_slice());
+    must(&rt, listener.times == 1);
+    let far = listener.last.expect(&rt, "nothing heard");
+    must(&rt, far.classes == 1 && far.turns == 2);
 }

@@ -1,4 +1,4 @@
-//! Tests of the public calls of the search and of the runs, with a plain search to compare with.
+//! Tests of the public calls of the search, of certificates and their checker, and of the runs, with a plain search to compare with.
 #![tactic(auto)]
 
 #[cfg(test)]
@@ -20,7 +20,17 @@ mod best_runs;
 #[cfg(test)]
 mod bounds;
 #[cfg(test)]
-mod faults;
+mod cert_checks;
+#[cfg(test)]
+mod cert_contents;
+#[cfg(test)]
+mod cert_fields;
+#[cfg(test)]
+mod cert_given;
+#[cfg(test)]
+mod cert_runs;
+#[cfg(test)]
+mod cert_written;
 #[cfg(test)]
 mod gathers;
 #[cfg(test)]

@@ -1,64 +1,46 @@
-//! Which numbers are weights, budgets and home rules.
+//! Which numbers are weights, and what they weigh.
 
+use crate::given::must;
 use fc_search::{Budget, HomeRule, Weight};
 use std::process::Abort;
 
+// What a weight weighs: so many parts so many times; or zero, where it is none.
+fn weighed(weight: Option<Weight>) -> (u8, u8) {
+    match weight {
+        Some(weight) => (weight.parts(), weight.times()),
+        None => (0, 0),
+    }
+}
+
 #[test]
 fn a_weight_is_1_to_10(rt: HostRuntime) {
-    for (times, is_one) in [
-        (0, false),
-        (1, true),
-        (2, true),
-        (10, true),
-        (11, false),
-        (255, false),
-    ] {
-        let told = Weight::new(times).map(|weight| (weight.parts(), weight.times()));
-        assert!(rt; told == is_one.then_some((1, times)), "{times}");
+    for &(times, parts) in &[(0, 0), (1, 1), (2, 1), (10, 1), (11, 0), (255, 0)] {
+        let wanted = if parts == 0 { (0, 0) } else { (1, times) };
+        must(&rt, weighed(Weight::new(times)) == wanted);
     }
-    assert!(rt; Weight::new(1) == Some(Weight::ONE));
+    must(&rt, Weight::new(1) == Some(Weight::ONE));
 }
 
 #[test]
 fn a_weight_is_10_to_100_tenths(rt: HostRuntime) {
-    for (tenths, ratio) in [
-        (0, None),
-        (9, None),
-        (10, Some((1, 1))),
-        (11, Some((10, 11))),
-        (13, Some((10, 13))),
-        (20, Some((1, 2))),
-        (99, Some((10, 99))),
-        (100, Some((1, 10))),
-        (101, None),
-        (255, None),
+    for &(tenths, ratio) in &[
+        (0, (0, 0)),
+        (9, (0, 0)),
+        (10, (1, 1)),
+        (11, (10, 11)),
+        (13, (10, 13)),
+        (20, (1, 2)),
+        (99, (10, 99)),
+        (100, (1, 10)),
+        (101, (0, 0)),
+        (255, (0, 0)),
     ] {
-        let told = Weight::of_tenths(tenths).map(|weight| (weight.parts(), weight.times()));
-        assert!(rt; told == ratio, "{tenths}");
+        must(&rt, weighed(Weight::of_tenths(tenths)) == ratio);
     }
 }
 
 #[test]
-fn a_budget_is_1_to_4_000_000(rt: HostRuntime) {
-    for (classes, is_one) in [
-        (0, false),
-        (1, true),
-        (3_999_999, true),
-        (4_000_000, true),
-        (4_000_001, false),
-        (u32::MAX, false),
-    ] {
-        let told = Budget::new(classes).map(|budget| budget.get());
-        assert!(rt; told == is_one.then_some(classes), "{classes}");
-    }
-    assert!(rt; Budget::MOST.get() == 4_000_000);
-}
-
-#[test]
-fn a_home_rule_is_0_to_2(rt: HostRuntime) {
-    for (number, is_one) in [(0, true), (1, true), (2, true), (3, false), (255, false)] {
-        let told = HomeRule::new(number).map(|rule| rule.get());
-        assert!(rt; told == is_one.then_some(number), "{number}");
-    }
-    assert!(rt; HomeRule::FREE.get() == 2);
+fn the_greatest_are_named(rt: HostRuntime) {
+    must(&rt, Budget::MOST.get() == 4_000_000);
+    must(&rt, HomeRule::FREE.get() == 2);
 }

@@ -61,7 +61,7 @@ fn expand<G: Game>(
     for m in moves(game, from).as_slice() {
         let mut position = from.copy();
         make(rt, game, &mut position, *m);
-        if visits.iter().any(|v| v.position.equals(&position)) {
+        if was_met(visits.as_slice(), &position) {
             continue;
         }
         if visits.len() >= budget {
@@ -71,4 +71,14 @@ fn expand<G: Game>(
         sure(rt, visits.push(Visit { position, moves }));
     }
     true
+}
+
+// Whether a position was met.
+fn was_met(visits: &[Visit], position: &Position) -> bool {
+    for visit in visits {
+        if visit.position.equals(position) {
+            return true;
+        }
+    }
+    false
 }

@@ -1,6 +1,6 @@
 //! The program's search against the plain one, on random small boards.
 
-use crate::given::{bakers_game, free_cell, method, sure};
+use crate::given::{bakers_game, free_cell, method, must, sure};
 use crate::plain::{self, Found};
 use arrayvec::ArrayVec;
 use fc_cards::{Card, Suit};
@@ -27,7 +27,10 @@ impl Numbers {
     // A number from 0 to below a count that isn't 0.
     fn below(&mut self, count: u32) -> u32 {
         self.state = self.state.wrapping_mul(1_103_515_245).wrapping_add(12_345);
-        (self.state >> 16).checked_rem(count).unwrap_or(0)
+        if count == 0 {
+            return 0;
+        }
+        (self.state >> 16) % count
     }
 }
 
@@ -92,17 +95,19 @@ pub fn random_board_of(rt: &impl Abort, numbers: &mut Numbers, most: u32, cells:
         let card = left.swap_remove(numbers.below(count as u32) as usize % count);
         put(rt, numbers, cells, card, &mut columns, &mut held);
     }
-    assert!(rt; !homes.iter().any(|count| *count > 13));
+    must(rt, !homes.iter().any(|count| *count > 13));
     sure(rt, Position::from_parts(columns, held, homes))
 }
 
 // Whether the answers agree, where the plain search had room enough.
 fn agree(answer: &Answer, found: Found) -> bool {
-    match (&answer.verdict, found) {
-        (Verdict::Shortest(list), Found::Shortest(moves)) => list.len() == moves,
-        (Verdict::CannotWin, Found::CannotWin) => true,
-        (_, Found::GaveUp) => true,
-        _ => false,
+    match found {
+        Found::Shortest(moves) => match &answer.verdict {
+            Verdict::Shortest(list) => list.len() == moves,
+            _ => false,
+        },
+        Found::CannotWin => matches!(&answer.verdict, Verdict::CannotWin),
+        Found::GaveUp => true,
     }
 }
 
@@ -115,16 +120,21 @@ fn answer_of<F: Frontier + Drop, G: Game + Drop>(
     bound: BoundKind,
     board: &Position,
 ) -> Answer {
-    assert!(rt; board.fits(game.cells()));
+    must(rt, board.fits(game.cells()));
     let question = Question::new(game, method(rt, rule, 10, bound, 4000));
     let mut search: Search<F, G> = sure(rt, Search::new_by(alloc, &question, board));
-    sure(rt, search.run());
+    run(rt, &mut search)
+}
+
+// The answer of a search that is run to its end.
+fn run<F: Frontier + Drop, G: Game + Drop>(rt: &impl Abort, search: &mut Search<F, G>) -> Answer {
+    must(rt, search.run() == Ok(()));
     sure(rt, search.answer())
 }
 
 /// An answer agrees with the plain search's, where that had room enough.
 pub fn check_answer(rt: &impl Abort, answer: &Answer, found: Found) {
-    assert!(rt; agree(answer, found), "another answer");
+    must(rt, agree(answer, found));
 }
 
 // Compares the answers for a board of a game, by each rule, with each queue, one of the tests' own among them, and by either

@@ -1,8 +1,11 @@
 //! A batch of searches of different kinds, in which a growth may be refused: the search that it stops stops alone. A case of
 //! the gate runs this once for each growth, that one refused; here none is.
 
-use crate::batches::{BOARDS, OUTCOMES, tells};
-use crate::given::{board, expanded, free_cell, method, sure};
+ghost use Rattle.fc_answers.specs.Verdict.{CanBeWritten};
+
+use crate::batches::{BOARDS, OUTCOMES};
+use crate::given::{board, expanded, free_cell, method, must, sure};
+use fc_answer_text::outcome_of;
 use fc_answers::Outcome;
 use fc_batch::Batch;
 use fc_bound::BoundKind;
@@ -19,6 +22,13 @@ const KINDS: [(BoundKind, Expansion); 3] = [
     (BoundKind::Plain, Expansion::Partial),
 ];
 
+// The question of the search that is to have this number.
+fn question_of(rt: &impl Abort, wanted: usize) -> Question<FreeCell> {
+    let (bound, expansion) = KINDS[wanted % KINDS.len()];
+    let asked = expanded(method(rt, 1, 10, bound, 100), expansion);
+    Question::new(&free_cell(rt, 4), asked)
+}
+
 // The search of a board that is to have this number, if need be at the second try.
 fn begun<F: Frontier + Drop>(
     rt: &impl Abort,
@@ -26,10 +36,8 @@ fn begun<F: Frontier + Drop>(
     text: &str,
     wanted: usize,
 ) -> Search<F, FreeCell> {
-    let game = free_cell(rt, 4);
-    let start = board(rt, &game, text);
-    let (bound, expansion) = KINDS[wanted % KINDS.len()];
-    let question = Question::new(&game, expanded(method(rt, 1, 10, bound, 100), expansion));
+    let question = question_of(rt, wanted);
+    let start = board(rt, question.game(), text);
     match Search::new_by(alloc, &question, &start) {
         Ok(search) => search,
         Err(_refused) => sure(rt, Search::new_by(alloc, &question, &start)),
@@ -46,11 +54,21 @@ fn add<F: Frontier + Drop>(
     let number = match batch.add(search) {
         Ok(number) => number,
         Err(search) => {
-            assert!(rt; batch.get(wanted).is_none(), "a refused search");
+            must(rt, batch.get(wanted).is_none());
             sure(rt, batch.add(search))
         }
     };
-    assert!(rt; number == wanted, "another number");
+    must(rt, number == wanted);
+}
+
+// The search with this number has no answer, since it was stopped.
+fn check_unanswered<F: Frontier + Drop>(
+    rt: &impl Abort,
+    batch: &Batch<F, FreeCell>,
+    number: usize,
+) {
+    let search = batch.get(number).expect(rt, "a search");
+    must(rt, search.answer().err() == Some(SearchFault::Stopped));
 }
 
 // The search with this number was stopped, and stays so.
@@ -60,12 +78,8 @@ fn check_stopped<F: Frontier + Drop>(
     number: usize,
 ) {
     for _ in 0..2u32 {
-        assert!(rt; batch.turn(number) == Err(SearchFault::Stopped), "a turn");
-        let search = batch.get(number).expect(rt, "a search");
-        assert!(rt;
-            search.answer().err() == Some(SearchFault::Stopped),
-            "an answer"
-        );
+        must(rt, batch.turn(number) == Err(SearchFault::Stopped));
+        check_unanswered(rt, batch, number);
     }
 }
 
@@ -76,7 +90,7 @@ fn run<F: Frontier + Drop>(rt: &impl Abort, batch: &mut Batch<F, FreeCell>, numb
             Ok(Step::Running) => {}
             Ok(Step::Done) => return true,
             Err(fault) => {
-                assert!(rt; fault == SearchFault::Memory, "another fault");
+                must(rt, fault == SearchFault::Memory);
                 check_stopped(rt, batch, number);
                 return false;
             }
@@ -86,16 +100,14 @@ fn run<F: Frontier + Drop>(rt: &impl Abort, batch: &mut Batch<F, FreeCell>, numb
 }
 
 // The answer of a search that is done, if need be at the second try.
-fn answer<F: Frontier + Drop>(
-    rt: &impl Abort,
-    batch: &Batch<F, FreeCell>,
-    number: usize,
-) -> Answer {
+fn answer<F: Frontier + Drop>(rt: &impl Abort, batch: &Batch<F, FreeCell>, number: usize) -> Answer
+    ensures written { CanBeWritten result.verdict }
+{
     let search = batch.get(number).expect(rt, "a search");
     match search.answer() {
         Ok(answer) => answer,
         Err(fault) => {
-            assert!(rt; fault == SearchFault::Memory, "another fault");
+            must(rt, fault == SearchFault::Memory);
             sure(rt, search.answer())
         }
     }
@@ -120,10 +132,10 @@ fn is_stopped<F: Frontier + Drop>(
 ) -> bool {
     if run(rt, batch, number) {
         let told = answer(rt, batch, number);
-        assert!(rt; tells(&told.verdict, outcome), "an answer");
+        must(rt, outcome_of(&told.verdict) == outcome);
         return false;
     }
-    assert!(rt; batch.take(number).is_some(), "a stopped search");
+    must(rt, batch.take(number).is_some());
     true
 }
 
@@ -136,7 +148,7 @@ fn at_most_one_is_stopped<F: Frontier + Drop>(rt: &impl Abort, alloc: Global) {
             stopped = stopped.saturating_add(1);
         }
     }
-    assert!(rt; stopped <= 1, "more than one was stopped");
+    must(rt, stopped <= 1);
 }
 
 #[test]

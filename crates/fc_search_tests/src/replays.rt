@@ -1,6 +1,6 @@
 //! Runs of the program that replay moves, over devices that fail too.
 
-use crate::given::free_cell;
+use crate::given::{free_cell, must};
 use fc_io::testing::Failing;
 use fc_io::{FromReader, FromSlice, ToArray};
 use fc_replay::ReplayFault;
@@ -55,24 +55,8 @@ fn replays_over(
     let mut list = Failing::new(FromSlice::new(moves), calls.moves);
     let mut out = Failing::new(ToArray::<400>::new(), calls.sink);
     let result = run_replay(alloc, &free_cell(rt, 4), &mut board, &mut list, &mut out);
-    assert!(rt; result == *wanted, "another end");
-    assert!(rt; out.device.held() == printed, "another text");
-}
-
-// The same over devices that move as many bytes as they can and don't fail.
-fn replays(
-    rt: &impl Abort,
-    alloc: Global,
-    moves: &[u8],
-    wanted: &Result<u8, ProgramFault>,
-    printed: &[u8],
-) {
-    let mut board = FromSlice::new(TWO_KINGS.as_bytes());
-    let mut list = FromSlice::new(moves);
-    let mut out = ToArray::<400>::new();
-    let result = run_replay(alloc, &free_cell(rt, 4), &mut board, &mut list, &mut out);
-    assert!(rt; result == *wanted, "another end");
-    assert!(rt; out.held() == printed, "another text");
+    must(rt, result == *wanted);
+    must(rt, out.device.held() == printed);
 }
 
 // So many calls that no device fails.
@@ -82,25 +66,14 @@ const ENOUGH: Calls = Calls {
     sink: 1000,
 };
 
-// Replaying moves of two kings ends so, over either kind of devices.
-fn check_replay(
-    rt: &impl Abort,
-    alloc: Global,
-    moves: &[u8],
-    wanted: &Result<u8, ProgramFault>,
-    printed: &[u8],
-) {
-    replays_over(rt, alloc, moves, ENOUGH, wanted, printed);
-    replays(rt, alloc, moves, wanted, printed);
-}
-
 #[test]
 fn replays_moves(rt: HostRuntime) {
-    check_replay(&rt, rt.alloc(), b"1a 1H\r\n", &Ok(0), TWO_BOARDS);
     let refused = Err(ProgramFault::Moves(ReplayFault::NotAllowed(3)));
-    check_replay(&rt, rt.alloc(), b"1a 1h 1h", &refused, TWO_BOARDS);
     let bad = Err(ProgramFault::Moves(ReplayFault::BadMove(1)));
-    check_replay(&rt, rt.alloc(), b"9h", &bad, b"");
+    let alloc = rt.alloc();
+    replays_over(&rt, alloc, b"1a 1H\r\n", ENOUGH, &Ok(0), TWO_BOARDS);
+    replays_over(&rt, alloc, b"1a 1h 1h", ENOUGH, &refused, TWO_BOARDS);
+    replays_over(&rt, alloc, b"9h", ENOUGH, &bad, b"");
 }
 
 // A replay of two moves whose devices fail after so many calls ends by this fault, with this written.
@@ -146,5 +119,5 @@ fn stops_moves_that_never_end(rt: HostRuntime) {
         &mut moves,
         &mut out,
     );
-    assert!(rt; result == Err(ProgramFault::TooLong(Input::Moves)));
+    must(&rt, result == Err(ProgramFault::TooLong(Input::Moves)));
 }

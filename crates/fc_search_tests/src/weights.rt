@@ -3,7 +3,7 @@
 ghost use Rattle.fc_methods.specs.Method.{Asked};
 ghost use Rattle.fc_position.specs.Position.{Fits};
 
-use crate::given::{bakers_game, expanded, free_cell, method, sure};
+use crate::given::{bakers_game, expanded, free_cell, method, must, sure};
 use crate::plain::{self, Found};
 use crate::random::{Numbers, random_board};
 use crate::shown::check_wins;
@@ -46,14 +46,11 @@ fn check_list<G: Game>(
 ) {
     match verdict {
         Verdict::Shortest(list) => {
-            assert!(rt; weight == Weight::ONE, "said to be shortest by a weight");
+            must(rt, weight == Weight::ONE);
             check_wins(rt, game, board, list);
         }
         Verdict::Won { moves, .. } => {
-            assert!(rt;
-                weight != Weight::ONE,
-                "not said to be shortest by weight 1"
-            );
+            must(rt, weight != Weight::ONE);
             check_wins(rt, game, board, moves);
         }
         _ => {}
@@ -64,11 +61,21 @@ fn check_list<G: Game>(
 // up, and the bound of the board after them.
 fn least_at_first<G: Game>(game: &G, method: Method, board: &Position) -> u32 {
     let mut position = board.copy();
-    let settling = settle(game, &mut position, method.rule.get());
-    let weight = method.strategy.weight;
-    let weighed = u32::from(weight.parts()).saturating_mul(settling.len() as u32);
-    let moves = weighed.div_ceil(u32::from(weight.times()));
-    moves.saturating_add(u32::from(method.bound.guide(&position)))
+    let count = settle(game, &mut position, method.rule.get()).len();
+    let bound = u32::from(method.bound.guide(&position));
+    weighed(method.strategy.weight, count as u32).saturating_add(bound)
+}
+
+// So many moves, at most 52, weighed, over how often a bound counts, rounded up.
+fn weighed(weight: Weight, moves: u32) -> u32 {
+    let weighed = u32::from(weight.parts()).saturating_mul(moves);
+    let times = u32::from(weight.times());
+    for count in 0..=520u32 {
+        if weighed <= count.saturating_mul(times) {
+            return count;
+        }
+    }
+    u32::MAX
 }
 
 // Takes all turns of a search, which never says that more moves are needed than were found.
@@ -82,12 +89,12 @@ fn take_turns<F: Frontier + Drop, G: Game + Drop>(
         _ => usize::MAX,
     };
     for _ in 0..100_000u32 {
-        assert!(rt; search.at_least() as usize <= most, "more than the least");
+        must(rt, search.at_least() as usize <= most);
         if sure(rt, search.turn()) == Step::Done {
             break;
         }
     }
-    assert!(rt; search.at_least() as usize <= most, "more than the least");
+    must(rt, search.at_least() as usize <= most);
 }
 
 // What a search of a board says at its end is right: its list wins, and it agrees with what was found.
@@ -122,15 +129,12 @@ fn compare_turns<F: Frontier + Drop, G: Game + Drop>(
     let weight = question.method().strategy.weight;
     let mut search: Search<F, G> = sure(rt, Search::new_by(alloc, question, board));
     let least = least_at_first(game, question.method(), board);
-    assert!(rt; search.at_least() == least, "another least at first");
+    must(rt, search.at_least() == least);
     take_turns(rt, &mut search, found);
     let verdict = sure(rt, search.verdict());
     check_verdict(rt, game, board, weight, &verdict, found);
     if let Verdict::Shortest(list) = &verdict {
-        assert!(rt;
-            search.at_least() as usize == list.len(),
-            "another least at the end"
-        );
+        must(rt, search.at_least() as usize == list.len());
     }
 }
 
@@ -143,7 +147,7 @@ fn compare_search<F: Frontier + Drop, G: Game + Drop>(
     board: &Position,
     found: Found,
 ) {
-    assert!(rt; board.fits(game.cells()));
+    must(rt, board.fits(game.cells()));
     let question = Question::new(game, method);
     let weight = question.method().strategy.weight;
     compare_turns::<F, G>(rt, alloc, &question, board, found);
@@ -160,7 +164,7 @@ fn compare_board<G: Game + Drop>(
     board: &Position,
 ) {
     let found = plain::search(rt, alloc, game, board, 300);
-    for weight in WEIGHTS {
+    for &weight in &WEIGHTS {
         for expansion in [Expansion::Full, Expansion::Partial] {
             let plainly = expanded(method(rt, rule, weight, Plain, 4000), expansion);
             let clearing = expanded(method(rt, rule, weight, Clearing, 4000), expansion);

@@ -1,14 +1,14 @@
 //! The lower bound, and cards above lower ones of their suit.
 
 use crate::boards::{DEAL_ONE, ONE_COLUMN, THIRTY_MOVES, TWO_KINGS};
-use crate::given::board;
+use crate::given::{board, must};
 use fc_bound::{bound, is_held_back};
 use fc_cards::Place;
 use std::process::Abort;
 
 // The bound of a board.
 fn check_bound(rt: &impl Abort, text: &str, least: u8) {
-    assert!(rt; bound(&board(rt, text)) == least, "another bound");
+    must(rt, bound(&board(rt, text)) == least);
 }
 
 #[test]
@@ -54,7 +54,7 @@ fn cards_above_lower_ones_of_their_suit(rt: HostRuntime) {
         (Place::Home, false),
     ];
     for (place, held) in places {
-        assert!(rt; is_held_back(&position, place) == held);
+        must(&rt, is_held_back(&position, place) == held);
     }
 }
 

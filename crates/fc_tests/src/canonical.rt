@@ -1,7 +1,7 @@
 //! Classes of positions, their keys, and the moves that lead to different classes.
 
 use crate::boards::{ALL_HOME, DEAL_ONE, LOCKED, LONE_SPADES, THREE_SPADES, TWO_KINGS};
-use crate::given::{bakers_game, board, free_cell, make, sure};
+use crate::given::{bakers_game, board, free_cell, make, must, sure};
 use arrayvec::ArrayVec;
 use fc_canonical::{
     Key, canonical, distinct_moves, find_move, is_key, key, key_len, position_of, read_key,
@@ -55,7 +55,7 @@ const WITH_CELLS: &str = "\
 
 // The key of a board's text.
 fn check_key(rt: &impl Abort, text: &str, bytes: &[u8]) {
-    assert!(rt; key(&board(rt, text)).as_slice() == bytes, "{text}");
+    must(rt, key(&board(rt, text)).as_slice() == bytes);
 }
 
 // Boards, and the keys of their classes.
@@ -83,7 +83,7 @@ static KEYS: [(&str, &[u8]); 6] = [
 
 #[test]
 fn writes_keys(rt: HostRuntime) {
-    for (text, bytes) in KEYS {
+    for &(text, bytes) in &KEYS {
         check_key(&rt, text, bytes);
     }
 }
@@ -91,10 +91,10 @@ fn writes_keys(rt: HostRuntime) {
 // Some bytes begin with this key, whose position has it.
 fn check_read(rt: &impl Abort, bytes: &[u8], own: &[u8]) {
     let (read, extent) = read_key(bytes).expect(rt, "a key");
-    assert!(rt; extent == own.len());
-    assert!(rt; key(&read).as_slice() == own);
-    assert!(rt; is_key(own, 4));
-    assert!(rt; is_key(bytes, 4) == (bytes.len() == own.len()));
+    must(rt, extent == own.len());
+    must(rt, key(&read).as_slice() == own);
+    must(rt, is_key(own, 4));
+    must(rt, is_key(bytes, 4) == (bytes.len() == own.len()));
 }
 
 // A board has this key, and the key's position does.
@@ -115,10 +115,13 @@ fn writes_and_reads_keys_of_certificates(rt: HostRuntime) {
 fn makes_canonical_positions(rt: HostRuntime) {
     let text = "Foundations: H-J C-K D-K S-J\nFreecells: - KS\n:\nQS KH\nQH\n";
     let sorted = canonical(&board(&rt, text));
-    assert!(rt; sorted.cell(0) == Card::read(b"KS") && sorted.cell(1) == None);
-    assert!(rt; sorted.column(0).len() == 1);
-    assert!(rt; sorted.column(1).len() == 2);
-    assert!(rt; sorted.column(2).len() == 0);
+    must(
+        &rt,
+        sorted.cell(0) == Card::read(b"KS") && sorted.cell(1) == None,
+    );
+    must(&rt, sorted.column(0).len() == 1);
+    must(&rt, sorted.column(1).len() == 2);
+    must(&rt, sorted.column(2).len() == 0);
 }
 
 // The key of the board of four cards with other bytes behind it.
@@ -131,21 +134,21 @@ fn followed(rt: &impl Abort) -> Key {
 
 // Some bytes begin with no key.
 fn check_no_key(rt: &impl Abort, bytes: &[u8]) {
-    assert!(rt; read_key(bytes).is_none());
-    assert!(rt; !is_key(bytes, 4));
+    must(rt, read_key(bytes).is_none());
+    must(rt, !is_key(bytes, 4));
 }
 
 // So many of the first bytes of a key are none.
 fn check_front(rt: &impl Abort, end: usize) {
     let front = FOUR_CARDS_KEY.get(..end).expect(rt, "a front");
-    assert!(rt; key_len(front).is_none());
+    must(rt, key_len(front).is_none());
     check_no_key(rt, front);
 }
 
 // The first card of the first column of a key's position.
 fn check_first(rt: &impl Abort, bytes: &[u8], text: &[u8]) {
     let (read, _) = read_key(bytes).expect(rt, "a key");
-    assert!(rt; read.column(0).first().copied() == Card::read(text));
+    must(rt, read.column(0).first().copied() == Card::read(text));
 }
 
 #[test]
@@ -154,7 +157,7 @@ fn reads_keys(rt: HostRuntime) {
         check_front(&rt, end);
     }
     let followed = followed(&rt);
-    assert!(rt; key_len(followed.as_slice()) == Some(20));
+    must(&rt, key_len(followed.as_slice()) == Some(20));
     check_read(&rt, followed.as_slice(), FOUR_CARDS_KEY);
     check_read(&rt, LOCKED_KEY, LOCKED_KEY);
     check_first(&rt, FOUR_CARDS_KEY, b"QH");
@@ -162,8 +165,8 @@ fn reads_keys(rt: HostRuntime) {
 
 // The position of a key, read with no test, is that of a text.
 fn check_known(rt: &impl Abort, bytes: &[u8], text: &str) {
-    assert!(rt; read_key(bytes).is_some());
-    assert!(rt; position_of(bytes).equals(&board(rt, text)), "{text}");
+    must(rt, read_key(bytes).is_some());
+    must(rt, position_of(bytes).equals(&board(rt, text)));
 }
 
 #[test]
@@ -173,7 +176,7 @@ fn reads_known_keys(rt: HostRuntime) {
     check_known(&rt, followed(&rt).as_slice(), sorted);
     check_known(&rt, LOCKED_KEY, LOCKED);
     check_known(&rt, ALL_HOME_KEY, ALL_HOME);
-    assert!(rt; board(&rt, ALL_HOME).is_won());
+    must(&rt, board(&rt, ALL_HOME).is_won());
 }
 
 // The key of the board of four cards with one byte changed.
@@ -187,13 +190,13 @@ fn changed(rt: &impl Abort, place: usize, byte: u8) -> Key {
 // The key of the board of four cards with one byte changed is none, and has this extent by its lengths, or none.
 fn check_changed(rt: &impl Abort, place: usize, byte: u8, extent: Option<usize>) {
     let bytes = changed(rt, place, byte);
-    assert!(rt; key_len(bytes.as_slice()) == extent);
+    must(rt, key_len(bytes.as_slice()) == extent);
     check_no_key(rt, bytes.as_slice());
 }
 
 #[test]
 fn refuses_what_is_no_key(rt: HostRuntime) {
-    for (place, byte, extent) in CHANGES {
+    for &(place, byte, extent) in &CHANGES {
         check_changed(&rt, place, byte, extent);
     }
 }
@@ -213,12 +216,9 @@ static CHANGES: [(usize, u8, Option<usize>); 7] = [
 fn check_cells(rt: &impl Abort, text: &str, full: u8) {
     let bytes = key(&board(rt, text));
     for cells in 0..6 {
-        assert!(rt;
-            is_key(bytes.as_slice(), cells) == (full <= cells),
-            "{text}"
-        );
+        must(rt, is_key(bytes.as_slice(), cells) == (full <= cells));
     }
-    assert!(rt; is_key(bytes.as_slice(), 255), "{text}");
+    must(rt, is_key(bytes.as_slice(), 255));
 }
 
 #[test]
@@ -261,7 +261,7 @@ static NO_KEYS: [&[u8]; 10] = [
 
 #[test]
 fn refuses_parts_of_keys_out_of_place(rt: HostRuntime) {
-    for bytes in NO_KEYS {
+    for &bytes in &NO_KEYS {
         check_no_key(&rt, bytes);
     }
     check_read(&rt, SPADES_IN_CELLS_KEY, SPADES_IN_CELLS_KEY);
@@ -284,17 +284,17 @@ fn finds_moves(rt: HostRuntime) {
     };
     let next = key_after(&rt, &game, &position, m);
     let found = find_move(&game, &position, &next).expect(&rt, "a move");
-    assert!(rt; found.from == Place::Column(0));
-    assert!(rt; matches!(found.to, Place::Cell(_)));
-    assert!(rt; find_move(&game, &position, &key(&position)) == None);
+    must(&rt, found.from == Place::Column(0));
+    must(&rt, matches!(found.to, Place::Cell(_)));
+    must(&rt, find_move(&game, &position, &key(&position)) == None);
 }
 
 // A board has so many allowed moves, and so many of its distinct moves are listed.
 fn check_counts(rt: &impl Abort, text: &str, cells: u8, all: usize, distinct: usize) {
     let game = free_cell(rt, cells);
     let position = board(rt, text);
-    assert!(rt; moves(&game, &position).len() == all);
-    assert!(rt; distinct_moves(&game, &position).len() == distinct);
+    must(rt, moves(&game, &position).len() == all);
+    must(rt, distinct_moves(&game, &position).len() == distinct);
 }
 
 #[test]
@@ -305,7 +305,7 @@ fn lists_distinct_moves(rt: HostRuntime) {
     let lone = board(&rt, LONE_SPADES);
     let stays = find_move(&none, &lone, &key(&lone));
     for m in distinct_moves(&none, &lone).as_slice() {
-        assert!(rt; stays == Some(*m) || m.to == Place::Home);
+        must(&rt, stays == Some(*m) || m.to == Place::Home);
     }
 }
 
@@ -334,11 +334,11 @@ fn check_distinct<G: Game>(rt: &impl Abort, game: &G, position: &Position) {
     for m in moves(game, position).as_slice() {
         let earlier = distinct.as_slice().get(..kept).expect(rt, "kept moves");
         if is_first(rt, game, position, earlier, *m) {
-            assert!(rt; distinct.get(kept).copied() == Some(*m));
+            must(rt, distinct.get(kept).copied() == Some(*m));
             kept += 1;
         }
     }
-    assert!(rt; distinct.len() == kept);
+    must(rt, distinct.len() == kept);
 }
 
 // The same for some games.
@@ -383,9 +383,12 @@ fn check_king(rt: &impl Abort, position: &Position, class: &Key, is_allowed: boo
         from: Place::Column(7),
         to: Place::Cell(0),
     };
-    assert!(rt; key(position).as_slice() == class.as_slice());
-    assert!(rt; position.fits(1) != is_allowed);
-    assert!(rt; allows(&free_cell(rt, 1), position, into_cell) == is_allowed);
+    must(rt, key(position).as_slice() == class.as_slice());
+    must(rt, position.fits(1) != is_allowed);
+    must(
+        rt,
+        allows(&free_cell(rt, 1), position, into_cell) == is_allowed,
+    );
 }
 
 // Two boards of one class, of which one doesn't fit a game of one cell, where columns are opened by kings alone: a king

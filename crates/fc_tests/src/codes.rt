@@ -1,4 +1,4 @@
-//! Codes of positions: what they spell after each move of a run, and that they tell classes.
+//! Codes of positions: what they spell after each move of a list, and that they tell classes.
 
 ghost use Rattle.std.specs.Prelude.{◌≡◌};
 ghost use Rattle.fc_position.specs.Position.{IsPosition};
@@ -6,10 +6,10 @@ ghost use Rattle.fc_moves.specs.Step.{Allows};
 ghost use Rattle.fc_codes.specs.State.{IsCodeOf};
 
 use crate::boards::DEAL_ONE;
-use crate::given::{bakers_game, board, free_cell, move_of};
+use crate::given::{bakers_game, board, free_cell, move_of, must};
 use fc_canonical::canonical;
 use fc_codes::{Code, Layout};
-use fc_moves::{Game, Move, allows, apply, moves};
+use fc_moves::{Game, Move, allows, apply};
 use fc_position::Position;
 use std::process::Abort;
 
@@ -30,33 +30,10 @@ fn step<G: Game>(
     let next = layout.moved(code, position, m);
     apply(game, position, m);
     let spelled = layout.position_of(&next);
-    assert!(rt; spelled.equals(&canonical(position)), "spells another");
+    must(rt, spelled.equals(&canonical(position)));
     let told = layout.code_of(position);
-    assert!(rt; told == Some(next), "has another");
+    must(rt, told == Some(next));
     next
-}
-
-// Makes moves, at each turn the one that stands at a place of the list of allowed ones, and each time so many places later.
-fn wander<G: Game>(rt: &impl Abort, game: &G, text: &str, turns: u8, later: u8) {
-    let mut position = board(rt, text);
-    let layout = Layout::new(&position);
-    let mut code = layout.start_code();
-    let mut place: u8 = 0;
-    for _ in 0..turns {
-        let list = moves(game, &position);
-        if let Some(m) = list.as_slice().get(place as usize) {
-            code = step(rt, game, &layout, &code, &mut position, *m);
-        }
-        place = place.wrapping_add(later) % 7;
-    }
-}
-
-#[test]
-fn spells_what_is_reached(rt: HostRuntime) {
-    wander(&rt, &free_cell(&rt, 4), DEAL_ONE, 80, 5);
-    wander(&rt, &free_cell(&rt, 4), DEAL_ONE, 80, 23);
-    wander(&rt, &bakers_game(&rt, 4), DEAL_ONE, 80, 11);
-    wander(&rt, &free_cell(&rt, 2), WITH_CELLS, 40, 3);
 }
 
 // Cards in the first cell and the third, and two columns behind an empty one.
@@ -75,10 +52,30 @@ fn code_after<G: Game>(rt: &impl Abort, game: &G, text: &str, list: &[u8]) -> Co
     for word in list.chunks(3) {
         let m = move_of(rt, word.get(..2).expect(rt, "two letters"));
         let is_allowed = allows(game, &position, m);
-        assert!(rt; is_allowed, "not allowed");
+        must(rt, is_allowed);
         code = step(rt, game, &layout, &code, &mut position, m);
     }
     code
+}
+
+// Moves within two cells that lead over and over to the same boards.
+const ROUNDS: &[u8] = b"\
+    21 16 3b 34 48 62 26 61 15 5h 83 37 72 26 61 15 58 83 37 72 26 61 15 58 83 37 72 26 61 15 58 83 \
+    37 72 26 61 15 58 83 37";
+
+#[test]
+fn spells_what_is_reached(rt: HostRuntime) {
+    let game = free_cell(&rt, 4);
+    let _code = code_after(
+        &rt,
+        &game,
+        DEAL_ONE,
+        b"1a 2d 2c 2b 21 14 41 14 41 14 41 14 41 14 41",
+    );
+    let _code = code_after(&rt, &game, DEAL_ONE, b"1a 1d 31 3c 2b 63 63 6h 3h 6h");
+    let suits = bakers_game(&rt, 4);
+    let _code = code_after(&rt, &suits, DEAL_ONE, b"1a 2b 1d 6c b8 5b 78");
+    let _code = code_after(&rt, &free_cell(&rt, 2), WITH_CELLS, ROUNDS);
 }
 
 // A board, two lists of moves from it, and whether they lead to one code.
@@ -106,8 +103,7 @@ fn check_codes(rt: &impl Abort, row: &Row) {
     let Row(text, list, other, are_same) = *row;
     let code = code_after(rt, &game, text, list);
     let second = code_after(rt, &game, text, other);
-    let is_same = code == second;
-    assert!(rt; is_same == are_same, "{text}");
+    must(rt, (code == second) == are_same);
 }
 
 #[test]
@@ -120,8 +116,11 @@ fn tells_classes(rt: HostRuntime) {
 #[test]
 fn tells_boards_without_a_code(rt: HostRuntime) {
     let layout = Layout::new(&board(&rt, WITH_CELLS));
-    assert!(rt; layout.code_of(&board(&rt, WITH_CELLS)) == Some(layout.start_code()));
-    assert!(rt; layout.code_of(&board(&rt, DEAL_ONE)).is_none());
+    must(
+        &rt,
+        layout.code_of(&board(&rt, WITH_CELLS)) == Some(layout.start_code()),
+    );
+    must(&rt, layout.code_of(&board(&rt, DEAL_ONE)).is_none());
     let other = Layout::new(&board(&rt, DEAL_ONE));
-    assert!(rt; other.code_of(&board(&rt, WITH_CELLS)).is_some());
+    must(&rt, other.code_of(&board(&rt, WITH_CELLS)).is_some());
 }

@@ -1,6 +1,6 @@
 //! Byte devices, and what is done over them.
 
-use crate::given::sure;
+use crate::given::{must, sure};
 use fc_io::testing::Failing;
 use fc_io::{
     Failed, FromReader, FromSlice, ReadFault, Sink, Source, ToArray, ToWriter, read_to_vec,
@@ -45,15 +45,20 @@ impl Write for Hiccup {
     }
 }
 
+// A sink that fails on a piece holds these bytes of it then, and has failed.
+fn check_failed_sink(rt: &impl Abort, sink: &mut Failing<ToArray<8>>, held: &[u8]) {
+    must(rt, write_all(sink, b"abc") == Err(Failed));
+    must(rt, sink.failed());
+    must(rt, sink.device.held() == held);
+}
+
 // A sink that fails after so many calls takes as many bytes of a piece, and has failed from then on.
 fn check_failing_sink(rt: &impl Abort, calls: u32) {
+    let held = b"abc".get(..calls as usize).expect(rt, "a front");
     let mut sink = Failing::new(ToArray::<8>::new(), calls);
-    assert!(rt; !sink.failed());
-    for _ in 0..2 {
-        assert!(rt; write_all(&mut sink, b"abc") == Err(Failed));
-        assert!(rt; sink.failed());
-        assert!(rt; Some(sink.device.held()) == b"abc".get(..calls as usize));
-    }
+    must(rt, !sink.failed());
+    check_failed_sink(rt, &mut sink, held);
+    check_failed_sink(rt, &mut sink, held);
 }
 
 #[test]
@@ -62,9 +67,9 @@ fn writes_whole_pieces_or_fails(rt: HostRuntime) {
         check_failing_sink(&rt, calls);
     }
     let mut sink = Failing::new(ToArray::<8>::new(), 3);
-    assert!(rt; write_all(&mut sink, b"abc") == Ok(()));
-    assert!(rt; sink.device.held() == b"abc".as_slice());
-    assert!(rt; !sink.failed());
+    must(&rt, write_all(&mut sink, b"abc") == Ok(()));
+    must(&rt, sink.device.held() == b"abc".as_slice());
+    must(&rt, !sink.failed());
 }
 
 // A piece is answered so, and the sink has failed exactly after a fault.
@@ -74,8 +79,8 @@ fn check_write<K: Sink>(
     piece: &[u8],
     answer: Result<usize, Failed>,
 ) {
-    assert!(rt; sink.write(piece) == answer);
-    assert!(rt; sink.failed() == answer.is_err());
+    must(rt, sink.write(piece) == answer);
+    must(rt, sink.failed() == answer.is_err());
 }
 
 // Pieces that are written one after the other into four bytes, and the answers.
@@ -90,30 +95,35 @@ static PIECES: [(&[u8], Result<usize, Failed>); 5] = [
 #[test]
 fn fills_an_array(rt: HostRuntime) {
     let mut array = ToArray::<4>::new();
-    for (piece, answer) in PIECES {
+    for &(piece, answer) in &PIECES {
         check_write(&rt, &mut array, piece, answer);
     }
-    assert!(rt; array.held() == b"abcd".as_slice());
+    must(&rt, array.held() == b"abcd".as_slice());
+}
+
+// Reading from a source fails, which leaves these bytes then, and has failed.
+fn check_failed_source(rt: &impl Abort, source: &mut Failing<FromSlice<'_>>, left: &[u8]) {
+    let mut room = [0; 4];
+    must(rt, read_up_to(source, &mut room) == Err(Failed));
+    must(rt, source.failed());
+    must(rt, source.device.left() == left);
 }
 
 // A source that fails after so many calls has given as many bytes of its text, and has failed from then on.
 fn check_failing_source(rt: &impl Abort, text: &[u8], calls: u32) {
-    let mut room = [0; 4];
+    let left = text.get(calls as usize..).expect(rt, "an end");
     let mut source = Failing::new(FromSlice::new(text), calls);
-    assert!(rt; !source.failed());
-    for _ in 0..2 {
-        assert!(rt; read_up_to(&mut source, &mut room) == Err(Failed));
-        assert!(rt; source.failed());
-        assert!(rt; Some(source.device.left()) == text.get(calls as usize..));
-    }
+    must(rt, !source.failed());
+    check_failed_source(rt, &mut source, left);
+    check_failed_source(rt, &mut source, left);
 }
 
 // Reading into four bytes gives so many, and these bytes are there then; the source hasn't failed.
 fn check_read<S: Source>(rt: &impl Abort, source: &mut S, count: usize, wanted: &[u8]) {
     let mut room = [0; 4];
-    assert!(rt; read_up_to(source, &mut room) == Ok(count));
-    assert!(rt; room.as_slice() == wanted);
-    assert!(rt; !source.failed());
+    must(rt, read_up_to(source, &mut room) == Ok(count));
+    must(rt, room.as_slice() == wanted);
+    must(rt, !source.failed());
 }
 
 #[test]
@@ -129,8 +139,8 @@ fn reads_into_room_or_fails(rt: HostRuntime) {
 fn check_left(rt: &impl Abort, text: &[u8], count: usize, left: &[u8]) {
     let mut source = FromSlice::new(text);
     let mut room = [0; 4];
-    assert!(rt; read_up_to(&mut source, &mut room) == Ok(count));
-    assert!(rt; source.left() == left);
+    must(rt, read_up_to(&mut source, &mut room) == Ok(count));
+    must(rt, source.left() == left);
 }
 
 // Texts, how many bytes of each are read, and what is left.
@@ -143,13 +153,13 @@ static TEXTS: [(&[u8], usize, &[u8]); 4] = [
 
 #[test]
 fn tells_whether_all_came(rt: HostRuntime) {
-    for (text, count, left) in TEXTS {
+    for &(text, count, left) in &TEXTS {
         check_left(&rt, text, count, left);
     }
     let mut source = FromSlice::new(b"abc");
-    assert!(rt; source.read(&mut []) == Ok(0));
-    assert!(rt; source.left() == b"abc".as_slice());
-    assert!(rt; !source.failed());
+    must(&rt, source.read(&mut []) == Ok(0));
+    must(&rt, source.left() == b"abc".as_slice());
+    must(&rt, !source.failed());
 }
 
 // What reading a text into memory tells, with at most so many bytes, and how many bytes it leaves.
@@ -163,10 +173,10 @@ fn check_limit(
 ) {
     let mut source = FromSlice::new(text);
     match read_to_vec(alloc, &mut source, limit) {
-        Ok(bytes) => assert!(rt; is_whole && bytes.as_slice() == text, "{limit}"),
-        Err(fault) => assert!(rt; !is_whole && fault == ReadFault::TooLong, "{limit}"),
+        Ok(bytes) => must(rt, is_whole && bytes.as_slice() == text),
+        Err(fault) => must(rt, !is_whole && fault == ReadFault::TooLong),
     }
-    assert!(rt; source.left().len() == left, "{limit}");
+    must(rt, source.left().len() == left);
 }
 
 #[test]
@@ -175,7 +185,7 @@ fn reads_into_memory(rt: HostRuntime) {
     for (number, byte) in text.iter_mut().enumerate() {
         *byte = (number % 251) as u8;
     }
-    for (limit, is_whole, left) in LIMITS {
+    for &(limit, is_whole, left) in &LIMITS {
         check_limit(&rt, rt.alloc(), &text, limit, is_whole, left);
     }
     check_limit(&rt, rt.alloc(), b"", 0, true, 0);
@@ -199,7 +209,7 @@ fn check_fault<S: Source>(
     limit: usize,
     fault: ReadFault,
 ) {
-    assert!(rt; read_to_vec(alloc, source, limit).err() == Some(fault));
+    must(rt, read_to_vec(alloc, source, limit).err() == Some(fault));
 }
 
 // Reading from a source that fails after so many calls fails, twice.
@@ -214,19 +224,23 @@ fn tells_a_fault_from_a_long_text(rt: HostRuntime) {
     for calls in 0..4 {
         check_failure(&rt, rt.alloc(), calls);
     }
-    let mut whole = Failing::new(FromSlice::new(b"abc"), 4);
-    let bytes = sure(&rt, read_to_vec(rt.alloc(), &mut whole, 3));
-    assert!(rt; bytes.as_slice() == b"abc".as_slice());
     let mut long = Failing::new(FromSlice::new(b"abc"), 3);
     check_fault(&rt, rt.alloc(), &mut long, 2, ReadFault::TooLong);
-    assert!(rt; !long.failed());
+    must(&rt, !long.failed());
+}
+
+#[test]
+fn reads_all_before_a_fault(rt: HostRuntime) {
+    let mut whole = Failing::new(FromSlice::new(b"abc"), 4);
+    let bytes = sure(&rt, read_to_vec(rt.alloc(), &mut whole, 3));
+    must(&rt, bytes.as_slice() == b"abc".as_slice());
 }
 
 // What one read of a source answers, which has failed exactly after a fault.
 fn check_piece<S: Source>(rt: &impl Abort, source: &mut S, answer: Result<usize, Failed>) {
     let mut room = [0; 4];
-    assert!(rt; source.read(&mut room) == answer);
-    assert!(rt; source.failed() == answer.is_err());
+    must(rt, source.read(&mut room) == answer);
+    must(rt, source.failed() == answer.is_err());
 }
 
 #[test]
@@ -236,6 +250,10 @@ fn reads_a_reader(rt: HostRuntime) {
     let mut endless = FromReader::new(io::repeat(b'x'));
     check_read(&rt, &mut endless, 4, b"xxxx");
     check_fault(&rt, rt.alloc(), &mut endless, 5_000, ReadFault::TooLong);
+}
+
+#[test]
+fn reads_until_a_reader_fails(rt: HostRuntime) {
     let mut hiccup = FromReader::new(Hiccup { calls: 0 });
     check_piece(&rt, &mut hiccup, Ok(1));
     check_piece(&rt, &mut hiccup, Err(Failed));
@@ -246,9 +264,9 @@ fn reads_a_reader(rt: HostRuntime) {
 fn writes_a_whole_piece(rt: HostRuntime) {
     let mut bytes = Vec::new(rt.alloc());
     let mut whole = ToWriter::new(&mut bytes);
-    assert!(rt; write_all(&mut whole, b"abc") == Ok(()));
-    assert!(rt; !whole.failed());
-    assert!(rt; bytes.as_slice() == b"abc".as_slice());
+    must(&rt, write_all(&mut whole, b"abc") == Ok(()));
+    must(&rt, !whole.failed());
+    must(&rt, bytes.as_slice() == b"abc".as_slice());
 }
 
 #[test]

@@ -1,6 +1,6 @@
 //! Queues of entries.
 
-use crate::given::sure;
+use crate::given::{must, sure};
 use crate::queues::OldestFirst;
 use fc_frontier::{
     BucketFrontier, EitherFrontier, Frontier, ListFrontier, TieBucketFrontier, TieFrontier,
@@ -12,20 +12,20 @@ use std::process::Abort;
 fn put<F: Frontier>(rt: &impl Abort, queue: &mut F, f: u32, node: u32) {
     let before = queue.len();
     if queue.push(f, node).is_err() {
-        assert!(rt; queue.len() == before, "after a refused push");
+        must(rt, queue.len() == before);
         sure(rt, queue.push(f, node));
     }
-    assert!(rt; queue.len() == before.saturating_add(1), "after a push");
+    must(rt, queue.len() == before.saturating_add(1));
 }
 
 // The same with a tie.
 fn put_tied<F: Frontier>(rt: &impl Abort, queue: &mut F, f: u32, tie: u8, node: u32) {
     let before = queue.len();
     if queue.push_tied(f, tie, node).is_err() {
-        assert!(rt; queue.len() == before, "after a refused push");
+        must(rt, queue.len() == before);
         sure(rt, queue.push_tied(f, tie, node));
     }
-    assert!(rt; queue.len() == before.saturating_add(1), "after a push");
+    must(rt, queue.len() == before.saturating_add(1));
 }
 
 fn filled<F: Frontier + Drop>(rt: &impl Abort, alloc: Global, pairs: &[(u32, u32)]) -> F {
@@ -39,12 +39,15 @@ fn filled<F: Frontier + Drop>(rt: &impl Abort, alloc: Global, pairs: &[(u32, u32
 // A pair of least f comes first, the two of greater f in either order, and then nothing.
 fn least_comes_first<F: Frontier + Drop>(rt: &impl Abort, alloc: Global) {
     let mut queue: F = filled(rt, alloc, &[(5, 1), (4, 2), (5, 3)]);
-    assert!(rt; queue.pop_least() == Some((4, 2)));
+    must(rt, queue.pop_least() == Some((4, 2)));
     let pair = queue.pop_least().expect(rt, "a second pair");
     let other = queue.pop_least().expect(rt, "a third pair");
-    assert!(rt; (pair, other) == ((5, 1), (5, 3)) || (pair, other) == ((5, 3), (5, 1)));
-    assert!(rt; queue.pop_least() == None);
-    assert!(rt; queue.len() == 0);
+    must(
+        rt,
+        (pair, other) == ((5, 1), (5, 3)) || (pair, other) == ((5, 3), (5, 1)),
+    );
+    must(rt, queue.pop_least() == None);
+    must(rt, queue.len() == 0);
 }
 
 #[test]
@@ -60,10 +63,10 @@ fn a_pair_of_least_f_comes_first(rt: HostRuntime) {
 // The pairs come in this order, and then nothing, twice.
 fn comes_in_order<F: Frontier>(rt: &impl Abort, queue: &mut F, order: &[(u32, u32)]) {
     for pair in order {
-        assert!(rt; queue.pop_least() == Some(*pair));
+        must(rt, queue.pop_least() == Some(*pair));
     }
-    assert!(rt; queue.pop_least() == None);
-    assert!(rt; queue.pop_least() == None);
+    must(rt, queue.pop_least() == None);
+    must(rt, queue.pop_least() == None);
 }
 
 // The greatest f that has a stack, the least that has none, the greatest of all and the least of all.
@@ -139,8 +142,8 @@ fn newest_comes_first<F: Frontier + Drop>(rt: &impl Abort, alloc: Global) {
         (1999, 6),
     ];
     let mut queue: F = filled(rt, alloc, &pairs);
-    assert!(rt; queue.pop_least() == Some((69, 4)));
-    assert!(rt; queue.pop_least() == Some((70, 2)));
+    must(rt, queue.pop_least() == Some((69, 4)));
+    must(rt, queue.pop_least() == Some((70, 2)));
     put(rt, &mut queue, 68, 7);
     put(rt, &mut queue, 70, 8);
     comes_in_order(
@@ -171,8 +174,8 @@ fn of_equal_f_the_newest_comes_first(rt: HostRuntime) {
 
 // Nothing stands in a queue.
 fn check_empty<F: Frontier + Drop>(rt: &impl Abort, mut queue: F) {
-    assert!(rt; queue.len() == 0);
-    assert!(rt; queue.pop_least() == None);
+    must(rt, queue.len() == 0);
+    must(rt, queue.pop_least() == None);
 }
 
 #[test]
@@ -209,8 +212,8 @@ fn fill_with_ties<F: Frontier + Drop>(rt: &impl Abort, mut queue: F) -> F {
 // Of equal f the pair of least tie comes first, and of equal ties the one that was pushed last.
 fn least_tie_comes_first<F: Frontier + Drop>(rt: &impl Abort, queue: F) {
     let mut queue = fill_with_ties(rt, queue);
-    assert!(rt; queue.pop_least() == Some((69, 8)));
-    assert!(rt; queue.pop_least() == Some((70, 6)));
+    must(rt, queue.pop_least() == Some((69, 8)));
+    must(rt, queue.pop_least() == Some((70, 6)));
     // A push is one with the tie 0.
     put_tied(rt, &mut queue, 70, 1, 9);
     put(rt, &mut queue, 70, 10);
@@ -278,7 +281,7 @@ fn walks_over_all<F: Frontier + Drop>(rt: &impl Abort, queue: F) {
         sum_of_f = sum_of_f.saturating_add(f as u64);
         sum_of_nodes = sum_of_nodes.saturating_add(node as u64);
     }
-    assert!(rt; (count, sum_of_f, sum_of_nodes) == (9, 4294969762, 38));
+    must(rt, (count, sum_of_f, sum_of_nodes) == (9, 4294969762, 38));
 }
 
 #[test]

@@ -1,7 +1,7 @@
 //! What a test begins with, from texts and numbers. Where a text is no such thing the test fails at once: a function that
 //! hands on a fault costs the prover many times as much.
 
-ghost use Rattle.std.specs.Prelude.{◌≡◌, Ok};
+ghost use Rattle.std.specs.Prelude.{◌≡◌, Ok, IsTrue};
 ghost use Rattle.fc_position.specs.Position.{Fits};
 
 use arrayvec::ArrayVec;
@@ -10,6 +10,15 @@ use fc_moves::{BakersGame, FreeCell, Game, Move, allows, apply, read_move};
 use fc_position::Position;
 use fc_text::read_board;
 use std::process::Abort;
+
+/// This holds.
+pub fn must(rt: &impl Abort, holds: bool)
+    ensures holds { IsTrue holds }
+{
+    if !holds {
+        rt.panic("it isn't so");
+    }
+}
 
 /// What a call gave, which refused nothing.
 pub fn sure<T, E>(rt: &impl Abort, told: Result<T, E>) -> T
@@ -76,7 +85,7 @@ pub fn listed_moves(rt: &impl Abort, text: &[u8]) -> ArrayVec<Move, 52> {
 /// Makes a move, which must be allowed.
 pub fn make<G: Game>(rt: &impl Abort, game: &G, position: &mut Position, m: Move) {
     let is_allowed = allows(game, position, m);
-    assert!(rt; is_allowed, "not allowed");
+    must(rt, is_allowed);
     apply(game, position, m);
 }
 

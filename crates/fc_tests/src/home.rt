@@ -3,7 +3,7 @@
 ghost use Rattle.std.specs.Prelude.{◌≤◌};
 
 use crate::boards::{ONE_COLUMN, THIRTY_MOVES};
-use crate::given::{bakers_game, board, card, free_cell, listed_moves};
+use crate::given::{bakers_game, board, card, free_cell, listed_moves, must};
 use fc_cards::{Card, Place};
 use fc_home::{HomeRule, forced, free, goes_home_from, settle};
 use fc_moves::{Game, Kings, read_move};
@@ -31,17 +31,17 @@ fn check_settles<G: Game>(rt: &impl Abort, game: &G, position: &mut Position, ru
     requires { rule ≤ 2 }
 {
     let made = settle(game, position, rule);
-    assert!(rt; made.as_slice() == listed_moves(rt, text).as_slice());
+    must(rt, made.as_slice() == listed_moves(rt, text).as_slice());
 }
 
 // The forced card is that of this text, or there is none.
 fn check_forced<G: Game>(rt: &impl Abort, game: &G, position: &Position, text: &[u8]) {
-    assert!(rt; forced(game, position) == Card::read(text));
+    must(rt, forced(game, position) == Card::read(text));
 }
 
 // Whether the card of this text is free.
 fn check_free<G: Game>(rt: &impl Abort, game: &G, position: &Position, text: &[u8], is_free: bool) {
-    assert!(rt; free(game, position, card(rt, text)) == is_free);
+    must(rt, free(game, position, card(rt, text)) == is_free);
 }
 
 // All cards of one column go home by a rule, and then nothing more.
@@ -51,12 +51,12 @@ fn check_column(rt: &impl Abort, rule: u8)
     let game = free_cell(rt, 4);
     let mut position = board(rt, ONE_COLUMN);
     let made = settle(&game, &mut position, rule);
-    assert!(rt; made.len() == 52);
+    must(rt, made.len() == 52);
     let home = read_move(b"1h");
     for m in made.as_slice() {
-        assert!(rt; home == Some(*m));
+        must(rt, home == Some(*m));
     }
-    assert!(rt; position.is_won());
+    must(rt, position.is_won());
     check_forced(rt, &game, &position, b"");
     check_settles(rt, &game, &mut position, rule, b"");
 }
@@ -67,7 +67,7 @@ fn settles_one_column(rt: HostRuntime) {
     let mut position = board(&rt, ONE_COLUMN);
     check_forced(&rt, &game, &position, b"AC");
     check_settles(&rt, &game, &mut position, 0, b"");
-    assert!(rt; position.column(0).len() == 52);
+    must(&rt, position.column(0).len() == 52);
     check_column(&rt, 1);
     check_column(&rt, 2);
 }
@@ -91,12 +91,12 @@ static FREE: [(&[u8], bool); 3] = [(b"KS", true), (b"QH", true), (b"KH", false)]
 fn settles_free_cards(rt: HostRuntime) {
     let game = free_cell(&rt, 4);
     let mut position = board(&rt, QUEEN_BELOW_KING);
-    for (text, is_free) in FREE {
+    for &(text, is_free) in &FREE {
         check_free(&rt, &game, &position, text, is_free);
     }
     check_settles(&rt, &game, &mut position, 1, b"");
     check_settles(&rt, &game, &mut position, 2, b"1h 1h ah");
-    assert!(rt; position.is_won());
+    must(&rt, position.is_won());
 }
 
 #[test]
@@ -107,7 +107,7 @@ fn keeps_cards_that_another_may_need(rt: HostRuntime) {
     check_free(&rt, &game, &position, b"QH", false);
     check_forced(&rt, &game, &position, b"");
     check_settles(&rt, &game, &mut position, 2, b"");
-    assert!(rt; position.column(0).len() == 1);
+    must(&rt, position.column(0).len() == 1);
 }
 
 // Four kings go home by a rule, the least first.
@@ -119,7 +119,7 @@ fn check_kings(rt: &impl Abort, rule: u8)
     let mut position = board(rt, text);
     check_forced(rt, &game, &position, b"KC");
     check_settles(rt, &game, &mut position, rule, b"2h 1h bh ah");
-    assert!(rt; position.is_won());
+    must(rt, position.is_won());
 }
 
 #[test]
@@ -131,7 +131,10 @@ fn settles_the_least_card_first(rt: HostRuntime) {
 // Whether the card of a place of a board goes home by a rule.
 fn check_goes<G: Game>(rt: &impl Abort, game: &G, text: &str, rule: u8, place: Place, goes: bool) {
     let rule = HomeRule::new(rule).expect(rt, "a home rule");
-    assert!(rt; goes_home_from(game, &board(rt, text), rule, place) == goes);
+    must(
+        rt,
+        goes_home_from(game, &board(rt, text), rule, place) == goes,
+    );
 }
 
 // Boards of FreeCell with four cells, a rule, a place, and whether its card goes home.
@@ -149,7 +152,7 @@ static PLACES: [(&str, u8, Place, bool); 8] = [
 #[test]
 fn tells_what_goes_home_from_a_place(rt: HostRuntime) {
     let game = free_cell(&rt, 4);
-    for (text, rule, place, goes) in PLACES {
+    for &(text, rule, place, goes) in &PLACES {
         check_goes(&rt, &game, text, rule, place, goes);
     }
 }

@@ -15,8 +15,6 @@ mod deals;
 #[cfg(test)]
 mod devices;
 #[cfg(test)]
-mod drawings;
-#[cfg(test)]
 mod frontiers;
 pub mod games;
 #[cfg(test)]

@@ -2,7 +2,7 @@
 
 use crate::boards::{THREE_SPADES, TWO_KINGS};
 use crate::games::AnySuit;
-use crate::given::{bakers_game, board, card, cards, free_cell, listed_moves, move_of, play};
+use crate::given::{bakers_game, board, card, cards, free_cell, listed_moves, must, play};
 use fc_cards::Place;
 use fc_moves::{
     BakersGame, EitherGame, FreeCell, Game, Kings, Move, allows, move_text, moves, read_move,
@@ -13,9 +13,9 @@ use std::process::Abort;
 // The allowed moves are those of this text, in its order, and no other move is allowed.
 fn check_moves<G: Game>(rt: &impl Abort, game: &G, position: &Position, text: &[u8]) {
     let found = moves(game, position);
-    assert!(rt; found.as_slice() == listed_moves(rt, text).as_slice());
+    must(rt, found.as_slice() == listed_moves(rt, text).as_slice());
     for m in found.as_slice() {
-        assert!(rt; allows(game, position, *m));
+        must(rt, allows(game, position, *m));
     }
 }
 
@@ -40,7 +40,7 @@ fn lists_moves(rt: HostRuntime) {
     let second = b"13 14 15 16 17 18 1b 1c 1d 1h 23 24 25 26 27 28 2b 2c 2d a3 a4 a5 a6 a7 a8";
     check_then(&rt, &game, &mut position, b"1a", second);
     check_then(&rt, &game, &mut position, b"1h 2h 2h ah", b"");
-    assert!(rt; position.is_won());
+    must(&rt, position.is_won());
 }
 
 // How many cells there are, and the moves of three spades then.
@@ -53,7 +53,7 @@ static FEWER: [(u8, &[u8]); 3] = [
 #[test]
 fn lists_moves_with_fewer_cells(rt: HostRuntime) {
     let spades = board(&rt, THREE_SPADES);
-    for (count, text) in FEWER {
+    for &(count, text) in &FEWER {
         check_moves(&rt, &free_cell(&rt, count), &spades, text);
     }
 }
@@ -77,50 +77,62 @@ fn lists_moves_of_other_games(rt: HostRuntime) {
     check_then(&rt, &AnySuit, &mut board(&rt, TWO_KINGS), b"13 24 1a", any);
 }
 
-// The game's code, its cells, whether the queen of spades may stand on the king of hearts, and whether she may go to an
-// empty column, are these. A king may go there, these cards may stand on the king of hearts, and none on an ace.
-fn check_game<G: Game>(rt: &impl Abort, game: &G, told: (u8, u8, bool, bool), hosts: &[u8]) {
+// What a game tells: its code, its cells, whether the queen of spades may stand on the king of hearts, whether she may go to
+// an empty column, and the cards that may stand on the king of hearts.
+#[derive(Clone, Copy)]
+struct Told(u8, u8, bool, bool, &'static [u8]);
+
+// This is what a game tells; a king may go to an empty column, and no card may stand on an ace.
+fn check_game<G: Game>(rt: &impl Abort, game: &G, told: Told) {
+    let Told(code, cells_told, stands, opens, hosts) = told;
     let queen = card(rt, b"QS");
     let king = card(rt, b"KH");
-    let stands = game.stands(queen, king);
-    assert!(rt; (game.code(), game.cells(), stands, game.opens(queen)) == told);
-    assert!(rt; game.opens(king));
-    assert!(rt; game.hosts_of(king).as_slice() == cards(rt, hosts).as_slice());
-    assert!(rt; game.hosts_of(card(rt, b"AD")).len() == 0);
+    must(rt, game.code() == code && game.cells() == cells_told);
+    must(rt, game.stands(queen, king) == stands);
+    must(rt, game.opens(queen) == opens && game.opens(king));
+    must(
+        rt,
+        game.hosts_of(king).as_slice() == cards(rt, hosts).as_slice(),
+    );
+    must(rt, game.hosts_of(card(rt, b"AD")).len() == 0);
 }
 
 #[test]
 fn tells_games(rt: HostRuntime) {
-    assert!(rt; FreeCell::new(5) == None);
-    assert!(rt; BakersGame::new(5) == None);
+    must(&rt, FreeCell::new(5) == None);
+    must(&rt, BakersGame::new(5) == None);
     let game = free_cell(&rt, 4);
-    check_game(&rt, &game.copy(), (0, 4, true, true), b"QC QS");
+    check_game(&rt, &game.copy(), Told(0, 4, true, true, b"QC QS"));
     let suits = bakers_game(&rt, 3);
-    check_game(&rt, &suits.copy(), (1, 3, false, true), b"QH");
-    check_game(&rt, &AnySuit.copy(), (200, 4, true, true), b"QC QD QH QS");
+    check_game(&rt, &suits.copy(), Told(1, 3, false, true, b"QH"));
+    check_game(
+        &rt,
+        &AnySuit.copy(),
+        Told(200, 4, true, true, b"QC QD QH QS"),
+    );
 }
 
 #[test]
 fn tells_games_of_kings(rt: HostRuntime) {
     let game = Kings::new(free_cell(&rt, 4));
-    check_game(&rt, &game, (2, 4, true, false), b"QC QS");
+    check_game(&rt, &game, Told(2, 4, true, false, b"QC QS"));
     let suits = Kings::new(bakers_game(&rt, 3));
-    check_game(&rt, &suits.copy(), (3, 3, false, false), b"QH");
+    check_game(&rt, &suits.copy(), Told(3, 3, false, false, b"QH"));
 }
 
 #[test]
 fn tells_either_game(rt: HostRuntime) {
     let one: EitherGame<FreeCell, BakersGame> = EitherGame::One(free_cell(&rt, 4));
-    check_game(&rt, &one.copy(), (0, 4, true, true), b"QC QS");
+    check_game(&rt, &one.copy(), Told(0, 4, true, true, b"QC QS"));
     let suits = Kings::new(bakers_game(&rt, 3));
     let other: EitherGame<AnySuit, Kings<BakersGame>> = EitherGame::Other(suits);
-    check_game(&rt, &other.copy(), (3, 3, false, false), b"QH");
+    check_game(&rt, &other.copy(), Told(3, 3, false, false, b"QH"));
 }
 
 // The text of a move is that from which it is read.
 fn check_text(rt: &impl Abort, text: [u8; 2]) {
     let m = read_move(&text).expect(rt, "a move");
-    assert!(rt; move_text(m) == text);
+    must(rt, move_text(m) == text);
 }
 
 // The texts of the moves from a place.
@@ -133,18 +145,13 @@ fn check_texts(rt: &impl Abort, from: u8) {
 // No text is that of a move.
 fn check_no_moves(rt: &impl Abort, texts: &[&[u8]]) {
     for text in texts {
-        assert!(rt; read_move(text) == None);
+        must(rt, read_move(text) == None);
     }
 }
 
 // A text is that of a move.
 fn check_read(rt: &impl Abort, text: &[u8], from: Place, to: Place) {
-    assert!(rt; read_move(text) == Some(Move { from, to }));
-}
-
-// No move is allowed from the board of two kings.
-fn check_refused(rt: &impl Abort, text: &[u8]) {
-    assert!(rt; !allows(&free_cell(rt, 4), &board(rt, TWO_KINGS), move_of(rt, text)));
+    must(rt, read_move(text) == Some(Move { from, to }));
 }
 
 #[test]
@@ -158,9 +165,7 @@ fn reads_moves(rt: HostRuntime) {
     for from in b"12345678abcd" {
         check_texts(&rt, *from);
     }
-    check_refused(&rt, b"11");
-    check_refused(&rt, b"ab");
     check_read(&rt, b"8d", Place::Column(7), Place::Cell(3));
     let m = Move::default();
-    assert!(rt; m.from == Place::Home && m.to == Place::Home);
+    must(&rt, m.from == Place::Home && m.to == Place::Home);
 }

@@ -1,6 +1,6 @@
 //! Texts and counts as people type them.
 
-use crate::given::sure;
+use crate::given::{must, sure};
 use fc_io::testing::Failing;
 use fc_io::{FromSlice, ReadFault};
 use fc_plain::{MOST_BYTES, PlainText, read_count};
@@ -9,13 +9,13 @@ use std::process::Abort;
 // A text stands for this plain one.
 fn check_plain(rt: &impl Abort, text: &[u8], plain: &[u8]) {
     let made = PlainText::of(text).expect(rt, "a short text");
-    assert!(rt; made.bytes() == plain);
+    must(rt, made.bytes() == plain);
     let read = sure(rt, PlainText::read(&mut FromSlice::new(text)));
-    assert!(rt; read.bytes() == plain);
+    must(rt, read.bytes() == plain);
 }
 
 // Texts, and the plain ones for which they stand.
-static COPIED: [(&[u8], &[u8]); 22] = [
+static COPIED: [(&[u8], &[u8]); 29] = [
     (b"", b""),
     (b": 4C 2C\n:\n", b": 4C 2C\n:\n"),
     // The mark of byte order counts at the beginning alone.
@@ -58,10 +58,23 @@ static COPIED: [(&[u8], &[u8]); 22] = [
     (b"\n1: KS\n2: QS\n", b"\n1: KS\n2: QS\n"),
     (b"\r\n1: KC\r\n3: QC\r\n", b"\r\n1: KC\r\n: QC\r\n"),
     (b"1: KC\r\n2:\r\n", b": KC\r\n:\r\n"),
+    // Texts in units of two bytes.
+    (b"\xFF\xFE4\0S\0\n\0", b"4S\n"),
+    (b"\xFE\xFF\04\0S\0\n", b"4S\n"),
+    // U+2666 and its selector, U+00A0, U+00E9 and U+3042.
+    (b"\xFF\xFE7\0\x66\x26\x0F\xFE", b"7D"),
+    (
+        b"\xFE\xFF\x00\xA0\x00\xE9\x30\x42",
+        b" \xC3\xA9\xE3\x81\x82",
+    ),
+    // A pair of units, a half of one, and a byte that is left alone.
+    (b"\xFE\xFF\xD8\x3C\xDC\xA1\xDF\xFF0", b"????"),
+    (b"\xFF\xFE", b""),
+    (b"\xFF\xFF4\0", b"\xFF\xFF4\0"),
 ];
 
-// Texts whose tokens are respelled, and the plain ones for which they stand.
-static RESPELLED: [(&[u8], &[u8]); 14] = [
+// Texts whose tokens are respelled or left out, and the plain ones for which they stand.
+static RESPELLED: [(&[u8], &[u8]); 20] = [
     // Suits before ranks.
     (b"D7 s10 dT\n: CA Hk\r\n", b"7D 10s Td\n: AC kH\r\n"),
     (b"Freecells:S10 - *\tHJ", b"Freecells:10S - *\tJH"),
@@ -87,10 +100,7 @@ static RESPELLED: [(&[u8], &[u8]); 14] = [
         b"4S, D2,9C\nDecks: H-4,C-5\n,",
         b"4S  2D 9C\nDecks: H-4 C-5\n ",
     ),
-];
-
-// Texts with comments, and the plain ones for which they stand.
-static COMMENTED: [(&[u8], &[u8]); 6] = [
+    // Comments.
     (b"4S 2D # the first\r\n9C#8C", b"4S 2D \n9C"),
     (b"# a deal\n1: 4S\n\t # more\r\n2: 5S\n#", b": 4S\n: 5S\n"),
     (b"#", b""),
@@ -99,99 +109,72 @@ static COMMENTED: [(&[u8], &[u8]); 6] = [
     (b"4S\n:#\n5S", b"4S\n:\n5S"),
 ];
 
-// Texts in units of two bytes, and the plain ones for which they stand.
-static IN_UNITS: [(&[u8], &[u8]); 7] = [
-    (b"\xFF\xFE4\0S\0\n\0", b"4S\n"),
-    (b"\xFE\xFF\04\0S\0\n", b"4S\n"),
-    // U+2666 and its selector, U+00A0, U+00E9 and U+3042.
-    (b"\xFF\xFE7\0\x66\x26\x0F\xFE", b"7D"),
-    (
-        b"\xFE\xFF\x00\xA0\x00\xE9\x30\x42",
-        b" \xC3\xA9\xE3\x81\x82",
-    ),
-    // A pair of units, a half of one, and a byte that is left alone.
-    (b"\xFE\xFF\xD8\x3C\xDC\xA1\xDF\xFF0", b"????"),
-    (b"\xFF\xFE", b""),
-    (b"\xFF\xFF4\0", b"\xFF\xFF4\0"),
-];
-
 #[test]
 fn what_is_copied_is_made_plain(rt: HostRuntime) {
-    for (text, plain) in COPIED.as_slice() {
-        check_plain(&rt, *text, *plain);
+    for &(text, plain) in &COPIED {
+        check_plain(&rt, text, plain);
     }
 }
 
 #[test]
 fn tokens_are_respelled(rt: HostRuntime) {
-    for (text, plain) in RESPELLED.as_slice() {
-        check_plain(&rt, *text, *plain);
-    }
-}
-
-#[test]
-fn units_are_put_into_bytes(rt: HostRuntime) {
-    for (text, plain) in IN_UNITS.as_slice() {
-        check_plain(&rt, *text, *plain);
-    }
-}
-
-#[test]
-fn comments_are_left_out(rt: HostRuntime) {
-    for (text, plain) in COMMENTED.as_slice() {
-        check_plain(&rt, *text, *plain);
+    for &(text, plain) in &RESPELLED {
+        check_plain(&rt, text, plain);
     }
 }
 
 #[test]
 fn a_text_of_more_than_16384_bytes_is_too_long(rt: HostRuntime) {
     let text = [b' '; MOST_BYTES + 1];
-    assert!(&rt; PlainText::of(&text[1..]).is_some());
-    assert!(&rt; PlainText::of(text.as_slice()).is_none());
+    must(&rt, PlainText::of(&text[1..]).is_some());
+    must(&rt, PlainText::of(text.as_slice()).is_none());
     let read = PlainText::read(&mut FromSlice::new(text.as_slice()));
-    assert!(&rt; read.err() == Some(ReadFault::TooLong));
+    must(&rt, read.err() == Some(ReadFault::TooLong));
 }
 
 #[test]
 fn a_text_that_cannot_be_read_is_none(rt: HostRuntime) {
     let mut source = Failing::new(FromSlice::new(b"KC QD"), 3);
-    assert!(&rt; PlainText::read(&mut source).err() == Some(ReadFault::Failed));
+    must(
+        &rt,
+        PlainText::read(&mut source).err() == Some(ReadFault::Failed),
+    );
 }
 
 // Texts, and the counts that they spell.
-static COUNTS: [(&str, Option<u32>); 27] = [
-    ("0", Some(0)),
-    ("7", Some(7)),
-    ("100000", Some(100_000)),
-    ("100_000", Some(100_000)),
-    ("4_", Some(4)),
-    ("007", Some(7)),
-    ("100k", Some(100_000)),
-    ("100K", Some(100_000)),
-    ("4M", Some(4_000_000)),
-    ("4m", Some(4_000_000)),
-    ("1e6", Some(1_000_000)),
-    ("12E1_0", Some(4_294_967_295)),
-    ("1e0", Some(1)),
-    ("0e99999999999", Some(0)),
-    ("4294967295", Some(4_294_967_295)),
-    ("4294967296", Some(4_294_967_295)),
-    ("99999999999999999999", Some(4_294_967_295)),
-    ("5000M", Some(4_294_967_295)),
-    ("", None),
-    ("_4", None),
-    ("k", None),
-    ("4kk", None),
-    ("4 M", None),
-    ("-1", None),
-    ("1.5M", None),
-    ("1e", None),
-    ("many", None),
+static COUNTS: [(&[u8], Option<u32>); 27] = [
+    (b"0", Some(0)),
+    (b"7", Some(7)),
+    (b"100000", Some(100_000)),
+    (b"100_000", Some(100_000)),
+    (b"4_", Some(4)),
+    (b"007", Some(7)),
+    (b"100k", Some(100_000)),
+    (b"100K", Some(100_000)),
+    (b"4M", Some(4_000_000)),
+    (b"4m", Some(4_000_000)),
+    (b"1e6", Some(1_000_000)),
+    (b"12E1_0", Some(4_294_967_295)),
+    (b"1e0", Some(1)),
+    (b"0e99999999999", Some(0)),
+    (b"4294967295", Some(4_294_967_295)),
+    (b"4294967296", Some(4_294_967_295)),
+    (b"99999999999999999999", Some(4_294_967_295)),
+    (b"5000M", Some(4_294_967_295)),
+    (b"", None),
+    (b"_4", None),
+    (b"k", None),
+    (b"4kk", None),
+    (b"4 M", None),
+    (b"-1", None),
+    (b"1.5M", None),
+    (b"1e", None),
+    (b"many", None),
 ];
 
 #[test]
 fn counts_are_read(rt: HostRuntime) {
-    for (text, count) in COUNTS.as_slice() {
-        assert!(&rt; read_count(text.as_bytes()) == *count, "{text}");
+    for &(text, count) in &COUNTS {
+        must(&rt, read_count(text) == count);
     }
 }

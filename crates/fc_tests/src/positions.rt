@@ -3,7 +3,7 @@
 ghost use Rattle.std.specs.Prelude.{◌≡◌, ◌≤◌, All, map};
 
 use crate::boards::TWO_KINGS;
-use crate::given::{board, card, cards, sure};
+use crate::given::{board, card, cards, free_cell, make, move_of, must, sure};
 use arrayvec::ArrayVec;
 use fc_cards::{Card, Place, Suit};
 use fc_position::{PartsFault, Position, Tally};
@@ -46,41 +46,42 @@ fn same_columns(columns: &[ArrayVec<Card, 52>; 8]) -> [ArrayVec<Card, 52>; 8]
     ]
 }
 
-// Takes a card from one place to another, where that may be done.
-fn shift(rt: &impl Abort, position: &mut Position, from: Place, to: Place) {
-    let card = position.playable(from).expect(rt, "a card there");
-    let takes = match to {
-        Place::Column(i) => i < 8,
-        Place::Cell(i) => i < 4 && position.cell(i).is_none(),
-        Place::Home => position.home(card.suit()) + 1 == card.rank(),
-    };
-    assert!(rt; takes, "no room there");
-    position.shift(from, to);
-}
-
 // The card that may be taken from a place is that of this text, or there is none.
 fn check_playable(rt: &impl Abort, position: &Position, place: Place, text: &[u8]) {
-    assert!(rt; position.playable(place) == Card::read(text));
+    must(rt, position.playable(place) == Card::read(text));
 }
 
 // So many cards of two suits are home.
 fn check_homes(rt: &impl Abort, position: &Position, suits: (Suit, Suit), counts: (u8, u8)) {
     let (one, other) = suits;
-    assert!(rt; (position.home(one), position.home(other)) == counts);
+    must(rt, (position.home(one), position.home(other)) == counts);
+}
+
+// Places of the board of two kings, and the card that may be taken from each, if there is one.
+static PLAYABLE: [(Place, &[u8]); 5] = [
+    (Place::Column(1), b"KS"),
+    (Place::Column(2), b""),
+    (Place::Column(8), b""),
+    (Place::Cell(4), b""),
+    (Place::Home, b""),
+];
+
+// The parts of the board of two kings.
+fn check_kings(rt: &impl Abort, position: &Position) {
+    must(rt, position.column(0) == cards(rt, b"QS KH").as_slice());
+    must(rt, position.column(7).is_empty());
+    must(rt, position.cell(3).is_none());
+    must(rt, !position.is_won() && position.fits(0));
+    check_homes(rt, position, (Suit::D, Suit::H), (13, 11));
 }
 
 #[test]
 fn tells_parts(rt: HostRuntime) {
     let position = board(&rt, TWO_KINGS);
-    assert!(rt; position.column(0) == cards(&rt, b"QS KH").as_slice());
-    assert!(rt; position.column(7).len() == 0 && position.cell(3) == None);
-    assert!(rt; !position.is_won() && position.fits(0));
-    check_homes(&rt, &position, (Suit::D, Suit::H), (13, 11));
-    check_playable(&rt, &position, Place::Column(1), b"KS");
-    check_playable(&rt, &position, Place::Column(2), b"");
-    check_playable(&rt, &position, Place::Column(8), b"");
-    check_playable(&rt, &position, Place::Cell(4), b"");
-    check_playable(&rt, &position, Place::Home, b"");
+    check_kings(&rt, &position);
+    for &(place, text) in &PLAYABLE {
+        check_playable(&rt, &position, place, text);
+    }
 }
 
 // A position of four cards, of which two columns are told.
@@ -88,7 +89,7 @@ fn check_four(rt: &impl Abort, position: &Position) {
     check_playable(rt, position, Place::Column(0), b"KH");
     check_playable(rt, position, Place::Column(1), b"KS");
     check_homes(rt, position, (Suit::C, Suit::S), (13, 11));
-    assert!(rt; position.cell(0) == None);
+    must(rt, position.cell(0) == None);
 }
 
 #[test]
@@ -97,52 +98,46 @@ fn takes_known_parts(rt: HostRuntime) {
     let read = Position::from_parts(same_columns(&columns), [None; 4], [13, 13, 11, 11]);
     let tested = sure(&rt, read);
     let position = Position::of_parts(columns, [None; 4], [13, 13, 11, 11]);
-    assert!(rt; position.equals(&tested) && position.equals(&board(&rt, TWO_KINGS)));
+    must(
+        &rt,
+        position.equals(&tested) && position.equals(&board(&rt, TWO_KINGS)),
+    );
     check_four(&rt, &position);
 }
 
-// Takes a card from one place to another, and then so many spades and hearts are home.
-fn check_shift(rt: &impl Abort, position: &mut Position, from: Place, to: Place, counts: (u8, u8)) {
-    shift(rt, position, from, to);
-    check_homes(rt, position, (Suit::S, Suit::H), counts);
-}
-
-// Makes moves from the board of two kings with the king of hearts in the third cell, to all cards home.
-fn check_shifts(rt: &impl Abort, position: &mut Position) {
-    let first = Place::Column(0);
-    let second = Place::Column(1);
-    let last = Place::Column(7);
-    check_shift(rt, position, first, Place::Home, (12, 11));
-    check_shift(rt, position, second, Place::Home, (13, 11));
-    check_shift(rt, position, second, last, (13, 11));
-    check_shift(rt, position, last, Place::Home, (13, 12));
-    check_shift(rt, position, Place::Cell(2), Place::Home, (13, 13));
-    assert!(rt; position.is_won());
+// Makes a move of FreeCell.
+fn make_move(rt: &impl Abort, position: &mut Position, text: &[u8]) {
+    make(rt, &free_cell(rt, 4), position, move_of(rt, text));
 }
 
 #[test]
 fn moves_cards(rt: HostRuntime) {
     let mut position = board(&rt, TWO_KINGS);
     let before = position.copy();
-    assert!(rt; before.equals(&position));
-    shift(&rt, &mut position, Place::Column(0), Place::Cell(2));
-    assert!(rt; !before.equals(&position));
-    assert!(rt; position.cell(2) == Card::read(b"KH"));
-    assert!(rt; position.fits(3) && !position.fits(2));
-    check_shifts(&rt, &mut position);
+    must(&rt, before.equals(&position));
+    make_move(&rt, &mut position, b"1c");
+    must(&rt, !before.equals(&position));
+    must(&rt, position.fits(3) && !position.fits(2));
     check_playable(&rt, &before, Place::Column(0), b"KH");
 }
+
+// Places after a move and exchanges, and the card that may be taken from each, if there is one.
+static EXCHANGED: [(Place, &[u8]); 4] = [
+    (Place::Column(5), b"QS"),
+    (Place::Column(0), b""),
+    (Place::Cell(3), b"KH"),
+    (Place::Cell(0), b""),
+];
 
 #[test]
 fn exchanges_places(rt: HostRuntime) {
     let mut position = board(&rt, TWO_KINGS);
-    shift(&rt, &mut position, Place::Column(0), Place::Cell(0));
+    make_move(&rt, &mut position, b"1a");
     position.swap_columns(0, 5);
     position.swap_cells(0, 3);
-    check_playable(&rt, &position, Place::Column(5), b"QS");
-    check_playable(&rt, &position, Place::Column(0), b"");
-    check_playable(&rt, &position, Place::Cell(3), b"KH");
-    check_playable(&rt, &position, Place::Cell(0), b"");
+    for &(place, text) in &EXCHANGED {
+        check_playable(&rt, &position, place, text);
+    }
 }
 
 // What is wrong with one card in the first cell, or none, and so many cards home; where nothing is, whether all are home.
@@ -151,10 +146,10 @@ fn check_parts(rt: &impl Abort, cell: Option<Card>, homes: [u8; 4], fault: Optio
 {
     match Position::from_parts(Default::default(), [cell, None, None, None], homes) {
         Ok(position) => {
-            assert!(rt; fault == None);
-            assert!(rt; position.is_won() == cell.is_none());
+            must(rt, fault == None);
+            must(rt, position.is_won() == cell.is_none());
         }
-        Err(found) => assert!(rt; Some(found) == fault),
+        Err(found) => must(rt, Some(found) == fault),
     }
 }
 
@@ -173,21 +168,34 @@ fn names_the_first_fault(rt: HostRuntime) {
 
 // The least card that stands twice in a tally is that of this text.
 fn check_twice(rt: &impl Abort, tally: &Tally, text: &[u8]) {
-    assert!(rt; tally.fault() == Some(PartsFault::Repeated(card(rt, text))));
+    must(
+        rt,
+        tally.fault() == Some(PartsFault::Repeated(card(rt, text))),
+    );
+}
+
+// Adds all cards but the clubs from four on: the first of these is missing.
+fn add_low_cards(rt: &impl Abort, tally: &mut Tally) {
+    tally.add_homes(&[1, 13, 13, 13]);
+    tally.add_column(&[card(rt, b"2C")]);
+    tally.add_cells(&[None, Card::read(b"3C")]);
+    let missing = PartsFault::Missing(card(rt, b"4C"));
+    must(rt, tally.fault() == Some(missing));
+}
+
+// Adds the clubs from four on, with which nothing is wrong.
+fn add_clubs(rt: &impl Abort, tally: &mut Tally) {
+    let clubs = "Foundations: H-K C-3 D-K S-K\n4C 5C 6C 7C 8C\n9C TC JC QC KC\n";
+    tally.add_columns(&columns(rt, &board(rt, clubs)));
+    must(rt, tally.fault() == None);
 }
 
 #[test]
 fn tallies_cards(rt: HostRuntime) {
-    let two = card(&rt, b"2C");
     let mut tally = Tally::new();
-    tally.add_homes(&[1, 13, 13, 13]);
-    tally.add_column(&[two]);
-    tally.add_cells(&[None, Card::read(b"3C")]);
-    let missing = PartsFault::Missing(card(&rt, b"4C"));
-    assert!(rt; tally.fault() == Some(missing));
-    let clubs = "Foundations: H-K C-3 D-K S-K\n4C 5C 6C 7C 8C\n9C TC JC QC KC\n";
-    tally.add_columns(&columns(&rt, &board(&rt, clubs)));
-    assert!(rt; tally.fault() == None);
+    add_low_cards(&rt, &mut tally);
+    add_clubs(&rt, &mut tally);
+    let two = card(&rt, b"2C");
     for _ in 0..300 {
         tally.add(two);
     }

@@ -7,7 +7,7 @@ use std::alloc::Global;
 use std::marker::Model;
 
 /// One list of pairs, of which among those of least `f` the one that was pushed first is taken.
-#[derive(Debug, Drop)]
+#[derive(Drop)]
 pub struct OldestFirst {
     pairs: Vec<(u32, u32)>,
 }

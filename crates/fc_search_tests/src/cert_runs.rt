@@ -1,0 +1,122 @@
+//! Runs of the program that write certificates and check them, over devices that fail.
+
+use crate::cert_given::LOCKED as LOCKED_BYTES;
+use crate::given::{free_cell, must};
+use fc_checker::CheckFault;
+use fc_io::testing::Failing;
+use fc_io::{FromSlice, ToArray};
+use fc_runs::{Input, Output, ProgramFault, run_check, run_solve};
+use fc_tests::boards::{DEAL_ONE, LOCKED, ONE_KING, TWO_KINGS};
+use fc_text::BoardFault;
+use std::alloc::Global;
+use std::process::Abort;
+
+// One king goes home: the certificate in the second form, by home rule 1.
+const ONE_KING_BYTES: &[u8] = &[
+    0x46, 0x43, 0x43, 0x32, 0, 4, 1, 1, 0, 0, 0, 1, 0x61, 0x68, 0, 0, 0, 0,
+];
+
+// Checks a board and the locked board's certificate over devices that move one byte a call and fail after so many calls: the
+// run ends so, with so much of its text written.
+fn check_over(
+    rt: &impl Abort,
+    alloc: Global,
+    board: &str,
+    calls: (u32, u32, u32),
+    wanted: Result<u8, ProgramFault>,
+    text: &[u8],
+) {
+    let mut source = Failing::new(FromSlice::new(board.as_bytes()), calls.0);
+    let mut cert = Failing::new(FromSlice::new(LOCKED_BYTES), calls.1);
+    let mut out = Failing::new(ToArray::<40>::new(), calls.2);
+    let result = run_check(alloc, &free_cell(rt, 4), &mut source, &mut cert, &mut out);
+    must(rt, result == wanted);
+    must(rt, out.device.held() == text);
+}
+
+static ACCEPTED: [u8; 23] = *b"accepted: can't be won\n";
+
+// A board that can't be read, or is none, is told before its certificate is read; and of another board the bytes are refused.
+#[test]
+fn tells_which_device_failed(rt: HostRuntime) {
+    let alloc = rt.alloc();
+    let whole = (1000, 1000, 1000);
+    check_over(&rt, alloc, LOCKED, whole, Ok(0), ACCEPTED.as_slice());
+    let refused = Err(ProgramFault::Cert(CheckFault::StartOpen));
+    check_over(&rt, alloc, TWO_KINGS, whole, refused, b"");
+    let unread = Err(ProgramFault::Read(Input::Board));
+    check_over(&rt, alloc, LOCKED, (7, 0, 0), unread, b"");
+    let no_card = Err(ProgramFault::Board(BoardFault::BadCard(1)));
+    check_over(&rt, alloc, "KX", (1000, 0, 1000), no_card, b"");
+    // The bytes are read by as many calls as there are and one more, which finds the end.
+    for calls in 0..=LOCKED_BYTES.len() as u32 {
+        let unread = Err(ProgramFault::Read(Input::Cert));
+        check_over(&rt, alloc, LOCKED, (1000, calls, 0), unread, b"");
+    }
+    for count in 0..ACCEPTED.len() {
+        let unwritten = Err(ProgramFault::Write(Output::Answer));
+        let calls = (1000, 1000, count as u32);
+        check_over(&rt, alloc, LOCKED, calls, unwritten, &ACCEPTED[..count]);
+    }
+}
+
+// What a run left: how it ended, and what was written of the certificate and of the answer.
+#[derive(Drop)]
+struct Left {
+    result: Result<u8, ProgramFault>,
+    cert: Failing<ToArray<500>>,
+    out: Failing<ToArray<200>>,
+}
+
+// Solves the board by home rule 1, over sinks that take one byte a call and fail after so many calls.
+fn solved(rt: &impl Abort, alloc: Global, text: &str, budget: u32, calls: (u32, u32)) -> Left {
+    let mut source = FromSlice::new(text.as_bytes());
+    let mut cert = Failing::new(ToArray::<500>::new(), calls.0);
+    let mut out = Failing::new(ToArray::<200>::new(), calls.1);
+    let game = free_cell(rt, 4);
+    let result = run_solve(
+        alloc,
+        &game,
+        1,
+        &mut source,
+        budget,
+        &mut out,
+        Some(&mut cert),
+    );
+    Left { result, cert, out }
+}
+
+// What is refused, and what gives up, writes nothing of a certificate. Where one isn't written whole, nothing of the answer is;
+// where the answer isn't, its certificate is whole.
+#[test]
+fn tells_failing_sinks(rt: HostRuntime) {
+    let no_card = Err(ProgramFault::Board(BoardFault::BadCard(1)));
+    for (text, budget, ended, answer) in [
+        (ONE_KING, 0, Err(ProgramFault::Budget), b"".as_slice()),
+        (
+            ONE_KING,
+            4_000_001,
+            Err(ProgramFault::Budget),
+            b"".as_slice(),
+        ),
+        ("KX", 100, no_card, b"".as_slice()),
+        (DEAL_ONE, 1, Ok(2), b"gave up 1\n".as_slice()),
+    ] {
+        let left = solved(&rt, rt.alloc(), text, budget, (0, 1000));
+        must(&rt, left.result == ended);
+        must(&rt, left.out.device.held() == answer);
+        must(&rt, left.cert.device.held().is_empty());
+    }
+    for count in 0..ONE_KING_BYTES.len() {
+        let left = solved(&rt, rt.alloc(), ONE_KING, 100, (count as u32, 1000));
+        must(&rt, left.result == Err(ProgramFault::Write(Output::Cert)));
+        must(&rt, left.cert.device.held() == &ONE_KING_BYTES[..count]);
+        must(&rt, left.out.device.held().is_empty());
+    }
+    for count in 0..14u32 {
+        let left = solved(&rt, rt.alloc(), ONE_KING, 100, (1000, count));
+        must(&rt, left.result == Err(ProgramFault::Write(Output::Answer)));
+        must(&rt, left.cert.device.held() == ONE_KING_BYTES);
+        must(&rt, left.out.device.held().len() == count as usize);
+    }
+}
