@@ -1,5 +1,5 @@
 #!/usr/bin/env python3
-"""Holds the tree to its limits of size, which docs/MAP.md states, and says what is past one.
+"""Holds the tree to its limits of size and of what stands on what, which docs/MAP.md states, and says what is past one.
 
 usage, at the top of the repository:  limits.py
 
@@ -16,6 +16,9 @@ MOST_LINES = 400
 # The product's definition writes these calls out, with a game, a home rule and a budget one by one.
 WRITTEN_OUT = {"run_solve", "run_batch"}
 TESTS = re.compile(r"crates/\w+_tests/")
+# What a search is made of, and the checker, which may stand on nothing that does.
+OF_SEARCHES = {"fc_frontier", "fc_best_first"}
+CHECKER = "fc_checker"
 
 
 def parted(words, at):
@@ -101,8 +104,31 @@ def past_limits():
             yield f"{path}: {lines} lines"
 
 
+def crates_below(stands_on, name):
+    """The crates that a crate stands on, those that they stand on too."""
+    found, left = set(), [name]
+    while left:
+        for it in stands_on.get(left.pop(), []):
+            if it not in found:
+                found.add(it)
+                left.append(it)
+    return found
+
+
+def of_searches(lines):
+    """Which crates that know of a search the checker stands on, by these lines of crates.txt."""
+    stands_on = {}
+    for line in lines:
+        name, _, below = line.partition("#")[0].partition(":")
+        if name.strip():
+            stands_on[name.split()[0]] = below.split()
+    for name in sorted(crates_below(stands_on, CHECKER)):
+        if OF_SEARCHES & {name, *crates_below(stands_on, name)}:
+            yield f"crates.txt: {CHECKER} stands on {name}, which knows of a search"
+
+
 def main():
-    wrong = list(past_limits())
+    wrong = [*past_limits(), *of_searches(text_of("crates.txt").splitlines())]
     print("\n".join([*wrong, f"{int(not wrong)} passed, {len(wrong)} failed"]))
     return 1 if wrong else 0
 

@@ -1,5 +1,5 @@
 -- What the laws of this crate state.
-use Rattle.std.specs.Prelude.{ℕ, ◌+◌, ◌<◌, ◌≤◌, Option}
+use Rattle.std.specs.Prelude.{◌≡◌, ℕ, ◌+◌, ◌<◌, ◌≤◌, Option}
 use Rattle.fc_best_first.specs.declared.books.Mark.{Mark}
 use Rattle.fc_best_first.specs.declared.strategies.Strategy.{Strategy}
 use Rattle.fc_best_first.specs.Graph.{Graph, IsLawful}
@@ -7,6 +7,7 @@ use Rattle.fc_best_first.specs.Limits.{IsUpTo}
 use Rattle.fc_best_first.specs.Store.{Store, IsStored}
 use Rattle.fc_best_first.specs.Kept.{IsCoveredBelow, IsDone, IsSound, f_of}
 use Rattle.fc_best_first.specs.Shown.{AreSettledBut, IsLeastOpen, IsUnder}
+use Rattle.fc_best_first.specs.declared.limits.TheConstants.{MOST_BUDGET, MOST_WEIGHT, TENTHS}
 
 module _ {K : Type 0} where
   -- each stored key but one is open or expanded, as in a search that found a won key or gave up, and that one is done with below some
@@ -23,3 +24,7 @@ module _ {K : Type 0} where
       → IsLeastOpen (record { graph = g; strategy = strategy; limit = limit }) s most floor → IsUpTo limit floor
       → ((i : ℕ) (y : K) (m : Mark) → IsStored s i y m → m.cost + g.bound y < floor → IsCoveredBelow g s y m.cost floor)
       × ((n : ℕ) → g.wins n → floor ≤ n)
+
+-- the greatest budget, in stored keys; the greatest weight; and in how many parts a weight is told
+abbrev pub NumbersAreTold : Type 0
+NumbersAreTold = (MOST_BUDGET ≡ 4000000) × (MOST_WEIGHT ≡ 10) × (TENTHS ≡ 10)

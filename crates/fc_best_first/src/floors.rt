@@ -7,7 +7,8 @@ use crate::books::Book;
 use crate::limits::MOST_BUDGET;
 use crate::spaces::Space;
 use crate::strategies::Strategy;
-use fc_frontier::{ExactKey, Frontier};
+use fc_frontier::Frontier;
+use fc_keys::ExactKey;
 
 // What a key tells that is open at f: its cost plus bound, or f over how many times a bound counts, rounded up, where that is more.
 pub(crate) fn told(own: u32, f: u32, times: u8) -> u32

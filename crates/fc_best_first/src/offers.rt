@@ -13,7 +13,8 @@ use crate::limits::{MOST_BUDGET, Weight};
 use crate::spaces::{Child, Space};
 use crate::strategies::{Expansion, Strategy};
 use crate::turns::MOST_COST;
-use fc_frontier::{ExactKey, Frontier, Full};
+use fc_frontier::{Frontier, Full};
+use fc_keys::ExactKey;
 
 impl Opening {
     // At the weighed bound above the weighed cost.

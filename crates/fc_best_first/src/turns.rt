@@ -10,7 +10,8 @@ use crate::limits::MOST_BUDGET;
 use crate::offers::{Taken, offer};
 use crate::spaces::{Child, Space};
 use crate::strategies::Strategy;
-use fc_frontier::{ExactKey, Frontier, Full};
+use fc_frontier::{Frontier, Full};
+use fc_keys::ExactKey;
 
 /// The most that a start or an edge may cost.
 pub const MOST_COST: u8 = 53;

@@ -10,7 +10,7 @@ use Rattle.arrayvec.specs.ArrayVec.{ArrayVec}
 use Rattle.fc_cards.specs.Card.{all_cards}
 use Rattle.fc_position.specs.Board.{Board, board_of}
 use Rattle.fc_position.specs.Position.{IsPosition}
-use Rattle.fc_canonical.proofs.KeyLemmas.{same_board}
+use Rattle.fc_moves.proofs.BackLemmas.{same_board}
 use Rattle.fc_codes.specs.State.{IsCodeOf}
 use Rattle.fc_codes.specs.Spelled.{seat, lying_on, grown, filled, deepest_cards, cell_cards, home_cards, board_of_code}
 use Rattle.fc_codes.specs.declared.seats.Seats.{Seats}

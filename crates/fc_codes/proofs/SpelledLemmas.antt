@@ -7,7 +7,7 @@ use Rattle.fc_position.specs.Board.{Board, column, cell}
 use Rattle.fc_position.specs.Position.{IsPosition}
 use Rattle.fc_position.proofs.BoardLemmas.{column_most, cell_there}
 use Rattle.fc_canonical.specs.Order.{column_order, cell_byte, IsCanonical}
-use Rattle.fc_canonical.proofs.KeyLemmas.{same_board}
+use Rattle.fc_moves.proofs.BackLemmas.{same_board}
 use Rattle.fc_codes.specs.State.{StandsOn, IsCodeOf}
 use Rattle.fc_codes.specs.Spelled.{seat, lying_on, grown, deepest_cards, cell_cards, board_of_code}
 use Rattle.fc_codes.proofs.StandLemmas.{stands_once, standing_below, column_inside, in_cell_once, in_cell_below}

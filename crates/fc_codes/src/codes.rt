@@ -8,7 +8,7 @@ ghost use Rattle.fc_codes.specs.Words.{digit};
 ghost use Rattle.fc_codes.specs.inner.Words.{with_number};
 
 use fc_cards::Card;
-use fc_frontier::ExactKey;
+use fc_keys::ExactKey;
 use std::hash::{Hash, Hasher};
 use std::marker::Model;
 

@@ -4,13 +4,12 @@
 //! A caller needs the trait alone, which sees a queue as its pairs, each as often as it stands there. The queues say more.
 //! Of equal f `ListFrontier` and `BucketFrontier` give the pair that was pushed last, and `TieFrontier` and
 //! `TieBucketFrontier` the one of least tie, and of equal ties the one that was pushed last. `EitherFrontier` is one of the
-//! last three. What a search stores under a node is an `ExactKey`: keys that compare equal are the same.
+//! last three.
 #![tactic(auto)]
 
 pub use buckets::BucketFrontier;
 pub use either::EitherFrontier;
 pub use frontiers::{Frontier, Full};
-pub use keys::ExactKey;
 pub use lists::ListFrontier;
 pub use tie_buckets::TieBucketFrontier;
 pub use ties::TieFrontier;
@@ -19,7 +18,6 @@ pub use walks::Pairs;
 mod buckets;
 mod either;
 mod frontiers;
-mod keys;
 pub mod laws;
 mod lists;
 mod stacks;
