@@ -3,6 +3,7 @@ pub mod FrontLemmas
 pub mod InTurnLemmas
 pub mod KeyedLemmas
 pub mod OrderLemmas
+pub mod PartLemmas
 pub mod RisingLemmas
 pub mod RowLemmas
 pub mod StandLemmas

@@ -7,6 +7,8 @@ use Rattle.fc_canonical.specs.Spelled.{spelled}
 use Rattle.fc_answers.specs.declared.answers.Answer.{Answer}
 use Rattle.fc_answers.specs.Answer.{HasGivenUp, IsBacked}
 use Rattle.fc_answers.specs.Table.{AreClasses, HaveKeysOnce, IsRising}
+use Rattle.fc_answers.specs.declared.tables.TheConstants.{MOST_CLASSES}
+use Rattle.fc_answers.specs.declared.answers.TheConstants.{MOST_MOVES}
 
 -- no two of the rows' keys spell boards of one class, where the rows rise and are of classes of the game
 abbrev pub RisingRowsListClassesOnce : Type 0
@@ -21,3 +23,7 @@ RisingRowsHaveKeysOnce = (rows : List (List ℕ × ℕ)) → IsRising rows → H
 abbrev pub OnlyGivingUpIsUncertified : Type 0
 OnlyGivingUpIsUncertified = (g : GameRules) (b : Board) (answer : Answer) → IsBacked g b answer
     → (answer.table ≡ None) ↔ HasGivenUp answer.verdict
+
+-- how many classes a table lists at most, and how many moves a list that is written has
+abbrev pub NumbersAreTold : Type 0
+NumbersAreTold = (MOST_CLASSES ≡ 4000000) × (MOST_MOVES ≡ 212000000)

@@ -21,12 +21,12 @@ pub struct Answer {
 pub enum Verdict {
     /// Moves that win, no list of moves that wins being shorter.
     Shortest(MoveList),
-    /// Moves that win, no more than the weight of the search times a shortest list; and a number of moves that no list that
-    /// wins is below.
+    /// Moves that win, and a number of moves that no list that wins is below. Of one search by a weight they are no more than the
+    /// weight times a shortest list; of the best answer of several nothing of the kind is said.
     Won { moves: MoveList, floor: u32 },
     /// No list of moves wins.
     CannotWin,
-    /// More positions than the budget, which is told, can be reached.
+    /// More positions than the budget, which is told, can be reached: that of the search, or of one of several, its share.
     GaveUp(u32),
 }
 
@@ -35,12 +35,12 @@ pub enum Verdict {
 pub enum Outcome {
     /// So many moves win, and no fewer do.
     Shortest(u32),
-    /// So many moves win, no more than the weight of the search times a shortest list; and a number of moves that no list that
-    /// wins is below.
+    /// So many moves win, and a number of moves that no list that wins is below; of one search by a weight no more than the weight
+    /// times a shortest list.
     Won { moves: u32, floor: u32 },
     /// No list of moves wins.
     CannotWin,
-    /// More positions than the budget, which is told, can be reached.
+    /// More positions than the budget, which is told, can be reached: that of the search, or of one of several, its share.
     GaveUp(u32),
 }
 

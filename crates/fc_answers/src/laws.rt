@@ -1,6 +1,6 @@
 //! Laws of the definitions, each the contract of a function that does nothing.
 
-ghost use Rattle.fc_answers.specs.Laws.{OnlyGivingUpIsUncertified, RisingRowsListClassesOnce, RisingRowsHaveKeysOnce};
+ghost use Rattle.fc_answers.specs.Laws.{NumbersAreTold, OnlyGivingUpIsUncertified, RisingRowsHaveKeysOnce, RisingRowsListClassesOnce};
 
 /// Rising rows of keys of the game list no class twice: no two of their keys spell boards of one class.
 pub fn rising_rows_list_classes_once()
@@ -15,4 +15,9 @@ pub fn rising_rows_have_keys_once()
 /// Only giving up is uncertified: a backed answer has no table exactly where its verdict gave up.
 pub fn only_giving_up_is_uncertified()
     ensures { OnlyGivingUpIsUncertified }
+{}
+
+/// A table lists at most 4,000,000 classes, and an answer that can be written has at most 53 moves for each of so many.
+pub fn numbers_are_told()
+    ensures { NumbersAreTold }
 {}
