@@ -7,6 +7,7 @@ pub mod HalvingLemmas
 pub mod HeadLemmas
 pub mod LawLemmas
 pub mod LayoutLemmas
+pub mod LengthLemmas
 pub mod OnceLemmas
 pub mod PartsLemmas
 pub mod ReadFaultLemmas

@@ -1,6 +1,6 @@
 //! Laws of the definitions, each the contract of a function that does nothing.
 
-ghost use Rattle.fc_cert.specs.Laws.{BackedAnswersAreCertified, CertificatesAreRead, CertificatesAreTrue, ReadingComesToOneEnd};
+ghost use Rattle.fc_cert.specs.Laws.{BackedAnswersAreCertified, CertificatesAreRead, CertificatesAreTrue, NumbersAreTold, ReadingComesToOneEnd, WrittenCertificatesAreShort};
 
 /// Bytes are read as a content exactly where they are a certificate with it.
 pub fn certificates_are_read()
@@ -20,4 +20,14 @@ pub fn certificates_are_true()
 /// What is written of a backed answer whose moves win, and can be written, is a certificate of its claim.
 pub fn backed_answers_are_certified()
     ensures { BackedAnswersAreCertified }
+{}
+
+/// A certificate has at most 1 GiB, 1,073,741,824 bytes.
+pub fn numbers_are_told()
+    ensures { NumbersAreTold }
+{}
+
+/// What is written of a backed answer of few moves is no longer than what is read: 712,000,021 bytes at most.
+pub fn written_certificates_are_short()
+    ensures { WrittenCertificatesAreShort }
 {}

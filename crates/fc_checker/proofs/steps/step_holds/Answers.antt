@@ -1,7 +1,7 @@
 use Rattle.std.proofs.Common.{rules, ◌≡◌, ◌≢◌, ◌+◌, ◌↔◌, ℕ, IsTrue, false, sym, ◌∙◌, subst}
 use Rattle.fc_cards.specs.declared.places.Place.TheVariants.{Home}
 use Rattle.fc_checker.specs.inner.Steps.{SettledHolds}
-use Rattle.fc_canonical.proofs.BackLemmas.{IsTakenBack, taken_back}
+use Rattle.fc_moves.proofs.BackLemmas.{IsTakenBack, taken_back}
 use Rattle.fc_checker.proofs.StepLemmas.{led_once}
 use Rattle.fc_checker.proofs.steps.step_holds.Goals as goal
 
