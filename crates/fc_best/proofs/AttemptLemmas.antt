@@ -1,9 +1,9 @@
 -- What a search that ran to its end has found and shown.
-use Rattle.std.proofs.Common.{◌≡◌, ◌∙◌, inl, inr, ℕ, ◌≤◌, Option, Some, None, Ok, List, length, refl, sym, subst, ap, arith, Bool, IsTrue}
-use Rattle.std.specs.Prelude.{IfSome, IfNone, IsSome, MatchOption}
+use Rattle.std.proofs.Common.{◌≡◌, ◌∙◌, inl, inr, ℕ, ◌≤◌, Option, Some, None, Ok, List, length, refl, sym, subst, ap, arith}
+use Rattle.std.specs.Prelude.{IfSome, IfNone, IsSome}
 use Rattle.fc_position.specs.Board.{Board}
 use Rattle.fc_moves.specs.declared.steps.Move.{Move}
-use Rattle.fc_moves.specs.Run.{CannotWin, ReachesMore, Wins}
+use Rattle.fc_moves.specs.Run.{ReachesMore}
 use Rattle.fc_answers.specs.Table.{Listing}
 use Rattle.fc_best_first.specs.declared.searches.Step.TheVariants.{Done}
 use Rattle.fc_best_first.specs.declared.turns.Status.{Status}
@@ -13,7 +13,6 @@ use Rattle.fc_bound.specs.declared.kinds.BoundKind.{BoundKind}
 use Rattle.fc_bound.specs.declared.kinds.BoundKind.TheVariants.{Plain}
 use Rattle.fc_answers.specs.Answer.{IsBackedWhole}
 use Rattle.fc_best_first.specs.Limits.{Ratio}
-use Rattle.fc_best.specs.inner.Standing.{looked_with, lost_table, with_share}
 use Rattle.fc_moves.specs.GameRules.{GameRules}
 use Rattle.fc_methods.specs.Method.{Asked}
 use Rattle.fc_search.specs.Need.{NeedsMore}
@@ -21,55 +20,75 @@ use Rattle.fc_search.specs.Problem.{Problem, problem_below}
 use Rattle.fc_search.specs.Search.{State, HasRun}
 use Rattle.fc_search.specs.Shown.{BacksShown, HasFound, HasFoundBy, HasShown, HasShownBy}
 use Rattle.fc_best.specs.declared.attempts.Attempt.{Attempt}
-use Rattle.fc_best.specs.Best.{Ended}
-use Rattle.fc_best.specs.inner.Attempt.{IsAttempt, IsGivenUp, IsGoodList, IsShown, IsTableOf}
-
--- the search, with how it stands
-abbrev pub ended_of : State → Ended
-ended_of s = record { problem = s.problem; last = s.store; status = s.status }
+use Rattle.fc_best.specs.declared.attempts.Shown.{Shown}
+use Rattle.fc_best.specs.inner.Attempt.{IsAttempt, IsFoundIn, IsGivenUp, IsGoodList, IsShown, IsShownAt, IsShownIn, IsTableOf, Raises, ShowsNone}
+use Rattle.fc_best.specs.inner.Standing.{looked_with, lost_by, lost_with, under, with_share}
 
 -- what a search found is a good list
-good_found : (s : State) (status : Status (List ℕ)) (found : Option (List Move)) → HasFoundBy s status found
-    → IfSome found (IsGoodList s.problem.game s.problem.start)
-good_found s (ends.Won number) (Some moves) is = record { wins = is.wins; written = is.written; few = is.short }
-good_found s (ends.Won number) None is = tt
-good_found s ends.Running (Some moves) is = absurd is
-good_found s ends.CannotWin (Some moves) is = absurd is
-good_found s (ends.GaveUp y number) (Some moves) is = absurd is
-good_found s ends.Stopped (Some moves) is = absurd is
-good_found s ends.Running None is = tt
-good_found s ends.CannotWin None is = tt
-good_found s (ends.GaveUp y number) None is = tt
-good_found s ends.Stopped None is = tt
+good_by : (s : State) (status : Status (List ℕ)) (moves : List Move) → HasFoundBy s status (Some moves) → IsGoodList s.problem.game s.problem.start moves
+good_by s (ends.Won number) moves is = record { wins = is.wins; written = is.written; few = is.short }
+good_by s ends.Running moves is = absurd is
+good_by s ends.CannotWin moves is = absurd is
+good_by s (ends.GaveUp y number) moves is = absurd is
+good_by s ends.Stopped moves is = absurd is
 
--- one that is done, found none and didn't give up has shown its limit
-limit_shown : (s : State) (status : Status (List ℕ)) (shown : Option ℕ) → reply_of status ≡ Ok Done → HasFoundBy s status None
-    → ((y : List ℕ) (number : ℕ) → status ≡ ends.GaveUp y number → ⊥) → HasShownBy s status shown → shown ≡ s.problem.limit
-limit_shown s ends.Running shown done none still told = absurd (cc)
-limit_shown s ends.Stopped shown done none still told = absurd (cc)
-limit_shown s (ends.Won number) shown done none still told = absurd none
-limit_shown s (ends.GaveUp y number) shown done none still told = absurd (still y number refl)
-limit_shown s ends.CannotWin shown done none still told = told
+found_in : (s : State) (found : Option (List Move)) → HasFound s found → IfSome found (IsFoundIn s.problem.game s.problem.start s)
+found_in s None is = tt
+found_in s (Some moves) is = (good_by s s.status moves is, is)
 
--- what is shown of a board is so
-shown_so : (p : Problem) (shown : Option ℕ)
-    → MatchOption shown (CannotWin p.game p.start) (λ floor. (moves : List Move) → Wins p.game p.start moves → floor ≤ length moves)
-    → IsShown p.game p.start shown
-shown_so p None is = is
-shown_so p (Some floor) is = is
+-- one that is done, found none, didn't give up and has no limit shows that none wins
+lost_shown : (s : State) (status : Status (List ℕ)) → reply_of status ≡ Ok Done → HasFoundBy s status None
+    → ((y : List ℕ) (number : ℕ) → status ≡ ends.GaveUp y number → ⊥) → s.problem.limit ≡ None → HasShownBy s status None
+lost_shown s ends.Running done none still free = absurd (cc)
+lost_shown s ends.Stopped done none still free = absurd (cc)
+lost_shown s (ends.Won number) done none still free = absurd none
+lost_shown s (ends.GaveUp y number) done none still free = absurd (still y number refl)
+lost_shown s ends.CannotWin done none still free = sym free
 
--- and its table shows it
+-- where that none wins is shown, nothing else is
+shown_none : (s : State) (status : Status (List ℕ)) (floor : Option ℕ) → HasShownBy s status None → HasShownBy s status floor → floor ≡ None
+shown_none s ends.CannotWin floor none is = is ∙ sym none
+shown_none s (ends.Won number) floor (n, same, at) is = absurd (cc)
+shown_none s (ends.GaveUp y number) floor (n, same, at) is = absurd (cc)
+shown_none s ends.Running floor (n, same, at, below) is = absurd (cc)
+shown_none s ends.Stopped floor (n, same, at, below) is = absurd (cc)
+
+pub no_floor : (s : State) (floor : Option ℕ) → HasShown s None → HasShown s floor → floor ≡ None
+no_floor s floor none is = shown_none s s.status floor none is
+
+-- what is shown of a problem is so of its question, and its table is one of the question
 table_so : (q : Asked) (b : Board) (limit shown : Option ℕ) (table : Option Listing)
     → IfSome table (BacksShown (problem_below q b limit) shown)
     → IfSome table (λ t. (t.rule ≡ q.method.rule) × (t.bound ≡ q.method.bound)) → IfSome table (IsTableOf q b shown)
 table_so q b limit shown None backs searched = tt
 table_so q b limit shown (Some table) backs searched = record { rule = searched.0; bound = searched.1; backed = backs }
 
+shown_in : (q : Asked) (b : Board) (limit : Option ℕ) (s : State) (shown : Option Shown) → s.problem ≡ problem_below q b limit
+    → IfSome shown (IsShownAt s) → IfSome shown (IsShownIn q b s)
+shown_in q b limit s None same is = tt
+shown_in q b limit s (Some end) same is = (
+  (
+    subst (λ (x : Problem). IsShown x.game x.start end.floor) same is.so,
+    table_so q b limit end.floor end.table (subst (λ x. IfSome end.table (BacksShown x end.floor)) same is.backs)
+        (subst (λ (x : Problem). IfSome end.table (λ t. (t.rule ≡ x.method.rule) × (t.bound ≡ x.method.bound))) same is.searched),
+  ),
+  is.shown,
+)
+
+-- a floor is by the bound that it is by
+same_floor : (kind : BoundKind) (floor : Option ℕ) → IfSome floor (λ n. kind ≡ kind)
+same_floor kind None = tt
+same_floor kind (Some n) = refl
+
+by_itself : (kind : BoundKind) (shown : Option Shown) → IfSome shown (λ end. IfSome end.floor (λ floor. kind ≡ kind))
+by_itself kind None = tt
+by_itself kind (Some end) = same_floor kind end.floor
+
 -- one that gave up did so with its budget
 given_up_so : (s : State) (g : Option ℕ)
     → IfSome g (λ told. (told ≡ s.problem.method.strategy.budget) × NeedsMore s.problem × ReachesMore s.problem.game s.problem.start told)
     → IfSome g (λ told. (y : List ℕ) × (number : ℕ) × (s.status ≡ ends.GaveUp y number))
-    → IfSome g (λ told. IsGivenUp s.problem.game s.problem.start (ended_of s) told × (told ≤ s.problem.method.strategy.budget))
+    → IfSome g (λ told. IsGivenUp s.problem.game s.problem.start s told × (told ≤ s.problem.method.strategy.budget))
 given_up_so s None earned gave = tt
 given_up_so s (Some told) (same, more, reaches) gave = (
   record { gave_up = gave; budgeted = sym same; earned = more; more = reaches },
@@ -82,44 +101,35 @@ none_ends : (s : State) (g : Option ℕ) → g ≡ None → IfNone g ((y : List 
 none_ends s None is still = still
 none_ends s (Some told) is still = absurd (cc)
 
-pub attempted : (q : Asked) (b : Board) (limit : Option ℕ) (s : State) (list : Option (List Move)) (shown : Option ℕ)
-    (table : Option Listing) (settled : Bool) (stored : ℕ) (given_up : Option ℕ) (ajar : ℕ) → s.problem ≡ problem_below q b limit
+pub attempted : (q : Asked) (b : Board) (limit : Option ℕ) (s : State) (list : Option (List Move)) (shown : Option Shown)
+    (stored : ℕ) (given_up : Option ℕ) (ajar : ℕ) → s.problem ≡ problem_below q b limit
     → HasRun (problem_below q b limit) s.store s.status → reply_of s.status ≡ Ok Done
-    → HasFound s list → HasShown s shown
-    → MatchOption shown (CannotWin s.problem.game s.problem.start) (λ floor. (moves : List Move) → Wins s.problem.game s.problem.start moves → floor ≤ length moves)
+    → HasFound s list → IfSome shown (IsShownAt s) → (HasShown s None → ShowsNone shown)
     → IfSome given_up (λ told. (told ≡ s.problem.method.strategy.budget) × NeedsMore s.problem × ReachesMore s.problem.game s.problem.start told)
     → IfSome given_up (λ told. (y : List ℕ) × (number : ℕ) × (s.status ≡ ends.GaveUp y number))
     → IfNone given_up ((y : List ℕ) (number : ℕ) → s.status ≡ ends.GaveUp y number → ⊥)
-    → IfSome table (BacksShown s.problem shown)
-    → IfSome table (λ t. (t.rule ≡ s.problem.method.rule) × (t.bound ≡ s.problem.method.bound))
-    → (list ≡ None → given_up ≡ None → IsTrue settled)
     → stored ≡ length s.store.stored → stored ≤ s.problem.method.strategy.budget
     → IsAttempt q q.method.bound b limit
-    (record { list = list; shown = shown; table = table; is_settled = settled; stored = stored; given_up = given_up; open_share = ajar })
-attempted q b limit s list shown table settled stored given_up ajar same ran done found told floor earned gave still backs searched all size most =
-    let p = problem_below q b limit in
-    record {
-      ended = ended_of s;
-      asked = record {
-        game = ap (λ x. x.game) same;
-        start = ap (λ x. x.start) same;
-        rule = ap (λ x. x.method.rule) same;
-        bound = inl (ap (λ x. x.method.bound) same);
-        ran = subst (λ x. HasRun x s.store s.status) (sym same) ran;
-      };
-      by_kind = ap (λ x. x.method.bound) same;
-      list = subst (λ x. IfSome list (IsGoodList x.game x.start)) same (good_found s s.status list found);
-      shown = shown_so p shown (subst (λ x. MatchOption shown (CannotWin x.game x.start) (λ floor. (moves : List Move) → Wins x.game x.start moves → floor ≤ length moves)) same floor);
-      table = table_so q b limit shown table (subst (λ x. IfSome table (BacksShown x shown)) same backs)
-          (subst (λ x. IfSome table (λ t. (t.rule ≡ x.method.rule) × (t.bound ≡ x.method.bound))) same searched);
-      stored = size;
-      room = subst (λ x. stored ≤ x.method.strategy.budget) same most;
-      given_up = subst (λ x. IfSome given_up (λ told. IsGivenUp x.game x.start (ended_of s) told × (told ≤ x.method.strategy.budget))) same (given_up_so s given_up earned gave);
-      none = λ nothing kept. (
-        limit_shown s s.status shown done (subst (HasFoundBy s s.status) nothing found) (none_ends s given_up kept still) told ∙ ap (λ x. x.limit) same,
-        all nothing kept,
-      );
-    }
+    (record { list = list; shown = shown; stored = stored; given_up = given_up; open_share = ajar })
+attempted q b limit s list shown stored given_up ajar same ran done found told lost earned gave still size most = record {
+  ended = s;
+  asked = record {
+    game = ap (λ x. x.game) same;
+    start = ap (λ x. x.start) same;
+    rule = ap (λ x. x.method.rule) same;
+    bound = inl (ap (λ x. x.method.bound) same);
+    over = record { ran = subst (λ x. HasRun x s.store s.status) (sym same) ran; done = done };
+  };
+  by_kind = ap (λ x. x.method.bound) same;
+  list = subst (λ (x : Problem). IfSome list (IsFoundIn x.game x.start s)) same (found_in s list found);
+  shown = shown_in q b limit s shown same told;
+  bound = by_itself q.method.bound shown;
+  stored = size;
+  room = subst (λ (x : Problem). stored ≤ x.method.strategy.budget) same most;
+  given_up = subst (λ (x : Problem). IfSome given_up (λ told. IsGivenUp x.game x.start s told × (told ≤ x.method.strategy.budget))) same (given_up_so s given_up earned gave);
+  none = λ nothing kept free.
+      lost (lost_shown s s.status done (subst (HasFoundBy s s.status) nothing found) (none_ends s given_up kept still) (ap (λ x. x.limit) same ∙ free));
+}
 
 -- what lists all that can be reached does so under another bound
 whole_by : (g : GameRules) (b : Board) (kind : BoundKind) (table : Listing) → IsBackedWhole g b table
@@ -131,36 +141,77 @@ whole_by g b kind table is = record {
 }
 
 -- the table of a look that showed that none wins is one of the question, under its bound
-looked_table : (q : Asked) (b : Board) (weight : Ratio) (share : ℕ) (kind : BoundKind) (shown : Option ℕ) (table : Option Listing)
-    → kind ≡ q.method.bound → IfSome table (IsTableOf (looked_with q weight share) b shown)
-    → IfSome (lost_table kind shown table) (IsTableOf (with_share q weight share) b shown)
-looked_table q b weight share kind None (Some table) same is =
+looked_table : (q : Asked) (b : Board) (weight : Ratio) (share : ℕ) (kind : BoundKind) (table : Option Listing) → kind ≡ q.method.bound
+    → IfSome table (IsTableOf (looked_with q weight share) b None) → IfSome (under kind table) (IsTableOf (with_share q weight share) b None)
+looked_table q b weight share kind None same is = tt
+looked_table q b weight share kind (Some table) same is =
     record { rule = is.rule; bound = same; backed = whole_by q.game b kind table is.backed }
-looked_table q b weight share kind None None same is = tt
-looked_table q b weight share kind (Some floor) table same is = tt
 
--- a look is a search of the question, once its table is one under the question's bound
-pub looked_attempt : (q : Asked) (b : Board) (weight : Ratio) (share : ℕ) (kind : BoundKind) (one : Attempt) (table : Option Listing) (settled : Bool)
-    → kind ≡ q.method.bound → table ≡ lost_table kind one.shown one.table → (one.shown ≡ None → IsTrue one.is_settled → IsTrue settled)
-    → IsAttempt (looked_with q weight share) Plain b None one
+-- what is left of what a look showed is so of the question
+looked_end : (q : Asked) (b : Board) (weight : Ratio) (share : ℕ) (kind : BoundKind) (s : State) (floor : Option ℕ) (table : Option Listing)
+    → kind ≡ q.method.bound → IsShownIn (looked_with q weight share) b s (record { floor = floor; table = table })
+    → IfSome (lost_with kind floor table) (IsShownIn (with_share q weight share) b s)
+looked_end q b weight share kind s (Some floor) table same is = tt
+looked_end q b weight share kind s None table same is = ((is.0.0, looked_table q b weight share kind table same is.0.1), is.1)
+
+looked_shown : (q : Asked) (b : Board) (weight : Ratio) (share : ℕ) (kind : BoundKind) (s : State) (shown : Option Shown) → kind ≡ q.method.bound
+    → IfSome shown (IsShownIn (looked_with q weight share) b s) → IfSome (lost_by kind shown) (IsShownIn (with_share q weight share) b s)
+looked_shown q b weight share kind s None same is = tt
+looked_shown q b weight share kind s (Some end) same is = looked_end q b weight share kind s end.floor end.table same is
+
+-- no floor is left of it
+module _ (P : ℕ → Type 0) where
+  unfloored_with : (kind : BoundKind) (floor : Option ℕ) (table : Option Listing) → IfSome (lost_with kind floor table) (λ end. IfSome end.floor P)
+  unfloored_with kind None table = tt
+  unfloored_with kind (Some floor) table = tt
+
+  pub unfloored : (kind : BoundKind) (shown : Option Shown) → IfSome (lost_by kind shown) (λ end. IfSome end.floor P)
+  unfloored kind None = tt
+  unfloored kind (Some end) = unfloored_with kind end.floor end.table
+
+raised_with : (kind : BoundKind) (least floor : Option ℕ) (table : Option Listing) → IfSome (lost_with kind floor table) (λ end. Raises least end.floor)
+raised_with kind None None table = tt
+raised_with kind (Some n) None table = tt
+raised_with kind least (Some floor) table = tt
+
+pub lost_raises : (kind : BoundKind) (least : Option ℕ) (shown : Option Shown) → IfSome (lost_by kind shown) (λ end. Raises least end.floor)
+lost_raises kind least None = tt
+lost_raises kind least (Some end) = raised_with kind least end.floor end.table
+
+-- that none wins is left
+still_lost_with : (kind : BoundKind) (floor : Option ℕ) (table : Option Listing) → floor ≡ None → ShowsNone (lost_with kind floor table)
+still_lost_with kind None table none = (record { floor = None; table = under kind table }, refl, refl)
+still_lost_with kind (Some floor) table none = absurd (cc)
+
+still_lost : (kind : BoundKind) (shown : Option Shown) → ShowsNone shown → ShowsNone (lost_by kind shown)
+still_lost kind None (end, same, none) = absurd (cc)
+still_lost kind (Some now) (end, same, none) =
+    still_lost_with kind now.floor now.table (search (same, none))
+
+-- a look is a search of the question, once what it showed is that none wins, with a table under the question's bound
+pub looked_attempt : (q : Asked) (b : Board) (weight : Ratio) (share : ℕ) (kind : BoundKind) (one : Attempt) (shown : Option Shown)
+    → kind ≡ q.method.bound → shown ≡ lost_by kind one.shown → IsAttempt (looked_with q weight share) Plain b None one
     → IsAttempt (with_share q weight share) Plain b None
-    (record { list = one.list; shown = one.shown; table = table; is_settled = settled; stored = one.stored; given_up = one.given_up; open_share = one.open_share })
-looked_attempt q b weight share kind one table settled same tabled all is = record {
+    (record { list = one.list; shown = shown; stored = one.stored; given_up = one.given_up; open_share = one.open_share })
+looked_attempt q b weight share kind one shown same left is = record {
   ended = is.ended;
-  asked = record { game = is.asked.game; start = is.asked.start; rule = is.asked.rule; bound = inr is.by_kind; ran = is.asked.ran };
+  asked = record { game = is.asked.game; start = is.asked.start; rule = is.asked.rule; bound = inr is.by_kind; over = is.asked.over };
   by_kind = is.by_kind;
   list = is.list;
-  shown = is.shown;
-  table = subst (λ t. IfSome t (IsTableOf (with_share q weight share) b one.shown)) (sym tabled) (looked_table q b weight share kind one.shown one.table same is.table);
+  shown = subst (λ o. IfSome o (IsShownIn (with_share q weight share) b is.ended)) (sym left) (looked_shown q b weight share kind is.ended one.shown same is.shown);
+  bound = subst (λ o. IfSome o (λ (end : Shown). IfSome end.floor (λ floor. Plain ≡ q.method.bound))) (sym left) (unfloored (λ floor. Plain ≡ q.method.bound) kind one.shown);
   stored = is.stored;
   room = is.room;
   given_up = is.given_up;
-  none = λ nothing kept. let said = is.none nothing kept in (said.0, all said.0 said.1);
+  none = λ nothing kept free. subst ShowsNone (sym left) (still_lost kind one.shown (is.none nothing kept free));
 }
 
 -- of a table of what shows that none wins one is made
-pub lost_tabled : (kind : BoundKind) (shown : Option ℕ) (table made : Option Listing) → made ≡ lost_table kind shown table → shown ≡ None
-    → IsSome table → IsSome made
-lost_tabled kind None (Some table) made same none some = subst IsSome (sym same) refl
-lost_tabled kind None None made same none some = absurd (cc)
-lost_tabled kind (Some floor) table made same none some = absurd (cc)
+tabled_with : (kind : BoundKind) (floor : Option ℕ) (table : Option Listing) → IsSome table → IfSome (lost_with kind floor table) (λ end. IsSome end.table)
+tabled_with kind (Some floor) table some = tt
+tabled_with kind None (Some table) some = refl
+tabled_with kind None None some = absurd (cc)
+
+pub lost_tabled : (kind : BoundKind) (shown : Option Shown) → IfSome shown (λ end. IsSome end.table) → IfSome (lost_by kind shown) (λ end. IsSome end.table)
+lost_tabled kind None some = tt
+lost_tabled kind (Some end) some = tabled_with kind end.floor end.table some

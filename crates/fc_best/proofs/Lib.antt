@@ -1,3 +1,4 @@
+pub mod AnswerLemmas
 pub mod AttemptLemmas
 pub mod HearLemmas
 pub mod RelayLemmas

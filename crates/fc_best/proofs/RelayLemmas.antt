@@ -1,75 +1,67 @@
 -- What a listener hears of several searches, where one of them is heard.
-use Rattle.std.proofs.Common.{◌≡◌, ◌∙◌, sym, ap, subst, refl, ◌≤◌, List, [], ◌∷◌, length, arith}
+use Rattle.std.proofs.Common.{◌≡◌, ◌∙◌, sym, ap, subst, refl, List, [], ◌∷◌}
 use Rattle.std.specs.Prelude.{All}
 use Rattle.std.proofs.lemmas.List.Elements.{All-nil, All-cons}
 use Rattle.fc_position.specs.Board.{Board}
-use Rattle.fc_moves.specs.declared.steps.Move.{Move}
 use Rattle.fc_moves.specs.GameRules.{GameRules}
-use Rattle.fc_moves.specs.Run.{Wins}
 use Rattle.fc_search.specs.Watch.{HearsAll, TellFloors}
 use Rattle.fc_search.specs.declared.listeners.Progress.{Progress}
 use Rattle.fc_best.specs.declared.listeners.BestProgress.{BestProgress}
 use Rattle.fc_best.specs.declared.relays.Relay.{Relay}
-use Rattle.fc_best.specs.inner.Watch.{IsFurther, IsJoined}
+use Rattle.fc_best.specs.inner.Watch.{HearsFurther, IsFurther, IsJoined}
 
-module _ (g : GameRules) (b : Board) where
-  -- what was told is told after itself
-  pub further_same : (far : BestProgress) → IsFurther g b far far
-  further_same far = record { budget = refl; shortest = refl; least = λ floor. floor }
+-- what was told is told after itself
+pub further_same : (far : BestProgress) → IsFurther far far
+further_same far = record { budget = refl; shortest = refl; at_least = refl }
 
-  -- and so is what is told while a further search tells its floor
-  further_joined : (before : BestProgress) (one : Progress) (far : BestProgress) → IsJoined before one far
-      → ((moves : List Move) → Wins g b moves → one.at_least ≤ length moves) → IsFurther g b before far
-  further_joined before one far joined least = record {
-    budget = joined.budget;
-    shortest = joined.shortest;
-    least = λ floor moves wins.
-        let first = floor moves wins in let second = least moves wins in let greatest = joined.at_least in omega (arith, first, second, greatest);
+-- and so is what is told while a further search goes on
+further_joined : (before : BestProgress) (one : Progress) (far : BestProgress) → IsJoined before one far → IsFurther before far
+further_joined before one far joined = record { budget = joined.budget; shortest = joined.shortest; at_least = joined.at_least }
+
+module _ {L : Type 0} (hears : L → BestProgress → L → Type 0) where
+  -- what a relay that hears a search does
+  abbrev pub relays : Relay L → Progress → Relay L → Type 0
+  relays old far new = (new.listener.ghost_name ≡ old.listener.ghost_name) × (new.before ≡ old.before)
+      × IsJoined old.before far new.last × hears old.listener.now new.last new.listener.now
+
+  -- the relay is still of the same listener, which heard these, all told after what was told before; and so is what was told last
+  pub record Passes (before : BestProgress) (old new : Relay L) : Type 0 where
+    pub name : new.listener.ghost_name ≡ old.listener.ghost_name
+    pub told : List BestProgress
+    pub hearing : HearsAll hears old.listener.now told new.listener.now
+    pub further : All (IsFurther before) told
+    pub last : IsFurther before new.last
+
+  passes : (before : BestProgress) (old : Relay L) (heard : List Progress) (new : Relay L) → HearsAll relays old heard new
+      → old.before ≡ before → IsFurther before old.last → Passes before old new
+  passes before old [] new same kept last = record {
+    name = ap (λ (r : Relay L). r.listener.ghost_name) same;
+    told = [];
+    hearing = ap (λ (r : Relay L). r.listener.now) same;
+    further = All-nil (IsFurther before);
+    last = subst (λ (r : Relay L). IsFurther before r.last) (sym same) last;
   }
+  passes before old (far ∷ later) new (mid, (name, stays, joined, hearing), rest) kept last =
+      let one = further_joined before far mid.last (subst (λ f. IsJoined f far mid.last) kept joined) in
+      let more = passes before mid later new rest (stays ∙ kept) one in
+      record {
+        name = more.name ∙ name;
+        told = mid.last ∷ more.told;
+        hearing = (mid.listener.now, hearing, more.hearing);
+        further = All-cons (IsFurther before) mid.last more.told one more.further;
+        last = more.last;
+      }
 
-  module _ {L : Type 0} (hears : L → BestProgress → L → Type 0) where
-    -- what a relay that hears a search does
-    abbrev pub relays : Relay L → Progress → Relay L → Type 0
-    relays old far new = (new.listener.ghost_name ≡ old.listener.ghost_name) × (new.before ≡ old.before)
-        × IsJoined old.before far new.last × hears old.listener.now new.last new.listener.now
+  -- what the listener heard, where it ends as the relay left it
+  pub passed_on : (g : GameRules) (b : Board) (given : L) (old new : Relay L)
+      → (old.listener.ghost_name ≡ new.listener.ghost_name → given ≡ new.listener.now)
+      → ((heard : List Progress) × HearsAll relays old heard new × TellFloors g b heard) → old.last ≡ old.before
+      → HearsFurther hears old.before old.listener.now given
+  passed_on g b given old new lent (heard, hearing, floors) same =
+      let all = passes old.before old heard new hearing refl (subst (IsFurther old.before) (sym same) (further_same old.before)) in
+      (all.told, subst (HearsAll hears old.listener.now all.told) (sym (lent (sym all.name))) all.hearing, all.further)
 
-    -- the relay is still of the same listener, which heard these, all told after what was told before; and so is what was told last
-    pub record Passes (before : BestProgress) (old new : Relay L) : Type 0 where
-      pub name : new.listener.ghost_name ≡ old.listener.ghost_name
-      pub told : List BestProgress
-      pub hearing : HearsAll hears old.listener.now told new.listener.now
-      pub further : All (IsFurther g b before) told
-      pub last : IsFurther g b before new.last
-
-    passes : (before : BestProgress) (old : Relay L) (heard : List Progress) (new : Relay L) → HearsAll relays old heard new
-        → TellFloors g b heard → old.before ≡ before → IsFurther g b before old.last → Passes before old new
-    passes before old [] new same floors kept last = record {
-      name = ap (λ (r : Relay L). r.listener.ghost_name) same;
-      told = [];
-      hearing = ap (λ (r : Relay L). r.listener.now) same;
-      further = All-nil (IsFurther g b before);
-      last = subst (λ (r : Relay L). IsFurther g b before r.last) (sym same) last;
-    }
-    passes before old (far ∷ later) new (mid, (name, stays, joined, hearing), rest) (least, floors) kept last =
-        let one = further_joined before far mid.last (subst (λ f. IsJoined f far mid.last) kept joined) least in
-        let more = passes before mid later new rest floors (stays ∙ kept) one in
-        record {
-          name = more.name ∙ name;
-          told = mid.last ∷ more.told;
-          hearing = (mid.listener.now, hearing, more.hearing);
-          further = All-cons (IsFurther g b before) mid.last more.told one more.further;
-          last = more.last;
-        }
-
-    -- what the listener heard, where it ends as the relay left it
-    pub passed_on : (given : L) (old new : Relay L) → (old.listener.ghost_name ≡ new.listener.ghost_name → given ≡ new.listener.now)
-        → ((heard : List Progress) × HearsAll relays old heard new × TellFloors g b heard) → old.last ≡ old.before
-        → (heard : List BestProgress) × HearsAll hears old.listener.now heard given × All (IsFurther g b old.before) heard
-    passed_on given old new lent (heard, hearing, floors) same =
-        let all = passes old.before old heard new hearing floors refl (subst (IsFurther g b old.before) (sym same) (further_same old.before)) in
-        (all.told, subst (HearsAll hears old.listener.now all.told) (sym (lent (sym all.name))) all.hearing, all.further)
-
-    pub told_last : (old new : Relay L) → ((heard : List Progress) × HearsAll relays old heard new × TellFloors g b heard)
-        → old.last ≡ old.before → IsFurther g b old.before new.last
-    told_last old new (heard, hearing, floors) same =
-        (passes old.before old heard new hearing floors refl (subst (IsFurther g b old.before) (sym same) (further_same old.before))).last
+  pub told_last : (g : GameRules) (b : Board) (old new : Relay L)
+      → ((heard : List Progress) × HearsAll relays old heard new × TellFloors g b heard) → old.last ≡ old.before → IsFurther old.before new.last
+  told_last g b old new (heard, hearing, floors) same =
+      (passes old.before old heard new hearing refl (subst (IsFurther old.before) (sym same) (further_same old.before))).last

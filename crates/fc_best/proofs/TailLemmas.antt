@@ -1,6 +1,6 @@
 -- A list that wins, with a shorter tail.
 use Rattle.std.proofs.Common.{◌≡◌, ◌∙◌, inr, Bool, ℕ, ◌+◌, ◌<◌, ◌≤◌, Option, Some, None, List, [], ◌∷◌, ◌++◌, ◌-◌, length, take, drop, refl, sym, subst, ap, arith, append_assoc, get_or, add-one, drop-cons}
-use Rattle.std.specs.Prelude.{IfSome, IsSome, All}
+use Rattle.std.specs.Prelude.{IfSome, All}
 use Rattle.std.proofs.lemmas.List.{length-append, length-take-le, take-append-drop}
 use Rattle.std.proofs.lemmas.List.Elements.{All-append, All-cons, All-nil, All-take}
 use Rattle.std.proofs.lemmas.List.Sums.{sum_by-cons}
@@ -12,20 +12,19 @@ use Rattle.fc_moves.specs.Run.{Run, Wins}
 use Rattle.fc_moves.specs.Step.{Step, Allows}
 use Rattle.fc_moves.proofs.StepLemmas.{step_once}
 use Rattle.fc_classes.proofs.PathLemmas.{run_on}
-use Rattle.fc_best_first.specs.Limits.{Ratio}
 use Rattle.fc_methods.specs.Method.{Asked}
+use Rattle.fc_search.specs.Search.{State}
 use Rattle.fc_best.specs.declared.attempts.Attempt.{Attempt}
-use Rattle.fc_best.specs.declared.tails.Effort.{Effort}
 use Rattle.fc_best.specs.declared.tails.Tail.{Tail}
 use Rattle.fc_best.specs.declared.standings.Standing.{Standing}
-use Rattle.fc_answers.specs.declared.answers.Verdict.{Verdict}
-use Rattle.fc_best.specs.Best.{Ended, IsOfQuestion, IsFloor, IsOfSearches, IsOnTheWay, RestsOn}
-use Rattle.fc_best.specs.inner.Attempt.{IsAttempt, IsGoodList}
-use Rattle.fc_best.specs.inner.Standing.{Stands, limit_of, newest, with_share}
-use Rattle.fc_best.specs.inner.Watch.{IsFirstTold, IsWithTail}
 use Rattle.fc_best.specs.declared.listeners.BestProgress.{BestProgress}
-use Rattle.fc_best.specs.inner.Tail.{IsTail, IsWithEnd}
-use Rattle.fc_best.proofs.StandingLemmas.{both_none, newest_good}
+use Rattle.fc_best.specs.Best.{IsListOf, of_search, of_tail, IsOfQuestion, IsOnTheWay}
+use Rattle.fc_best.specs.Watch.{IsNoWorse}
+use Rattle.fc_best.specs.inner.Attempt.{IsAttempt, IsFoundIn, IsGoodList}
+use Rattle.fc_best.specs.inner.Standing.{IsLeastOf, IsShorter, Stands, limit_of}
+use Rattle.fc_best.specs.inner.Watch.{IsAfter, IsFirstTold}
+use Rattle.fc_best.specs.inner.Tail.{HasTailOf, IsTail, IsTailFor, IsWithEnd}
+use Rattle.fc_best.proofs.StandingLemmas.{after_rises, first_of, if_some, rest_of, shorter_both}
 
 -- a front of a list that runs does so
 front_runs : (g : GameRules) (b d : Board) (ms ns : List Move) → Run g b (ms ++ ns) d → (c : Board) × Run g b ms c
@@ -91,42 +90,78 @@ joined_good g b c n limit all front end made good same long run tail joined shor
       omega (arith, size, part, most, long, short);
 })
 
--- what a search for a shorter tail made of it is good
-tail_good : (g : GameRules) (b c : Board) (n limit : ℕ) (all front : List Move) (end made : Option (List Move)) → IsGoodList g b all
-    → front ≡ take n all → n + limit ≡ length all → Run g b front c → IfSome end (IsGoodList g c) → IsWithEnd front end limit made
-    → IfSome made (IsGoodList g b)
-tail_good g b c n limit all front end None good same long run tail is = tt
-tail_good g b c n limit all front end (Some moves) good same long run tail (e, found, joined, short) =
-    joined_good g b c n limit all front e moves good same long run (subst (λ o. IfSome o (IsGoodList g c)) found tail) joined short
+-- what a search for a shorter tail made of it is good, and has a tail that the search found
+tail_made : (g : GameRules) (b : Board) (n limit : ℕ) (ended : State) (all front : List Move) (end made : Option (List Move)) → IsGoodList g b all
+    → front ≡ take n all → n + limit ≡ length all → Run g b front ended.problem.start → IfSome end (IsFoundIn g ended.problem.start ended)
+    → IsWithEnd front end limit made → IfSome made (λ ms. IsGoodList g b ms × HasTailOf g b all ended ms)
+tail_made g b n limit ended all front end None good same long run tail is = tt
+tail_made g b n limit ended all front end (Some moves) good same long run tail (e, found, joined, short) =
+    let new : IsFoundIn g ended.problem.start ended e = subst (λ o. IfSome o (IsFoundIn g ended.problem.start ended)) found tail in (
+      joined_good g b ended.problem.start n limit all front e moves good same long run new.0 joined short,
+      record {
+        front = front;
+        old = drop n all;
+        tail = e;
+        before = sym (take-append-drop n all) ∙ ap (λ l. l ++ drop n all) (sym same);
+        after = joined;
+        shorter =
+            let whole = length-append (take n all) (drop n all) in
+            let parts : length (take n all ++ drop n all) ≡ length all = ap (λ l. length l) (take-append-drop n all) in
+            let part : length (take n all) ≡ n = length-take-le n all (omega (arith, long)) in
+            omega (arith, whole, parts, part, long, short);
+        there = run;
+        found = new.1;
+      },
+    )
 
 pub is_tail : (q : Asked) (b c : Board) (n limit : ℕ) (all front : List Move) (attempt : Attempt) (made : Option (List Move))
     → IsGoodList q.game b all → front ≡ take n all → n + limit ≡ length all → Run q.game b front c
     → IsAttempt q q.method.bound c (Some limit) attempt → IsWithEnd front attempt.list limit made
-    → (gave : Bool) (effort : Effort) → IsTail q b (record { list = made; stored = attempt.stored; has_given_up = gave; effort = effort })
-is_tail q b c n limit all front attempt made good same long run is joined gave effort = record {
-  ended = is.ended;
-  asked = record {
-    game = is.asked.game;
-    start = (front, subst (λ x. Run q.game b front x) (sym is.asked.start) run);
-    rule = is.asked.rule;
-    bound = is.by_kind;
-    ran = is.asked.ran;
-  };
-  list = tail_good q.game b c n limit all front attempt.list made good same long run is.list joined;
-  stored = is.stored;
-  room = is.room;
-}
+    → (gave : Bool) (far : BestProgress) → IsTail q b all (record { list = made; stored = attempt.stored; has_given_up = gave; far = far })
+is_tail q b c n limit all front attempt made good same long run is joined gave far =
+    let there : Run q.game b front is.ended.problem.start = subst (λ x. Run q.game b front x) (sym is.asked.start) run in
+    record {
+      ended = is.ended;
+      asked = record {
+        game = is.asked.game;
+        start = (front, there);
+        rule = is.asked.rule;
+        bound = is.by_kind;
+        over = is.asked.over;
+      };
+      list = tail_made q.game b n limit is.ended all front attempt.list made good same long there
+          (subst (λ x. IfSome attempt.list (IsFoundIn q.game x is.ended)) (sym is.asked.start) is.list) joined;
+      stored = is.stored;
+      room = is.room;
+    }
+
+-- a list that rests on searches rests on them and one more for a tail
+list_on : (g : GameRules) (b : Board) (ended : State) (searches tails : List State) (moves : List Move) → IsListOf g b searches tails moves
+    → IsListOf g b searches (ended ∷ tails) moves
+list_on g b ended searches tails moves (of_search ms found) = of_search ms found
+list_on g b ended searches tails moves (of_tail ms front old tail one parts of shorter of_these there found) =
+    of_tail ms front old tail one parts (list_on g b ended searches tails _ of) shorter (rest_of ended one tails of_these) there found
+
+-- and so does one with a tail that it found
+list_with : (g : GameRules) (b : Board) (ended : State) (searches tails : List State) (all moves : List Move) → IsListOf g b searches tails all
+    → HasTailOf g b all ended moves → IsListOf g b searches (ended ∷ tails) moves
+list_with g b ended searches tails all moves of is =
+    of_tail moves is.front is.old is.tail ended is.after
+    (list_on g b ended searches tails (is.front ++ is.old) (subst (IsListOf g b searches tails) is.before of))
+    is.shorter (first_of ended tails) is.there is.found
 
 -- of a list that is there, it isn't missing
-there : {X : Type 0} (o : Option X) → IsSome o → o ≡ None → ⊥
-there None is none = absurd (cc)
-there (Some x) is none = absurd (cc)
+there : {X : Type 0} (o : Option X) (x : X) → o ≡ Some x → o ≡ None → ⊥
+there o x is none = absurd (cc)
 
-pub tail_stands : (q : Asked) (b : Board) (weight : Ratio) (share : ℕ) (old : Standing) (tail : Tail) (new : BestProgress) → Stands q b old
-    → IsSome old.list → tail.stored + 1 ≤ old.left → IsTail (with_share q weight share) b tail
-    → IsWithTail old.far tail.stored tail.effort (limit_of (newest tail.list old.list)) new
+pub tail_rises : (q : Asked) (b : Board) (old : Standing) (tail : Tail) (list : Option (List Move)) (far : BestProgress) → Stands q b old
+    → IsTailFor q b old tail → IsShorter tail.list old.list list → IsAfter tail.far None (limit_of list) far → IsNoWorse old.far far
+tail_rises q b old tail list far stands is short after = after_rises q b old tail.list list tail.far far None stands is.far short after
+
+pub tail_stands : (q : Asked) (b : Board) (old : Standing) (tail : Tail) (list : Option (List Move)) (new : BestProgress) → Stands q b old
+    → IsTailFor q b old tail → tail.stored + 1 ≤ old.left → IsShorter tail.list old.list list → IsAfter tail.far None (limit_of list) new
     → Stands q b (record {
-      list = newest tail.list old.list;
+      list = list;
       shown = old.shown;
       left = old.left - tail.stored;
       given_up = old.given_up;
@@ -134,32 +169,35 @@ pub tail_stands : (q : Asked) (b : Board) (weight : Ratio) (share : ℕ) (old : 
       open_share = old.open_share;
       far = new;
     })
-tail_stands q b weight share old tail new (searches, tails, was) some room is far = (
-  searches,
-  is.ended ∷ tails,
-  record {
-    asked = was.asked;
-    middle = All-cons (IsOnTheWay q b) is.ended tails
-        (record { game = is.asked.game; start = is.asked.start; rule = is.asked.rule; bound = is.asked.bound; ran = is.asked.ran }) was.middle;
-    spent = let sum = sum_by-cons (λ (e : Ended). length e.last.stored) is.ended tails in let size = is.stored in let all = was.spent in omega (arith, sum, size, all, room);
-    list = newest_good (IsGoodList q.game b) tail.list old.list is.list was.list;
-    shown = was.shown;
-    none = λ nothing. absurd (there old.list some (both_none tail.list old.list nothing).1);
-    tabled = was.tabled;
-    told = record {
-      budget = far.budget ∙ was.told.budget;
-      least = subst (IsFloor q.game b) (sym far.at_least) was.told.least;
-      shortest = far.shortest;
-    };
-  },
-)
-
--- the same, of the list that is made so
-pub stands_with : (q : Asked) (b : Board) (list made : Option (List Move)) (old : Standing) (left : ℕ) (far : BestProgress) → list ≡ made
-    → Stands q b (record { list = made; shown = old.shown; left = left; given_up = old.given_up; has_table = old.has_table; open_share = old.open_share; far = far })
-    → Stands q b (record { list = list; shown = old.shown; left = left; given_up = old.given_up; has_table = old.has_table; open_share = old.open_share; far = far })
-stands_with q b list made old left far same stands =
-    subst (λ l. Stands q b (record { list = l; shown = old.shown; left = left; given_up = old.given_up; has_table = old.has_table; open_share = old.open_share; far = far })) (sym same) stands
+tail_stands q b old tail list new (searches, tails, was) found room short after =
+    let is = found.is in
+    let ended = is.ended in
+    let best : IsGoodList q.game b found.all × IsListOf q.game b searches tails found.all =
+    subst (λ o. IfSome o (λ moves. IsGoodList q.game b moves × IsListOf q.game b searches tails moves)) found.best was.list in (
+      searches,
+      ended ∷ tails,
+      record {
+        asked = was.asked;
+        middle = All-cons (IsOnTheWay q b) ended tails
+            (record { game = is.asked.game; start = is.asked.start; rule = is.asked.rule; bound = is.asked.bound; over = is.asked.over }) was.middle;
+        spent = let sum = sum_by-cons (λ (e : State). length e.store.stored) ended tails in let size = is.stored in let all = was.spent in omega (arith, sum, size, all, room);
+        list = shorter_both (λ moves. IsGoodList q.game b moves × IsListOf q.game b searches (ended ∷ tails) moves) tail.list old.list list short
+            (if_some (λ moves. IsGoodList q.game b moves × HasTailOf q.game b found.all ended moves)
+            (λ moves. IsGoodList q.game b moves × IsListOf q.game b searches (ended ∷ tails) moves) tail.list
+            (λ moves made. (made.0, list_with q.game b ended searches tails found.all moves best.1 made.1)) is.list)
+            (if_some (λ moves. IsGoodList q.game b moves × IsListOf q.game b searches tails moves)
+            (λ moves. IsGoodList q.game b moves × IsListOf q.game b searches (ended ∷ tails) moves) old.list
+            (λ moves good. (good.0, list_on q.game b ended searches tails moves good.1)) was.list);
+        shown = was.shown;
+        none = λ nothing. absurd (there old.list found.all found.best (short.none nothing).1);
+        tabled = was.tabled;
+        told = record {
+          budget = after.budget ∙ found.far.budget ∙ was.told.budget;
+          least = subst (IsLeastOf old.shown) (let same = found.far.at_least in let most = after.at_least in let equal : old.far.at_least ≡ new.at_least = omega (arith, same, most) in equal) was.told.least;
+          shortest = after.shortest;
+        };
+      },
+    )
 
 -- before the first search nothing is stored
 pub nothing_stands : (q : Asked) (b : Board) (left : ℕ) (has_table : Bool) (far : BestProgress) → left ≡ q.method.strategy.budget
@@ -177,32 +215,17 @@ nothing_stands q b left has_table far whole first = (
     tabled = λ wanted. tt;
     told = record {
       budget = first.budget ∙ whole;
-      least = λ moves wins. let none = first.at_least in omega (arith, none);
+      least = first.at_least;
       shortest = first.shortest;
     };
   },
 )
 
--- the verdict is of the searches so far, whichever they are
-pub of_searches : (q : Asked) (b : Board) (standing : Standing) (verdict : Verdict) → Stands q b standing
-    → ((searches : List Ended) → RestsOn searches verdict) → IsOfSearches q b verdict
-of_searches q b standing verdict (searches, tails, was) rests = record {
-  searches = searches;
-  tails = tails;
-  asked = was.asked;
-  middle = was.middle;
-  spent = let all = was.spent in omega (arith, all);
-  rests = rests searches;
-}
+-- after a search for a tail something is left
+pub tail_left : (q : Asked) (b : Board) (old : Standing) (rest : ℕ) (tail : Tail) → IsTailFor q b old tail → rest + tail.stored ≡ old.left → 1 ≤ rest
+tail_left q b old rest tail is sum = let room = is.is.room in let most = is.most in omega (arith, most, room, sum)
 
--- what a search for a shorter tail is, by a weight and within a share of what is left but for one class
-abbrev pub IsFound : Asked → Board → ℕ → Tail → Type 0
-IsFound q b left tail = (weight : Ratio) × (share : ℕ) × (share + 1 ≤ left) × IsTail (with_share q weight share) b tail
-
-pub found_tail : (q : Asked) (b : Board) (left : ℕ) (told : Option Tail) (tail : Tail) → told ≡ Some tail → IfSome told (IsFound q b left)
-    → IsFound q b left tail
-found_tail q b left told tail same is = subst (λ o. IfSome o (IsFound q b left)) same is
-
--- after it something is left
-pub tail_left : (q : Asked) (b : Board) (left rest : ℕ) (tail : Tail) → IsFound q b left tail → rest + tail.stored ≡ left → 1 ≤ rest
-tail_left q b left rest tail (weight, share, most, is) sum = let room = is.room in omega (arith, most, room, sum)
+-- a search for a tail that was made is one
+pub found_tail : (q : Asked) (b : Board) (standing : Standing) (told : Option Tail) (tail : Tail) → told ≡ Some tail
+    → IfSome told (IsTailFor q b standing) → IsTailFor q b standing tail
+found_tail q b standing told tail same is = subst (λ o. IfSome o (IsTailFor q b standing)) same is

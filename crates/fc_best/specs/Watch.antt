@@ -1,5 +1,5 @@
 -- Searches for a best answer that tell how far they are, and who hears it.
-use Rattle.std.specs.Prelude.{◌≡◌, ℕ, List, length, All, Option, None, Some, IfSome}
+use Rattle.std.specs.Prelude.{◌≡◌, ℕ, ◌≤◌, List, [], ◌∷◌, ◌++◌, length, All, AllPairs, Option, None, Some, IfSome}
 use Rattle.fc_position.specs.Board.{Board}
 use Rattle.fc_moves.specs.declared.steps.Move.{Move}
 use Rattle.fc_moves.specs.Run.{Wins}
@@ -17,6 +17,12 @@ pub record IsTold (q : Asked) (b : Board) (far : BestProgress) : Type 0 where
   pub least : IsFloor q.game b far.at_least
   pub listed : IfSome far.shortest (λ n. (moves : List Move) × Wins q.game b moves × (length moves ≡ n))
 
+-- what is told is no worse than what was told before it: where that told a list there still is one, and it is no longer; and the
+-- floor is no lower
+pub record IsNoWorse (before far : BestProgress) : Type 0 where
+  pub listed : IfSome before.shortest (λ n. (m : ℕ) × (far.shortest ≡ Some m) × (m ≤ n))
+  pub least : before.at_least ≤ far.at_least
+
 -- how many moves the list that a verdict tells has, if it tells one
 abbrev pub moves_told : Verdict → Option ℕ
 moves_told (Shortest moves) = Some (length moves)
@@ -24,12 +30,28 @@ moves_told (Won moves floor) = Some (length moves)
 moves_told CannotWin = None
 moves_told (GaveUp told) = None
 
-module _ {L : Type 0} (hears : L → BestProgress → L → Type 0) where
-  -- a listener hears what is so of searches of the question from the board
-  abbrev pub HearsTold : Asked → Board → L → L → Type 0
-  HearsTold q b old new = (heard : List BestProgress) × HearsAll hears old heard new × All (IsTold q b) heard
+-- the floor that a verdict tells, if it tells one: that of a shortest list is its length
+abbrev pub floor_told : Verdict → Option ℕ
+floor_told (Shortest moves) = Some (length moves)
+floor_told (Won moves floor) = Some floor
+floor_told CannotWin = None
+floor_told (GaveUp told) = None
 
-  -- and hears last how many moves the list has that the verdict tells
+-- what is told is of the verdict: how many moves its list has, if it tells one, and its floor, if it tells one
+pub record IsToldOf (verdict : Verdict) (far : BestProgress) : Type 0 where
+  pub listed : far.shortest ≡ moves_told verdict
+  pub least : IfSome (floor_told verdict) (λ floor. far.at_least ≡ floor)
+
+module _ {L : Type 0} (hears : L → BestProgress → L → Type 0) where
+  -- a listener hears these, which are so of searches of the question from the board, and each is no worse than those before it
+  abbrev pub HearsThese : Asked → Board → List BestProgress → L → L → Type 0
+  HearsThese q b heard old new = HearsAll hears old heard new × All (IsTold q b) heard × AllPairs IsNoWorse heard
+
+  -- it hears some
+  abbrev pub HearsTold : Asked → Board → L → L → Type 0
+  HearsTold q b old new = (heard : List BestProgress) × HearsThese q b heard old new
+
+  -- and hears last of the verdict
   abbrev pub HearsToEnd : Asked → Board → Verdict → L → L → Type 0
-  HearsToEnd q b verdict old new = (mid : L) × (far : BestProgress) × HearsTold q b old mid × hears mid far new × IsTold q b far
-      × (far.shortest ≡ moves_told verdict)
+  HearsToEnd q b verdict old new = (heard : List BestProgress) × (far : BestProgress) × HearsThese q b (heard ++ far ∷ []) old new
+      × IsToldOf verdict far

@@ -2,7 +2,7 @@
 
 ghost use Rattle.fc_position.specs.Board.{Board};
 ghost use Rattle.fc_position.specs.Position.{Fits};
-ghost use Rattle.std.specs.Prelude.{◌≡◌, ℕ, List, Option, None, IfOk, IfSome, IsSome, IsTrue};
+ghost use Rattle.std.specs.Prelude.{◌≡◌, ◌*◌, ◌/◌, ℕ, List, Option, None, IfOk, IfSome, IsSome, IsTrue, max, min};
 ghost use Rattle.fc_best_first.specs.Search.{reply_of};
 ghost use Rattle.fc_methods.specs.Method.{Asked};
 ghost use Rattle.fc_search.specs.Problem.{problem_below};
@@ -12,8 +12,8 @@ ghost use Rattle.fc_search.specs.Watch.{HearsAll, TellFloors};
 ghost use Rattle.fc_search.specs.declared.listeners.Progress.{Progress};
 ghost use Rattle.fc_best_first.specs.Limits.{Ratio};
 ghost use Rattle.fc_bound.specs.declared.kinds.BoundKind.TheVariants.{Plain};
-ghost use Rattle.fc_best.specs.inner.Attempt.{IsAttempt};
-ghost use Rattle.fc_best.specs.inner.Standing.{looked_with, lost_table, with_share};
+ghost use Rattle.fc_best.specs.inner.Attempt.{IsAttempt, IsShownAt, Raises, ShowsNone};
+ghost use Rattle.fc_best.specs.inner.Standing.{looked_with, lost_by, with_share};
 
 use fc_answers::{MoveList, Table};
 use fc_best_first::Step;
@@ -25,17 +25,22 @@ use fc_position::Position;
 use fc_search::{Listener, Progress, Search, ended_below};
 use std::alloc::{AllocError, Global};
 
+// What a search showed of all lists that win.
+#[derive(Drop)]
+pub(crate) struct Shown {
+    // A number of moves that none is below; `None` where none wins.
+    pub(crate) floor: Option<u32>,
+    // The table that shows it, where it was made.
+    pub(crate) table: Option<Table>,
+}
+
 // What one search, which ran to its end, has found and shown.
 #[derive(Drop)]
 pub(crate) struct Attempt {
     // A list that wins, where it found one.
     pub(crate) list: Option<MoveList>,
-    // A number of moves that no list that wins is below; `None` where none wins.
-    pub(crate) shown: Option<u32>,
-    // The table that shows it, where it was made.
-    pub(crate) table: Option<Table>,
-    // Whether nothing more is to be searched.
-    pub(crate) is_settled: bool,
+    // What it showed, unless that was shown before.
+    pub(crate) shown: Option<Shown>,
     // How many classes it stored.
     pub(crate) stored: u32,
     // Its budget, where it gave up.
@@ -49,28 +54,40 @@ pub(crate) struct Attempt {
 pub(crate) struct Aim {
     // A list of fewer moves than this, if it is told.
     pub(crate) limit: Option<u32>,
-    // Whether it is the last search, which settles the question.
-    pub(crate) is_last: bool,
-    // Whether a table is to be made of what settles the question.
+    // A floor that is greater than this, if it is told.
+    pub(crate) least: Option<u32>,
+    // Whether a table is to be made of what it shows.
     pub(crate) has_table: bool,
 }
 
 impl Aim {
-    // A list of fewer moves than so many, by a search that isn't the last one.
+    // A list of fewer moves than so many, and no floor.
     pub(crate) fn below(limit: u32) -> Self
         ensures limit { result.limit ≡ Some limit }
     {
         Aim {
             limit: Some(limit),
-            is_last: false,
+            least: Some(u32::MAX),
             has_table: false,
+        }
+    }
+
+    // Any list, and that none wins, but no floor.
+    pub(crate) fn any(has_table: bool) -> Self
+        ensures limit { result.limit ≡ None }
+        ensures has_table { result.has_table ≡ has_table }
+    {
+        Aim {
+            limit: None,
+            least: Some(u32::MAX),
+            has_table,
         }
     }
 }
 
 impl Attempt {
-    // Searches a question for a list of fewer moves than the limit, if there is one. After the last search the question is settled,
-    // and after one that left nothing open, or whose list is as short as any can be; then a table is made, if it is wanted.
+    // Searches a question for a list of fewer moves than the limit, if there is one, and for a greater floor than the one that was
+    // shown, if there was one. Of what it shows a table is made, if it is wanted.
     pub(crate) fn below<G: Game + Drop, L: Listener>(
         alloc: Global,
         question: &Question<G>,
@@ -80,27 +97,25 @@ impl Attempt {
     ) -> Result<Self, AllocError>
         requires fits { Fits question.now.game.cells position.now }
         ensures right { IfOk result (IsAttempt question.now question.now.method.bound position.now aim.limit) }
-        ensures last { IsTrue aim.is_last → IfOk result (λ attempt. IsTrue attempt.is_settled) }
-        ensures tabled { IsTrue aim.has_table → IfOk result (λ attempt. IsTrue attempt.is_settled → IsSome attempt.table) }
+        ensures raised { IfOk result (λ attempt. IfSome attempt.shown (λ end. Raises aim.least end.floor)) }
+        ensures first { aim.least ≡ None → IfOk result (λ attempt. IsSome attempt.shown) }
+        ensures tabled { IsTrue aim.has_table → IfOk result (λ attempt. IfSome attempt.shown (λ end. IsSome end.table)) }
         ensures heard { (heard : List Progress) × HearsAll L.hears listener.old heard listener.new × TellFloors question.now.game position.now heard }
     {
         below_with::<EitherFrontier, G, L>(alloc, question, position, aim, listener)
     }
 
-    // What a look showed, as of a question by this kind of bound: that none wins, or nothing that settles it.
+    // What a look showed, as of a question by this kind of bound: that none wins, or nothing.
     pub(crate) fn by_bound(self, bound: BoundKind) -> Self
         ensures right { (q : Asked) (b : Board) (weight : Ratio) (share : ℕ) → bound ≡ q.method.bound
             → IsAttempt (looked_with q weight share) Plain b None self → IsAttempt (with_share q weight share) Plain b None result }
-        ensures tabled { (IsTrue self.is_settled → IsSome self.table) → IsTrue result.is_settled → IsSome result.table }
+        ensures raised { (least : Option ℕ) → IfSome result.shown (λ end. Raises least end.floor) }
+        ensures tabled { IfSome self.shown (λ end. IsSome end.table) → IfSome result.shown (λ end. IsSome end.table) }
+        ensures list { result.list ≡ self.list }
         ensures stored { result.stored ≡ self.stored }
     {
-        let is_settled = is_lost(self.is_settled, self.shown);
-        let table = lost_table(self.shown, self.table, bound);
-        Attempt {
-            is_settled,
-            table,
-            ..self
-        }
+        let shown = lost_by(bound, self.shown);
+        Attempt { shown, ..self }
     }
 }
 
@@ -114,66 +129,98 @@ fn below_with<F: Frontier + Drop, G: Game + Drop, L: Listener>(
 ) -> Result<Attempt, AllocError>
     requires fits { Fits question.now.game.cells position.now }
     ensures right { IfOk result (IsAttempt question.now question.now.method.bound position.now aim.limit) }
-    ensures last { IsTrue aim.is_last → IfOk result (λ attempt. IsTrue attempt.is_settled) }
-    ensures tabled { IsTrue aim.has_table → IfOk result (λ attempt. IsTrue attempt.is_settled → IsSome attempt.table) }
+    ensures raised { IfOk result (λ attempt. IfSome attempt.shown (λ end. Raises aim.least end.floor)) }
+    ensures first { aim.least ≡ None → IfOk result (λ attempt. IsSome attempt.shown) }
+    ensures tabled { IsTrue aim.has_table → IfOk result (λ attempt. IfSome attempt.shown (λ end. IsSome end.table)) }
     ensures heard { (heard : List Progress) × HearsAll L.hears listener.old heard listener.new × TellFloors question.now.game position.now heard }
 {
     let search: Search<F, G> = ended_below(alloc, question, position, aim.limit, listener)?;
-    attempt_of(&search, aim.is_last, aim.has_table)
+    attempt_of(&search, aim)
 }
 
 // What a search that ran to its end has found and shown.
 fn attempt_of<F: Frontier + Drop, G: Game + Drop>(
     search: &Search<F, G>,
-    is_last: bool,
-    has_table: bool,
+    aim: Aim,
 ) -> Result<Attempt, AllocError>
     requires done { reply_of search.now.status ≡ Ok Step.Done }
     ensures right { (q : Asked) (b : Board) (limit : Option ℕ) → search.now.problem ≡ problem_below q b limit
         → HasRun (problem_below q b limit) search.now.store search.now.status → IfOk result (IsAttempt q q.method.bound b limit) }
-    ensures last { IsTrue is_last → IfOk result (λ attempt. IsTrue attempt.is_settled) }
-    ensures tabled { IsTrue has_table → IfOk result (λ attempt. IsTrue attempt.is_settled → IsSome attempt.table) }
+    ensures raised { IfOk result (λ attempt. IfSome attempt.shown (λ end. Raises aim.least end.floor)) }
+    ensures first { aim.least ≡ None → IfOk result (λ attempt. IsSome attempt.shown) }
+    ensures tabled { IsTrue aim.has_table → IfOk result (λ attempt. IfSome attempt.shown (λ end. IsSome end.table)) }
 {
     let list = search.found()?;
-    let shown = search.shown();
+    let shown = shown_of(search, aim)?;
     let given_up = search.given_up();
-    let is_settled = settles(&list, shown, given_up, is_last);
-    let table = table_of(search, shown, is_settled && has_table)?;
     let stored = search.stored();
     let open_share = hundredths(search.open(), stored);
     Ok(Attempt {
         list,
         shown,
-        table,
-        is_settled,
         stored,
         given_up,
         open_share,
     })
 }
 
-// Whether a look is settled by that it showed that none wins.
-fn is_lost(is_settled: bool, shown: Option<u32>) -> bool
-    ensures lost { IsTrue result → (shown ≡ None) × IsTrue is_settled }
-    ensures settled { shown ≡ None → IsTrue is_settled → IsTrue result }
+// What a search that is done has shown, unless its floor is no greater than the one that was shown before.
+fn shown_of<F: Frontier + Drop, G: Game + Drop>(
+    search: &Search<F, G>,
+    aim: Aim,
+) -> Result<Option<Shown>, AllocError>
+    requires done { reply_of search.now.status ≡ Ok Step.Done }
+    ensures shown { IfOk result (λ shown. IfSome shown (IsShownAt search.now)) }
+    ensures lost { HasShown search.now None → IfOk result ShowsNone }
+    ensures raised { IfOk result (λ shown. IfSome shown (λ end. Raises aim.least end.floor)) }
+    ensures first { aim.least ≡ None → IfOk result IsSome }
+    ensures tabled { IsTrue aim.has_table → IfOk result (λ shown. IfSome shown (λ end. IsSome end.table)) }
 {
-    is_settled && shown.is_none()
+    let floor = search.shown();
+    if !raises(aim.least, floor) {
+        return Ok(None);
+    }
+    let table = table_of(search, floor, aim.has_table)?;
+    Ok(Some(Shown { floor, table }))
 }
 
-// The table of a look, under this kind of bound, where it showed that none wins.
-fn lost_table(shown: Option<u32>, table: Option<Table>, bound: BoundKind) -> Option<Table>
-    ensures value { result ≡ lost_table bound shown table }
+// Whether what is shown is more than a floor that was shown before: a greater one, or that none wins.
+fn raises(least: Option<u32>, floor: Option<u32>) -> bool
+    ensures raises { IsTrue result → Raises least floor }
+    ensures first { least ≡ None → IsTrue result }
+    ensures lost { floor ≡ None → IsTrue result }
 {
-    match (shown, table) {
-        (None, Some(table)) => Some(table.with_bound(bound)),
+    match (least, floor) {
+        (Some(least), Some(floor)) => least < floor,
+        _ => true,
+    }
+}
+
+// What a look showed, where that is that none wins, with its table under this kind of bound.
+fn lost_by(bound: BoundKind, shown: Option<Shown>) -> Option<Shown>
+    ensures value { result ≡ lost_by bound shown }
+{
+    let Shown { floor, table } = shown?;
+    match (floor, table) {
+        (None, Some(table)) => Some(Shown {
+            floor: None,
+            table: Some(table.with_bound(bound)),
+        }),
+        (None, None) => Some(Shown {
+            floor: None,
+            table: None,
+        }),
         _ => None,
     }
 }
 
-// How many hundredths of the stored classes so many entries that are open are, at most 255.
-fn hundredths(open: u128, stored: u32) -> u8 {
-    let hundredth = u128::from(stored / 100).max(1);
-    (open / hundredth).min(255) as u8
+// How many hundredths of the stored classes so many entries are, at most 255.
+fn hundredths(entries: u128, stored: u32) -> u8
+    ensures value { result ≡ min (100 * min entries (3 * stored) / max stored 1) 255 }
+{
+    let stored = u128::from(stored);
+    let entries = entries.min(3 * stored);
+    (100 * entries / stored.max(1)).min(255) as u8
 }
 
 // The table of a search that is done, which shows what it has shown, if it is wanted.
@@ -192,25 +239,5 @@ fn table_of<F: Frontier + Drop, G: Game + Drop>(
         search.table(shown)
     } else {
         Ok(None)
-    }
-}
-
-// Whether a search that found and showed this settles its question, as the last one does.
-fn settles(
-    list: &Option<MoveList>,
-    shown: Option<u32>,
-    given_up: Option<u32>,
-    is_last: bool,
-) -> bool
-    ensures last { IsTrue is_last → IsTrue result }
-    ensures all { list.now ≡ None → given_up ≡ None → IsTrue result }
-{
-    if is_last {
-        return true;
-    }
-    match (list, shown) {
-        (Some(list), Some(floor)) => list.len() <= floor as usize,
-        (Some(_), None) => true,
-        (None, _) => given_up.is_none(),
     }
 }

@@ -9,6 +9,7 @@ pub use schedule::best;
 mod attempts;
 mod listeners;
 mod looks;
+mod plans;
 mod relays;
 mod schedule;
 mod shortenings;

@@ -1,9 +1,8 @@
 //! How far the searches for a best answer are, and who hears it.
 
 ghost use Rattle.std.specs.Prelude.{◌≡◌};
-ghost use Rattle.fc_best.specs.inner.Watch.{IsAfter, IsFirstTold, IsJoined, IsWithTail};
+ghost use Rattle.fc_best.specs.inner.Watch.{IsAfter, IsFirstTold, IsJoined};
 
-use crate::tails::Effort;
 use fc_search::{Progress, Unheard};
 
 /// How far the searches for a best answer are, taken together. Its counts of classes and of turns stop at the greatest number of
@@ -18,9 +17,10 @@ pub struct BestProgress {
     pub turns: u64,
     /// The most entries that were open in one of them, whenever it was told.
     pub most_open: u128,
-    /// How many moves the best list so far has.
+    /// How many moves the best list so far has. Once there is a list there always is one, and it never gets longer.
     pub shortest: Option<u32>,
-    /// No list of fewer moves wins. It never falls.
+    /// No list of fewer moves wins: the greatest floor that one of the searches has shown at its end. It never falls, and an answer
+    /// with a list tells it.
     pub at_least: u32,
 }
 
@@ -57,7 +57,7 @@ impl BestProgress {
         }
     }
 
-    // While a further search is as far as this.
+    // While a further search is as far as this. Its floor isn't told before it ends: what is open then may show less.
     pub(crate) fn joined(self, far: Progress) -> Self
         ensures joined { IsJoined self far result }
     {
@@ -68,7 +68,7 @@ impl BestProgress {
             turns: self.turns.saturating_add(far.turns),
             most_open: self.most_open.max(far.most_open),
             shortest: self.shortest,
-            at_least: self.at_least.max(far.at_least),
+            at_least: self.at_least,
         }
     }
 
@@ -80,20 +80,6 @@ impl BestProgress {
             shortest,
             at_least: self.at_least.max(shown.unwrap_or(0)),
             ..self
-        }
-    }
-
-    // Once a search for a tail of the best list has stored so many classes and taken this, and the list has so many moves.
-    pub(crate) fn with_tail(self, stored: u32, effort: Effort, shortest: Option<u32>) -> Self
-        ensures with_tail { IsWithTail self stored effort shortest result }
-    {
-        BestProgress {
-            classes: self.classes.saturating_add(stored),
-            budget: self.budget,
-            turns: self.turns.saturating_add(effort.turns),
-            most_open: self.most_open.max(effort.most_open),
-            shortest,
-            at_least: self.at_least,
         }
     }
 }

@@ -1,13 +1,16 @@
 //! A look at all that can be reached: a search that takes little time for a class.
 
 ghost use Rattle.fc_position.specs.Position.{Fits};
-ghost use Rattle.std.specs.Prelude.{◌≡◌, ◌+◌, ◌≤◌, None, IfOk};
-ghost use Rattle.fc_best.specs.Watch.{HearsTold};
+ghost use Rattle.std.specs.Prelude.{◌≡◌, ◌+◌, ◌≤◌, IfOk, IfErr};
+ghost use Rattle.fc_best.specs.inner.Attempt.{ShowsNone};
 ghost use Rattle.fc_best.specs.inner.Standing.{looked_with, Stands};
+ghost use Rattle.fc_best.specs.inner.Watch.{HearsOn, HearsSome};
 
+use crate::attempts::Aim;
 use crate::listeners::BestListener;
+use crate::plans::Plan;
 use crate::relays::attempt_after;
-use crate::standings::{Plan, Standing};
+use crate::standings::Standing;
 use fc_bound::BoundKind;
 use fc_methods::{Method, Question, Strategy};
 use fc_moves::Game;
@@ -15,8 +18,8 @@ use fc_position::Position;
 use std::alloc::{AllocError, Global};
 
 impl Standing {
-    // After a look by this plan, while the question isn't settled and no list is found. A list that it finds isn't told to be a
-    // shortest one: what shows that is to be by the question's own bound.
+    // After a look by this plan, while the question isn't settled and no list is found. Its floor isn't kept: what shows one is to be
+    // by the question's own bound.
     pub(crate) fn looked<G: Game + Drop, L: BestListener>(
         self,
         alloc: Global,
@@ -27,18 +30,19 @@ impl Standing {
     ) -> Result<Self, AllocError>
         requires fits { Fits question.now.game.cells position.now }
         requires stands { Stands question.now position.now self }
-        requires open { self.shown ≡ None }
+        requires open { ShowsNone self.shown → ⊥ }
         requires room { plan.budget ≤ self.left }
         ensures stands { IfOk result (Stands question.now position.now) }
         ensures left { IfOk result (λ standing. self.left ≤ standing.left + plan.budget) }
         ensures has_table { IfOk result (λ standing. standing.has_table ≡ self.has_table) }
-        ensures heard { HearsTold L.hears question.now position.now listener.old listener.new }
+        ensures heard { IfOk result (λ standing. HearsOn L.hears question.now position.now self.far standing.far listener.old listener.new) }
+        ensures cut { IfErr result (λ refused. HearsSome L.hears question.now position.now self.far listener.old listener.new) }
     {
         if self.list.is_some() {
             return Ok(self);
         }
         let asked = looked_with(question, plan);
-        let aim = self.aim(false);
+        let aim = Aim::any(self.has_table);
         let (attempt, far) = attempt_after(alloc, &asked, position, aim, self.far, listener)?;
         let attempt = attempt.by_bound(question.method().bound);
         Ok(self.after(attempt, far))

@@ -1,11 +1,9 @@
 //! One search of several, which is heard as one of them.
 
-ghost use Rattle.std.specs.Prelude.{◌≡◌, ℕ, List, All, IfOk, IsSome, IsTrue};
+ghost use Rattle.std.specs.Prelude.{◌≡◌, None, IfOk, IfSome, IsSome, IsTrue};
 ghost use Rattle.fc_position.specs.Position.{Fits};
-ghost use Rattle.fc_search.specs.Watch.{HearsAll};
-ghost use Rattle.fc_best.specs.declared.listeners.BestProgress.{BestProgress};
-ghost use Rattle.fc_best.specs.inner.Attempt.{IsAttempt};
-ghost use Rattle.fc_best.specs.inner.Watch.{IsFurther};
+ghost use Rattle.fc_best.specs.inner.Attempt.{IsAttempt, Raises};
+ghost use Rattle.fc_best.specs.inner.Watch.{HearsFurther, IsFurther};
 
 use crate::attempts::{Aim, Attempt};
 use crate::listeners::{BestListener, BestProgress};
@@ -50,11 +48,11 @@ pub(crate) fn attempt_after<G: Game + Drop, L: BestListener>(
 ) -> Result<(Attempt, BestProgress), AllocError>
     requires fits { Fits question.now.game.cells position.now }
     ensures right { IfOk result (λ r. IsAttempt question.now question.now.method.bound position.now aim.limit r.0) }
-    ensures last { IsTrue aim.is_last → IfOk result (λ r. IsTrue r.0.is_settled) }
-    ensures tabled { IsTrue aim.has_table → IfOk result (λ r. IsTrue r.0.is_settled → IsSome r.0.table) }
-    ensures far { IfOk result (λ r. IsFurther question.now.game position.now before r.1) }
-    ensures heard { (heard : List BestProgress) × HearsAll L.hears listener.old heard listener.new
-        × All (IsFurther question.now.game position.now before) heard }
+    ensures raised { IfOk result (λ r. IfSome r.0.shown (λ end. Raises aim.least end.floor)) }
+    ensures first { aim.least ≡ None → IfOk result (λ r. IsSome r.0.shown) }
+    ensures tabled { IsTrue aim.has_table → IfOk result (λ r. IfSome r.0.shown (λ end. IsSome end.table)) }
+    ensures far { IfOk result (λ r. IsFurther before r.1) }
+    ensures heard { HearsFurther L.hears before listener.old listener.new }
 {
     let mut relay = Relay {
         listener,

@@ -1,11 +1,12 @@
 //! The searches for the best answer, one after the other.
 
 ghost use Rattle.fc_position.specs.Position.{Fits};
-ghost use Rattle.std.specs.Prelude.{◌≡◌, ◌≤◌, IfOk, IsTrue};
+ghost use Rattle.std.specs.Prelude.{◌≡◌, ◌≤◌, IfOk, IfErr, IsTrue};
 ghost use Rattle.fc_best.specs.inner.Standing.{Stands};
 ghost use Rattle.fc_answers.specs.Answer.{IsBacked};
 ghost use Rattle.fc_best.specs.Best.{IsBestAnswer};
 ghost use Rattle.fc_best.specs.Watch.{HearsTold, HearsToEnd};
+ghost use Rattle.fc_best.specs.inner.Watch.{HearsOn, HearsSome};
 
 use crate::listeners::BestListener;
 use crate::stages::{Stage, stages_within};
@@ -21,8 +22,10 @@ use std::alloc::{AllocError, Global};
 /// question's home rule, whatever its own weight is, and store no more classes than its budget, all told: first by the plain bound,
 /// storing all children, which soon shows of most lost boards that none wins; then by the question's own bound and expansion, by
 /// falling weights, each for a list shorter than the best so far; then for shorter tails of the best list, from boards on its way;
-/// the last one, by weight 1, with all that is left. Only where it is wanted a table is made, which backs the answer. The listener
-/// hears how far the searches are as that of `solve_by` does, and once more when they have ended: then of the list that is answered.
+/// the last one, by weight 1, with all that is left. They end as soon as the best list is as long as the greatest floor that one of
+/// them, by the question's own bound, has shown. Only where it is wanted a table is made, which backs the answer. The listener hears
+/// how far all of them are after each stretch of turns of each and once when it ends, also where memory ends it, and once more when
+/// they have ended: then of the list and the floor that are answered. A list or a floor that was told is never lost.
 ///
 /// # Errors
 /// A growth was refused.
@@ -41,7 +44,7 @@ pub fn best<G: Game + Drop, L: BestListener>(
 {
     let standing = Standing::new(question.method().strategy.budget, has_table);
     let standing = after_stages(alloc, question, position, standing, listener)?;
-    let standing = standing.shortened(alloc, question, position)?;
+    let standing = standing.shortened(alloc, question, position, listener)?;
     let standing = standing.last(alloc, question, position, listener)?;
     listener.hear(standing.far);
     Ok(standing.into_answer())
@@ -61,7 +64,8 @@ fn after_stages<G: Game + Drop, L: BestListener>(
     ensures stands { IfOk result (Stands question.now position.now) }
     ensures left { IfOk result (λ after. 1 ≤ after.left) }
     ensures has_table { IfOk result (λ after. after.has_table ≡ standing.has_table) }
-    ensures heard { HearsTold L.hears question.now position.now listener.old listener.new }
+    ensures heard { IfOk result (λ after. HearsOn L.hears question.now position.now standing.far after.far listener.old listener.new) }
+    ensures cut { IfErr result (λ refused. HearsSome L.hears question.now position.now standing.far listener.old listener.new) }
 {
     let mut after = standing;
     for stage in stages_within(question.method().strategy.budget.get()) {
@@ -85,7 +89,8 @@ fn after_stage<G: Game + Drop, L: BestListener>(
     ensures stands { IfOk result (Stands question.now position.now) }
     ensures left { IfOk result (λ after. 1 ≤ after.left) }
     ensures has_table { IfOk result (λ after. after.has_table ≡ standing.has_table) }
-    ensures heard { HearsTold L.hears question.now position.now listener.old listener.new }
+    ensures heard { IfOk result (λ after. HearsOn L.hears question.now position.now standing.far after.far listener.old listener.new) }
+    ensures cut { IfErr result (λ refused. HearsSome L.hears question.now position.now standing.far listener.old listener.new) }
 {
     let mut after = standing;
     for _ in 0..stage.times {

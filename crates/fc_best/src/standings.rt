@@ -2,65 +2,46 @@
 
 ghost use Rattle.fc_position.specs.Board.{Board};
 ghost use Rattle.fc_position.specs.Position.{Fits};
-ghost use Rattle.std.specs.Prelude.{◌≡◌, ◌+◌, ◌<◌, ◌≤◌, ℕ, None, IfOk, IfSome, IsSome, IsTrue, length};
+ghost use Rattle.std.specs.Prelude.{◌≡◌, ◌+◌, ◌<◌, ◌≤◌, ℕ, None, IfOk, IfErr, IfSome, IsSome, IsTrue, length};
 ghost use Rattle.fc_answers.specs.Answer.{IsBacked};
 ghost use Rattle.fc_answers.specs.declared.answers.TheConstants.{MOST_MOVES};
 ghost use Rattle.fc_best_first.specs.Limits.{Ratio};
 ghost use Rattle.fc_methods.specs.Method.{Asked};
 ghost use Rattle.fc_bound.specs.declared.kinds.BoundKind.{BoundKind};
 ghost use Rattle.fc_best.specs.Best.{IsBestAnswer};
-ghost use Rattle.fc_best.specs.Watch.{HearsTold, moves_told};
-ghost use Rattle.fc_best.specs.inner.Attempt.{IsAttempt};
-ghost use Rattle.fc_best.specs.inner.Standing.{end_of, greater, limit_of, newest, with_share, Stands};
-ghost use Rattle.fc_best.specs.inner.Watch.{IsFurther};
+ghost use Rattle.fc_best.specs.Watch.{IsNoWorse, IsToldOf};
+ghost use Rattle.fc_best.specs.inner.Attempt.{floor_of, IsAttempt, Raises, ShowsNone};
+ghost use Rattle.fc_best.specs.inner.Standing.{greater, limit_of, newest, with_share, IsShorter, Stands};
+ghost use Rattle.fc_best.specs.inner.Watch.{HearsOn, HearsSome, IsFurther};
 
-use crate::attempts::{Aim, Attempt};
+use crate::attempts::{Aim, Attempt, Shown};
 use crate::listeners::{BestListener, BestProgress};
+use crate::plans::{Plan, asked_with};
 use crate::relays::attempt_after;
 use crate::stages::{Purpose, Stage};
-use fc_answers::{Answer, MoveList, Table, Verdict};
-use fc_methods::{Budget, Method, Question, Strategy, Weight};
+use fc_answers::{Answer, MoveList, Verdict};
+use fc_methods::{Budget, Question, Weight};
 use fc_moves::Game;
 use fc_position::Position;
 use std::alloc::{AllocError, Global};
-
-// What a search that settled a question showed.
-#[derive(Drop)]
-pub(crate) struct Shown {
-    // A number of moves that no list that wins is below; `None` where none wins.
-    pub(crate) floor: Option<u32>,
-    // The table that shows it, where it was made.
-    pub(crate) table: Option<Table>,
-}
 
 // What the searches so far have found and shown, within one budget.
 #[derive(Drop)]
 pub(crate) struct Standing {
     // The shortest list that they found.
     pub(crate) list: Option<MoveList>,
-    // What the one that settled the question showed.
+    // The most that one of them showed: that none wins, or the greatest floor.
     pub(crate) shown: Option<Shown>,
     // How many classes may still be stored.
     pub(crate) left: u32,
     // The greatest budget with which one gave up.
     pub(crate) given_up: Option<u32>,
-    // Whether a table is to be made of what settles the question.
+    // Whether a table is to be made of what is shown.
     pub(crate) has_table: bool,
     // How many hundredths of its classes the last search from the board left open, at most 255.
     pub(crate) open_share: u8,
     // How far they are.
     pub(crate) far: BestProgress,
-}
-
-// How one more search goes.
-#[derive(Clone, Copy)]
-pub(crate) struct Plan {
-    // How often its bound counts.
-    pub(crate) weight: Weight,
-    // How many classes it may store.
-    pub(crate) budget: Budget,
-    // Whether it is the last one, which settles the question.
-    pub(crate) is_last: bool,
 }
 
 impl Standing {
@@ -97,10 +78,11 @@ impl Standing {
         ensures stands { IfOk result (Stands question.now position.now) }
         ensures left { IfOk result (λ standing. 1 ≤ standing.left) }
         ensures has_table { IfOk result (λ standing. standing.has_table ≡ self.has_table) }
-        ensures heard { HearsTold L.hears question.now position.now listener.old listener.new }
+        ensures heard { IfOk result (λ standing. HearsOn L.hears question.now position.now self.far standing.far listener.old listener.new) }
+        ensures cut { IfErr result (λ refused. HearsSome L.hears question.now position.now self.far listener.old listener.new) }
     {
         let share = self.share(question.method().strategy.budget, stage.most, stage.kept);
-        if self.shown.is_some() || !self.wants(stage.purpose) {
+        if self.is_settled() || !self.wants(stage.purpose) {
             return Ok(self);
         }
         let Some(budget) = Budget::new(share) else {
@@ -109,13 +91,23 @@ impl Standing {
         let plan = Plan {
             weight: Weight::of_tenths(stage.weight_tenths).unwrap_or(Weight::ONE),
             budget,
-            is_last: false,
         };
         match stage.purpose {
             Purpose::Look { .. } => self.looked(alloc, question, position, plan, listener),
             Purpose::Rescue | Purpose::Shorten { .. } => self.searched(
                 alloc, question, position, plan, listener,
             ),
+        }
+    }
+
+    // Whether nothing more is to be searched: none wins, or the best list is as long as the floor.
+    pub(crate) fn is_settled(&self) -> bool
+        ensures shown { IsTrue result → IsSome self.now.shown }
+        ensures lost { ShowsNone self.now.shown → IsTrue result }
+    {
+        match &self.shown {
+            Some(shown) => meets(&self.list, shown.floor),
+            None => false,
         }
     }
 
@@ -133,7 +125,7 @@ impl Standing {
         }
     }
 
-    // Whether the best list has more than so many moves above the floor that is shown, or there is none.
+    // Whether the best list has more than so many moves above the floor that is shown, or there is no list.
     pub(crate) fn is_above(&self, above: u8) -> bool {
         match self.far.shortest {
             Some(moves) => moves.saturating_sub(self.far.at_least) > u32::from(above),
@@ -155,9 +147,10 @@ impl Standing {
         ensures stands { IfOk result (Stands question.now position.now) }
         ensures shown { IfOk result (λ standing. IsSome standing.shown) }
         ensures has_table { IfOk result (λ standing. standing.has_table ≡ self.has_table) }
-        ensures heard { HearsTold L.hears question.now position.now listener.old listener.new }
+        ensures heard { IfOk result (λ standing. HearsOn L.hears question.now position.now self.far standing.far listener.old listener.new) }
+        ensures cut { IfErr result (λ refused. HearsSome L.hears question.now position.now self.far listener.old listener.new) }
     {
-        if self.shown.is_some() {
+        if self.is_settled() {
             return Ok(self);
         }
         let _ = question.method().strategy.budget.get();
@@ -165,12 +158,11 @@ impl Standing {
         let plan = Plan {
             weight: Weight::ONE,
             budget,
-            is_last: true,
         };
         self.searched(alloc, question, position, plan, listener)
     }
 
-    // After a search by this plan for a shorter list, while the question isn't settled.
+    // After a search by this plan for a shorter list and a greater floor, while the question isn't settled.
     fn searched<G: Game + Drop, L: BestListener>(
         self,
         alloc: Global,
@@ -181,17 +173,17 @@ impl Standing {
     ) -> Result<Self, AllocError>
         requires fits { Fits question.now.game.cells position.now }
         requires stands { Stands question.now position.now self }
-        requires open { self.shown ≡ None }
+        requires open { ShowsNone self.shown → ⊥ }
         requires room { plan.budget ≤ self.left }
         ensures stands { IfOk result (Stands question.now position.now) }
         ensures left { IfOk result (λ standing. self.left ≤ standing.left + plan.budget) }
-        ensures shown { IsTrue plan.is_last → IfOk result (λ standing. IsSome standing.shown) }
+        ensures shown { IfOk result (λ standing. IsSome standing.shown) }
         ensures has_table { IfOk result (λ standing. standing.has_table ≡ self.has_table) }
-        ensures heard { HearsTold L.hears question.now position.now listener.old listener.new }
+        ensures heard { IfOk result (λ standing. HearsOn L.hears question.now position.now self.far standing.far listener.old listener.new) }
+        ensures cut { IfErr result (λ refused. HearsSome L.hears question.now position.now self.far listener.old listener.new) }
     {
-        let Plan { is_last, .. } = plan;
         let asked = asked_with(question, plan);
-        let aim = self.aim(is_last);
+        let aim = self.aim();
         let (attempt, far) = attempt_after(alloc, &asked, position, aim, self.far, listener)?;
         Ok(self.after(attempt, far))
     }
@@ -207,36 +199,39 @@ impl Standing {
             .min(budget * u32::from(most) / 100)
     }
 
-    // What the next search is to look for: a shorter list.
-    pub(crate) fn aim(&self, is_last: bool) -> Aim
+    // What the next search is to look for: a shorter list, and a greater floor.
+    pub(crate) fn aim(&self) -> Aim
         requires few { IfSome self.now.list (λ moves. length moves ≤ MOST_MOVES) }
         ensures limit { result.limit ≡ limit_of self.now.list }
-        ensures is_last { result.is_last ≡ is_last }
+        ensures least { result.least ≡ floor_of self.now.shown }
         ensures has_table { result.has_table ≡ self.now.has_table }
     {
         Aim {
             limit: limit_of(&self.list),
-            is_last,
+            least: floor_of(&self.shown),
             has_table: self.has_table,
         }
     }
 
     // After a search by a weight and a share of what was left, which found and showed this.
     pub(crate) fn after(self, attempt: Attempt, far: BestProgress) -> Self
-        requires open { self.shown ≡ None }
+        requires open { ShowsNone self.shown → ⊥ }
         requires few { IfSome self.list (λ moves. length moves ≤ MOST_MOVES) }
         requires few_found { IfSome attempt.list (λ moves. length moves ≤ MOST_MOVES) }
         requires room { attempt.stored ≤ self.left }
-        requires tabled { IsTrue self.has_table → IsTrue attempt.is_settled → IsSome attempt.table }
+        requires raised { IfSome attempt.shown (λ end. Raises (floor_of self.shown) end.floor) }
+        requires tabled { IsTrue self.has_table → IfSome attempt.shown (λ end. IsSome end.table) }
         ensures stands { (q : Asked) (kind : BoundKind) (b : Board) (weight : Ratio) (share : ℕ) → Stands q b self → share ≤ self.left
             → IsAttempt (with_share q weight share) kind b (limit_of self.list) attempt
-            → IsFurther q.game b self.far far → Stands q b result }
+            → IsFurther self.far far → Stands q b result }
+        ensures rises { (q : Asked) (b : Board) → Stands q b self → IsFurther self.far far → IsNoWorse self.far result.far }
         ensures left { result.left + attempt.stored ≡ self.left }
-        ensures shown { IsTrue attempt.is_settled → IsSome result.shown }
+        ensures shown { result.shown ≡ newest attempt.shown self.shown }
         ensures has_table { result.has_table ≡ self.has_table }
     {
         let Standing {
             list: best,
+            shown: before,
             left,
             given_up: most,
             has_table,
@@ -245,17 +240,15 @@ impl Standing {
         let Attempt {
             list,
             shown,
-            table,
-            is_settled,
             stored,
             given_up,
             open_share,
         } = attempt;
-        let list = newest(list, best);
-        let far = far.after(shown, limit_of(&list));
+        let list = shorter(list, best);
+        let far = far.after(floor_of(&shown), limit_of(&list));
         Standing {
             list,
-            shown: end_of(is_settled, shown, table),
+            shown: newest(shown, before),
             left: left - stored,
             given_up: greater(most, given_up),
             has_table,
@@ -264,13 +257,12 @@ impl Standing {
         }
     }
 
-    // The answer, once the question is settled.
-    #[tactic(auto, using(crate::proofs::TailLemmas::of_searches))]
+    // The answer, after the last search.
     pub(crate) fn into_answer(self) -> Answer
         requires shown { IsSome self.shown }
         ensures best { (q : Asked) (b : Board) → Stands q b self → IsBestAnswer q b result }
         ensures backed { (q : Asked) (b : Board) → Stands q b self → IsTrue self.has_table → IsBacked q.game b result }
-        ensures listed { (q : Asked) (b : Board) → Stands q b self → self.far.shortest ≡ moves_told result.verdict }
+        ensures told { (q : Asked) (b : Board) → Stands q b self → IsToldOf result.verdict self.far }
     {
         let Standing {
             list,
@@ -321,24 +313,51 @@ pub(crate) fn limit_of(list: &Option<MoveList>) -> Option<u32>
     }
 }
 
-// The new list, or the old one where there is no new one.
-pub(crate) fn newest(new: Option<MoveList>, old: Option<MoveList>) -> Option<MoveList>
-    ensures value { result ≡ newest new old }
+// Whether the list, if there is one, is as long as what is shown: a floor, or that none wins.
+fn meets(list: &Option<MoveList>, floor: Option<u32>) -> bool
+    ensures lost { floor ≡ None → IsTrue result }
 {
-    match new {
-        Some(list) => Some(list),
-        None => old,
+    match (list, floor) {
+        (Some(list), Some(floor)) => list.len() <= floor as usize,
+        (None, Some(_)) => false,
+        (_, None) => true,
     }
 }
 
-// What settled the question, if it is settled.
-fn end_of(is_settled: bool, floor: Option<u32>, table: Option<Table>) -> Option<Shown>
-    ensures value { result ≡ end_of is_settled floor table }
+// The floor that was shown, if one was.
+fn floor_of(shown: &Option<Shown>) -> Option<u32>
+    ensures value { result ≡ floor_of shown.now }
 {
-    if is_settled {
-        Some(Shown { floor, table })
-    } else {
-        None
+    match shown {
+        Some(shown) => shown.floor,
+        None => None,
+    }
+}
+
+// The shorter of two lists, each of which may be missing.
+pub(crate) fn shorter(new: Option<MoveList>, old: Option<MoveList>) -> Option<MoveList>
+    ensures shorter { IsShorter new old result }
+{
+    match (new, old) {
+        (Some(new), Some(old)) => {
+            if new.len() < old.len() {
+                Some(new)
+            } else {
+                Some(old)
+            }
+        }
+        (Some(new), None) => Some(new),
+        (None, old) => old,
+    }
+}
+
+// What is shown newly, or what was before where nothing is.
+fn newest(new: Option<Shown>, old: Option<Shown>) -> Option<Shown>
+    ensures value { result ≡ newest new old }
+{
+    match new {
+        Some(shown) => Some(shown),
+        None => old,
     }
 }
 
@@ -351,28 +370,4 @@ fn greater(one: Option<u32>, other: Option<u32>) -> Option<u32>
         (Some(one), None) => Some(one),
         (None, other) => other,
     }
-}
-
-// The question by a plan: with another weight, and with a share of its budget.
-pub(crate) fn asked_with<G: Game + Drop>(question: &Question<G>, plan: Plan) -> Question<G>
-    ensures value { result ≡ with_share question.now plan.weight plan.budget }
-{
-    let Method {
-        rule,
-        bound,
-        strategy,
-    } = question.method();
-    let strategy = Strategy {
-        weight: plan.weight,
-        expansion: strategy.expansion,
-        budget: plan.budget,
-    };
-    Question::new(
-        question.game(),
-        Method {
-            rule,
-            bound,
-            strategy,
-        },
-    )
 }

@@ -1,18 +1,20 @@
 //! A shorter tail of a list that wins: from a board on its way another search goes for fewer moves than are left.
 
-ghost use Rattle.std.specs.Prelude.{◌≡◌, ◌<◌, ◌≤◌, ◌++◌, length, IfOk, MatchOption};
+ghost use Rattle.std.specs.Prelude.{◌≤◌, length, IfOk};
 ghost use Rattle.fc_position.specs.Board.{Board};
 ghost use Rattle.fc_position.specs.Position.{Fits};
 ghost use Rattle.fc_moves.specs.Run.{Run};
 ghost use Rattle.fc_best.specs.inner.Attempt.{IsGoodList};
 ghost use Rattle.fc_best.specs.inner.Tail.{IsTail, IsWithEnd};
+ghost use Rattle.fc_best.specs.inner.Watch.{HearsFurther, IsFurther};
 
-use crate::attempts::{Aim, Attempt};
+use crate::attempts::Aim;
+use crate::listeners::{BestListener, BestProgress};
+use crate::relays::attempt_after;
 use fc_answers::MoveList;
 use fc_methods::Question;
 use fc_moves::{Game, Move, apply};
 use fc_position::Position;
-use fc_search::{Listener, Progress};
 use std::alloc::{AllocError, Global};
 
 // What a search for a shorter tail of a list has found.
@@ -24,63 +26,46 @@ pub(crate) struct Tail {
     pub(crate) stored: u32,
     // Whether it gave up.
     pub(crate) has_given_up: bool,
-    // What it took.
-    pub(crate) effort: Effort,
+    // How far the searches are after it.
+    pub(crate) far: BestProgress,
 }
 
-// What a search took.
+// So many moves at the end of a list.
 #[derive(Clone, Copy)]
-pub(crate) struct Effort {
-    // How many turns it had.
-    pub(crate) turns: u64,
-    // The most entries that were open, whenever it was told.
-    pub(crate) most_open: u128,
-}
-
-impl Effort {
-    // Of a search that had no turn.
-    const NONE: Effort = Effort {
-        turns: 0,
-        most_open: 0,
-    };
-}
-
-impl Listener for Effort {
-    ghost use Rattle.std.specs.Prelude.{◌≡◌};
-
-    ghost hears = { λ _ far new. (new.turns ≡ far.turns) × (new.most_open ≡ far.most_open) };
-
-    fn hear(&mut self, far: Progress) {
-        self.turns = far.turns;
-        self.most_open = far.most_open;
-    }
+pub(crate) struct Rest<'a> {
+    pub(crate) list: &'a MoveList,
+    pub(crate) last: u32,
 }
 
 impl Tail {
-    // Searches for fewer moves than the last so many of a list that wins.
-    pub(crate) fn of<G: Game + Drop>(
+    // Searches for fewer moves than the last so many of a list that wins, after searches that told this.
+    pub(crate) fn of<G: Game + Drop, L: BestListener>(
         alloc: Global,
         question: &Question<G>,
         position: &Position,
-        list: &MoveList,
-        last: u32,
+        rest: Rest<'_>,
+        before: BestProgress,
+        listener: &mut L,
     ) -> Result<Self, AllocError>
         requires fits { Fits question.now.game.cells position.now }
-        requires good { IsGoodList question.now.game position.now list.now }
-        requires within { last ≤ length list.now }
-        ensures right { IfOk result (IsTail question.now position.now) }
+        requires good { IsGoodList question.now.game position.now rest.list.now }
+        requires within { rest.last ≤ length rest.list.now }
+        ensures right { IfOk result (IsTail question.now position.now rest.entry.list.now) }
+        ensures far { IfOk result (λ tail. IsFurther before tail.far) }
+        ensures heard { HearsFurther L.hears before listener.old listener.new }
     {
+        let Rest { list, last } = rest;
         let (front, _) = list.as_slice().split_at(list.len() - last as usize);
         let middle = position_after(question.game(), position, front);
-        let mut effort = Effort::NONE;
-        let attempt = Attempt::below(alloc, question, &middle, Aim::below(last), &mut effort)?;
+        let aim = Aim::below(last);
+        let (attempt, far) = attempt_after(alloc, question, &middle, aim, before, listener)?;
         let (stored, has_given_up) = (attempt.stored, attempt.given_up.is_some());
         let list = with_end(alloc, front, attempt.list, last as usize)?;
         Ok(Tail {
             list,
             stored,
             has_given_up,
-            effort,
+            far,
         })
     }
 }

@@ -1,5 +1,5 @@
 -- What the searches so far have found and shown, taken together.
-use Rattle.std.specs.Prelude.{max, Bool, true, false, ◌≡◌, ◌⊎◌, ℕ, ◌+◌, ◌≤◌, List, [], All, Option, Some, None, IfSome, IsSome, IsTrue, length}
+use Rattle.std.specs.Prelude.{max, ◌≡◌, ◌⊎◌, ℕ, ◌+◌, ◌≤◌, List, [], All, Option, Some, None, IfSome, IsSome, IsTrue, MatchOption, length}
 use Rattle.fc_position.specs.Board.{Board}
 use Rattle.fc_moves.specs.declared.steps.Move.{Move}
 use Rattle.fc_moves.specs.Run.{ReachesMore}
@@ -8,54 +8,62 @@ use Rattle.fc_bound.specs.declared.kinds.BoundKind.TheVariants.{Plain}
 use Rattle.fc_answers.specs.Table.{Listing}
 use Rattle.fc_best_first.specs.Limits.{Ratio}
 use Rattle.fc_best_first.specs.declared.strategies.Expansion.TheVariants.{Full}
+use Rattle.fc_best.specs.declared.attempts.Shown.{Shown}
 use Rattle.fc_best.specs.declared.listeners.BestProgress.{BestProgress}
-use Rattle.fc_best.specs.declared.standings.Shown.{Shown}
 use Rattle.fc_best.specs.declared.standings.Standing.{Standing}
-use Rattle.fc_best.specs.Best.{Ended, HaveGivenUp, IsFloor, IsOfQuestion, IsOnTheWay, stored_by}
-use Rattle.fc_best.specs.inner.Attempt.{IsGoodList, IsShown, IsTableOf}
+use Rattle.fc_best.specs.Best.{HaveGivenUp, IsFloorOf, IsListOf, IsLostBy, IsOfQuestion, IsOnTheWay, stored_by}
+use Rattle.fc_best.specs.inner.Attempt.{IsEnd, IsGoodList, ShowsNone}
 use Rattle.fc_methods.specs.Method.{Asked}
-
--- it is shown that none wins
-abbrev pub ShowsNone : Option Shown → Type 0
-ShowsNone shown = (end : Shown) × (shown ≡ Some end) × (end.floor ≡ None)
+use Rattle.fc_search.specs.Search.{State}
 
 -- each of the searches gave up, and the greatest budget of theirs is told; or there were none, and nothing is shown
-abbrev pub AllGaveUp : Asked → Board → List Ended → Option Shown → Option ℕ → Type 0
+abbrev pub AllGaveUp : Asked → Board → List State → Option Shown → Option ℕ → Type 0
 AllGaveUp q b searches shown None = (searches ≡ []) × (shown ≡ None)
 AllGaveUp q b searches shown (Some told) = HaveGivenUp searches told × (told ≤ q.method.strategy.budget) × ReachesMore q.game b told
 
--- what a search that settled the question showed is so, and its table, where one was made, shows it
-abbrev pub IsEnd : Asked → Board → Shown → Type 0
-IsEnd q b end = IsShown q.game b end.floor × IfSome end.table (IsTableOf q b end.floor)
+-- what was shown rests on one of the searches: by the question's bound, where it is a floor
+abbrev pub IsShownBy : Asked → List State → Option ℕ → Type 0
+IsShownBy q searches floor = MatchOption floor (IsLostBy searches) (IsFloorOf q searches)
 
 -- the number of moves from which on lists aren't wanted any more: as many as the list has, if there is one
 abbrev pub limit_of : Option (List Move) → Option ℕ
 limit_of None = None
 limit_of (Some moves) = Some (length moves)
 
--- how far the searches are is told so: the question's budget, a number of moves that no list that wins is below, and how many moves
--- the list has, if they found one
-pub record IsToldWith (q : Asked) (b : Board) (list : Option (List Move)) (far : BestProgress) : Type 0 where
+-- the number is the floor that is shown, 0 where nothing is; any where none wins
+abbrev pub IsLeastOf : Option Shown → ℕ → Type 0
+IsLeastOf None n = n ≡ 0
+IsLeastOf (Some end) n = IfSome end.floor (λ floor. n ≡ floor)
+
+-- how far the searches are is told so: the question's budget, the floor that is shown, and how many moves the list has, if they
+-- found one
+pub record IsToldWith (q : Asked) (list : Option (List Move)) (shown : Option Shown) (far : BestProgress) : Type 0 where
   pub budget : far.budget ≡ q.method.strategy.budget
-  pub least : IsFloor q.game b far.at_least
+  pub least : IsLeastOf shown far.at_least
   pub shortest : far.shortest ≡ limit_of list
 
 -- what these searches of the question from the board have found and shown is so, and others for shorter tails of their lists, and
--- this is left of the budget; where they found no list, each gave up, or one showed that none wins; what settled the question has a
--- table, where that is wanted; and how far they are is told so
-pub record IsStanding (q : Asked) (b : Board) (searches tails : List Ended) (standing : Standing) : Type 0 where
+-- this is left of the budget; the list and what is shown rest on them; where they found no list, each gave up, or one showed that
+-- none wins; what is shown has a table, where that is wanted; and how far they are is told so
+pub record IsStanding (q : Asked) (b : Board) (searches tails : List State) (standing : Standing) : Type 0 where
   pub asked : All (IsOfQuestion q b) searches
   pub middle : All (IsOnTheWay q b) tails
   pub spent : stored_by searches + stored_by tails + standing.left ≡ q.method.strategy.budget
-  pub list : IfSome standing.list (IsGoodList q.game b)
-  pub shown : IfSome standing.shown (IsEnd q b)
+  pub list : IfSome standing.list (λ moves. IsGoodList q.game b moves × IsListOf q.game b searches tails moves)
+  pub shown : IfSome standing.shown (λ end. IsEnd q b end × IsShownBy q searches end.floor)
   pub none : standing.list ≡ None → ShowsNone standing.shown ⊎ AllGaveUp q b searches standing.shown standing.given_up
   pub tabled : IsTrue standing.has_table → IfSome standing.shown (λ end. IsSome end.table)
-  pub told : IsToldWith q b standing.list standing.far
+  pub told : IsToldWith q standing.list standing.shown standing.far
 
 -- it is so of some searches
 abbrev pub Stands : Asked → Board → Standing → Type 0
-Stands q b standing = (searches : List Ended) × (tails : List Ended) × IsStanding q b searches tails standing
+Stands q b standing = (searches : List State) × (tails : List State) × IsStanding q b searches tails standing
+
+-- a list is one of two, and no longer than the old one; it is missing only where both are
+pub record IsShorter (new old list : Option (List Move)) : Type 0 where
+  pub one : (list ≡ new) ⊎ (list ≡ old)
+  pub kept : IfSome old (λ moves. (shorter : List Move) × (list ≡ Some shorter) × (length shorter ≤ length moves))
+  pub none : list ≡ None → (new ≡ None) × (old ≡ None)
 
 -- the question with another weight, and with a share of its budget
 abbrev pub with_share : Asked → Ratio → ℕ → Asked
@@ -79,21 +87,25 @@ looked_with q weight share = record {
   };
 }
 
--- the table of what was shown, under this kind of bound, where that is that none wins; else none
-abbrev pub lost_table : BoundKind → Option ℕ → Option Listing → Option Listing
-lost_table kind None (Some table) = Some (record { rule = table.rule; bound = kind; rows = table.rows })
-lost_table kind None None = None
-lost_table kind (Some floor) table = None
+-- a table under this kind of bound
+abbrev pub under : BoundKind → Option Listing → Option Listing
+under kind None = None
+under kind (Some table) = Some (record { rule = table.rule; bound = kind; rows = table.rows })
 
--- the new list, or the old one where there is no new one
-abbrev pub newest : Option (List Move) → Option (List Move) → Option (List Move)
-newest (Some moves) old = Some moves
+-- that none wins, where no floor is told, with its table under this kind of bound
+abbrev pub lost_with : BoundKind → Option ℕ → Option Listing → Option Shown
+lost_with kind None table = Some (record { floor = None; table = under kind table })
+lost_with kind (Some floor) table = None
+
+-- that none wins, with its table under this kind of bound; what else was shown isn't kept
+abbrev pub lost_by : BoundKind → Option Shown → Option Shown
+lost_by kind None = None
+lost_by kind (Some end) = lost_with kind end.floor end.table
+
+-- the new one, or the old one where there is no new one
+abbrev pub newest : {X : Type 0} → Option X → Option X → Option X
+newest (Some x) old = Some x
 newest None old = old
-
--- what settled the question, if it is settled
-abbrev pub end_of : Bool → Option ℕ → Option Listing → Option Shown
-end_of true floor table = Some (record { floor = floor; table = table })
-end_of false floor table = None
 
 -- the greater of two numbers, each of which may be missing
 abbrev pub greater : Option ℕ → Option ℕ → Option ℕ

@@ -1,10 +1,10 @@
 use Rattle.std.proofs.Common.{◌≡◌, ◌≤◌}
-use Rattle.fc_best.specs.Watch.{HearsTold}
 use Rattle.fc_best.specs.inner.Standing.{Stands}
+use Rattle.fc_best.specs.inner.Watch.{HearsOn}
 use Rattle.fc_best.proofs.schedule.after_stage.Given as goal
 
--- what the searches so far have found is so, something is left for the last one, and what was heard of them is so
+-- what the searches so far have found is so, something is left for the last one, and what was heard of them is so and got no worse
 abbrev pub invariant-loop : goal.invariant-loop
 invariant-loop g l =
     Stands l.question l.position l.after × (1 ≤ l.after.left) × (l.after.has_table ≡ l.fn.standing.has_table)
-    × HearsTold g.L.BestListener.hears l.question l.position l.initial.listener l.listener
+    × HearsOn g.L.BestListener.hears l.question l.position l.fn.standing.far l.after.far l.initial.listener l.listener

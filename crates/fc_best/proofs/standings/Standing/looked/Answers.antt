@@ -1,11 +1,12 @@
-use Rattle.std.proofs.Common.{◌≡◌, None, ap, sym, subst, rules}
+use Rattle.std.proofs.Common.{◌≡◌, ◌≤◌, None, List, ap, sym, subst, length, rules}
+use Rattle.std.specs.Prelude.{IfSome}
+use Rattle.fc_moves.specs.declared.steps.Move.{Move}
+use Rattle.fc_answers.specs.declared.answers.TheConstants.{MOST_MOVES}
 use Rattle.fc_bound.specs.declared.kinds.BoundKind.TheVariants.{Plain}
-use Rattle.fc_methods.specs.Method.{Asked}
-use Rattle.fc_best.specs.inner.Attempt.{IsAttempt}
+use Rattle.fc_best.specs.inner.Attempt.{IsAttempt, floor_of}
 use Rattle.fc_best.specs.inner.Standing.{limit_of, with_share}
-use Rattle.fc_best.specs.inner.Watch.{IsFurther}
-use Rattle.fc_best.proofs.HearLemmas.{hears_further}
-use Rattle.fc_best.proofs.StandingLemmas.{look_found}
+use Rattle.fc_best.proofs.HearLemmas.{hears_further, if_err, some_further}
+use Rattle.fc_best.proofs.StandingLemmas.{attempt_few, look_found}
 use Rattle.fc_best.proofs.standings.Standing.looked.Goals as goal
 
 pub returns-clause-stands : goal.returns-clause-stands
@@ -14,14 +15,29 @@ returns-clause-stands g c =
     let b = c.args.position.now in
     let plan = c.args.plan in
     let none : c.args.self.list ≡ None = search rules in
-    let one = look_found q c.looked_with-asked.result b plan.weight plan.budget c.args.self.list c.aim-aim.result.limit c.in_ok-attempt.attempt
-    c.looked_with-asked.ensures.value c.aim-aim.ensures.limit none c.in_ok-attempt.ensures.right in
+    let one = look_found q c.looked_with-asked.result b plan.weight plan.budget c.any-aim.result.limit c.in_ok-attempt.attempt
+    c.looked_with-asked.ensures.value c.any-aim.ensures.limit c.in_ok-attempt.ensures.right in
     let made = c.by_bound-attempt.ensures.right q b plan.weight plan.budget (ap (λ m. m.bound) c.method.ensures.value) one in
     c.after.ensures.stands q Plain b plan.weight plan.budget c.requires.stands c.requires.room
     (subst (λ l. IsAttempt (with_share q plan.weight plan.budget) Plain b l c.by_bound-attempt.result) (sym (ap limit_of none)) made)
-    (subst (λ (a : Asked). IsFurther a.game b c.args.self.far c.in_ok-attempt.far) c.looked_with-asked.ensures.value c.in_ok-attempt.ensures.far)
+    c.in_ok-attempt.ensures.far
 
 pub returns-clause-heard : goal.returns-clause-heard
 returns-clause-heard g c =
-    hears_further c.args.question.now c.args.position.now g.L.BestListener.hears c.args.self c.looked_with-asked.result.game c.args.listener.now
-    c.attempt_after.new.listener c.requires.stands (ap (λ (a : Asked). a.game) c.looked_with-asked.ensures.value) c.attempt_after.ensures.heard
+    hears_further c.args.question.now c.args.position.now g.L.BestListener.hears c.args.self c.after.result.far c.args.listener.now
+    c.attempt_after.new.listener c.requires.stands c.attempt_after.ensures.heard
+    (c.after.ensures.rises c.args.question.now c.args.position.now c.requires.stands c.in_ok-attempt.ensures.far)
+
+pub returns-in_err-attempt-clause-cut : goal.returns-in_err-attempt-clause-cut
+returns-in_err-attempt-clause-cut g c =
+    if_err c.from_residual.result _
+    (some_further c.args.question.now c.args.position.now g.L.BestListener.hears c.args.self c.args.listener.now c.attempt_after.new.listener
+    c.requires.stands c.attempt_after.ensures.heard)
+
+pub after-requires-clause-few_found : goal.after-requires-clause-few_found
+after-requires-clause-few_found g c =
+    subst (λ o. IfSome o (λ (moves : List Move). length moves ≤ MOST_MOVES)) (sym c.by_bound-attempt.ensures.list)
+    (attempt_few c.looked_with-asked.result c.looked_with-asked.result.method.bound c.args.position.now c.any-aim.result.limit c.in_ok-attempt.attempt c.in_ok-attempt.ensures.right)
+
+pub after-requires-clause-raised : goal.after-requires-clause-raised
+after-requires-clause-raised g c = c.by_bound-attempt.ensures.raised (floor_of c.args.self.shown)
