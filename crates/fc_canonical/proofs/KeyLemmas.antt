@@ -18,6 +18,7 @@ use Rattle.fc_canonical.specs.Laws.{ClassesHaveOneCanonicalBoard, KeysTellClasse
 use Rattle.fc_canonical.specs.Order.{column_order, cell_byte, IsCanonical}
 use Rattle.fc_canonical.specs.inner.Parts.{IsSmall, IsHolding}
 use Rattle.fc_moves.proofs.ClassLemmas.{class-sym, class-trans, class_positions}
+use Rattle.fc_moves.proofs.BackLemmas.{same_board}
 use Rattle.fc_canonical.proofs.OrderLemmas.{ordered_once}
 use Rattle.fc_canonical.proofs.WrittenLemmas.{bytes_most}
 
@@ -89,13 +90,6 @@ columns_once xs ys r s e long =
     let a = columns_align xs ys r s e (omega arith) in
     let none : a.0 ≡ [] = no_more a.0 (omega (arith, ap length a.1, length-append xs a.0, long)) in
     (sym (a.1 ∙ ap (λ z. xs ++ z) none ∙ append-nil xs), a.2 ∙ ap (λ z. flat_map column_bytes z ++ s) none)
-
--- boards with the same columns, cells and counts are the same
-pub same_board : (b c : Board) → b.columns ≡ c.columns → b.cells ≡ c.cells → b.homes ≡ c.homes → b ≡ c
-same_board b c x y z =
-    ap (λ l. let r : Board = record { columns = l; cells = b.cells; homes = b.homes } in r) x
-    ∙ ap (λ l. let r : Board = record { columns = c.columns; cells = l; homes = b.homes } in r) y
-    ∙ ap (λ l. let r : Board = record { columns = c.columns; cells = c.cells; homes = l } in r) z
 
 -- eight columns, four cells that are empty or hold cards, and four counts
 pub record IsSpelled (b : Board) : Type 0 where

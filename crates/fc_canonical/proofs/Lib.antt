@@ -1,4 +1,3 @@
-pub mod BackLemmas
 pub mod CheckLemmas
 pub mod DistinctLemmas
 pub mod FitLemmas

@@ -10,10 +10,11 @@ use Rattle.fc_position.specs.Board.{Board}
 use Rattle.fc_position.specs.Position.{IsPosition}
 use Rattle.fc_moves.specs.GameRules.{IsPositionOf}
 use Rattle.fc_moves.specs.Class.{SameClass}
+use Rattle.fc_moves.proofs.BackLemmas.{same_board}
 use Rattle.fc_canonical.specs.Key.{column_bytes, board_bytes, HasExtent}
 use Rattle.fc_canonical.specs.Order.{IsCanonical, cell_byte}
 use Rattle.fc_canonical.specs.inner.Parts.{IsSmall}
-use Rattle.fc_canonical.proofs.KeyLemmas.{small_cells, same_board, key_front, same_fronts, columns_once}
+use Rattle.fc_canonical.proofs.KeyLemmas.{small_cells, key_front, same_fronts, columns_once}
 use Rattle.fc_canonical.proofs.FitLemmas.{canonical_fits}
 use Rattle.fc_canonical.specs.Spelled.{spelled, spelled_cell, spelled_columns}
 use Rattle.fc_canonical.specs.Laws.{KeysSpellPositions, KeysBeginThemselves, FrontKeysSpellTheirBoard, ExtentsAreOne, FrontsHaveTheirExtent}

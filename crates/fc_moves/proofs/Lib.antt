@@ -1,3 +1,4 @@
+pub mod BackLemmas
 pub mod ClassLemmas
 pub mod GameLemmas
 pub mod ListLemmas

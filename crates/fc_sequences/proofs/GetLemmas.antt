@@ -1,6 +1,6 @@
 -- Elements of a list that has one more, and lists that hold the elements of another.
-use Rattle.std.proofs.Common.{◌≡◌, ◌≢◌, ◌⊎◌, ℕ, ◌+◌, ◌≤◌, zero, suc, List, [], ◌∷◌, ◌++◌, length, get_or, take, drop, Some, refl, sym, ◌∙◌, ap, subst, inl, inr, ⊎_elim, zero-add, arith}
-use Rattle.std.specs.Prelude.{slice_get, All, AllPairs, Contains, OnOk, Result, Ok, Err}
+use Rattle.std.proofs.Common.{◌≡◌, ◌≢◌, ◌⊎◌, ℕ, ◌+◌, ◌<◌, ◌≤◌, zero, suc, List, [], ◌∷◌, ◌++◌, length, get_or, take, drop, Some, refl, sym, ◌∙◌, ap, subst, inl, inr, ⊎_elim, zero-add, arith}
+use Rattle.std.specs.Prelude.{slice_get, slice_set, All, AllPairs, Contains, OnOk, Result, Ok, Err}
 use Rattle.fc_moves.specs.inner.GameLaws.{Contains-cases, Contains-first, Contains-later}
 
 -- an element stays where it is
@@ -32,6 +32,19 @@ drop_get (suc n) [] i x e = absurd (cc e)
 drop_get (suc n) (z ∷ zs) i x e =
     let place : suc (n + i) ≡ suc n + i = omega arith in
     drop_get n zs i x (ap (λ k. slice_get (z ∷ zs) k) place ∙ e)
+
+-- the element of a place where another was put, and of another place
+pub get_set_same : {X : Type 0} (xs : List X) (i : ℕ) (x : X) → i < length xs → slice_get (slice_set xs i x) i ≡ Some x
+get_set_same [] i x below = absurd (omega arith)
+get_set_same (z ∷ zs) zero x below = refl
+get_set_same (z ∷ zs) (suc i) x below = get_set_same zs i x (omega arith)
+
+pub get_set_other : {X : Type 0} (xs : List X) (i j : ℕ) (x : X) → j ≢ i → slice_get (slice_set xs i x) j ≡ slice_get xs j
+get_set_other [] i j x other = refl
+get_set_other (z ∷ zs) zero zero x other = absurd (other refl)
+get_set_other (z ∷ zs) zero (suc j) x other = refl
+get_set_other (z ∷ zs) (suc i) zero x other = refl
+get_set_other (z ∷ zs) (suc i) (suc j) x other = get_set_other zs i j x (λ same. other (ap suc same))
 
 -- so many elements and the next one
 pub take_next : {X : Type 0} (xs : List X) (n : ℕ) (x : X) → slice_get xs n ≡ Some x → take (suc n) xs ≡ take n xs ++ x ∷ []
@@ -72,3 +85,9 @@ no_more (x ∷ xs) ys once held =
 pub on_ok : {A E : Type 0} (r : Result A E) (P : Type 0) → P → OnOk r P
 on_ok (Ok x) P p = p
 on_ok (Err e) P p = tt
+
+-- a number that stands at a place
+pub number_at : (xs : List ℕ) (i d : ℕ) → i < length xs → slice_get xs i ≡ Some (get_or xs i d)
+number_at [] i d below = absurd (omega arith)
+number_at (x ∷ xs) zero d below = refl
+number_at (x ∷ xs) (suc i) d below = number_at xs i d (omega arith)

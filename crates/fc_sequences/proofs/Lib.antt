@@ -4,11 +4,13 @@ pub mod CellLemmas
 mod CountLemmas
 mod EndLemmas
 mod EntryLemmas
+mod FollowLemmas
 mod GatherLemmas
 mod GetLemmas
 mod GrowLemmas
 pub mod LawLemmas
 pub mod LieLemmas
+mod MadeLemmas
 mod MovesLemmas
 mod OneListLemmas
 pub mod OverLemmas
@@ -18,4 +20,3 @@ pub mod RunLemmas
 mod SayingLemmas
 pub mod SpaceLemmas
 pub mod TextLemmas
-mod TreeLemmas

@@ -10,6 +10,8 @@ use Rattle.fc_sequences.specs.declared.pairs.Pair.{Pair}
 use Rattle.fc_sequences.specs.Following.{Expands, Follows, IsListFault}
 use Rattle.fc_sequences.specs.Gathering.{Gathers}
 use Rattle.fc_sequences.specs.Pair.{SpellsPair}
+use Rattle.fc_sequences.specs.declared.lists.TheConstants.{MOST_BOARDS}
+use Rattle.fc_sequences.specs.declared.gathers.TheConstants.{MOST_AHEAD}
 
 -- entries to which moves are gathered lead to the board to which the moves run, and to no other
 abbrev pub GatheredLeadToOneBoard : Type 0
@@ -34,3 +36,7 @@ GatheredToOneList = (g : GameRules) (b c d : Board) (ps qs : List Pair) (ms : Li
 -- a text is of one entry
 abbrev pub TextsTellEntriesApart : Type 0
 TextsTellEntriesApart = (token : List ℕ) (p q : Pair) → SpellsPair token p → SpellsPair token q → p ≡ q
+
+-- to how many boards a front of a list may lead, and how many moves one entry may stand for
+abbrev pub NumbersAreTold : Type 0
+NumbersAreTold = (MOST_BOARDS ≡ 1000) × (MOST_AHEAD ≡ 64)

@@ -1,4 +1,4 @@
 -- What this crate's own functions and proofs speak of, and no public promise.
 pub mod Carry
+pub mod Layers
 pub mod Part
-pub mod Tree

@@ -1,6 +1,6 @@
 //! Laws of entries, each the contract of a function that does nothing.
 
-ghost use Rattle.fc_sequences.specs.Laws.{GatheredLeadToOneBoard, GatheredExpandToNoMore, GatheredExpandAlways, GatheredToOneList, TextsTellEntriesApart};
+ghost use Rattle.fc_sequences.specs.Laws.{GatheredExpandAlways, GatheredExpandToNoMore, GatheredLeadToOneBoard, GatheredToOneList, NumbersAreTold, TextsTellEntriesApart};
 
 /// Entries to which moves are gathered lead to the board to which the moves run, and to no other.
 pub fn gathered_lead_to_one_board()
@@ -25,4 +25,9 @@ pub fn gathered_to_one_list()
 /// A text is of one entry.
 pub fn texts_tell_entries_apart()
     ensures { TextsTellEntriesApart }
+{}
+
+/// The entries of a list up to one lead to at most 1,000 boards, and at most 64 moves are gathered to one entry.
+pub fn numbers_are_told()
+    ensures { NumbersAreTold }
 {}

@@ -1,16 +1,17 @@
 //! Lists of entries, expanded to one-card moves.
 
-ghost use Rattle.std.specs.Prelude.{◌≡◌, ◌^◌, ◌≤◌, ◌<◌, ℕ, List, Some, IfOk, IfErr, Contains, length, slice_get, take, drop};
+ghost use Rattle.std.specs.Prelude.{◌≡◌, ◌^◌, ◌≤◌, ◌<◌, ◌++◌, ℕ, List, [], ◌∷◌, Some, IfOk, IfErr, OnOk, Contains, length, slice_get, take};
 ghost use Rattle.fc_position.specs.Board.{Board};
 ghost use Rattle.fc_position.specs.Position.{IsWon};
 ghost use Rattle.fc_moves.specs.GameRules.{GameRules, IsPositionOf};
 ghost use Rattle.fc_sequences.specs.Following.{Expands, Follows, LeadsToMany, IsListFault};
-ghost use Rattle.fc_sequences.specs.inner.Tree.{IsGrownTo, IsTree, Leads, boards_of};
-ghost use Rattle.fc_sequences.specs.declared.trees.Node.{Node};
+ghost use Rattle.fc_sequences.specs.inner.Layers.{AreLinked, IsGrown, IsLayer, IsNext, PlaysAll};
+ghost use Rattle.fc_sequences.specs.declared.layers.Layer.{Layer};
+ghost use Rattle.fc_sequences.specs.declared.lists.TheConstants.{MOST_BOARDS};
 ghost use Rattle.fc_sequences.specs.declared.pairs.Pair.{Pair};
 
+use crate::layers::{Layer, next_layer};
 use crate::pairs::{Pair, play_pair};
-use crate::trees::{Node, add_layer, planted};
 use fc_moves::{Game, Move};
 use fc_position::Position;
 use std::alloc::{AllocError, Global};
@@ -65,95 +66,118 @@ pub fn expand<G: Game>(
         → LeadsToMany (G.game game.now) position.now (take step pairs.now) → ⊥) }
     ensures fault { IfErr result (IsListFault (G.game game.now) position.now pairs.now) }
 {
-    let (nodes, leaf) = grow(alloc, game, position, pairs)?;
-    let path = path_to(alloc, nodes.as_slice(), leaf)?;
-    Ok(moves_along(alloc, game, nodes.as_slice(), pairs, path.as_slice())?)
+    let (layers, place) = grow(alloc, game, position, pairs)?;
+    let counts = counts_to(alloc, layers.as_slice(), place)?;
+    Ok(moves_by(alloc, game, position, pairs, counts.as_slice())?)
 }
 
-// The boards to which the entries lead, and the number of one to which all of them do.
+// How the boards to which the entries lead came, and the place of one of them, which is won if any is.
 fn grow<G: Game>(
     alloc: Global,
     game: &G,
     position: &Position,
     pairs: &[Pair],
-) -> Result<(Vec<Node>, usize), ListFault>
+) -> Result<(Vec<Layer>, usize), ListFault>
     requires fits { IsPositionOf (G.game game.now) position.now }
     requires few { length pairs.now < 2 ^ 32 }
-    ensures grown { IfOk result (λ r. IsGrownTo (G.game game.now) position.now pairs.now r.0.items r.1) }
+    ensures grown { IfOk result (λ r. (boards : List Board) × (c : Board) × IsGrown (G.game game.now) position.now pairs.now r.0.items boards
+        × (slice_get boards r.1 ≡ Some c) × ((d : Board) → Contains boards d → IsWon d → IsWon c)) }
     ensures few { IfOk result (λ _. (step : ℕ) → step ≤ length pairs.now
         → LeadsToMany (G.game game.now) position.now (take step pairs.now) → ⊥) }
     ensures fault { IfErr result (IsListFault (G.game game.now) position.now pairs.now) }
 {
-    let mut nodes = planted(alloc, position)?;
-    let mut start = 0;
+    let mut boards = alone(alloc, position)?;
+    let mut layers = Vec::new(alloc);
     for (index, pair) in pairs.iter().enumerate() {
-        let layer = nodes.len();
-        add_layer(alloc, game, *pair, index, &mut nodes, start)?;
-        if nodes.len() == layer {
+        add_layer(alloc, game, *pair, &mut boards, &mut layers)?;
+        if boards.is_empty() {
             return Err(ListFault::Refused(index as u32 + 1));
         }
-        if nodes.len() - layer > MOST_BOARDS {
+        if boards.len() > MOST_BOARDS {
             return Err(ListFault::TooMany(index as u32 + 1));
         }
-        start = layer;
     }
-    let leaf = leaf_of(nodes.as_slice(), start);
-    Ok((nodes, leaf))
+    let place = won_place(boards.as_slice());
+    Ok((layers, place))
 }
 
-// The number of the first won board from a number on; that number where there is none.
-fn leaf_of(nodes: &[Node], start: usize) -> usize
-    requires some { start < length nodes.now }
-    ensures from { start ≤ result }
-    ensures within { result < length nodes.now }
-    ensures won { (c : Board) → Contains (boards_of (drop start nodes.now)) c → IsWon c
-        → (node : Node) × (slice_get nodes.now result ≡ Some node) × IsWon node.position }
+// The board to which no entry led.
+fn alone(alloc: Global, position: &Position) -> Result<Vec<Position>, AllocError>
+    ensures alone { IfOk result (λ boards. boards.items ≡ position.now ∷ []) }
 {
-    for number in start..nodes.len() {
-        if nodes[number].position.is_won() {
-            return number;
-        }
-    }
-    start
+    let mut boards = Vec::new(alloc);
+    boards.push(position.copy())?;
+    Ok(boards)
 }
 
-// The numbers of the boards from one that the first led to, on to this one.
-fn path_to(alloc: Global, nodes: &[Node], leaf: usize) -> Result<Vec<usize>, AllocError>
-    requires tree { (g : GameRules) × (b : Board) × (ps : List Pair) × IsTree g b ps nodes.now }
-    requires within { leaf < length nodes.now }
-    ensures leads { IfOk result (λ path. Leads nodes.now 0 path.items leaf) }
-{
-    let mut path = Vec::new(alloc);
-    let mut number = leaf;
-    while number > 0 {
-        path.push(number)?;
-        number = nodes[number].parent;
-    }
-    path.reverse();
-    Ok(path)
-}
-
-// The moves along a path of boards.
-fn moves_along<G: Game>(
+// Puts the boards to which an entry leads in the place of these, and adds how they came.
+fn add_layer<G: Game>(
     alloc: Global,
     game: &G,
-    nodes: &[Node],
+    pair: Pair,
+    boards: &mut Vec<Position>,
+    layers: &mut Vec<Layer>,
+) -> Result<(), AllocError>
+    requires layer { IsLayer (G.game game.now) boards.old.items }
+    requires few { length boards.old.items ≤ MOST_BOARDS }
+    ensures next { OnOk result ((layer : Layer) × (layers.new.items ≡ layers.old.items ++ layer ∷ [])
+        × IsNext (G.game game.now) boards.old.items pair layer boards.new.items) }
+{
+    let layer = next_layer(alloc, game, pair, boards)?;
+    layers.push(layer)?;
+    Ok(())
+}
+
+// The place of the first won board; the first where there is none.
+fn won_place(boards: &[Position]) -> usize
+    requires some { 0 < length boards.now }
+    ensures there { (c : Board) × (slice_get boards.now result ≡ Some c) × ((d : Board) → Contains boards.now d → IsWon d → IsWon c) }
+{
+    for place in 0..boards.len() {
+        if boards[place].is_won() {
+            return place;
+        }
+    }
+    0
+}
+
+// By how many cards each entry is played on the way to the board of this place.
+fn counts_to(alloc: Global, layers: &[Layer], place: usize) -> Result<Vec<u8>, AllocError>
+    requires linked { (g : GameRules) × (b : Board) × (ps : List Pair) × (boards : List Board) × (c : Board)
+        × AreLinked g (b ∷ []) ps layers.now boards × (slice_get boards place ≡ Some c) }
+    ensures counts { IfOk result (λ counts. (g : GameRules) (b : Board) (ps : List Pair) (boards : List Board) (c : Board)
+        → AreLinked g (b ∷ []) ps layers.now boards → slice_get boards place ≡ Some c → PlaysAll g b ps counts.items c) }
+{
+    let mut counts = Vec::new(alloc);
+    let mut here = place;
+    let mut left = layers.len();
+    while left > 0 {
+        left -= 1;
+        let (parent, count) = layers[left].origin(here);
+        counts.push(count)?;
+        here = parent;
+    }
+    counts.reverse();
+    Ok(counts)
+}
+
+// The moves by which the entries are played with these numbers of cards.
+fn moves_by<G: Game>(
+    alloc: Global,
+    game: &G,
+    position: &Position,
     pairs: &[Pair],
-    path: &[usize],
+    counts: &[u8],
 ) -> Result<Vec<Move>, AllocError>
-    requires tree { (b : Board) × IsTree (G.game game.now) b pairs.now nodes.now }
-    requires some { 0 < length nodes.now }
-    requires leads { (leaf : ℕ) × Leads nodes.now 0 path.now leaf }
-    ensures expanded { IfOk result (λ moves. (b : Board) (leaf : ℕ) (node : Node) → IsTree (G.game game.now) b pairs.now nodes.now
-        → Leads nodes.now 0 path.now leaf → slice_get nodes.now leaf ≡ Some node
-        → Expands (G.game game.now) b (take node.depth pairs.now) moves.items node.position) }
+    requires fits { IsPositionOf (G.game game.now) position.now }
+    requires plays { (c : Board) × PlaysAll (G.game game.now) position.now pairs.now counts.now c }
+    ensures expanded { IfOk result (λ moves. (c : Board) → PlaysAll (G.game game.now) position.now pairs.now counts.now c
+        → Expands (G.game game.now) position.now pairs.now moves.items c) }
 {
     let mut moves = Vec::new(alloc);
-    let mut position = nodes[0].position.copy();
-    for number in path {
-        let node = &nodes[*number];
-        let pair = pairs[node.depth - 1];
-        play_pair(game, &mut position, pair, node.count, &mut moves)?;
+    let mut here = position.copy();
+    for index in 0..pairs.len() {
+        play_pair(game, &mut here, pairs[index], counts[index], &mut moves)?;
     }
     Ok(moves)
 }

@@ -14,7 +14,7 @@ use Rattle.fc_home.specs.HomeRule.{GoesHome}
 use Rattle.fc_home.proofs.RuleLemmas.{free_next}
 use Rattle.fc_home.specs.Settles.{NoneGoesHome, Settles}
 use Rattle.fc_space.specs.inner.Children.{OthersStay}
-use Rattle.fc_canonical.proofs.BackLemmas.{taken_back}
+use Rattle.fc_moves.proofs.BackLemmas.{taken_back}
 
 -- two places are one or two
 places : (p q : Place) → (p ≡ q) ⊎ (p ≢ q)

@@ -1,5 +1,5 @@
 use Rattle.std.proofs.Common.{◌∙◌}
-use Rattle.fc_canonical.proofs.BackLemmas.{taken_back}
+use Rattle.fc_moves.proofs.BackLemmas.{taken_back}
 use Rattle.fc_space.specs.Children.{frame_of}
 use Rattle.fc_space.proofs.ShiftLemmas.{child_of_step, child_stands}
 use Rattle.fc_space.proofs.StayLemmas.{others_stay}

@@ -2,7 +2,7 @@ use Rattle.std.proofs.Common.{◌≡◌, sym, subst, ap, ◌∙◌}
 use Rattle.fc_position.specs.Board.{Board, lifted}
 use Rattle.fc_moves.specs.GameRules.{IsPositionOf}
 use Rattle.fc_moves.specs.Step.{Allows}
-use Rattle.fc_canonical.proofs.BackLemmas.{taken_back}
+use Rattle.fc_moves.proofs.BackLemmas.{taken_back}
 use Rattle.fc_home.specs.Settles.{NoneGoesHome}
 use Rattle.fc_bound.specs.Kinds.{guide_of}
 use Rattle.fc_bound.specs.Rows.{IsTableOf}
