@@ -1,8 +1,9 @@
--- How deep an object of numbers and texts is.
-use Rattle.std.proofs.Common.{◌≤◌, ℕ, List, Option, Some, None, Ordering, Less, Equal, Greater, codes, arith}
+-- How deep an object of numbers and texts is, and that it has no floats.
+use Rattle.std.proofs.Common.{rules, ◌≡◌, ◌≤◌, ◌||◌, ℕ, Bool, true, false, List, Option, Some, None, Ordering, Less, Equal, Greater, codes, arith, refl, subst, sym}
 use Rattle.std.specs.Borrow.{Bor}
 use Rattle.std.specs.Ordering.{match_ordering}
 use Rattle.serde_json.specs.Data.{Data, Members, no_members, member, members_depth, depth, number, put, string, unsigned}
+use Rattle.serde_json.specs.Written.{has_float, members_have_float}
 use Rattle.fc_json.specs.declared.objects.Told.{Told}
 use Rattle.fc_json.specs.Objects.{members_of, with_number, with_text}
 
@@ -18,19 +19,52 @@ put_flat name d (member l e ms) flat all =
     flat_by _ (member name d (member l e ms)) (member l d ms) (member l e (put name d ms))
     (omega arith) (omega arith) (omega (arith, put_flat name d ms flat (omega arith)))
 
-number_flat : (name : List ℕ) (n : Option ℕ) (members : Members) → members_depth members ≤ 0 → members_depth (with_number name n members) ≤ 0
-number_flat name (Some n) ms all = put_flat name (number (unsigned n)) ms (omega arith) all
+-- no number of an object is a float
+abbrev pub AreWhole : Members → Type 0
+AreWhole ms = members_have_float ms ≡ false
+
+or_left : (a b : Bool) → (a || b) ≡ false → a ≡ false
+or_left false b none = refl
+or_left true b none = none
+
+or_right : (a b : Bool) → (a || b) ≡ false → b ≡ false
+or_right false b none = none
+or_right true b none = absurd (search rules)
+
+neither : (a b : Bool) → a ≡ false → b ≡ false → (a || b) ≡ false
+neither a b left right = subst (λ x. (x || b) ≡ false) (sym left) right
+
+whole_by : (o : Ordering) (a b c : Members) → AreWhole a → AreWhole b → AreWhole c → AreWhole (match_ordering o a b c)
+whole_by Less a b c p q r = p
+whole_by Equal a b c p q r = q
+whole_by Greater a b c p q r = r
+
+put_whole : (name : List ℕ) (d : Data) (members : Members) → has_float d ≡ false → AreWhole members → AreWhole (put name d members)
+put_whole name d no_members whole all = neither (has_float d) false whole refl
+put_whole name d (member l e ms) whole all =
+    let rest = or_right (has_float e) (members_have_float ms) all in
+    whole_by _ (member name d (member l e ms)) (member l d ms) (member l e (put name d ms))
+    (neither (has_float d) (members_have_float (member l e ms)) whole all)
+    (neither (has_float d) (members_have_float ms) whole rest)
+    (neither (has_float e) (members_have_float (put name d ms)) (or_left (has_float e) (members_have_float ms) all) (put_whole name d ms whole rest))
+
+-- an object of numbers that are no floats and of texts, in which no object lies
+abbrev pub IsFlat : Members → Type 0
+IsFlat ms = (members_depth ms ≤ 0) × AreWhole ms
+
+number_flat : (name : List ℕ) (n : Option ℕ) (members : Members) → IsFlat members → IsFlat (with_number name n members)
+number_flat name (Some n) ms all = (put_flat name (number (unsigned n)) ms (omega arith) all.0, put_whole name (number (unsigned n)) ms refl all.1)
 number_flat name None ms all = all
 
-text_flat : (name : List ℕ) (text : Option (Bor (List ℕ))) (members : Members) → members_depth members ≤ 0 → members_depth (with_text name text members) ≤ 0
-text_flat name (Some text) ms all = put_flat name (string text.now) ms (omega arith) all
+text_flat : (name : List ℕ) (text : Option (Bor (List ℕ))) (members : Members) → IsFlat members → IsFlat (with_text name text members)
+text_flat name (Some text) ms all = (put_flat name (string text.now) ms (omega arith) all.0, put_whole name (string text.now) ms refl all.1)
 text_flat name None ms all = all
 
 -- an object of what is told has nothing but numbers and texts
-pub told_flat : (told : Told) → members_depth (members_of told) ≤ 0
+pub told_flat : (told : Told) → IsFlat (members_of told)
 told_flat told =
     let turns = with_number (codes "turns") told.turns no_members in
-    let flat_turns = number_flat (codes "turns") told.turns no_members (omega arith) in
+    let flat_turns = number_flat (codes "turns") told.turns no_members (omega arith, refl) in
     let stored = with_number (codes "stored") told.stored turns in
     let flat_stored = number_flat (codes "stored") told.stored turns flat_turns in
     let moves = with_number (codes "moves") told.moves stored in

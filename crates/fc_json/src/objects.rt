@@ -2,6 +2,7 @@ ghost use Rattle.std.specs.Prelude.{◌≡◌, Some, None, IfOk, OnOk, string_by
 ghost use Rattle.serde_json.specs.Data.{object};
 ghost use Rattle.serde_json.specs.Read.{read};
 ghost use Rattle.serde_json.specs.View.{members_view};
+ghost use Rattle.serde_json.specs.Written.{compact_text};
 ghost use Rattle.fc_json.specs.Objects.{members_of, with_number, with_text};
 
 use serde_json::{Map, Value, put};
@@ -49,11 +50,13 @@ impl<'a> Told<'a> {
     }
 }
 
-/// The object, on one line without its end: a member for each thing that is told, in the order of their names.
+/// The object, a member for each thing that is told, in the order of their names, with nothing between its parts: one line, without
+/// its end.
 ///
 /// # Errors
 /// A growth of memory was refused.
 pub fn object_text(alloc: Global, told: &Told<'_>) -> Result<String, AllocError>
+    ensures text { IfOk result (λ s. string_bytes s ≡ compact_text (object (members_of told.now))) }
     ensures reads { IfOk result (λ s. read (string_bytes s) ≡ Some (object (members_of told.now))) }
 {
     let members = told_members(alloc, told)?;

@@ -1,7 +1,8 @@
-use Rattle.std.proofs.Common.{◌≡◌, ◌∙◌, ◌≤◌, ap, sym, subst, IfOk, Some, string_bytes, rules, arith}
+use Rattle.std.proofs.Common.{◌≡◌, ◌∙◌, ◌≤◌, false, ap, sym, subst, IfOk, Some, string_bytes, rules, arith}
 use Rattle.serde_json.specs.Data.{depth, members_depth, object}
 use Rattle.serde_json.specs.Read.{max_depth, read}
 use Rattle.serde_json.specs.View.{view, members_view}
+use Rattle.serde_json.specs.Written.{compact_text, has_float}
 use Rattle.serde_json.specs.declared.value.Value.{Object}
 use Rattle.serde_json.proofs.Views.{view-Object}
 use Rattle.fc_json.specs.Objects.{members_of}
@@ -14,8 +15,11 @@ returns c =
     let seen : view (Object map) ≡ object (members_of c.args.told.now) =
     view-Object map ∙ ap object c.in_ok-members.ensures.members in
     let flat : members_depth (members_view map.entries) ≤ 0 =
-    subst (λ ms. members_depth ms ≤ 0) (sym c.in_ok-members.ensures.members) (told_flat c.args.told.now) in
+    subst (λ ms. members_depth ms ≤ 0) (sym c.in_ok-members.ensures.members) (told_flat c.args.told.now).0 in
+    let whole : has_float (view (Object map)) ≡ false = subst (λ d. has_float d ≡ false) (sym seen) (told_flat c.args.told.now).1 in
     let shallow : depth (view (Object map)) ≤ max_depth = subst (λ d. depth d ≤ max_depth) (sym (view-Object map)) (omega (arith, flat)) in
     let reads : IfOk c.to_string.result (λ s. depth (view (Object map)) ≤ max_depth → read (string_bytes s) ≡ Some (view (Object map))) =
     c.to_string.ensures.reads_back in
-    record { reads = search (rules, seen, shallow, reads) }
+    let text : IfOk c.to_string.result (λ s. has_float (view (Object map)) ≡ false → string_bytes s ≡ compact_text (view (Object map))) =
+    c.to_string.ensures.text in
+    record { text = search (rules, seen, whole, text); reads = search (rules, seen, shallow, reads) }
