@@ -1,5 +1,6 @@
 pub mod Devices
 pub mod Fault
+pub mod Laws
 pub mod Lists
 pub mod Runs
 pub mod Sequences

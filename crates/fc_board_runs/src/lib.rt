@@ -9,6 +9,7 @@ pub use sequences::run_replay_sequences;
 pub use showing::{Look, run_show};
 
 mod faults;
+pub mod laws;
 mod lists;
 mod runs;
 mod sequences;

@@ -16,8 +16,8 @@ use std::alloc::Global;
 /// The status tells whether the last board is won: 0, or 3 where it isn't.
 ///
 /// # Errors
-/// In this order: `Game`; `Board`; `TooLong` for a list of more than 1,048,576 bytes; then at its step `Moves`, a token that is
-/// no move or a move that isn't allowed, or `Memory`.
+/// In this order: `Game`; `Board`; `TooLong` for a list of more than 1,048,576 bytes; then `Moves`: at its step a token that
+/// is no move or a move that isn't allowed, or, as `ReplayFault::Write`, want of memory for the boards.
 pub fn replay_list(
     alloc: Global,
     name: GameName,

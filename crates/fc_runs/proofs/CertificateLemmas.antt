@@ -19,6 +19,7 @@ use Rattle.fc_cert.specs.declared.claims.Claim.TheVariants as claim
 use Rattle.fc_cert.specs.Claim.{IsWrittenWith, written_form}
 use Rattle.fc_cert.specs.Content.{Content, bytes_of}
 use Rattle.fc_cert.proofs.CertifiedLemmas.{backed_certified, backed_spelled}
+use Rattle.fc_cert.proofs.LengthLemmas.{written_short as certificate_short}
 use Rattle.fc_cert.specs.declared.faults.CertFault.TheVariants.{Write}
 use Rattle.fc_cert.specs.Writing.{SinkState, WritesAnswer}
 use Rattle.fc_board_runs.specs.Devices.{Device}
@@ -38,6 +39,7 @@ pub answer_certifiable : (p : Problem) (answered : Answer) → Answers p answere
 answer_certifiable p answered answers = record {
   wins = wins_told p answered.verdict answers.told;
   written = answers.told.written;
+  few = answers.told.few;
   backed = answers.backed;
   searched = answers.searched;
 }
@@ -54,6 +56,7 @@ pub best_certifiable : (q : Asked) (b : Board) (answered : Answer) → IsBestAns
 best_certifiable q b answered best backed = record {
   wins = best_wins q b answered.verdict best.told;
   written = best.told.written;
+  few = best.told.few;
   backed = backed;
   searched = best.tabled;
 }
@@ -78,6 +81,7 @@ certifies p (Shortest moves) table c game position answers same =
       ruled = ap (λ x. x.head.rule) same ∙ answers.searched.0;
       bound = ap (λ x. x.head.bound) same ∙ answers.searched.1;
       listed = ap (λ x. x.moves) same;
+      short = certificate_short p.game p.start answered c answers.backed answers.few same;
     }
 certifies p (Won moves floor) table c game position answers same =
     let answered : Answer = record { verdict = Won moves floor; table = Some table } in
@@ -92,6 +96,7 @@ certifies p (Won moves floor) table c game position answers same =
       ruled = ap (λ x. x.head.rule) same ∙ answers.searched.0;
       bound = ap (λ x. x.head.bound) same ∙ answers.searched.1;
       listed = ap (λ x. x.moves) same;
+      short = certificate_short p.game p.start answered c answers.backed answers.few same;
     }
 certifies p CannotWin table c game position answers same =
     let answered : Answer = record { verdict = CannotWin; table = Some table } in
@@ -105,6 +110,7 @@ certifies p CannotWin table c game position answers same =
       ruled = ap (λ x. x.head.rule) same ∙ answers.searched.0;
       bound = ap (λ x. x.head.bound) same ∙ answers.searched.1;
       listed = ap (λ x. x.moves) same;
+      short = certificate_short p.game p.start answered c answers.backed answers.few same;
     }
 certifies p (GaveUp told) table c game position answers same = absurd same
 

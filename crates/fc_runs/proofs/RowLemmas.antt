@@ -1,6 +1,7 @@
 -- The floors of rows, and what their certificates rest on.
-use Rattle.std.proofs.Common.{◌≡◌, ℕ, suc, List, [], ◌∷◌, Option, Some, None, sym, subst, arith}
-use Rattle.std.specs.Prelude.{All, IfSome}
+use Rattle.std.proofs.Common.{rules, ◌≡◌, ◌≢◌, ℕ, suc, List, [], ◌∷◌, ◌++◌, Bool, true, false, Option, Some, None, refl, sym, subst, arith}
+use Rattle.std.specs.Prelude.{All, IfOk, IfSome, IsSome, Result, Ok, Err}
+use Rattle.std.specs.Result.{result_ok}
 use Rattle.fc_position.specs.Board.{Board}
 use Rattle.fc_moves.specs.GameRules.{GameRules}
 use Rattle.fc_answers.specs.declared.answers.Outcome.{Outcome}
@@ -28,6 +29,25 @@ pub last_floor : (g : GameRules) (b : Board) (old new : Last) (heard : List Prog
 last_floor g b old new [] same floors floor = subst (λ (l : Last). IfSome (told_floor l.far) (IsFloor g b)) (sym same) floor
 last_floor g b old new (far ∷ heard) (mid, keeps, rest) (least, floors) floor =
     last_floor g b mid new heard rest floors (subst (λ o. IfSome (told_floor o) (IsFloor g b)) (sym keeps) least)
+
+-- who keeps what is told last keeps something, once something was told
+module _ {E : Type 0} (f : E → Far) where
+  kept : (old new : Last) (heard : List E) → HearsAll (λ _ far next. next.far ≡ Some (f far)) old heard new → IsSome old.far → IsSome new.far
+  kept old new [] same some = subst (λ (l : Last). IsSome l.far) (sym same) some
+  kept old new (far ∷ heard) (mid, keeps, rest) some = kept mid new heard rest (subst IsSome (sym keeps) refl)
+
+  pub heard_last : (old new : Last) (heard : List E) → HearsAll (λ _ far next. next.far ≡ Some (f far)) old heard new → heard ≢ [] → IsSome new.far
+  heard_last old new [] same some = absurd (some refl)
+  heard_last old new (far ∷ heard) (mid, keeps, rest) some = kept mid new heard rest (subst IsSome (sym keeps) refl)
+
+  pub heard_end : (old new : Last) (heard : List E) (far : E) → HearsAll (λ _ far next. next.far ≡ Some (f far)) old (heard ++ far ∷ []) new → IsSome new.far
+  heard_end old new [] far hears = heard_last old new (far ∷ []) hears (λ none. absurd (cc none))
+  heard_end old new (first ∷ heard) far hears = heard_last old new (first ∷ (heard ++ far ∷ [])) hears (λ none. absurd (cc none))
+
+-- what holds of an answer holds where there is one
+pub where_told : {A E : Type 0} (r : Result A E) (P : Type 0) → IfOk r (λ _. P) → IsSome (result_ok r) → P
+where_told (Ok x) P holds some = holds
+where_told (Err e) P holds some = let no : false ≡ true = some in absurd (search rules)
 
 -- and so has who keeps what is told last of the searches for a best answer
 pub best_last_floor : (q : Asked) (b : Board) (old new : Last) (heard : List BestProgress)

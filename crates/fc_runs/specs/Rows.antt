@@ -1,5 +1,5 @@
 -- What a row tells of a board.
-use Rattle.std.specs.Prelude.{◌≡◌, ℕ, ◌++◌, List, [], Option, Some, None, IfSome, codes, decimal}
+use Rattle.std.specs.Prelude.{◌≡◌, ℕ, ◌++◌, List, [], Option, Some, None, IfSome, IsSome, codes, decimal}
 use Rattle.fc_position.specs.Board.{Board}
 use Rattle.fc_methods.specs.Method.{Asked}
 use Rattle.fc_answers.specs.declared.answers.Outcome.{Outcome}
@@ -82,10 +82,11 @@ abbrev pub IsToldIn : Sought → Asked → Board → Option Device → Option Ou
 IsToldIn sought q b cert None = IfSome cert IsUntouched
 IsToldIn sought q b cert (Some told) = IsAnswerOf sought q b cert told
 
--- a row is right for a board: what it tells is, and no list of fewer moves than its floor wins. Nothing is promised of the
--- other numbers that a search told
+-- a row is right for a board: what it tells is; where memory wasn't wanted, there is what the search told last; and no list of fewer
+-- moves than its floor wins. Nothing is promised of the other numbers that a search told
 pub record IsRowOf (sought : Sought) (q : Asked) (b : Board) (cert : Option Device) (row : Row) : Type 0 where
   pub told : IsToldIn sought q b cert row.told
+  pub searched : IsSome row.told → IsSome row.far
   pub floor : IfSome (floor_of row.told row.far) (IsFloor q.game b)
 
 -- why a board has no row: the certificate of what was sought couldn't be written, of which a front may be

@@ -1,5 +1,5 @@
 -- What solving promises, over any source and any sinks.
-use Rattle.std.specs.Prelude.{◌≡◌, ◌⊎◌, ℕ, List, [], length, Option, Some, None, IfSome, IsTrue}
+use Rattle.std.specs.Prelude.{◌≡◌, ◌⊎◌, ◌≤◌, ℕ, List, [], length, Option, Some, None, IfSome, IsTrue}
 use Rattle.fc_io.specs.Moves.{TakesBytes, TakesFront, Stays}
 use Rattle.fc_position.specs.Board.{Board}
 use Rattle.fc_moves.specs.declared.steps.Move.{Move}
@@ -11,6 +11,7 @@ use Rattle.fc_search.specs.Problem.{Problem, problem_of}
 use Rattle.fc_search.specs.Search.{IsOneOfThree, IsVerdict, IsRunToEnd}
 use Rattle.fc_search.specs.declared.listeners.Progress.{Progress}
 use Rattle.fc_search.specs.Watch.{IsHeardToEnd}
+use Rattle.fc_cert.specs.declared.certificates.TheConstants.{LONGEST_CERTIFICATE}
 use Rattle.fc_cert.specs.declared.claims.Claim.{Claim}
 use Rattle.fc_cert.specs.declared.claims.Claim.TheVariants as claim
 use Rattle.fc_cert.specs.Claim.{IsCertificate, written_form}
@@ -42,7 +43,7 @@ moves_of CannotWin = []
 moves_of (GaveUp told) = []
 
 -- the bytes are a certificate of what the verdict claims of the start, by the home rule and the bound of the method, in the
--- second form where that says all and else in the third, and list its moves
+-- second form where that says all and else in the third, list its moves, and are no more than are read
 pub record IsCertificateOf (p : Problem) (verdict : Verdict) (bytes : List ℕ) : Type 0 where
   pub claim : Claim
   pub claimed : claim_of verdict ≡ Some claim
@@ -53,6 +54,7 @@ pub record IsCertificateOf (p : Problem) (verdict : Verdict) (bytes : List ℕ) 
   pub ruled : content.head.rule ≡ p.method.rule
   pub bound : content.head.bound ≡ p.method.bound
   pub listed : content.moves ≡ moves_of verdict
+  pub short : length bytes ≤ LONGEST_CERTIFICATE
 
 -- a sink took a certificate of the verdict, all of it
 abbrev pub TakesCertificate : Problem → Verdict → Device → Type 0

@@ -18,6 +18,7 @@ mod batches;
 mod best_batches;
 mod besting;
 mod checking;
+pub mod laws;
 mod rows;
 mod solving;
 mod tabling;

@@ -1,11 +1,12 @@
 //! What a row tells of a board: its answer without moves, and what its search told last.
 
-ghost use Rattle.std.specs.Prelude.{◌≡◌, ◌+◌, ◌≤◌, ◌++◌, List, Some, None, length, IfOk, IfErr, IfSome};
+ghost use Rattle.std.specs.Prelude.{◌≡◌, ◌≢◌, ◌+◌, ◌≤◌, ◌++◌, List, [], Some, None, length, IfOk, IfErr, IfSome};
 ghost use Rattle.arrayvec.specs.ArrayString.{array_string_len};
 ghost use Rattle.fc_moves.specs.GameRules.{IsPositionOf};
 ghost use Rattle.fc_search.specs.declared.listeners.Progress.{Progress};
 ghost use Rattle.fc_search.specs.Watch.{HearsAll, TellFloors};
-ghost use Rattle.fc_best.specs.Watch.{HearsTold};
+ghost use Rattle.fc_answers.specs.declared.answers.Verdict.{Verdict};
+ghost use Rattle.fc_best.specs.Watch.{HearsTold, HearsToEnd};
 ghost use Rattle.fc_board_runs.specs.Devices.{IsHandedBack, change, lent};
 ghost use Rattle.fc_answer_text.specs.AnswerText.{told_status};
 ghost use Rattle.fc_runs.specs.Rows.{IsAnswerOf, IsNoRow, IsRowOf, answer_name, cells_text, far_text, floor_of, moves_of, number_text};
@@ -44,7 +45,8 @@ pub struct Far {
     pub at_least: u32,
 }
 
-/// What a row tells of a board: its answer without moves, or `None` where memory was wanted, and what was told last.
+/// What a row tells of a board: its answer without moves, or `None` where memory was wanted, and what was told last, which may be
+/// nothing only then.
 #[derive(Clone, Copy)]
 pub struct Row {
     pub told: Option<Outcome>,
@@ -248,6 +250,7 @@ fn told_of<G: Game + Drop, L: Listener>(
     requires position { IsPositionOf question.now.game start.now }
     ensures told { IfOk result (IsAnswerOf Sought.ByMethod question.now start.now None) }
     ensures floors { (heard : List Progress) × HearsAll L.hears listener.old heard listener.new × TellFloors question.now.game start.now heard }
+    ensures ended { IfOk result (λ _. (heard : List Progress) × HearsAll L.hears listener.old heard listener.new × (heard ≢ [])) }
 {
     let verdict = decide_by(alloc, question, start, listener)?;
     Ok(outcome_of(&verdict))
@@ -276,6 +279,7 @@ fn best_told_of<G: Game + Drop, L: BestListener>(
     requires position { IsPositionOf question.now.game start.now }
     ensures told { IfOk result (IsAnswerOf Sought.Best question.now start.now None) }
     ensures heard { HearsTold L.hears question.now start.now listener.old listener.new }
+    ensures ended { IfOk result (λ _. (verdict : Verdict) × HearsToEnd L.hears question.now start.now verdict listener.old listener.new) }
 {
     let answer = best(alloc, question, start, false, listener)?;
     Ok(outcome_of(&answer.verdict))

@@ -1,11 +1,12 @@
-use Rattle.std.proofs.Common.{Some, None, refl, sym, rules}
+use Rattle.std.proofs.Common.{◌≡◌, Bool, true, false, Some, None, refl, sym, rules}
 use Rattle.fc_search.specs.Problem.{problem_of}
 use Rattle.fc_board_runs.specs.Devices.{Device, IsUntouched}
 use Rattle.fc_runs.specs.declared.rows.Last.{Last}
 use Rattle.fc_runs.specs.declared.rows.Sought.TheVariants.{Best}
 use Rattle.fc_runs.specs.Rows.{IsToldIn}
+use Rattle.fc_runs.specs.inner.Rows.{best_far_of}
 use Rattle.fc_runs.proofs.CertificateLemmas.{best_certifiable}
-use Rattle.fc_runs.proofs.RowLemmas.{best_last_floor, row_floor}
+use Rattle.fc_runs.proofs.RowLemmas.{best_last_floor, heard_end, row_floor}
 use Rattle.fc_runs.proofs.rows.certified_best_row.Goals as goal
 
 pub returns-in_default-clause-row : goal.returns-in_default-clause-row
@@ -15,10 +16,11 @@ returns-in_default-clause-row g c =
     let nothing : Last = record { far = None } in
     let last = c.best.new.listener in
     let cert : Device = record { old = g.C.Sink.held c.args.cert.now; new = g.C.Sink.held c.args.cert.now; failed = g.C.Sink.has_failed c.args.cert.now } in
-    let (heard, hears, told) = c.best.ensures.heard in
+    let (heard, (hears, told, better)) = c.best.ensures.heard in
     let untouched : IsUntouched cert = search rules in
     record {
       told = untouched;
+      searched = λ some. let no : false ≡ true = some in absurd (search rules);
       floor = row_floor Best q b (Some cert) None last.far untouched (best_last_floor q b nothing last heard hears told tt);
     }
 
@@ -43,7 +45,7 @@ returns-clause-row g c =
     let cert : Device = record { old = g.C.Sink.held c.args.cert.now; new = g.C.Sink.held c.write_certificate.new.cert; failed = g.C.Sink.has_failed c.write_certificate.new.cert } in
     let answered = c.in-Ok.ensures in
     let certifiable = best_certifiable q b c.in-Ok.answer answered.best (answered.backed refl) in
-    let (heard, hears, told) = c.best.ensures.heard in
+    let (heard, (hears, told, better)) = c.best.ensures.heard in
     let answer : IsToldIn Best q b (Some cert) (Some c.outcome_of.result) = record {
       verdict = c.in-Ok.answer.verdict;
       decided = answered.best.told;
@@ -52,5 +54,6 @@ returns-clause-row g c =
     } in
     record {
       told = answer;
+      searched = λ _. let (front, far, these, told_of) = answered.ended in heard_end best_far_of nothing last front far these.0;
       floor = row_floor Best q b (Some cert) (Some c.outcome_of.result) last.far answer (best_last_floor q b nothing last heard hears told tt);
     }

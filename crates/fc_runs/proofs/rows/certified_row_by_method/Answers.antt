@@ -1,12 +1,13 @@
-use Rattle.std.proofs.Common.{Some, None, refl, sym, rules}
+use Rattle.std.proofs.Common.{◌≡◌, Bool, true, false, Some, None, refl, sym, rules}
 use Rattle.fc_search.specs.Problem.{problem_of}
 use Rattle.fc_search.proofs.EndLemmas.{at_most_floors, end_at_most}
 use Rattle.fc_board_runs.specs.Devices.{Device, IsUntouched}
 use Rattle.fc_runs.specs.declared.rows.Last.{Last}
 use Rattle.fc_runs.specs.declared.rows.Sought.TheVariants.{ByMethod}
 use Rattle.fc_runs.specs.Rows.{IsToldIn}
+use Rattle.fc_runs.specs.inner.Rows.{far_of}
 use Rattle.fc_runs.proofs.CertificateLemmas.{answer_certifiable}
-use Rattle.fc_runs.proofs.RowLemmas.{last_floor, row_floor}
+use Rattle.fc_runs.proofs.RowLemmas.{heard_last, last_floor, row_floor}
 use Rattle.fc_runs.proofs.rows.certified_row_by_method.Goals as goal
 
 pub returns-in_default-clause-row : goal.returns-in_default-clause-row
@@ -21,6 +22,7 @@ returns-in_default-clause-row g c =
     let untouched : IsUntouched cert = search rules in
     record {
       told = untouched;
+      searched = λ some. let no : false ≡ true = some in absurd (search rules);
       floor = row_floor ByMethod q b (Some cert) None last.far untouched (last_floor q.game b nothing last heard hears (at_most_floors p heard before) tt);
     }
 
@@ -50,6 +52,7 @@ returns-clause-row g c =
     } in
     record {
       told = answer;
+      searched = λ _. heard_last far_of nothing last heard hears told.some;
       floor = row_floor ByMethod q b (Some cert) (Some c.outcome_of.result) last.far answer
           (last_floor q.game b nothing last heard hears (at_most_floors p heard (end_at_most p heard c.in-Ok.answer.verdict told)) tt);
     }

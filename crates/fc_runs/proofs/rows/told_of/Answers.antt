@@ -13,3 +13,6 @@ returns-clause-floors g c =
     let p = problem_of c.args.question.now c.args.start.now in
     let (heard, hears, told) = c.in_ok-verdict.ensures.heard in
     (heard, hears, at_most_floors p heard (end_at_most p heard c.in_ok-verdict.verdict told))
+
+pub returns-clause-ended : goal.returns-clause-ended
+returns-clause-ended g c = let (heard, hears, told) = c.in_ok-verdict.ensures.heard in (heard, hears, told.some)

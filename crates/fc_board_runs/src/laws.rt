@@ -1,0 +1,8 @@
+//! Laws of the definitions, each the contract of a function that does nothing.
+
+ghost use Rattle.fc_board_runs.specs.Laws.{NumbersAreTold};
+
+/// A board's text has at most 4,096 bytes, and a list of moves at most 1 MiB, 1,048,576.
+pub fn numbers_are_told()
+    ensures { NumbersAreTold }
+{}
