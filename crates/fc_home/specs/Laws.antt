@@ -9,6 +9,7 @@ use Rattle.fc_moves.specs.Run.{Run, WinsWithin}
 use Rattle.fc_moves.specs.Class.{SameClass}
 use Rattle.fc_home.specs.HomeRule.{IsForced, IsFree, GoesHome}
 use Rattle.fc_home.specs.Settles.{SettlesBy, Settles}
+use Rattle.fc_home.specs.declared.settling.TheConstants.{GREATEST_RULE}
 
 -- by the rules of a game, a card is free exactly where it is next and each card that may stand on it is home or free
 abbrev pub CardsAreFreeByOthers : Type 0
@@ -61,3 +62,7 @@ ClassMatesSettleAlike = (g : GameRules) (rule : ℕ) (b c x : Board) (count : �
 abbrev pub SettlingLosesNothing : Type 0
 SettlingLosesNothing = (g : GameRules) (rule : ℕ) (b q : Board) (count most : ℕ) → IsPosition b → Settles g rule b count q
     → WinsWithin g b most ↔ ((count ≤ most) × WinsWithin g q (most - count))
+
+-- the greatest home rule
+abbrev pub NumbersAreTold : Type 0
+NumbersAreTold = GREATEST_RULE ≡ 2

@@ -1,6 +1,6 @@
 //! Laws of the definitions, each the contract of a function that does nothing.
 
-ghost use Rattle.fc_home.specs.Laws.{CardsAreFreeByOthers, ForcedCardsAreFree, GoersStay, SettlingIsARun, SettlingKeepsPositions, SettledBoardsStay, EveryBoardSettles, PositionsSettleInOneWay, SettlingMovesAreOne, ClassMatesSettleAlike, SettlingLosesNothing};
+ghost use Rattle.fc_home.specs.Laws.{CardsAreFreeByOthers, ClassMatesSettleAlike, EveryBoardSettles, ForcedCardsAreFree, GoersStay, NumbersAreTold, PositionsSettleInOneWay, SettledBoardsStay, SettlingIsARun, SettlingKeepsPositions, SettlingLosesNothing, SettlingMovesAreOne};
 
 /// By the rules of a game, a card is free exactly where it is next and each card that may stand on it is home or free.
 pub fn cards_are_free_by_others()
@@ -56,4 +56,9 @@ pub fn class_mates_settle_alike()
 /// more, and a list of at most the others wins from the settled position.
 pub fn settling_loses_nothing()
     ensures { SettlingLosesNothing }
+{}
+
+/// The home rules are 0, 1 and 2.
+pub fn numbers_are_told()
+    ensures { NumbersAreTold }
 {}

@@ -11,6 +11,7 @@ use Rattle.fc_plain.specs.Comment.{without_comments}
 use Rattle.fc_plain.specs.Plain.{after_mark, plain, plain_lines, without_signs}
 use Rattle.fc_plain.specs.Respelled.{respelled, respelled_card, respelled_home}
 use Rattle.fc_plain.specs.Unit.{in_bytes}
+use Rattle.fc_plain.specs.declared.texts.TheConstants.{MOST_BYTES}
 
 -- a plain text has at most half as many bytes again as the text that it stands for has in bytes, and these are at most
 -- half as many again as the text has, if it is in units of two bytes
@@ -54,3 +55,7 @@ CardsAreRead = (c byte : ℕ) (text : List ℕ) → c < 52 → IsSuitText (suit 
 abbrev pub HomesAreRead : Type 0
 HomesAreRead = (s n byte : ℕ) (text : List ℕ) → s < 4 → IsSuitText s byte → IsRank n → IsRankText n text
     → SpellsHome (respelled_home (byte ∷ text)) s n × SpellsHome (respelled_home (text ++ byte ∷ [])) s n
+
+-- the most bytes of a text that is made plain
+abbrev pub NumbersAreTold : Type 0
+NumbersAreTold = MOST_BYTES ≡ 16384

@@ -1,6 +1,6 @@
 //! Laws of the definitions, each the contract of a function that does nothing.
 
-ghost use Rattle.fc_plain.specs.Laws.{CardsAreRead, HomesAreRead, MeaningsStay, NumbersAreColumns, PlainTextsGrowByHalf, SpelledTextsStay};
+ghost use Rattle.fc_plain.specs.Laws.{CardsAreRead, HomesAreRead, MeaningsStay, NumbersAreColumns, NumbersAreTold, PlainTextsGrowByHalf, SpelledTextsStay};
 
 /// A plain text has at most half as many bytes again as the text that it stands for, and so has a text in UTF-8 beside the
 /// same in UTF-16.
@@ -33,4 +33,9 @@ pub fn cards_are_read()
 /// The text of a foundation's last card, in either order, is respelled as one that the reader takes for the foundation.
 pub fn homes_are_read()
     ensures { HomesAreRead }
+{}
+
+/// A text that is made plain has at most 16,384 bytes.
+pub fn numbers_are_told()
+    ensures { NumbersAreTold }
 {}

@@ -9,19 +9,7 @@ use crate::names::{CELL_NAMES, FOUNDATION_NAMES, after_name};
 use crate::texts::ROOM;
 use crate::tokens::{Telling, push_token};
 use arrayvec::ArrayVec;
-use fc_text::{Gaps, Tokens};
-
-// The gaps between the tokens of a line: spaces and tabs.
-#[derive(Debug, Drop)]
-struct Blanks;
-
-impl Gaps for Blanks {
-    ghost gap = { is_blank };
-
-    fn is_gap(&self, byte: u8) -> bool {
-        byte == b' ' || byte == b'\t'
-    }
-}
+use fc_text::{Blanks, Tokens};
 
 /// The text with each token spelled as the reader spells it.
 pub(crate) fn respelled(text: &[u8]) -> ArrayVec<u8, ROOM>

@@ -5,9 +5,9 @@ use fc_text::{Gaps, Tokens};
 
 /// The gaps between words: spaces, tabs and all other control bytes.
 #[derive(Debug, Drop)]
-struct Blanks;
+struct WordGaps;
 
-impl Gaps for Blanks {
+impl Gaps for WordGaps {
     ghost gap = { is_gap };
 
     fn is_gap(&self, byte: u8) -> bool {
@@ -27,7 +27,7 @@ pub(crate) fn word_at(text: &[u8], k: usize) -> &[u8]
     ensures { result.now ≡ word_at k text.now }
 {
     let mut left = k;
-    for word in Tokens::new(text, Blanks) {
+    for word in Tokens::new(text, WordGaps) {
         if left == 0 {
             return word;
         }
@@ -42,7 +42,7 @@ pub(crate) fn word_count(text: &[u8]) -> usize
     ensures most { result ≤ length text.now }
 {
     let mut count = 0;
-    for _ in Tokens::new(text, Blanks) {
+    for _ in Tokens::new(text, WordGaps) {
         count += 1;
     }
     count
@@ -53,7 +53,7 @@ pub(crate) fn are_letters(text: &[u8], letters: &[u8]) -> bool
     ensures { result ≡ are_letters (words_of text.now) letters.now }
 {
     let mut left = letters;
-    for word in Tokens::new(text, Blanks) {
+    for word in Tokens::new(text, WordGaps) {
         match left {
             [letter, others @ ..] if is_letter(*letter, word) => left = others,
             _ => return false,

@@ -6,7 +6,7 @@
 pub use boards::read_board;
 pub use faults::BoardFault;
 pub use lines::is_column_line;
-pub use pieces::{Gaps, Tokens};
+pub use pieces::{Blanks, Gaps, Tokens};
 pub use printers::print_board;
 pub use spots::{Spot, first_spot_of, last_spot_of, spot_of};
 

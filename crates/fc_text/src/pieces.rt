@@ -38,7 +38,7 @@ pub trait Gaps {
 
 /// The gaps in a line of a board text: spaces and tabs.
 #[derive(Debug, Drop)]
-pub(crate) struct Blanks;
+pub struct Blanks;
 
 impl Gaps for Blanks {
     ghost gap = { is_blank };
