@@ -19,7 +19,7 @@ impl InGame for BatchWords<'_> {
             (BatchBoards::Deals { from, to }, _) => {
                 // (a fault of the numbers is told before the budget's)
                 if let Err(fault) = table_deals(*from, *to) {
-                    return Err(unasked(rt, fault, *from, *to));
+                    return Err(untabled(rt, fault, *from, *to));
                 }
                 write_table(rt, game, self)
             }
@@ -56,19 +56,35 @@ fn write_lines<G: Game + Drop>(
     }
 }
 
+// Ends with why a table of deals can't be asked for: it has any number of them, but some.
+fn untabled(rt: &HostRuntime, fault: ProgramFault, from: u32, to: u32) -> Ending {
+    match fault {
+        ProgramFault::Range => {
+            tell_none(rt, from, to);
+            Ending::Told(fault.status())
+        }
+        _ => Ending::Fault(fault),
+    }
+}
+
+// Says that no deal stands between two numbers.
+fn tell_none(rt: &HostRuntime, from: u32, to: u32) {
+    let _told = eprintln!(rt; "fc_solve: {from} to {to} are none: the lesser number stands first");
+}
+
 // Ends with why deals can't be asked for, and what to do where they are none or too many.
 fn unasked(rt: &HostRuntime, fault: ProgramFault, from: u32, to: u32) -> Ending {
     let ProgramFault::Range = fault else {
         return Ending::Fault(fault);
     };
     let status = tell(rt, &fault);
-    let _told = if from > to {
-        eprintln!(rt; "fc_solve: {from} to {to} are none: the lesser number stands first")
+    if from > to {
+        tell_none(rt, from, to);
     } else {
-        eprintln!(rt;
+        let _told = eprintln!(rt;
             "fc_solve: with --table they are any number, one after the other: see docs/LISTS.md"
-        )
-    };
+        );
+    }
     Ending::Told(status)
 }
 

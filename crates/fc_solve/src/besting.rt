@@ -1,6 +1,7 @@
 //! `best`: a board is answered as well as a budget lets, and it is told how far the searches are.
 ghost use Rattle.fc_moves.specs.GameRules.{IsPositionOf};
 
+use crate::apart::keep_apart;
 use crate::boards::{find_board, read_start};
 use crate::certs::CertFile;
 use crate::endings::Ending;
@@ -23,7 +24,10 @@ impl InGame for BestWords<'_> {
         let source = find_board(rt, &self.board)?;
         let deal = source.deal();
         let cert = match self.cert {
-            Some(path) => Some(CertFile::new(rt, path)?),
+            Some(path) => {
+                keep_apart(rt, path, source.path())?;
+                Some(CertFile::new(rt, path)?)
+            }
             None => None,
         };
         // (before anything is read)

@@ -1,7 +1,7 @@
 //! Files of several boards.
 
 use crate::boards::open;
-use crate::endings::{Ending, tell_of_reading};
+use crate::endings::{Ending, tell, tell_of_reading};
 use fc_io::{FromReader, ReadFault, read_to_vec};
 use fc_runs::{Input, ProgramFault};
 
@@ -18,7 +18,10 @@ pub fn read_list(rt: &HostRuntime, path: &str) -> Result<Vec<u8>, Ending> {
     match read {
         Ok(text) => Ok(text),
         Err(ReadFault::Failed) => Err(tell_of_reading(rt, Input::Board, path)),
-        Err(ReadFault::TooLong) => Err(Ending::Fault(ProgramFault::TooLong(Input::Board))),
+        Err(ReadFault::TooLong) => {
+            let status = tell(rt, &ProgramFault::TooLong(Input::Board));
+            Err(Ending::Told(status))
+        }
         Err(ReadFault::Memory) => Err(Ending::Fault(ProgramFault::Memory)),
     }
 }

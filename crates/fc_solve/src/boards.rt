@@ -2,8 +2,9 @@
 ghost use Rattle.std.specs.Prelude.{◌≤◌, IfOk, IfSome};
 ghost use Rattle.fc_position.specs.Position.{Fits};
 
+use crate::apart::INPUT;
 use crate::endings::{
-    Ending, tell_of_board, tell_of_file, tell_of_length, tell_of_reading, tell_of_rows,
+    Ending, REFUSED, tell_of_board, tell_of_file, tell_of_length, tell_of_reading, tell_of_rows,
 };
 use crate::lengths::{note_lengths, note_rows};
 use fc_deal::deal;
@@ -34,12 +35,21 @@ enum BoardPlace<'a> {
     Input,
 }
 
-impl BoardSource<'_> {
+impl<'a> BoardSource<'a> {
     /// The number of the deal, if it is one.
     pub fn deal(&self) -> Option<u32> {
         match self.place {
             BoardPlace::Deal(number) => Some(number),
             _ => None,
+        }
+    }
+
+    /// The path of the file that the board is read from, if it is read from any.
+    pub fn path(&self) -> Option<&'a str> {
+        match self.place {
+            BoardPlace::Deal(_) => None,
+            BoardPlace::File(_, path) => Some(path),
+            BoardPlace::Input => Some(INPUT),
         }
     }
 }
@@ -49,10 +59,8 @@ pub fn find_board<'a>(rt: &HostRuntime, words: &BoardWords<'a>) -> Result<BoardS
     let place = match words.word {
         BoardWord::Deal(number) => BoardPlace::Deal(number),
         BoardWord::Input => BoardPlace::Input,
-        BoardWord::Named(word) => match number_of(rt, word) {
-            Some(number) => BoardPlace::Deal(number),
-            None => BoardPlace::File(open(rt, word, Input::Board)?, word),
-        },
+        BoardWord::Named(word) if is_deal(rt, word) => BoardPlace::Deal(number_of(rt, word)?),
+        BoardWord::Named(word) => BoardPlace::File(open(rt, word, Input::Board)?, word),
     };
     Ok(BoardSource {
         place,
@@ -60,12 +68,25 @@ pub fn find_board<'a>(rt: &HostRuntime, words: &BoardWords<'a>) -> Result<BoardS
     })
 }
 
-// The number that a word is, if no file has that name.
-fn number_of(rt: &HostRuntime, word: &str) -> Option<u32> {
-    if !is_number(word) || fs::metadata(rt, word).is_ok() {
-        return None;
+// Whether a word means a numbered deal: it is a number, and no file has that name. (A folder holds no board.)
+fn is_deal(rt: &HostRuntime, word: &str) -> bool {
+    is_number(word)
+        && match fs::metadata(rt, word) {
+            Ok(metadata) => metadata.is_dir(),
+            Err(_) => true,
+        }
+}
+
+// The number that a word is.
+fn number_of(rt: &HostRuntime, word: &str) -> Result<u32, Ending> {
+    match word.parse::<u32>() {
+        Ok(number) => Ok(number),
+        Err(_) => {
+            // (as of a number that is no deal's)
+            let _told = eprintln!(rt; "fc_solve: deal number {word} is outside 1 to 1000000");
+            Err(Ending::Told(REFUSED))
+        }
     }
-    word.parse::<u32>().ok()
 }
 
 /// The board to start from, for a game with so many cells; what is wrong with it is told, with where it lies.

@@ -6,7 +6,14 @@ use crate::endings::{Ending, tell_of_file};
 use fc_io::{Failed, Sink};
 use fc_runs::{Output, ProgramFault};
 use std::fs::{File, OpenOptions};
-use std::io::Write;
+use std::io::{ErrorKind, Write};
+use std::process;
+
+// Why a run ends whose certificate isn't written.
+const UNWRITTEN: ProgramFault = ProgramFault::Write(Output::Cert);
+
+// How many files that are being written may be left beside a certificate by processes of one number.
+const MOST_PARTS: u32 = 100;
 
 /// The file that takes a certificate: what stood there stays until the first byte of the certificate is written.
 #[derive(Drop)]
@@ -25,13 +32,37 @@ impl CertFile {
                     Ok(metadata) => metadata.is_file() && metadata.len() > 0,
                     Err(_) => false,
                 };
-                Ok(CertFile {
-                    file,
-                    has_old,
-                    has_failed: false,
-                })
+                Ok(CertFile::of(file, has_old))
             }
-            Err(error) => Err(tell_of_file(rt, ProgramFault::Write(Output::Cert), path, error)),
+            Err(error) => Err(tell_of_file(rt, UNWRITTEN, path, error)),
+        }
+    }
+
+    /// A new file, which is this process's alone until it is given another name, beside the certificate of this path; its path.
+    pub fn part(rt: &HostRuntime, path: &str) -> Result<(CertFile, String), Ending> {
+        let process = process::id(rt.process());
+        for turn in 0..MOST_PARTS {
+            let part = format!(in rt.alloc(); "{path}.{process}-{turn}.part")?;
+            let opened = OpenOptions::new()
+                .write(true)
+                .create_new(true)
+                .open(rt, part.as_str());
+            match opened {
+                Ok(file) => return Ok((CertFile::of(file, false), part)),
+                // (left by a process that had this one's number)
+                Err(error) if error.kind() == ErrorKind::AlreadyExists => {}
+                Err(error) => return Err(tell_of_file(rt, UNWRITTEN, path, error)),
+            }
+        }
+        Err(Ending::Fault(UNWRITTEN))
+    }
+
+    // What is written goes to this file.
+    fn of(file: File, has_old: bool) -> CertFile {
+        CertFile {
+            file,
+            has_old,
+            has_failed: false,
         }
     }
 

@@ -8,6 +8,9 @@ use fc_text::BoardFault;
 use std::alloc::AllocError;
 use std::{fs, io};
 
+/// The exit status of a command line that is refused.
+pub const REFUSED: u8 = 3;
+
 /// Why the program ends early.
 #[derive(Clone, Copy)]
 pub enum Ending {
@@ -101,10 +104,7 @@ pub fn tell_of_rows(rt: &HostRuntime, fault: RowFault) -> Ending {
         RowFault::TooLong => tell_of_length(rt),
         RowFault::BadHead(_) | RowFault::LongRow(_) | RowFault::ShortRow(_) => {
             let _told = eprintln!(rt; "fc_solve: board: {fault}");
-            Ending::Told(BAD_BOARD)
+            Ending::Told(REFUSED)
         }
     }
 }
-
-// The status of a board that isn't one.
-const BAD_BOARD: u8 = 3;

@@ -113,7 +113,7 @@ fn show_moves<G: Game, K: Sink>(
     requires fits { Fits (G.game game.now).cells start.now }
 {
     if moves.len() > LONGEST_MOVES {
-        return Ok(());
+        return Err(UNWRITTEN);
     }
     match replay_as(game, start, moves, page, out) {
         Ok(_) => Ok(()),

@@ -1,6 +1,7 @@
 //! The program: FreeCell boards dealt, solved with answers that are proved, and moves replayed.
 #![tactic(auto)]
 
+mod apart;
 mod batching;
 mod besting;
 mod board_lists;
@@ -30,16 +31,15 @@ mod watching;
 
 ghost use Rattle.fc_words.specs.Sound.{IsSound};
 
-use endings::{Ending, tell};
+use clap::error::ErrorKind;
+use endings::{Ending, REFUSED, tell};
 use fc_runs::ProgramFault;
 use fc_words::{Command, WordsFault, is_number, is_subcommand, mean_board, read};
 use games::in_game;
+use std::fs::exists;
 use std::process::ExitCode;
-use std::{env, fs, io};
+use std::{env, io};
 use streams::StandIns;
-
-/// The exit status of a command line that is refused.
-const REFUSED: u8 = 3;
 
 fn main(rt: HostRuntime) -> ExitCode {
     let _stand_ins = StandIns::new(&rt);
@@ -79,8 +79,12 @@ fn names_board(rt: &HostRuntime, word: &str) -> bool {
         return !matches!(word, "-h" | "--help" | "-V" | "--version");
     }
     let is_path = word.bytes().any(|byte| byte == b'.' || byte == b'/');
-    is_number(word) || (!is_subcommand(word) && (is_path || fs::metadata(rt, word).is_ok()))
+    is_number(word) || (!is_subcommand(word) && (is_path || exists(rt, word).unwrap_or(false)))
 }
+
+// What a board alone is, on a command line that begins with none and with no command.
+const BOARDS: &str =
+    "a board alone is the number of a deal, the path of a file that is there, or - for standard input";
 
 // Ends where the words ask for nothing that can be done, or for help.
 fn tell_words(rt: &HostRuntime, fault: &WordsFault) -> Result<u8, Ending> {
@@ -88,12 +92,16 @@ fn tell_words(rt: &HostRuntime, fault: &WordsFault) -> Result<u8, Ending> {
         WordsFault::Memory => Err(Ending::Fault(ProgramFault::Memory)),
         WordsFault::Usage(usage) => {
             let _told = usage.print(rt);
+            if let ErrorKind::InvalidSubcommand = usage.kind() {
+                let _told = eprintln!(rt; "fc_solve: {BOARDS}");
+            }
             Ok(if usage.exit_code() == 0 { 0 } else { REFUSED })
         }
         WordsFault::NoBudget
         | WordsFault::NoWeight
         | WordsFault::CertInAnswer
         | WordsFault::OneInput
+        | WordsFault::InputTwice
         | WordsFault::Missing => {
             let _told = eprintln!(rt; "fc_solve: {fault}");
             Ok(REFUSED)

@@ -1,6 +1,7 @@
 //! `solve`: a board is solved, and it is told how far the search is.
 ghost use Rattle.fc_moves.specs.GameRules.{IsPositionOf};
 
+use crate::apart::keep_apart;
 use crate::boards::{find_board, read_start};
 use crate::certs::CertFile;
 use crate::endings::Ending;
@@ -22,7 +23,10 @@ impl InGame for SolveWords<'_> {
         let source = find_board(rt, &self.board)?;
         let deal = source.deal();
         let cert = match self.cert {
-            Some(path) => Some(CertFile::new(rt, path)?),
+            Some(path) => {
+                keep_apart(rt, path, source.path())?;
+                Some(CertFile::new(rt, path)?)
+            }
             None => None,
         };
         // (before anything is read)

@@ -1,10 +1,11 @@
 //! `batch` where each board has a row or an object: they are answered one after the other, and nothing of one is kept.
 ghost use Rattle.fc_moves.specs.GameRules.{IsPositionOf};
 
+use crate::apart::keep_apart;
 use crate::board_lists::{is_blank, is_rule, read_list};
 use crate::boards::{deal_for, read_board_text};
 use crate::certs::CertFile;
-use crate::endings::{Ending, tell_of_file};
+use crate::endings::{Ending, REFUSED, tell_of_file};
 use crate::objects::{Name, fault_line, row_line};
 use crate::outputs::Out;
 use crate::tallies::{ANSWERS, CountedRows, Tally};
@@ -172,12 +173,23 @@ impl<'a, G: Game + Drop> Desk<'a, G> {
         Ok(())
     }
 
-    // Answers the boards of a file, which lines of dashes part.
+    // Answers the boards of a file. One that can't be read, or has no board, is told as what is no board.
     fn answer_file(&mut self, path: &str) -> Result<(), Ending> {
-        let text = read_list(self.rt, path)?;
+        match read_list(self.rt, path) {
+            Ok(text) => match self.answer_list(path, text.as_slice())? {
+                0 => self.tell_no_board(path, REFUSED),
+                _ => Ok(()),
+            },
+            Err(Ending::Told(status)) => self.tell_no_board(path, status),
+            Err(ending) => Err(ending),
+        }
+    }
+
+    // Answers the boards of a file's text, which lines of dashes part; how many there are.
+    fn answer_list(&mut self, path: &str, text: &[u8]) -> Result<u64, Ending> {
         let mut board = Vec::new(self.rt.alloc());
         let mut place = 0;
-        for line in text.as_slice().split(|byte| *byte == b'\n') {
+        for line in text.split(|byte| *byte == b'\n') {
             if is_rule(line) {
                 place = self.answer_text(path, place, board.as_slice())?;
                 board.clear();
@@ -186,8 +198,7 @@ impl<'a, G: Game + Drop> Desk<'a, G> {
                 board.extend_from_slice(b"\n")?;
             }
         }
-        self.answer_text(path, place, board.as_slice())?;
-        Ok(())
+        self.answer_text(path, place, board.as_slice())
     }
 
     // Answers the board of a text, which stands behind so many others in its file, unless it is blank; how many there are then.
@@ -204,7 +215,6 @@ impl<'a, G: Game + Drop> Desk<'a, G> {
                 self.answer(Name::Board(name.as_str()), number, &start)?;
             }
             Err(Ending::Told(status)) => {
-                let _told = eprintln!(self.rt; "fc_solve: {name}: no board");
                 self.tell_no_board(name.as_str(), status)?;
             }
             Err(ending) => return Err(ending),
@@ -235,8 +245,8 @@ impl<'a, G: Game + Drop> Desk<'a, G> {
     {
         let alloc = self.rt.alloc();
         let path = format!(in alloc; "{folder}/{number}.cert")?;
-        let part = format!(in alloc; "{folder}/{number}.cert.part")?;
-        let mut cert = CertFile::new(self.rt, part.as_str())?;
+        keep_apart(self.rt, path.as_str(), None)?;
+        let (mut cert, part) = CertFile::part(self.rt, path.as_str())?;
         let row = answer_row(alloc, self.question, self.sought, start, Some(&mut cert));
         let kept = match &row {
             Ok(row) if row.status() <= 1 => fs::rename(self.rt, part.as_str(), path.as_str()),
@@ -268,8 +278,9 @@ impl<'a, G: Game + Drop> Desk<'a, G> {
         Ok(())
     }
 
-    // Writes that a text is no board, and counts it.
+    // Says and writes that what has this name is no board, and counts it.
     fn tell_no_board(&mut self, name: &str, status: u8) -> Result<(), Ending> {
+        let _told = eprintln!(self.rt; "fc_solve: {name}: no board");
         let name = Name::Board(name);
         let text = match self.words.form {
             BatchForm::Json => fault_line(self.rt.alloc(), name, NO_BOARD, None)?,

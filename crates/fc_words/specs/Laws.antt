@@ -6,6 +6,7 @@ use Rattle.fc_words.specs.Names.{bound_name, colours_name, expansion_name, game_
 use Rattle.fc_words.specs.declared.forms.Colours.{Colours}
 use Rattle.fc_words.specs.declared.games.GameName.{GameName}
 use Rattle.fc_words.specs.declared.tasks.Task.{Task}
+use Rattle.fc_words.specs.declared.options.TheConstants.{MOST_CELLS}
 
 -- no two games have one name
 abbrev pub GamesHaveTheirOwnNames : Type 0
@@ -26,3 +27,7 @@ ColoursHaveTheirOwnNames = (a b : Colours) → colours_name a ≡ colours_name b
 -- no two subcommands have one name
 abbrev pub TasksHaveTheirOwnNames : Type 0
 TasksHaveTheirOwnNames = (a b : Task) → task_name a ≡ task_name b → a ≡ b
+
+-- the most cells of a game
+abbrev pub NumbersAreTold : Type 0
+NumbersAreTold = MOST_CELLS ≡ 4

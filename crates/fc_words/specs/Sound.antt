@@ -1,9 +1,12 @@
 -- What holds of each command that is read.
-use Rattle.std.specs.Prelude.{◌≡◌, ◌≤◌, ◌⊎◌, ℕ, List, codes}
+use Rattle.std.specs.Prelude.{◌≡◌, ◌≤◌, ◌⊎◌, ℕ, List, Some, codes, option_map, slice_get}
+use Rattle.std.specs.Borrow.{Bor}
 use Rattle.fc_words.specs.Names.{task_name}
 use Rattle.fc_words.specs.declared.tasks.Task.{Task}
 use Rattle.fc_words.specs.declared.commands.Command.{Command}
 use Rattle.fc_words.specs.declared.commands.Command.TheVariants.{Deal, Show, Best, Solve, Check, Replay, Batch}
+use Rattle.fc_words.specs.declared.commands.BatchBoards.{BatchBoards}
+use Rattle.fc_words.specs.declared.commands.BatchBoards.TheVariants.{Deals, Files}
 use Rattle.fc_words.specs.declared.commands.BoardWord.TheVariants.{Input}
 use Rattle.fc_words.specs.declared.commands.MovesWord.TheVariants as moves
 use Rattle.fc_words.specs.declared.commands.ReplayWords.{ReplayWords}
@@ -13,6 +16,15 @@ use Rattle.fc_words.specs.declared.options.TheConstants.{MOST_CELLS}
 abbrev pub HasOneInput : ReplayWords → Type 0
 HasOneInput words = words.board.word ≡ Input → words.moves ≡ moves.Input → ⊥
 
+-- of these files at most one is standard input
+abbrev pub HasInputOnce : List (Bor (List ℕ)) → Type 0
+HasInputOnce files = (i j : ℕ) → option_map (λ s. s.now) (slice_get files i) ≡ Some (codes "-") → option_map (λ s. s.now) (slice_get files j) ≡ Some (codes "-") → i ≡ j
+
+-- a batch reads standard input once
+abbrev pub ReadsInputOnce : BatchBoards → Type 0
+ReadsInputOnce (Deals _ _) = Unit
+ReadsInputOnce (Files paths) = HasInputOnce paths.items
+
 -- a game has four cells at most, and no command reads two things from standard input
 abbrev pub IsSound : Command → Type 0
 IsSound (Deal _) = Unit
@@ -21,7 +33,7 @@ IsSound (Best words) = words.game.cells ≤ MOST_CELLS
 IsSound (Solve words) = words.game.cells ≤ MOST_CELLS
 IsSound (Check words) = words.game.cells ≤ MOST_CELLS
 IsSound (Replay words) = (words.game.cells ≤ MOST_CELLS) × HasOneInput words
-IsSound (Batch words) = words.game.cells ≤ MOST_CELLS
+IsSound (Batch words) = (words.game.cells ≤ MOST_CELLS) × ReadsInputOnce words.boards
 
 -- the name of a task's subcommand, or of clap's own
 abbrev pub IsSubcommand : List ℕ → Type 0

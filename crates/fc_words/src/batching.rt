@@ -1,6 +1,7 @@
 //! `batch`: its words and its help, and how what it asks for is read.
 
-ghost use Rattle.std.specs.Prelude.{◌≤◌, IfOk};
+ghost use Rattle.std.specs.Prelude.{◌≤◌, ◌↔◌, IfOk, IsTrue};
+ghost use Rattle.fc_words.specs.Sound.{HasInputOnce, ReadsInputOnce};
 ghost use Rattle.fc_words.specs.declared.options.TheConstants.{MOST_CELLS};
 
 use crate::commands::{BatchBoards, BatchForm, BatchSearch, BatchWords};
@@ -9,12 +10,12 @@ use crate::options::{
     BOUND, BUDGET, CELLS, EXPAND, GAME, KINGS, Kind, ROWS, RULE, WITHIN, Word, best_search, game,
     search,
 };
+use crate::places::place_of;
 use crate::subcommands::Subcommand;
 use clap::ArgMatches;
 use std::alloc::Global;
 
-/// `batch FROM TO [--table | --json] [--boards FILE..] [--certs FOLDER] [--totals] [--budget B] [--best | [--within W] [--bound NAME]
-/// [--expand NAME]] [GAME] [--rule R]`.
+/// `batch`: its words and its help.
 pub(crate) static BATCHING: Subcommand = Subcommand {
     about: "Solves several deals, or boards of files, and prints what is told of each, without moves",
     after_help: "Without --table or what needs one, at most 32 deals are searched side by side, in turns, and each
@@ -114,9 +115,24 @@ fn batch_search(words: &ArgMatches<'_>) -> Result<BatchSearch, WordsFault> {
     }
 }
 
+// Whether standard input is more than one of the files.
+fn has_input_twice(files: &[&str]) -> bool
+    ensures value { IsTrue result ↔ (HasInputOnce files.now → ⊥) }
+{
+    match place_of(files, "-") {
+        Some(place) => place_of(&files[place + 1..], "-").is_some(),
+        None => false,
+    }
+}
+
 // Which boards the words of `batch` name.
-fn batch_boards<'a>(alloc: Global, words: &ArgMatches<'a>) -> Result<BatchBoards<'a>, WordsFault> {
+fn batch_boards<'a>(alloc: Global, words: &ArgMatches<'a>) -> Result<BatchBoards<'a>, WordsFault>
+    ensures once { IfOk result ReadsInputOnce }
+{
     if let Some(files) = words.get_strs(FILES.name) {
+        if has_input_twice(files) {
+            return Err(WordsFault::InputTwice);
+        }
         return Ok(BatchBoards::Files(Vec::from_slice(alloc, files)?));
     }
     let (Some(from), Some(to)) = (
@@ -144,6 +160,7 @@ fn batch_form(words: &ArgMatches<'_>) -> BatchForm {
 /// What `batch` asks for.
 pub(crate) fn batch<'a>(alloc: Global, words: &ArgMatches<'a>) -> Result<BatchWords<'a>, WordsFault>
     ensures cells { IfOk result (λ batch. batch.game.cells ≤ MOST_CELLS) }
+    ensures once { IfOk result (λ batch. ReadsInputOnce batch.boards) }
 {
     let search = batch_search(words)?;
     let boards = batch_boards(alloc, words)?;

@@ -27,8 +27,8 @@ pub fn expansion_of_name(name: &str) -> Option<Expansion>
     EXPANSIONS.get(place).copied()
 }
 
-/// The expansion of a search by a bound that isn't told one: full where the plain bound costs next to nothing, and partial
-/// where the clearing bound is dear, and what isn't stored is worth more.
+/// The expansion of a search by a bound where none is told: full by the plain bound, by which a class costs less to store than
+/// to expand twice, and partial by the clearing bound, by which it costs more.
 pub fn usual_expansion(bound: BoundKind) -> Expansion
     ensures value { result ≡ usual_expansion bound }
 {

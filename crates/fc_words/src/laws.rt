@@ -1,5 +1,5 @@
 //! Laws of the names.
-ghost use Rattle.fc_words.specs.Laws.{BoundsHaveTheirOwnNames, ColoursHaveTheirOwnNames, ExpansionsHaveTheirOwnNames, GamesHaveTheirOwnNames, TasksHaveTheirOwnNames};
+ghost use Rattle.fc_words.specs.Laws.{BoundsHaveTheirOwnNames, ColoursHaveTheirOwnNames, ExpansionsHaveTheirOwnNames, GamesHaveTheirOwnNames, NumbersAreTold, TasksHaveTheirOwnNames};
 
 /// No two games have one name.
 pub fn games_have_their_own_names()
@@ -24,4 +24,9 @@ pub fn colours_have_their_own_names()
 /// No two subcommands have one name.
 pub fn tasks_have_their_own_names()
     ensures { TasksHaveTheirOwnNames }
+{}
+
+/// A game has at most four cells.
+pub fn numbers_are_told()
+    ensures { NumbersAreTold }
 {}

@@ -13,7 +13,7 @@ use crate::options::{
 use crate::subcommands::Subcommand;
 use clap::ArgMatches;
 
-// `replay [--numbered | --expanded | --board-at N] [--sequences] [--must-win] [GAME] BOARD MOVES`.
+// `replay`: its words and its help.
 pub(crate) static REPLAYING: Subcommand = Subcommand {
     about: "Prints the board after each move, up to the first that isn't allowed",
     after_help: "It says on standard error whether the board is won at the end, or which entry of the list is

@@ -36,7 +36,7 @@ pub(crate) fn subcommand_of(task: Task) -> &'static Subcommand {
     }
 }
 
-// `deal N`.
+// `deal`: its words and its help.
 static DEALING: Subcommand = Subcommand {
     about: "Prints a numbered deal: eight columns, each from its deepest card on",
     after_help: "Example: fc_solve deal 617",
@@ -56,7 +56,7 @@ pub(crate) fn deal(words: &ArgMatches<'_>) -> Option<DealWords> {
     })
 }
 
-// `show [--plain] [GAME] [--deal N] [BOARD]`.
+// `show`: its words and its help.
 static SHOWING: Subcommand = Subcommand {
     about: "Draws a board as it is read, its columns downward, to see that it is the one you mean",
     after_help: "Example: fc_solve show 617",
@@ -81,7 +81,7 @@ pub(crate) fn show<'a>(words: &ArgMatches<'a>) -> Option<ShowWords<'a>>
     })
 }
 
-// `best [--budget B] [--cert FILE] [--boards] [--stats] [--quiet] [GAME] [--rule R] [--deal N] [BOARD]`.
+// `best`: its words and its help.
 static BEST_SOLVING: Subcommand = Subcommand {
     about: "Prints the best solution that a moment's work gives, and how near the shortest it is",
     after_help: "The answer is one of four, with the moves of a solution below it:
@@ -144,8 +144,7 @@ pub(crate) fn best<'a>(words: &ArgMatches<'a>) -> Result<BestWords<'a>, WordsFau
     })
 }
 
-// `solve [--budget B] [--cert FILE] [--within W] [--bound NAME] [--expand NAME] [--boards] [--stats] [--quiet] [GAME] [--rule R] [--deal N]
-// [BOARD]`.
+// `solve`: its words and its help.
 static SOLVING: Subcommand = Subcommand {
     about: "Prints a shortest solution, or that the board can't be won, or that it gave up",
     after_help: "Moves are two letters, from where to where: columns 1 to 8, cells a to d, home h. Each takes
@@ -234,7 +233,7 @@ pub(crate) fn solve<'a>(words: &ArgMatches<'a>) -> Result<SolveWords<'a>, WordsF
     })
 }
 
-// `check [--json] [GAME] BOARD CERT`.
+// `check`: its words and its help.
 static CHECKING: Subcommand = Subcommand {
     about: "Says what a certificate proves of a board, or why it proves nothing; it searches nothing",
     after_help: "Status: 0 accepted, 3 refused, 4 want of memory, 5 reading or writing failed.
