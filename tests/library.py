@@ -3,6 +3,7 @@
 usage, at the top of the repository:  library.py answers     boards, deals and lists, with what is handed over
                                       library.py refusals    what is refused, with its number and its place
                                       library.py rooms       rooms that what is handed over fits, or doesn't
+                                      library.py changes     certificates with one byte changed, to each other value
 
 Prints what differs, and how many calls were as they should be. The status is 77 where no library stands proved here.
 """
@@ -13,6 +14,7 @@ import sys
 import tempfile
 
 sys.path.insert(0, "lib")
+import changes as changed_bytes
 from example import Game, Luffaknife
 
 FREE_CELL, BAKERS = (0, 4), (1, 4)
@@ -185,6 +187,17 @@ def rooms(library):
         yield f"rooms of {sizes}", library.call("best_certified", king, sizes), wanted
 
 
+def changes(library):
+    """Certificates with one byte changed: the fault that the table of fields says, and no false claim."""
+    for it in changed_bytes.CERTIFICATES:
+        with open(f"boards/{it.board}.txt", encoding="utf-8") as text:
+            board = text.read()
+        for at, value, certificate in changed_bytes.changed(it):
+            number, place, size, _, rooms = library.call("check", (FREE_CELL, board, certificate), [64])
+            told = number, place, rooms[0][:size].decode()
+            yield f"{it.board} ({it.claim}), byte {at} as {value}", (*told, changed_bytes.is_right(it, at, value, *told)), (*told, True)
+
+
 def brief(it):
     """What is to be printed, with no more than eight dots of a room in a row."""
     return re.sub(r"\.{9,}", "." * 8, repr(it))
@@ -192,7 +205,7 @@ def brief(it):
 
 def main(word):
     library, good, failed = Library(), 0, 0
-    for name, told, wanted in {"answers": answers, "refusals": refusals, "rooms": rooms}[word](library):
+    for name, told, wanted in {"answers": answers, "refusals": refusals, "rooms": rooms, "changes": changes}[word](library):
         good, failed = good + (told == wanted), failed + (told != wanted)
         if told != wanted:
             print(f"{name}: told {brief(told)}, wanted {brief(wanted)}")

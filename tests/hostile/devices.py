@@ -26,6 +26,9 @@ FIVE_BOARDS = b"".join(
     b"Foundations: %b\nFreecells: %b - - -\n:%b\n:%b\n:\n:\n:\n:\n:\n:\n" % it
     for it in [(b"H-J C-K D-K S-J", b"KH", b" QS", b" QH KS"), (b"H-J C-K D-K S-Q", b"KH", b"", b" QH KS"),
                (b"H-J C-K D-K S-K", b"KH", b"", b" QH"), (b"H-Q C-K D-K S-K", b"KH", b"", b""), (b"H-K C-K D-K S-K", b"-", b"", b"")])
+TWO_KINGS_PRINTED = b"Foundations: H-J C-K D-K S-J\nFreecells: - - - -\n: QS KH\n: QH KS\n:\n:\n:\n:\n:\n:\n"
+DEAL_1 = (b"JD KD 2S 4C 3S 6D 6S\n2D KC KS 5C TD 8S 9C\n9H 9S 9D TS 4S 8D 2H\nJC 5S QD QH TH QS 6H\n5D AD JS 4H 8H 6C\n7H QC AS AC 2C 3D\n"
+          b"7C KH AH 4D JH 8C\n5H 3H 3C 7S 7D TC\n")
 SECOND_BOARD = FIVE_BOARDS[: FIVE_BOARDS.index(b"Foundations", 1)]
 
 CHECK = ["check", "-", "/dev/fd/3"]
@@ -35,6 +38,17 @@ SEQUENCES = ["replay", "--sequences", "-", "/dev/fd/3"]
 EXPANDED = ["replay", "--expanded", "-", "/dev/fd/3"]
 BOARD_AT = ["replay", "--board-at", "2", "-", "/dev/fd/3"]
 BATCH = ["batch", "24", "25", "--budget", "1"]
+BEST = ["best", "--cert", "/dev/fd/3"]
+# A locked board, and what is written of it by home rule 1.
+LOCKED = (b"Foundations: H-7 C-7 D-7 S-7\nFreecells: KC KD KH KS\n8C 9C\n8D 9D\n8H 9H\n8S 9S\nTC QC JC\nTD QD JD\nTH QH JH\nTS QS JS\n")
+LOCKED_CERT = bytes.fromhex("46434332 00 04 01 02 00000001 00000000 07070707 30313233 021C20 021D21 021E22 021F23 03242C28 03252D29 03262E2A 03272F2B")
+SOLVE_LOCKED = ["solve", "--rule", "1", "--cert", "/dev/fd/3"]
+# Two columns of two cards that lie on each other, and a list of one entry that moves two of them.
+PAIRS, ENTRY = b"Foundations: H-J C-K D-K S-J\nKS QH\nKH QS\n", b"13v2"
+ENTRY_EXPANDED = ["replay", "--sequences", "--expanded", "-", "/dev/fd/3"]
+ENTRY_BOARD_AT = ["replay", "--sequences", "--board-at", "1", "-", "/dev/fd/3"]
+# The first deal and the last of tables.
+TABLES = [(1, 1), (24, 24), (1000000, 1000000), (24, 26), (1, 33), (968000, 1000000), (1, 1000000)]
 
 
 def expect(holds, told):
@@ -94,10 +108,11 @@ def sweep_writes(words, given, files, out_size, with_what):
     known."""
     sweep = Sweep(words, given, files)
     whole, count, cert = sweep.ample, 0, b""
-    if words == SOLVE:
+    if words in (SOLVE, BEST, SOLVE_LOCKED):
         cert = whole.files[0]
+        expect(words != SOLVE_LOCKED or cert == LOCKED_CERT, f"{words}: {cert}")
     out_size = out_size or len(whole.out)
-    expect(whole.status in (0, 2) and len(whole.out) == out_size, f"{words}: {whole}")
+    expect(whole.status in (0, 1, 2) and len(whole.out) == out_size, f"{words}: {whole}")
     for number, ran in sweep.each("FAIL_WRITE", FAIL_WITH=with_what):
         count += 1
         if number <= len(cert):
@@ -106,10 +121,19 @@ def sweep_writes(words, given, files, out_size, with_what):
             sweep.check("write the answer", number, ran, whole.out, whole.files)
             expect(len(ran.out) == number - 1 - len(cert), f"{words}: write {number}: {ran}")
             if cert:
-                accepted = PROGRAM.run(CHECK, TWO_KINGS, ran.files)
-                expect((accepted.status, accepted.out) == (0, b"accepted: shortest 5\n"), f"write {number}: {accepted}")
+                accepted = PROGRAM.run(CHECK, given, ran.files)
+                expect((accepted.status, accepted.out) == (0, b"accepted: " + whole.out.split(b"\n")[0] + b"\n"), f"write {number}: {accepted}")
     expect(count == len(cert) + out_size, f"{words}: {count} writes, {len(cert)} and {out_size} expected")
     return count
+
+
+def cut_tables():
+    """The fourth write of a table's head fails, however many deals the table has."""
+    for first, last in TABLES:
+        words = ["batch", "--table", "--budget", "1", str(first), str(last)]
+        ran = PROGRAM.run(words, b"", [], {"LD_PRELOAD": LIBRARY, "ONE_BYTE": "1", "FAIL_WRITE": "4"})
+        expect((ran.status, ran.out) == (5, b"dea") and b"fc_solve: cannot write the answer\n" in ran.err, f"{words}: {ran}")
+    return len(TABLES)
 
 
 def sweep_growth(words, given, files, file, reads, grown):
@@ -132,12 +156,20 @@ def sweep_all():
                                  (SEQUENCES, [MOVES], [board, moves]), (EXPANDED, [MOVES], [board, moves]),
                                  (BOARD_AT, [MOVES], [board, moves]), (["show"], [], [board])]:
         print(f"{name_of(words)}: each of {sweep_reads(words, TWO_KINGS, files, inputs)} reads failed")
+    entry = [("board", len(PAIRS)), ("moves", len(ENTRY))]
+    for words in (ENTRY_EXPANDED, ENTRY_BOARD_AT):
+        print(f"{name_of(words)}: each of {sweep_reads(words, PAIRS, [ENTRY], entry)} reads failed")
     for words, files, out in [(CHECK, [CERTIFICATE], b"accepted: shortest 5\n"), (SOLVE, [b""], b"shortest 5\n1a 1h 2h 2h ah\n"),
                               (REPLAY, [MOVES], FIVE_BOARDS), (SEQUENCES, [MOVES], FIVE_BOARDS), (EXPANDED, [MOVES], MOVES),
                               (BOARD_AT, [MOVES], SECOND_BOARD), (BATCH, [], b"24 gave up 1\n25 gave up 1\n"),
+                              (BEST, [b""], b"shortest 5\n13 1h 2h 2h 3h\n"), (["show", "--plain"], [], TWO_KINGS_PRINTED), (["deal", "1"], [], DEAL_1),
                               (["solve", "--boards"], [], b""), ([*BATCH, "--table"], [], b"")]:
         counts = [sweep_writes(words, TWO_KINGS, files, len(out), with_what) for with_what in ("EIO", "ENOSPC", "0")]
         print(f"{name_of(words)}: each {f'of {counts[0]} writes' if out else 'write'} failed, in three ways")
+    for words, given, file, size in ((ENTRY_EXPANDED, PAIRS, ENTRY, 9), (ENTRY_BOARD_AT, PAIRS, ENTRY, 76), (SOLVE_LOCKED, LOCKED, b"", 13)):
+        counts = [sweep_writes(words, given, [file], size, with_what) for with_what in ("EIO", "ENOSPC", "0")]
+        print(f"{name_of(words)}: each of {counts[0]} writes failed, in three ways")
+    print(f"batch --table: {cut_tables()} tables were cut in their head")
     sixth = "fc_solve: step 6: not a move"
     for words, files, file, inputs, grown in [
             (CHECK, [CERTIFICATE], "/dev/fd/0", [board], (3, "fc_solve: board: line 4: not a card", b"")),
@@ -229,7 +261,7 @@ CLOSED = [
 
 # The status is the same where nobody hears what is wrong.
 UNHEARD = ["solve none", "solve </dev/zero", "check board moves", "replay board cert", "solve --budget 0 board", "deal 0",
-           "solve board >/dev/full", "solve --cert /dev/full board", "solve --no-such-word", "batch 2 1"]
+           "solve board >/dev/full", "solve --cert none/cert board", "solve --no-such-word", "batch 2 1"]
 
 
 def check_table(folder, table):

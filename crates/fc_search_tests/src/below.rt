@@ -91,7 +91,7 @@ fn finds_below_limits(
 
 #[test]
 fn lists_below_a_limit_are_found(rt: HostRuntime) {
-    for bound in [BoundKind::Plain, BoundKind::Clearing] {
+    for &bound in &[BoundKind::Plain, BoundKind::Clearing] {
         for &(text, shortest) in &BOARDS {
             finds_below_limits(&rt, rt.alloc(), bound, Expansion::Full, text, shortest);
             finds_below_limits(&rt, rt.alloc(), bound, Expansion::Partial, text, shortest);

@@ -1,12 +1,12 @@
-//! The best answer of a position, on boards whose answers are known and on random ones.
+//! The best answer of a position, on boards whose answers are known.
 
 ghost use Rattle.fc_methods.specs.Method.{Asked};
 ghost use Rattle.fc_position.specs.Position.{Fits};
 
 use crate::given::{bakers_game, board, dealt, expanded, free_cell, method, must, sure};
-use crate::plain::{self, Found};
-use crate::random::{Numbers, check_answer, random_board};
 use crate::shown::{check_table, check_wins};
+use fc_answer_text::outcome_of;
+use fc_answers::Outcome;
 use fc_best::{BestListener, BestProgress, Unheard, best};
 use fc_moves::{Game, Kings};
 use fc_position::Position;
@@ -18,19 +18,19 @@ use fc_tests::boards::{
 use std::alloc::Global;
 use std::process::Abort;
 
-// The best answer of a question for a board is what was found of it; it has a table where one is wanted.
+// The best answer of a question for a board is what is known of it; it has a table where one is wanted.
 fn check_best<G: Game + Drop>(
     rt: &impl Abort,
     alloc: Global,
     question: &Question<G>,
     start: &Position,
-    found: Found,
+    known: Outcome,
     has_table: bool,
 )
     requires fits { Fits question.now.game.cells start.now }
 {
     let answer = sure(rt, best(alloc, question, start, has_table, &mut Unheard));
-    check_answer(rt, &answer, found);
+    must(rt, outcome_of(&answer.verdict) == known);
     if let Verdict::Shortest(list) = &answer.verdict {
         check_wins(rt, question.game(), start, list);
     }
@@ -40,7 +40,7 @@ fn check_best<G: Game + Drop>(
     }
 }
 
-// The best answers for a board by this rule are what was found of it, by either bound and expansion. A single search by the
+// The best answers for a board by this rule are what is known of it, by either bound and expansion. A single search by the
 // weight of the question wouldn't say that a list is a shortest one.
 fn check_rule<G: Game + Drop>(
     rt: &impl Abort,
@@ -48,21 +48,21 @@ fn check_rule<G: Game + Drop>(
     game: &G,
     rule: u8,
     start: &Position,
-    found: Found,
+    known: Outcome,
 ) {
     must(rt, start.fits(game.cells()));
-    for bound in [BoundKind::Plain, BoundKind::Clearing] {
-        for expansion in [Expansion::Full, Expansion::Partial] {
+    for &bound in &[BoundKind::Plain, BoundKind::Clearing] {
+        for &expansion in &[Expansion::Full, Expansion::Partial] {
             let asked = expanded(method(rt, rule, 30, bound, 10_000), expansion);
             let question = Question::new(game, asked);
-            check_best(rt, alloc, &question, start, found, true);
-            check_best(rt, alloc, &question, start, found, false);
+            check_best(rt, alloc, &question, start, known, true);
+            check_best(rt, alloc, &question, start, known, false);
         }
     }
 }
 
 // A board's text, and what is known of it.
-type Known = (&'static str, Found);
+type Known = (&'static str, Outcome);
 
 // The best answers for boards of a game are known, by each rule.
 fn check_known<G: Game + Drop>(rt: &impl Abort, alloc: Global, game: &G, boards: &[Known]) {
@@ -76,26 +76,26 @@ fn check_known<G: Game + Drop>(rt: &impl Abort, alloc: Global, game: &G, boards:
 
 // Boards whose shortest lists, or whose want of any, are known: those of each game.
 static FREECELL: [Known; 10] = [
-    (ALL_HOME, Found::Shortest(0)),
-    (ONE_KING, Found::Shortest(1)),
-    (QUEEN_UNDER_KING, Found::Shortest(3)),
-    (FREE_KING, Found::Shortest(3)),
-    (TWO_KINGS, Found::Shortest(5)),
-    (THREE_KINGS, Found::Shortest(5)),
-    (THIRTY_MOVES, Found::Shortest(30)),
-    (ONE_COLUMN, Found::Shortest(52)),
-    (LOCKED, Found::CannotWin),
-    (CLASSES_495, Found::CannotWin),
+    (ALL_HOME, Outcome::Shortest(0)),
+    (ONE_KING, Outcome::Shortest(1)),
+    (QUEEN_UNDER_KING, Outcome::Shortest(3)),
+    (FREE_KING, Outcome::Shortest(3)),
+    (TWO_KINGS, Outcome::Shortest(5)),
+    (THREE_KINGS, Outcome::Shortest(5)),
+    (THIRTY_MOVES, Outcome::Shortest(30)),
+    (ONE_COLUMN, Outcome::Shortest(52)),
+    (LOCKED, Outcome::CannotWin),
+    (CLASSES_495, Outcome::CannotWin),
 ];
 
-static NO_CELL: [Known; 1] = [(THREE_SPADES, Found::Shortest(4))];
+static NO_CELL: [Known; 1] = [(THREE_SPADES, Outcome::Shortest(4))];
 
 static BAKERS: [Known; 2] = [
-    (ONE_KING, Found::Shortest(1)),
-    (THIRTY_MOVES, Found::Shortest(30)),
+    (ONE_KING, Outcome::Shortest(1)),
+    (THIRTY_MOVES, Outcome::Shortest(30)),
 ];
 
-static LOST: [Known; 1] = [(THREE_SPADES, Found::CannotWin)];
+static LOST: [Known; 1] = [(THREE_SPADES, Outcome::CannotWin)];
 
 #[test]
 fn known_boards(rt: HostRuntime) {
@@ -105,31 +105,6 @@ fn known_boards(rt: HostRuntime) {
     check_known(&rt, alloc, &bakers_game(&rt, 4), &BAKERS);
     check_known(&rt, alloc, &Kings::new(free_cell(&rt, 1)), &NO_CELL);
     check_known(&rt, alloc, &Kings::new(free_cell(&rt, 0)), &LOST);
-}
-
-// Compares the best answers for some boards of a game with the plain search, by each rule in turn.
-fn compare<G: Game + Drop>(rt: &impl Abort, alloc: Global, game: &G, seed: u32) {
-    let mut numbers = Numbers::new(seed);
-    for _ in 0..5 {
-        for rule in 0..3 {
-            let start = random_board(rt, &mut numbers, u32::from(game.cells()));
-            let found = plain::search(rt, alloc, game, &start, 300);
-            check_rule(rt, alloc, game, rule, &start, found);
-        }
-    }
-}
-
-#[test]
-fn agrees_with_the_plain_search(rt: HostRuntime) {
-    for cells in 0..5u8 {
-        let seed = u32::from(cells);
-        compare(&rt, rt.alloc(), &free_cell(&rt, cells), 800 + seed);
-        compare(&rt, rt.alloc(), &bakers_game(&rt, cells), 900 + seed);
-        let kings = Kings::new(free_cell(&rt, cells));
-        compare(&rt, rt.alloc(), &kings, 1000 + seed);
-        let kings = Kings::new(bakers_game(&rt, cells));
-        compare(&rt, rt.alloc(), &kings, 1100 + seed);
-    }
 }
 
 // Keeps what it heard last, and whether a floor or the length of a list got worse.

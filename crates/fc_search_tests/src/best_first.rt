@@ -10,7 +10,8 @@ use fc_best_first::{
     Book, Budget, Child, Expansion, Mark, Offered, Opening, Search, Space, Status, Step, Strategy,
     Weight,
 };
-use fc_frontier::{BucketFrontier, EitherFrontier, ExactKey, Frontier, ListFrontier};
+use fc_frontier::{BucketFrontier, EitherFrontier, Frontier, ListFrontier};
+use fc_keys::ExactKey;
 use std::alloc::{AllocError, Global};
 use std::marker::Model;
 use std::process::Abort;
@@ -378,21 +379,27 @@ fn sums_of_a_greater_f_are_put_off(rt: HostRuntime) {
     }
 }
 
-// Whether a search that may store so many sums runs; `None` where that is no budget.
-fn runs(rt: &impl Abort, alloc: Global, sums: u32) -> Option<bool> {
-    let strategy = Strategy::full(Weight::ONE, Budget::new(sums)?);
-    let search: Search<Sum, ListFrontier, Sums> = sure(
-        rt,
-        Search::new(alloc, Sums { goal: 1 }, strategy),
-    );
-    Some(matches!(search.status(), Status::Running))
-}
+// A search that has as great a budget as there is.
+static GREATEST: Row = Row {
+    goal: 1,
+    budget: 4_000_000,
+    end: End::Other,
+    stored: None,
+    turns: (0, 0),
+};
 
 #[test]
 fn a_budget_is_one_to_four_million(rt: HostRuntime) {
-    must(&rt, runs(&rt, rt.alloc(), 0).is_none());
-    must(&rt, runs(&rt, rt.alloc(), 4_000_000) == Some(true));
-    must(&rt, runs(&rt, rt.alloc(), 4_000_001).is_none());
+    must(&rt, Budget::new(0).is_none());
+    must(&rt, Budget::new(4_000_001).is_none());
+    let search: Search<Sum, ListFrontier, Sums> = begun(
+        &rt,
+        rt.alloc(),
+        Expansion::Full,
+        &GREATEST,
+    );
+    let is_running = matches!(search.status(), Status::Running);
+    must(&rt, is_running);
 }
 
 // Adds a sum to a book that doesn't store it; what became of it.

@@ -1,43 +1,14 @@
-//! Runs that write the best answer and its certificate: by the plain bound, and over devices that fail.
+//! Runs that write the best answer and its certificate, by the plain bound. Those over devices that fail are tried on the program,
+//! by `tests/hostile/devices.py`.
 
 use crate::given::{board, budget, free_cell, home_rule, must};
 use fc_best::Unheard;
-use fc_io::testing::Failing;
 use fc_io::{FromSlice, ToArray};
-use fc_runs::{Output, ProgramFault, run_best, run_check_of};
+use fc_runs::{run_best, run_check_of};
 use fc_search::Question;
 use fc_tests::boards::{LOCKED, ONE_KING, QUEEN_UNDER_KING, THIRTY_MOVES, TWO_KINGS};
 use std::alloc::Global;
 use std::process::Abort;
-
-// The best answer for one king ends so over devices that take one byte a call and fail after so many calls: of the answer, and
-// of its certificate of 18 bytes.
-fn ends_over(
-    rt: &impl Abort,
-    alloc: Global,
-    calls: (u32, u32),
-    wanted: Result<u8, ProgramFault>,
-    printed: &[u8],
-) {
-    let game = free_cell(rt, 4);
-    let start = board(rt, &game, ONE_KING);
-    let question = Question::shortest(&game, home_rule(rt, 1), budget(rt, 100));
-    let mut out = Failing::new(ToArray::<200>::new(), calls.0);
-    let mut cert = Failing::new(ToArray::<200>::new(), calls.1);
-    let sink = Some(&mut cert);
-    let status = run_best(alloc, &question, &start, &mut out, sink, &mut Unheard);
-    must(rt, status == wanted);
-    must(rt, out.device.held() == printed);
-}
-
-#[test]
-fn failing_devices_are_told(rt: HostRuntime) {
-    let uncertified = Err(ProgramFault::Write(Output::Cert));
-    ends_over(&rt, rt.alloc(), (200, 17), uncertified, b"");
-    let untold = Err(ProgramFault::Write(Output::Answer));
-    ends_over(&rt, rt.alloc(), (5, 18), untold, b"short");
-    ends_over(&rt, rt.alloc(), (14, 18), Ok(0), b"shortest 1\nah\n");
-}
 
 // Boards, budgets, and what the checker tells of the certificate of the best answer by the plain bound.
 const CLAIMS: [(&str, u32, &[u8]); 5] = [

@@ -86,27 +86,36 @@ fn solved(rt: &impl Abort, alloc: Global, text: &str, budget: u32, calls: (u32, 
     Left { result, cert, out }
 }
 
-// What is refused, and what gives up, writes nothing of a certificate. Where one isn't written whole, nothing of the answer is;
-// where the answer isn't, its certificate is whole.
+// Solving a board writes nothing of a certificate, to a sink that fails at once, and ends so.
+fn certifies_nothing(
+    rt: &impl Abort,
+    alloc: Global,
+    text: &str,
+    budget: u32,
+    ended: Result<u8, ProgramFault>,
+    answer: &[u8],
+) {
+    let left = solved(rt, alloc, text, budget, (0, 1000));
+    must(rt, left.result == ended);
+    must(rt, left.out.device.held() == answer);
+    must(rt, left.cert.device.held().is_empty());
+}
+
 #[test]
-fn tells_failing_sinks(rt: HostRuntime) {
+fn what_is_refused_or_gives_up_is_not_certified(rt: HostRuntime) {
+    let alloc = rt.alloc();
+    let no_budget = Err(ProgramFault::Budget);
+    certifies_nothing(&rt, alloc, ONE_KING, 0, no_budget, b"");
+    let no_budget = Err(ProgramFault::Budget);
+    certifies_nothing(&rt, alloc, ONE_KING, 4_000_001, no_budget, b"");
     let no_card = Err(ProgramFault::Board(BoardFault::BadCard(1)));
-    for (text, budget, ended, answer) in [
-        (ONE_KING, 0, Err(ProgramFault::Budget), b"".as_slice()),
-        (
-            ONE_KING,
-            4_000_001,
-            Err(ProgramFault::Budget),
-            b"".as_slice(),
-        ),
-        ("KX", 100, no_card, b"".as_slice()),
-        (DEAL_ONE, 1, Ok(2), b"gave up 1\n".as_slice()),
-    ] {
-        let left = solved(&rt, rt.alloc(), text, budget, (0, 1000));
-        must(&rt, left.result == ended);
-        must(&rt, left.out.device.held() == answer);
-        must(&rt, left.cert.device.held().is_empty());
-    }
+    certifies_nothing(&rt, alloc, "KX", 100, no_card, b"");
+    certifies_nothing(&rt, alloc, DEAL_ONE, 1, Ok(2), b"gave up 1\n");
+}
+
+// Where a certificate isn't written whole, nothing of the answer is; where the answer isn't, its certificate is whole.
+#[test]
+fn sinks_that_fail_are_told(rt: HostRuntime) {
     for count in 0..ONE_KING_BYTES.len() {
         let left = solved(&rt, rt.alloc(), ONE_KING, 100, (count as u32, 1000));
         must(&rt, left.result == Err(ProgramFault::Write(Output::Cert)));

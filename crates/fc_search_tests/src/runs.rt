@@ -1,10 +1,9 @@
-//! Runs of solving and dealing over devices that fail, and the run of solving that reads its board too, which the program
-//! doesn't have.
+//! The run of solving that reads its board too, which the program doesn't have, over devices that fail.
 
 use crate::given::{free_cell, must};
 use fc_io::testing::Failing;
 use fc_io::{FromReader, FromSlice, ToArray};
-use fc_runs::{Input, Output, ProgramFault, read_position, run_deal, run_solve};
+use fc_runs::{Input, Output, ProgramFault, read_position, run_solve};
 use fc_tests::boards::{LOCKED, ONE_KING, QUEEN_UNDER_KING};
 use fc_text::BoardFault;
 use std::alloc::Global;
@@ -81,12 +80,4 @@ fn stops_a_reader_that_never_ends(rt: HostRuntime) {
     let mut source = FromReader::new(io::repeat(b' '));
     let told = read_position(&mut source, 4).err();
     must(&rt, told == Some(ProgramFault::Board(BoardFault::TooLong)));
-}
-
-#[test]
-fn a_deal_is_cut_where_the_sink_is_full(rt: HostRuntime) {
-    let mut short = ToArray::<10>::new();
-    let result = run_deal(1, &mut short);
-    must(&rt, result == Err(ProgramFault::Write(Output::Answer)));
-    must(&rt, short.held() == b"JD KD 2S 4".as_slice());
 }

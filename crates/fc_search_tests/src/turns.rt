@@ -1,12 +1,16 @@
-//! Searches that are taken turn by turn.
+//! Searches that are taken turn by turn, with each of the queues, one of the tests' own among them.
 
-use crate::given::{board, free_cell, must, sure};
+use crate::given::{board, expanded, free_cell, method, must, sure};
+use crate::shown::check_wins;
 use fc_answer_text::outcome_of;
 use fc_answers::Outcome;
-use fc_frontier::{BucketFrontier, Frontier, ListFrontier};
+use fc_frontier::{BucketFrontier, EitherFrontier, Frontier, ListFrontier};
 use fc_moves::FreeCell;
-use fc_search::{Search, SearchFault, Step};
-use fc_tests::boards::TWO_KINGS;
+use fc_search::{
+    BoundKind, Expansion, Method, Question, Search, SearchFault, Step, Verdict, Weight,
+};
+use fc_tests::boards::{CLASSES_495, FREE_KING, LOCKED, ONE_COLUMN, THREE_KINGS, TWO_KINGS};
+use fc_tests::queues::OldestFirst;
 use std::alloc::Global;
 use std::process::Abort;
 
@@ -16,9 +20,15 @@ fn check_unanswered<F: Frontier + Drop>(rt: &impl Abort, search: &Search<F, Free
     must(rt, fault == Some(SearchFault::NotDone));
 }
 
-// Takes turns until the search is done, and no answer comes before; how many of them answered `Running`.
-fn take_turns<F: Frontier + Drop>(rt: &impl Abort, search: &mut Search<F, FreeCell>) -> u32 {
-    for turn in 0..1000u32 {
+// Takes turns until the search is done, and no answer comes before, nor a greater floor than this; how many of them answered
+// `Running`.
+fn take_turns<F: Frontier + Drop>(
+    rt: &impl Abort,
+    search: &mut Search<F, FreeCell>,
+    most: u32,
+) -> u32 {
+    for turn in 0..100_000u32 {
+        must(rt, search.at_least() <= most);
         if is_done(rt, search) {
             return turn;
         }
@@ -32,21 +42,173 @@ fn is_done<F: Frontier + Drop>(rt: &impl Abort, search: &mut Search<F, FreeCell>
     sure(rt, search.turn()) == Step::Done
 }
 
-// A search of four cards answers `Running` twice or more, and once it is done stays so.
-fn four_cards_by_turns<F: Frontier + Drop>(rt: &impl Abort, alloc: Global) {
+// In tenths.
+const WEIGHTS: [u8; 5] = [10, 13, 20, 30, 100];
+
+// A board of FreeCell with four cells, the moves of a shortest list, if any wins, a home rule, and a bound; and what a search says
+// before its first turn by each of the weights: the home moves at its beginning, weighed, over how often a bound counts, rounded
+// up, and the bound of the board after them; and how many turns answer `Running` at least.
+struct Known {
+    text: &'static str,
+    shortest: Option<u32>,
+    rule: u8,
+    bound: BoundKind,
+    least: [u32; 5],
+    turns: u32,
+}
+
+static KNOWN: [Known; 9] = [
+    Known {
+        text: TWO_KINGS,
+        shortest: Some(5),
+        rule: 0,
+        bound: BoundKind::Plain,
+        least: [4, 4, 4, 4, 4],
+        turns: 2,
+    },
+    Known {
+        text: TWO_KINGS,
+        shortest: Some(5),
+        rule: 1,
+        bound: BoundKind::Plain,
+        least: [4, 4, 4, 4, 4],
+        turns: 2,
+    },
+    Known {
+        text: TWO_KINGS,
+        shortest: Some(5),
+        rule: 1,
+        bound: BoundKind::Clearing,
+        least: [5, 5, 5, 5, 5],
+        turns: 0,
+    },
+    Known {
+        text: FREE_KING,
+        shortest: Some(3),
+        rule: 1,
+        bound: BoundKind::Plain,
+        least: [3, 3, 3, 3, 3],
+        turns: 0,
+    },
+    // All three cards go home at once.
+    Known {
+        text: FREE_KING,
+        shortest: Some(3),
+        rule: 2,
+        bound: BoundKind::Clearing,
+        least: [3, 3, 2, 1, 1],
+        turns: 0,
+    },
+    // Two kings go home at once, and a king is left above her queen.
+    Known {
+        text: THREE_KINGS,
+        shortest: Some(5),
+        rule: 2,
+        bound: BoundKind::Plain,
+        least: [5, 5, 4, 4, 4],
+        turns: 0,
+    },
+    Known {
+        text: ONE_COLUMN,
+        shortest: Some(52),
+        rule: 0,
+        bound: BoundKind::Plain,
+        least: [52, 52, 52, 52, 52],
+        turns: 0,
+    },
+    Known {
+        text: LOCKED,
+        shortest: None,
+        rule: 1,
+        bound: BoundKind::Clearing,
+        least: [36, 36, 36, 36, 36],
+        turns: 0,
+    },
+    Known {
+        text: CLASSES_495,
+        shortest: None,
+        rule: 1,
+        bound: BoundKind::Plain,
+        least: [84, 84, 84, 84, 84],
+        turns: 0,
+    },
+];
+
+// Whether an outcome by a weight is right where a shortest list has so many moves: it is told as a shortest one by weight 1 alone.
+fn is_within(told: Outcome, weight: Weight, shortest: u32) -> bool {
+    match told {
+        Outcome::Shortest(moves) => weight == Weight::ONE && moves == shortest,
+        Outcome::Won { moves, floor } => {
+            let weighed = moves.saturating_mul(u32::from(weight.parts()));
+            let most = shortest.saturating_mul(u32::from(weight.times()));
+            weight != Weight::ONE && floor <= shortest && shortest <= moves && weighed <= most
+        }
+        _ => false,
+    }
+}
+
+// What a search tells at its end is right of a board.
+fn check_told(rt: &impl Abort, told: Outcome, weight: Weight, known: &Known) {
+    match known.shortest {
+        Some(moves) => must(rt, is_within(told, weight, moves)),
+        None => must(rt, told == Outcome::CannotWin),
+    }
+}
+
+// The list of a verdict, if there is one, wins.
+fn check_list(rt: &impl Abort, verdict: &Verdict, known: &Known) {
     let game = free_cell(rt, 4);
-    let start = board(rt, &game, TWO_KINGS);
-    let mut search: Search<F, FreeCell> = sure(rt, Search::new(alloc, &game, 1, &start, 100));
-    let turns = take_turns(rt, &mut search);
-    must(rt, turns > 1);
-    let verdict = sure(rt, search.verdict());
-    must(rt, outcome_of(&verdict) == Outcome::Shortest(5));
-    must(rt, search.turn() == Ok(Step::Done));
+    let start = board(rt, &game, known.text);
+    match verdict {
+        Verdict::Shortest(list) => check_wins(rt, &game, &start, list),
+        Verdict::Won { moves, .. } => check_wins(rt, &game, &start, moves),
+        _ => {}
+    }
+}
+
+// A search of a board by a method says so much before its first turn, never more than a shortest list has moves, and as much as it
+// has where it tells one; once it is done it stays so.
+fn check_search<F: Frontier + Drop>(
+    rt: &impl Abort,
+    alloc: Global,
+    method: Method,
+    known: &Known,
+    least: u32,
+) {
+    let game = free_cell(rt, 4);
+    let start = board(rt, &game, known.text);
+    let question = Question::new(&game, method);
+    let weight = question.method().strategy.weight;
+    let mut search: Search<F, FreeCell> = sure(rt, Search::new_by(alloc, &question, &start));
+    must(rt, search.at_least() == least);
+    let turns = take_turns(rt, &mut search, known.shortest.unwrap_or(u32::MAX));
+    must(rt, turns >= known.turns && search.turn() == Ok(Step::Done));
     must(rt, search.run() == Ok(()));
+    let verdict = sure(rt, search.verdict());
+    check_told(rt, outcome_of(&verdict), weight, known);
+    check_list(rt, &verdict, known);
+    if let Verdict::Shortest(list) = &verdict {
+        must(rt, search.at_least() as usize == list.len());
+    }
+}
+
+// Searches of a board by each weight and either expansion.
+fn check_known<F: Frontier + Drop>(rt: &impl Abort, alloc: Global, known: &Known) {
+    for i in 0..WEIGHTS.len() {
+        let full = method(rt, known.rule, WEIGHTS[i], known.bound, 10_000);
+        check_search::<F>(rt, alloc, full, known, known.least[i]);
+        let full = method(rt, known.rule, WEIGHTS[i], known.bound, 10_000);
+        let partial = expanded(full, Expansion::Partial);
+        check_search::<F>(rt, alloc, partial, known, known.least[i]);
+    }
 }
 
 #[test]
-fn turn_by_turn(rt: HostRuntime) {
-    four_cards_by_turns::<ListFrontier>(&rt, rt.alloc());
-    four_cards_by_turns::<BucketFrontier>(&rt, rt.alloc());
+fn known_boards_with_each_queue(rt: HostRuntime) {
+    for known in &KNOWN {
+        check_known::<ListFrontier>(&rt, rt.alloc(), known);
+        check_known::<OldestFirst>(&rt, rt.alloc(), known);
+        check_known::<BucketFrontier>(&rt, rt.alloc(), known);
+        check_known::<EitherFrontier>(&rt, rt.alloc(), known);
+    }
 }

@@ -1,4 +1,4 @@
-//! What the tests share: boards and games.
+//! What the tests share: boards.
 
 /// Every card is home.
 pub const ALL_HOME: &str = "Foundations: H-K C-K D-K S-K\n";
@@ -107,11 +107,3 @@ pub const DEAL_ONE: &str = "\
     7H QC AS AC 2C 3D\n\
     7C KH AH 4D JH 8C\n\
     5H 3H 3C 7S 7D TC\n";
-
-/// A game and its number of cells: FreeCell, Baker's Game, or FreeCell with kings alone on empty columns.
-#[derive(Clone, Copy)]
-pub enum Rules {
-    FreeCell(u8),
-    Bakers(u8),
-    Kings(u8),
-}

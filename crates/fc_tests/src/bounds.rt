@@ -1,37 +1,13 @@
-//! The lower bound, and cards above lower ones of their suit.
+//! Cards above lower ones of their suit, and how the lower bounds lie. What they are is asked of the program, of known boards by
+//! `tests/rows/bounds-of-boards.tsv` and of random ones by `tests/plain.py`.
 
-use crate::boards::{DEAL_ONE, ONE_COLUMN, THIRTY_MOVES, TWO_KINGS};
-use crate::given::{board, must};
-use fc_bound::{bound, is_held_back};
+use crate::boards::{DEAL_ONE, THIRTY_MOVES};
+use crate::given::{bakers_game, board, free_cell, make, must};
+use fc_bound::{BoundKind, bound, clearing_bound, is_held_back, knot_bound};
 use fc_cards::Place;
+use fc_moves::{Game, Kings, moves};
+use fc_position::Position;
 use std::process::Abort;
-
-// The bound of a board.
-fn check_bound(rt: &impl Abort, text: &str, least: u8) {
-    must(rt, bound(&board(rt, text)) == least);
-}
-
-#[test]
-fn all_cards_in_one_column_that_goes_home_from_its_end(rt: HostRuntime) {
-    check_bound(&rt, ONE_COLUMN, 52);
-}
-
-#[test]
-fn boards_worked_out_by_hand(rt: HostRuntime) {
-    let cases = [
-        // Both spades are not home, and the king stands above the queen.
-        ("Foundations: H-K C-K D-K S-J\nQS KS\n", 3),
-        // No king stands above a queen of its own suit.
-        (TWO_KINGS, 4),
-        // Four cards are not home, and the king of spades stands above its queen.
-        ("Foundations: H-Q C-K D-Q S-J\nQS KS\nKD KH\n", 5),
-        ("Foundations: H-K C-K D-K S-K\n", 0),
-        ("Foundations: H-K C-K D-K S-Q\nFreecells: KS\n", 1),
-    ];
-    for (text, least) in cases {
-        check_bound(&rt, text, least);
-    }
-}
 
 // The king of spades stands above its queen; the king of clubs, the queen of diamonds and the queen of clubs in the cell
 // don't.
@@ -53,18 +29,58 @@ fn cards_above_lower_ones_of_their_suit(rt: HostRuntime) {
         (Place::Cell(0), false),
         (Place::Home, false),
     ];
-    for (place, held) in places {
+    for &(place, held) in &places {
         must(&rt, is_held_back(&position, place) == held);
     }
 }
 
-#[test]
-fn six_cards_above_lower_ones(rt: HostRuntime) {
-    check_bound(&rt, THIRTY_MOVES, 30);
+// Asked for no further than a number, a bound that is at most the number is told, and else one that is more than it and no more
+// than the bound.
+fn check_within(rt: &impl Abort, kind: BoundKind, whole: u8, position: &Position) {
+    for most in 0..=104u8 {
+        let told = kind.guide_within(position, most);
+        must(rt, told <= whole);
+        must(rt, told == whole || told > most);
+    }
 }
 
-// Another program counted twelve cards above lower ones.
+// The knot bound lies between the others.
+fn check_bounds(rt: &impl Abort, position: &Position) {
+    let (plain, knots) = (bound(position), knot_bound(position));
+    must(rt, plain <= knots && knots <= clearing_bound(position));
+    check_within(rt, BoundKind::Plain, plain, position);
+    check_within(rt, BoundKind::Clearing, knots, position);
+}
+
+// The bounds of so many boards, each reached from the one before by a move that is drawn: by the numbers of the generator of C's
+// older libraries.
+fn check_on_the_way<G: Game>(rt: &impl Abort, game: &G, text: &str, seed: u32) {
+    let mut position = board(rt, text);
+    let mut state = seed;
+    for _ in 0..60u32 {
+        check_bounds(rt, &position);
+        let list = moves(game, &position);
+        state = state.wrapping_mul(1_103_515_245).wrapping_add(12_345);
+        let count = list.len().max(1);
+        if let Some(m) = list.get((state >> 16) as usize % count) {
+            make(rt, game, &mut position, *m);
+        }
+    }
+}
+
+// Twelve cards in three columns.
+const TWELVE: &str = "\
+    Foundations: H-T C-T D-T S-T\n\
+    KC JD QC QH\n\
+    JS KD JH QS\n\
+    JC KH QD KS\n";
+
 #[test]
-fn a_deal(rt: HostRuntime) {
-    check_bound(&rt, DEAL_ONE, 64);
+fn bounds_on_random_ways(rt: HostRuntime) {
+    for &text in &[DEAL_ONE, THIRTY_MOVES, TWELVE] {
+        check_on_the_way(&rt, &free_cell(&rt, 4), text, 800);
+        check_on_the_way(&rt, &bakers_game(&rt, 4), text, 900);
+        check_on_the_way(&rt, &Kings::new(free_cell(&rt, 4)), text, 1000);
+        check_on_the_way(&rt, &Kings::new(bakers_game(&rt, 4)), text, 1100);
+    }
 }
