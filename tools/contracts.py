@@ -2,8 +2,9 @@
 """Writes docs/CONTRACTS.md: what each public call promises, quoted from the sources.
 
 usage, at the top of the repository:  contracts.py            writes the page
-                                      contracts.py --check    says where it is stale, and which definitions stand on the wrong
-                                                              side; the last line is 'N passed, M failed'
+                                      contracts.py --check    says where it is stale, which definitions stand on the wrong side,
+                                                              and what the tour quotes and no source says; the last line is
+                                                              'N passed, M failed'
 
 A public call stands with the first sentence of its doc comment and with its clauses. The contract of a law is a definition's
 name, so the definition stands in its place.
@@ -18,6 +19,7 @@ import sys
 from dataclasses import dataclass, field
 
 PAGE = "docs/CONTRACTS.md"
+TOUR = "docs/TOUR.md"
 OPENING = """# What each public call promises
 
 Written by `tools/contracts.py` from the sources, crate by crate, lowest first; `./test` says where it is stale. Each call has the first sentence of its doc comment and its clauses as the prover reads them: `requires` is the caller's to show, `ensures` is proved. A law is the contract of a call that does nothing: here stands what it states. The words are those of `specs/` in the same crate or in one below. [PROVED.md](PROVED.md) says the same for readers.
@@ -254,13 +256,27 @@ def misplaced(sources, definitions):
                 yield f"{it.path}: {it.name} {'is spoken of by a public promise' if is_inner else 'belongs in specs/inner/'}"
 
 
+def plain_lines(text):
+    """The lines of a text, without what only lays them out."""
+    return [" ".join(it.split()) for it in text.rstrip("\n").split("\n")]
+
+
+def misquoted():
+    """What the tour quotes in its blocks that stands nowhere in the sources, line after line."""
+    sources = [f"\n{chr(10).join(plain_lines(text_of(it)))}\n" for it in files_below("crates", (".antt", ".rt"))]
+    for block in re.findall(r"(?ms)^```\w*\n(.*?)^```$", text_of(TOUR)):
+        lines = plain_lines(block)
+        if not any(f"\n{chr(10).join(lines)}\n" in it for it in sources):
+            yield f"{TOUR} quotes what no source says: {lines[0]}"
+
+
 def main(how):
     crates = crates_in_order()
     sources = {it: list(sources_of(it)) for it in crates}
     definitions = {it: definitions_of(it) for it in crates}
     text = page(sources, definitions)
     if how == ["--check"]:
-        wrong = list(misplaced(sources, definitions))
+        wrong = [*misplaced(sources, definitions), *misquoted()]
         if not os.path.exists(PAGE) or text_of(PAGE) != text:
             wrong.append(f"{PAGE} is stale: run tools/contracts.py")
         print("\n".join([*wrong, f"{int(not wrong)} passed, {len(wrong)} failed"]))
