@@ -45,17 +45,6 @@ lost_shown s (ends.Won number) done none still free = absurd none
 lost_shown s (ends.GaveUp y number) done none still free = absurd (still y number refl)
 lost_shown s ends.CannotWin done none still free = sym free
 
--- where that none wins is shown, nothing else is
-shown_none : (s : State) (status : Status (List ℕ)) (floor : Option ℕ) → HasShownBy s status None → HasShownBy s status floor → floor ≡ None
-shown_none s ends.CannotWin floor none is = is ∙ sym none
-shown_none s (ends.Won number) floor (n, same, at) is = absurd (cc)
-shown_none s (ends.GaveUp y number) floor (n, same, at) is = absurd (cc)
-shown_none s ends.Running floor (n, same, at, below) is = absurd (cc)
-shown_none s ends.Stopped floor (n, same, at, below) is = absurd (cc)
-
-pub no_floor : (s : State) (floor : Option ℕ) → HasShown s None → HasShown s floor → floor ≡ None
-no_floor s floor none is = shown_none s s.status floor none is
-
 -- what is shown of a problem is so of its question, and its table is one of the question
 table_so : (q : Asked) (b : Board) (limit shown : Option ℕ) (table : Option Listing)
     → IfSome table (BacksShown (problem_below q b limit) shown)
@@ -121,6 +110,7 @@ attempted q b limit s list shown stored given_up ajar same ran done found told l
     over = record { ran = subst (λ x. HasRun x s.store s.status) (sym same) ran; done = done };
   };
   by_kind = ap (λ x. x.method.bound) same;
+  limited = ap (λ x. x.limit) same;
   list = subst (λ (x : Problem). IfSome list (IsFoundIn x.game x.start s)) same (found_in s list found);
   shown = shown_in q b limit s shown same told;
   bound = by_itself q.method.bound shown;
@@ -197,6 +187,7 @@ looked_attempt q b weight share kind one shown same left is = record {
   ended = is.ended;
   asked = record { game = is.asked.game; start = is.asked.start; rule = is.asked.rule; bound = inr is.by_kind; over = is.asked.over };
   by_kind = is.by_kind;
+  limited = is.limited;
   list = is.list;
   shown = subst (λ o. IfSome o (IsShownIn (with_share q weight share) b is.ended)) (sym left) (looked_shown q b weight share kind is.ended one.shown same is.shown);
   bound = subst (λ o. IfSome o (λ (end : Shown). IfSome end.floor (λ floor. Plain ≡ q.method.bound))) (sym left) (unfloored (λ floor. Plain ≡ q.method.bound) kind one.shown);

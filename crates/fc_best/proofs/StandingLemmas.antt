@@ -82,12 +82,6 @@ newest_shown q kind b weight share ended searches (Some end) old by is bound was
 newest_shown q kind b weight share ended searches None (Some end) by is bound was = (was.0, shown_after q ended searches end.floor was.1)
 newest_shown q kind b weight share ended searches None None by is bound was = tt
 
--- one of the two is there, where one is
-pub newest_some : {X : Type 0} (new old : Option X) → (old ≡ None → IsSome new) → IsSome (newest new old)
-newest_some (Some x) old some = refl
-newest_some None (Some x) some = refl
-newest_some None None some = absurd (cc (some refl))
-
 -- what holds of both holds of the newest
 newest_both : {X : Type 0} (P : X → Type 0) (new old : Option X) → IfSome new P → IfSome old P → IfSome (newest new old) P
 newest_both P (Some x) old is was = is

@@ -72,12 +72,13 @@ pub record IsShownAt (s : State) (end : Shown) : Type 0 where
   pub backs : IfSome end.table (BacksShown s.problem end.floor)
   pub searched : IfSome end.table (λ t. (t.rule ≡ s.problem.method.rule) × (t.bound ≡ s.problem.method.bound))
 
--- what a search of the question by this kind of bound from the board, perhaps below a limit, has found and shown is so; a floor is
--- by the question's bound; and where it neither found a list nor gave up nor had a limit, it shows that none wins
+-- what a search of the question by this kind of bound from the board, below this limit if there is one, has found and shown is so; a
+-- floor is by the question's bound; and where it neither found a list nor gave up nor had a limit, it shows that none wins
 pub record IsAttempt (q : Asked) (kind : BoundKind) (b : Board) (limit : Option ℕ) (attempt : Attempt) : Type 0 where
   pub ended : State
   pub asked : IsOfQuestion q b ended
   pub by_kind : ended.problem.method.bound ≡ kind
+  pub limited : ended.problem.limit ≡ limit
   pub list : IfSome attempt.list (IsFoundIn q.game b ended)
   pub shown : IfSome attempt.shown (IsShownIn q b ended)
   pub bound : IfSome attempt.shown (λ end. IfSome end.floor (λ floor. kind ≡ q.method.bound))
