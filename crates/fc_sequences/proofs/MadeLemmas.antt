@@ -1,6 +1,6 @@
 -- A move of one card to a column or a cell, made on all boards of a layer.
-use Rattle.std.proofs.Common.{arith, ◌≡◌, ◌≢◌, ◌↔◌, ℕ, ◌+◌, ◌<◌, ◌≤◌, List, length, Some, refl, sym, ◌∙◌, ap, subst, ⊎_elim}
-use Rattle.std.specs.Prelude.{slice_get, slice_set, get_or, All, Contains}
+use Rattle.std.proofs.Common.{arith, ◌≡◌, ◌≢◌, ℕ, ◌+◌, ◌<◌, ◌≤◌, List, length, Some, refl, sym, ◌∙◌, ap, subst, ⊎_elim}
+use Rattle.std.specs.Prelude.{slice_get, slice_set, get_or, All}
 use Rattle.std.proofs.lemmas.Bool.{cases_lt}
 use Rattle.std.proofs.lemmas.List.{length-set}
 use Rattle.std.proofs.lemmas.List.Elements.{All-get_or}
@@ -17,10 +17,6 @@ use Rattle.fc_sequences.specs.declared.pairs.Pair.{Pair}
 use Rattle.fc_sequences.specs.inner.Layers.{AreStepped, IsLayer, IsNext, IsSingle}
 use Rattle.fc_sequences.proofs.GetLemmas.{get_set_same, get_set_other}
 use Rattle.fc_sequences.proofs.GrowLemmas.{contains_at}
-
--- before the first board
-pub stepped_first : (g : GameRules) (m : Move) (boards : List Board) → AreStepped g m boards boards 0
-stepped_first g m boards = record { long = refl; made = λ i b c below from to. absurd (omega arith); kept = λ i past. refl }
 
 -- the board of a place is as it was
 still_there : (g : GameRules) (m : Move) (before boards : List Board) (place : ℕ) (b : Board) → AreStepped g m before boards place → place < length boards
