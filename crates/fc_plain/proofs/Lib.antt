@@ -5,6 +5,7 @@ pub mod LineLemmas
 pub mod MeaningLemmas
 pub mod NumberLemmas
 pub mod OrderLemmas
+pub mod PlainBytes
 pub mod PlainLemmas
 pub mod ReadLemmas
 pub mod SaidLemmas

@@ -38,7 +38,7 @@ sorted_cells rest cells none found =
     ap (λ o. sorted_line o (after_name cell_names rest) rest) none ∙ ap (λ o. sorted_line None o rest) found
 
 -- a line is its front and a piece that stays
-line_stays : (line piece new : List ℕ) (ends : EndsWith line piece) → new ≡ piece → ends.front ++ new ≡ line
+pub line_stays : (line piece new : List ℕ) (ends : EndsWith line piece) → new ≡ piece → ends.front ++ new ≡ line
 line_stays line piece new ends same = ap (λ t. ends.front ++ t) same ∙ sym ends.parts
 
 -- a piece begins with a label, or is read behind its colon
@@ -104,7 +104,7 @@ label_kept before line found is clean =
 abbrev pub Kept : List ℕ → Type 0
 Kept part = respelled_line part ≡ part
 
-kept_line : (part : List ℕ) → line_spelling (without_return part) ≡ without_return part → Kept part
+pub kept_line : (part : List ℕ) → line_spelling (without_return part) ≡ without_return part → Kept part
 kept_line part same = ap (λ t. t ++ drop (length (without_return part)) part) same ∙ return_parts part
 
 kept_part : (before : ℕ) (part : List ℕ) → IsClean (line_of (without_return (told_line before part))) → Kept part
@@ -146,7 +146,7 @@ module _ (K : List ℕ → Type 0) (keeps : (before : ℕ) (part : List ℕ) →
       (subst (All K) (parts-split is_line_end text) (text_keeps cells text b spells))
 
 -- pieces that stay are the text again
-pieces_stay : (pieces : List (List ℕ)) → All Kept pieces → map respelled_line pieces ≡ pieces
+pub pieces_stay : (pieces : List (List ℕ)) → All Kept pieces → map respelled_line pieces ≡ pieces
 pieces_stay [] all = refl
 pieces_stay (x ∷ xs) all =
     ap (λ l. l ∷ map respelled_line xs) (All-head Kept x xs all) ∙ ap (λ ls. x ∷ ls) (pieces_stay xs (All-tail Kept x xs all))

@@ -45,7 +45,7 @@ first_mark (b ∷ piece) low = low_mark b (All-head IsLow b piece low)
 abbrev pub SaysItself : List ℕ → Type 0
 SaysItself line = (is_comment line ≡ false) × (said_line line ≡ line)
 
-says_itself : (line : List ℕ) → All IsLow line → after_name more_cell_names (after_blanks line) ≡ None → SaysItself line
+pub says_itself : (line : List ℕ) → All IsLow line → after_name more_cell_names (after_blanks line) ≡ None → SaysItself line
 says_itself line low none =
     let body = before_comment line in
     let mark : is_comment line ≡ false = first_mark (after_blanks line) (All-drop IsLow _ line low) in (

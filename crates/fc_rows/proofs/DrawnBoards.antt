@@ -9,7 +9,6 @@ use Rattle.std.proofs.lemmas.List.FromFn.{fill_by_all}
 use Rattle.fc_cards.specs.Texts.{card_text}
 use Rattle.fc_position.specs.Board.{Board, home}
 use Rattle.fc_position.specs.Position.{Fits, IsPosition}
-use Rattle.fc_text.specs.Board.{Spells}
 use Rattle.fc_text.specs.Line.{lines_of}
 use Rattle.fc_text.specs.Printed.{board_text, cell_text, ended, entries_text, home_text}
 use Rattle.fc_text.proofs.PrintedLines.{spells_board}
@@ -17,7 +16,7 @@ use Rattle.fc_text.proofs.PrintedPieces.{AllAbove, AreLines, lines_of-lines}
 use Rattle.fc_text.proofs.PrintLemmas.{length-board_text}
 use Rattle.fc_show.specs.Drawing.{drawing, held_entry, height, row, rows, top_names, top_row, unmarked}
 use Rattle.fc_show.proofs.DrawingLemmas.{height_position}
-use Rattle.fc_rows.specs.Laws.{DrawingsAreBoards, DrawingsReadBack}
+use Rattle.fc_rows.specs.Laws.{DrawingsAreBoards}
 use Rattle.fc_rows.specs.Rows.{Told, cells_text, column_line, column_text, columns_text, entry_count, first_fault, front_text, head_text, kind_below, names_below, row_fault, rows_fault, short_after, told_below, told_lines, words_of}
 use Rattle.fc_rows.specs.declared.faults.RowFault.TheVariants.{BadHead}
 use Rattle.fc_rows.specs.declared.lines.LineKind.{LineKind}
@@ -28,10 +27,10 @@ use Rattle.fc_rows.proofs.DrawnWords.{AreHeld, places, row-is}
 use Rattle.fc_rows.proofs.FaultLemmas.{rows_sound}
 
 -- the lines of a drawing
-abbrev drawn_rows : List (List ℕ) → List ℕ → List (List ℕ)
+abbrev pub drawn_rows : List (List ℕ) → List ℕ → List (List ℕ)
 drawn_rows columns is = map (row (unmarked false) columns) is
 
-abbrev drawn_lines : ℕ → Board → List (List ℕ)
+abbrev pub drawn_lines : ℕ → Board → List (List ℕ)
 drawn_lines n b =
     top_names n ∷ top_row (unmarked false) n b ∷ [] ∷ numbers_line ∷ drawn_rows b.columns (range_with_len 0 (height b.columns))
 
@@ -40,7 +39,7 @@ rows-are : (columns : List (List ℕ)) (i count : ℕ)
 rows-are columns i zero = refl
 rows-are columns i (suc count) = ap (λ t. ended (row (unmarked false) columns i) ++ t) (rows-are columns (i + 1) count)
 
-drawing-is : (n : ℕ) (b : Board) → drawing (unmarked false) n b ≡ flat_map ended (drawn_lines n b)
+pub drawing-is : (n : ℕ) (b : Board) → drawing (unmarked false) n b ≡ flat_map ended (drawn_lines n b)
 drawing-is n b =
     let names = ended (top_names n) in
     let held = ended (top_row (unmarked false) n b) in
@@ -73,13 +72,13 @@ told-rows columns i (suc count) p within =
     ∙ ap (λ ls. told_row columns i ∷ ls) (told-rows columns (i + 1) count p (omega arith))
 
 -- the cards of a position that fits
-record Drawn (n : ℕ) (b : Board) : Type 0 where
-  few : n ≤ 4
-  position : IsPosition b
-  held : AreHeld (take n b.cells)
-  cards : AllCards b.columns
+pub record Drawn (n : ℕ) (b : Board) : Type 0 where
+  pub few : n ≤ 4
+  pub position : IsPosition b
+  pub held : AreHeld (take n b.cells)
+  pub cards : AllCards b.columns
 
-drawn : (n : ℕ) (b : Board) → n ≤ 4 → IsPosition b → Fits n b → Drawn n b
+pub drawn : (n : ℕ) (b : Board) → n ≤ 4 → IsPosition b → Fits n b → Drawn n b
 drawn n b few p fits =
     let spelled = (spells_board n b p fits few).spelled in
     record {
@@ -88,6 +87,10 @@ drawn n b few p fits =
       held = held-take n b.cells (held-from b.cells (λ i within. (_, spelled.cells i (omega (arith, p.cells)))));
       cards = all-cards b.columns (λ i within. cards-from _ _ (spelled.columns i (omega (arith, p.columns))));
     }
+
+pub drawn-above : (n : ℕ) (b : Board) → Drawn n b → AreLines (drawn_lines n b)
+drawn-above n b d =
+    (names-above n d.few, (top-above n b d.position d.held, (tt, (numbers-above, rows-lines b.columns (range_with_len 0 (height b.columns)) d.cards))))
 
 abbrev told_rows : Board → List Told
 told_rows b = map (told_row b.columns) (range_with_len 0 (height b.columns))
@@ -103,13 +106,11 @@ told-is n b d =
     let names = top_names n in
     let held = top_row (unmarked false) n b in
     let rows = drawn_rows b.columns (range_with_len 0 (height b.columns)) in
-    let lines : AreLines (drawn_lines n b) =
-    (names-above n d.few, (top-above n b p d.held, (tt, (numbers-above, rows-lines b.columns (range_with_len 0 (height b.columns)) d.cards)))) in
     let one : Told = record { kind = Names n; line = names } in
     let two : Told = record { kind = Held n; line = held } in
     let three : Told = record { kind = Blank; line = [] } in
     let four : Told = record { kind = Numbers; line = numbers_line } in
-    ap (told_below None) (ap lines_of (drawing-is n b) ∙ lines_of-lines (drawn_lines n b) lines)
+    ap (told_below None) (ap lines_of (drawing-is n b) ∙ lines_of-lines (drawn_lines n b) (drawn-above n b d))
     ∙ told-step None names (held ∷ [] ∷ numbers_line ∷ rows) (Names n) (names-kind n d.few)
     ∙ ap (λ ls. one ∷ ls) (told-step (Some n) held ([] ∷ numbers_line ∷ rows) (Held n) (top-kind n b d.few p d.held))
     ∙ ap (λ ls. one ∷ two ∷ ls) (told-step None [] (numbers_line ∷ rows) Blank refl)
@@ -236,6 +237,3 @@ sound-is n b d =
 
 pub drawings_are : DrawingsAreBoards
 drawings_are n b few p fits = let d = drawn n b few p fits in (sound-is n b d, text-is n b d)
-
-pub drawings_read : DrawingsReadBack
-drawings_read n b few p fits = subst (λ t. Spells n t b) (sym (text-is n b (drawn n b few p fits))) (spells_board n b p fits few)

@@ -25,7 +25,7 @@ use Rattle.fc_rows.proofs.DrawnWords.{AreHeld, Cards, above-both, entries-above,
 use Rattle.fc_rows.proofs.DrawnRows.{AllCards}
 
 -- what holds of none to four cells
-by_cells : (P : ℕ → Type 0) → P 0 → P 1 → P 2 → P 3 → P 4 → (n : ℕ) → n ≤ 4 → P n
+pub by_cells : (P : ℕ → Type 0) → P 0 → P 1 → P 2 → P 3 → P 4 → (n : ℕ) → n ≤ 4 → P n
 by_cells P a b c d e zero few = a
 by_cells P a b c d e (suc zero) few = b
 by_cells P a b c d e (suc (suc zero)) few = c
@@ -87,13 +87,13 @@ top-parts n b p held =
 pub top-above : (n : ℕ) (b : Board) → IsPosition b → AreHeld (take n b.cells) → AllAbove 31 (top_row (unmarked false) n b)
 top-above n b p held = subst (AllAbove 31) (sym (top-is n b)) (entries-above (top_parts n b) (top-parts n b p held))
 
-abbrev cell_words : ℕ → Board → List (List ℕ)
+abbrev pub cell_words : ℕ → Board → List (List ℕ)
 cell_words n b = map cell_text (take n b.cells)
 
-abbrev home_words : Board → List (List ℕ)
+abbrev pub home_words : Board → List (List ℕ)
 home_words b = map cell_text (tops b)
 
-top-words : (n : ℕ) (b : Board) → IsPosition b → AreHeld (take n b.cells)
+pub top-words : (n : ℕ) (b : Board) → IsPosition b → AreHeld (take n b.cells)
     → words_of (top_row (unmarked false) n b) ≡ cell_words n b ++ home_words b
 top-words n b p held =
     let rest = flat_map held_parts (tops b) in

@@ -28,7 +28,7 @@ AreHeld (None ∷ held) = AreHeld held
 AreHeld (Some c ∷ held) = (c < 52) × AreHeld held
 
 -- the letters of cards
-rank_of : (c : ℕ) → c < 52 → IsRank (rank c)
+pub rank_of : (c : ℕ) → c < 52 → IsRank (rank c)
 rank_of c below = record { least = omega arith; greatest = omega arith }
 
 rank_above : (r : ℕ) → IsRank r → 47 < rank_letter r

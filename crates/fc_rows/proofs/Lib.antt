@@ -1,6 +1,7 @@
 pub mod ByteLemmas
 pub mod DrawnBoards
 pub mod DrawnHeads
+pub mod DrawnPlain
 pub mod DrawnRows
 pub mod DrawnWords
 pub mod EntryLemmas

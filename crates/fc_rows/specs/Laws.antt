@@ -3,6 +3,7 @@ use Rattle.std.specs.Prelude.{◌≡◌, ℕ, ◌<◌, ◌≤◌, false, cond, N
 use Rattle.std.specs.List.{AllZip, flat_map}
 use Rattle.fc_position.specs.Board.{Board, column}
 use Rattle.fc_position.specs.Position.{Fits, IsPosition}
+use Rattle.fc_plain.specs.Plain.{plain}
 use Rattle.fc_show.specs.Drawing.{drawing, unmarked}
 use Rattle.fc_text.specs.Board.{Spells}
 use Rattle.fc_text.specs.Printed.{board_text}
@@ -31,6 +32,12 @@ abbrev pub DrawingsAreBoards : Type 0
 DrawingsAreBoards = (n : ℕ) (b : Board) → n ≤ 4 → IsPosition b → Fits n b
     → (rows_fault (drawing (unmarked false) n b) ≡ None) × (column_text (drawing (unmarked false) n b) ≡ board_text n b)
 
--- so the reader reads the position back
+-- the drawing of a position is plain already
+abbrev pub DrawingsArePlain : Type 0
+DrawingsArePlain = (n : ℕ) (b : Board) → n ≤ 4 → IsPosition b → Fits n b
+    → plain (drawing (unmarked false) n b) ≡ drawing (unmarked false) n b
+
+-- so the reader reads the position back from its drawing, made plain and put into columns
 abbrev pub DrawingsReadBack : Type 0
-DrawingsReadBack = (n : ℕ) (b : Board) → n ≤ 4 → IsPosition b → Fits n b → Spells n (column_text (drawing (unmarked false) n b)) b
+DrawingsReadBack = (n : ℕ) (b : Board) → n ≤ 4 → IsPosition b → Fits n b
+    → Spells n (column_text (plain (drawing (unmarked false) n b))) b

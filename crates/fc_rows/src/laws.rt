@@ -1,6 +1,6 @@
 //! Laws of the definitions, each the contract of a function that does nothing.
 
-ghost use Rattle.fc_rows.specs.Laws.{DrawingsAreBoards, DrawingsReadBack, EntriesAreColumns};
+ghost use Rattle.fc_rows.specs.Laws.{DrawingsAreBoards, DrawingsArePlain, DrawingsReadBack, EntriesAreColumns};
 
 /// Where the text in columns spells a position, the entries of the rows for a column, the deepest first, spell its cards.
 pub fn entries_are_columns()
@@ -13,7 +13,12 @@ pub fn drawings_are_boards()
     ensures { DrawingsAreBoards }
 {}
 
-/// The reader reads the position back from its drawing's text in columns.
+/// The drawing of a position in a game with at most four cells, without colours, is plain already.
+pub fn drawings_are_plain()
+    ensures { DrawingsArePlain }
+{}
+
+/// The reader reads the position back from its drawing, made plain and put into columns.
 pub fn drawings_read_back()
     ensures { DrawingsReadBack }
 {}

@@ -1,4 +1,4 @@
-use Rattle.fc_rows.proofs.DrawnBoards.{drawings_read}
+use Rattle.fc_rows.proofs.DrawnPlain.{drawings_read}
 use Rattle.fc_rows.proofs.laws.drawings_read_back.Goals as goal
 
 pub returns : goal.returns
