@@ -9,7 +9,7 @@ ghost use Rattle.fc_best.specs.Watch.{HearsTold, HearsToEnd};
 ghost use Rattle.fc_best.specs.inner.Watch.{HearsOn, HearsSome};
 
 use crate::listeners::BestListener;
-use crate::stages::{Stage, stages_within};
+use crate::stages::{Stage, stages};
 use crate::standings::Standing;
 use fc_answers::Answer;
 use fc_methods::Question;
@@ -68,8 +68,8 @@ fn after_stages<G: Game + Drop, L: BestListener>(
     ensures cut { IfErr result (λ refused. HearsSome L.hears question.now position.now standing.far listener.old listener.new) }
 {
     let mut after = standing;
-    for stage in stages_within(question.method().strategy.budget.get()) {
-        after = after_stage(alloc, question, position, after, *stage, listener)?;
+    for stage in stages() {
+        after = after_stage(alloc, question, position, after, stage.stage(), listener)?;
     }
     Ok(after)
 }

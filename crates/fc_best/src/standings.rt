@@ -63,7 +63,8 @@ impl Standing {
         }
     }
 
-    // After a search of this stage, unless the question is settled, nothing of its purpose is left, or all that is left is kept.
+    // After a search of this stage, unless it is none within the budget, the question is settled, nothing of its purpose is left, or all
+    // that is left is kept.
     pub(crate) fn weighed<G: Game + Drop, L: BestListener>(
         self,
         alloc: Global,
@@ -81,8 +82,9 @@ impl Standing {
         ensures heard { IfOk result (λ standing. HearsOn L.hears question.now position.now self.far standing.far listener.old listener.new) }
         ensures cut { IfErr result (λ refused. HearsSome L.hears question.now position.now self.far listener.old listener.new) }
     {
-        let share = self.share(question.method().strategy.budget, stage.most, stage.kept);
-        if self.is_settled() || !self.wants(stage.purpose) {
+        let whole = question.method().strategy.budget;
+        let share = self.share(whole, stage.most, stage.kept);
+        if self.is_settled() || !self.wants(stage, whole) {
             return Ok(self);
         }
         let Some(budget) = Budget::new(share) else {
@@ -93,8 +95,8 @@ impl Standing {
             budget,
         };
         match stage.purpose {
-            Purpose::Look { .. } => self.looked(alloc, question, position, plan, listener),
-            Purpose::Rescue | Purpose::Shorten { .. } => self.searched(
+            Purpose::Look(..) => self.looked(alloc, question, position, plan, listener),
+            Purpose::Rescue | Purpose::Shorten(_) => self.searched(
                 alloc, question, position, plan, listener,
             ),
         }
@@ -111,17 +113,19 @@ impl Standing {
         }
     }
 
+    // Whether a stage is one within this budget, and something is left of its purpose.
+    fn wants(&self, stage: Stage, budget: Budget) -> bool {
+        stage.is_within(budget.get()) && self.is_open(stage.purpose)
+    }
+
     // Whether something is left of a purpose.
-    fn wants(&self, purpose: Purpose) -> bool {
+    fn is_open(&self, purpose: Purpose) -> bool {
         match purpose {
-            Purpose::Look {
-                least_open,
-                most_open,
-            } => self.list.is_none()
-                && least_open <= self.open_share
-                && self.open_share <= most_open,
+            Purpose::Look(least, most) => {
+                self.list.is_none() && least <= self.open_share && self.open_share <= most
+            }
             Purpose::Rescue => self.list.is_none(),
-            Purpose::Shorten { above } => self.is_above(above),
+            Purpose::Shorten(above) => self.is_above(above),
         }
     }
 
