@@ -6,7 +6,7 @@
 
 #include "luffaknife.h"
 
-enum { TEXT_ROOM = 65536, BUDGET = 100000, CERTIFICATE_ROOM = 72 * BUDGET + 10000 };
+enum { TEXT_ROOM = 65536, BUDGET = 500000, CERTIFICATE_ROOM = 72 * BUDGET + 10000 };
 
 static const struct luffaknife_game FREE_CELL = {0, 4};
 

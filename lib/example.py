@@ -58,7 +58,7 @@ class Luffaknife:
 def main(path, number):
     luffaknife, free_cell = Luffaknife(path), Game(0, 4)
     board = luffaknife.deal(number)
-    text, certificate = luffaknife.best_certified(free_cell, 100_000, board)
+    text, certificate = luffaknife.best_certified(free_cell, 500_000, board)
     print(text.decode(), end="")
     print(luffaknife.check(free_cell, board, certificate).decode(), end="")
     print(luffaknife.replay(free_cell, board, text.split(b"\n")[1]).decode().split("\n")[0])

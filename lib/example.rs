@@ -51,6 +51,6 @@ fn best(game: Game, budget: u32, board: &str) -> Result<String, (u32, u32)> {
 fn main() {
     let number = std::env::args().nth(1).and_then(|word| word.parse().ok()).unwrap_or(941);
     let board = deal(number).expect("a deal");
-    print!("{board}{}", best(FREE_CELL, 100_000, &board).expect("an answer"));
-    println!("{:?} {:?}", deal(0), best(FREE_CELL, 100_000, "AC AC"));
+    print!("{board}{}", best(FREE_CELL, 500_000, &board).expect("an answer"));
+    println!("{:?} {:?}", deal(0), best(FREE_CELL, 500_000, "AC AC"));
 }

@@ -9,22 +9,36 @@ use fc_methods::{Method, Question};
 use fc_moves::Game;
 use fc_runs::{ProgramFault, Sought, run_batch, run_batch_by, run_best_batch, table_deals};
 use fc_words::{BatchBoards, BatchForm, BatchSearch, BatchWords};
+use std::io::IsTerminal;
 
 impl InGame for BatchWords<'_> {
     fn perform<G: Game + Drop>(&self, rt: &HostRuntime, game: &G) -> Result<u8, Ending> {
-        match (&self.boards, self.form) {
-            (BatchBoards::Deals { from, to }, BatchForm::Lines) => {
-                write_lines(rt, game, &self.search, *from, *to)
-            }
-            (BatchBoards::Deals { from, to }, _) => {
-                // (a fault of the numbers is told before the budget's)
-                if let Err(fault) = table_deals(*from, *to) {
-                    return Err(untabled(rt, fault, *from, *to));
-                }
-                write_table(rt, game, self)
-            }
-            _ => write_table(rt, game, self),
+        let status = write_answers(rt, game, self)?;
+        if let (2, BatchSearch::By(_), true) = (status, self.search, rt.stderr().is_terminal()) {
+            let _told = eprintln!(rt; "fc_solve: gave up: try --best");
         }
+        Ok(status)
+    }
+}
+
+// What is told of each board, in the form that is asked for.
+fn write_answers<G: Game + Drop>(
+    rt: &HostRuntime,
+    game: &G,
+    words: &BatchWords<'_>,
+) -> Result<u8, Ending> {
+    match (&words.boards, words.form) {
+        (BatchBoards::Deals { from, to }, BatchForm::Lines) => {
+            write_lines(rt, game, &words.search, *from, *to)
+        }
+        (BatchBoards::Deals { from, to }, _) => {
+            // (a fault of the numbers is told before the budget's)
+            if let Err(fault) = table_deals(*from, *to) {
+                return Err(untabled(rt, fault, *from, *to));
+            }
+            write_table(rt, game, words)
+        }
+        _ => write_table(rt, game, words),
     }
 }
 

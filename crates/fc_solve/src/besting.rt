@@ -9,10 +9,9 @@ use crate::forms::{LONGEST_ANSWER, Manner, tell_held};
 use crate::games::InGame;
 use crate::objects::{Name, tell_answer};
 use crate::outputs::Out;
-use crate::solving::tell_advice;
 use crate::watching::{BestTeller, Line};
 use fc_io::ToArray;
-use fc_methods::{MOST_BUDGET, Question};
+use fc_methods::Question;
 use fc_moves::Game;
 use fc_position::Position;
 use fc_runs::{ProgramFault, run_best};
@@ -36,11 +35,10 @@ impl InGame for BestWords<'_> {
         };
         let start = read_start(rt, source, game.cells())?;
         let line = Line::new(rt, deal);
-        let status = answer_from(rt, self, &Question::new(game, method), &start, cert, &line)?;
-        let has_room = method.strategy.budget.get() < MOST_BUDGET;
-        if status == 2 && has_room && !self.is_quiet && rt.stderr().is_terminal() {
-            tell_advice(rt, "a greater --budget", deal);
-        }
+        let mut teller = BestTeller::new(&line, rt.stderr().is_terminal() && !self.is_quiet);
+        let question = Question::new(game, method);
+        let status = answer_from(rt, self, &question, &start, cert, &mut teller)?;
+        teller.advise(status);
         Ok(status)
     }
 }
@@ -52,22 +50,15 @@ fn answer_from<G: Game + Drop>(
     question: &Question<G>,
     start: &Position,
     cert: Option<CertFile>,
-    line: &Line<'_>,
+    teller: &mut BestTeller<'_>,
 ) -> Result<u8, Ending>
     requires position { IsPositionOf question.now.game start.now }
 {
     let mut cert = cert;
-    let mut teller = BestTeller::new(line, rt.stderr().is_terminal() && !words.is_quiet);
+    let line = teller.line();
     if let MovesForm::Letters = words.form {
         let mut out = Out::after(rt, line);
-        let ran = run_best(
-            rt.alloc(),
-            question,
-            start,
-            &mut out,
-            cert.as_mut(),
-            &mut teller,
-        );
+        let ran = run_best(rt.alloc(), question, start, &mut out, cert.as_mut(), teller);
         line.clear();
         teller.tell_stats(words.has_stats, out.front());
         return out.end_of(ran);
@@ -79,7 +70,7 @@ fn answer_from<G: Game + Drop>(
         start,
         &mut answer,
         cert.as_mut(),
-        &mut teller,
+        teller,
     );
     line.clear();
     let told = if let MovesForm::Json = words.form {

@@ -15,7 +15,7 @@ use fc_methods::{BoundKind, MOST_BUDGET, Method, Question};
 use fc_moves::Game;
 use fc_position::Position;
 use fc_runs::{ProgramFault, run_solve_by};
-use fc_words::{MovesForm, SolveWords};
+use fc_words::{GameName, GameWords, MovesForm, SolveWords};
 use std::io::IsTerminal;
 
 impl InGame for SolveWords<'_> {
@@ -37,7 +37,7 @@ impl InGame for SolveWords<'_> {
         let line = Line::new(rt, deal);
         let status = search_from(rt, self, &Question::new(game, method), &start, cert, &line)?;
         if status == 2 && !self.is_quiet && rt.stderr().is_terminal() {
-            advise(rt, method, deal);
+            advise(rt, &self.game, method, deal);
         }
         Ok(status)
     }
@@ -91,36 +91,38 @@ fn search_from<G: Game + Drop>(
     told
 }
 
-// Says on standard error what to try after giving up, if there is anything.
-fn advise(rt: &HostRuntime, method: Method, deal: Option<u32>) {
-    if let Some(advice) = advice_for(method) {
-        tell_advice(rt, advice, deal);
-    }
-}
-
-/// Says on standard error that a search gave up, and what to try. Where this can't be written, the answer stands all the same.
-pub fn tell_advice(rt: &HostRuntime, advice: &str, deal: Option<u32>) {
+// Says on standard error what helps after giving up. Where this can't be written, the answer stands all the same.
+fn advise(rt: &HostRuntime, game: &GameWords, method: Method, deal: Option<u32>) {
+    let other = other_way(method);
     let _told = match deal {
-        Some(number) => eprintln!(rt; "fc_solve: deal {number}: gave up: try {advice}"),
-        None => eprintln!(rt; "fc_solve: gave up: try {advice}"),
+        Some(number) if is_usual(game) => {
+            eprintln!(rt; "fc_solve: deal {number}: gave up: try fc_solve {number}, or {other}")
+        }
+        Some(number) => {
+            eprintln!(rt;
+                "fc_solve: deal {number}: gave up: try best in place of solve, or {other}"
+            )
+        }
+        None => eprintln!(rt; "fc_solve: gave up: try best in place of solve, or {other}"),
     };
 }
 
-// What would help after giving up and isn't asked for yet, if there is anything.
-fn advice_for(method: Method) -> Option<&'static str> {
+// Whether the game is the one that no words ask for.
+fn is_usual(game: &GameWords) -> bool {
+    match game.game {
+        GameName::FreeCell => !game.kings && game.cells == 4,
+        GameName::Bakers => false,
+    }
+}
+
+// What helps beside another subcommand, and isn't asked for yet.
+fn other_way(method: Method) -> &'static str {
     let strategy = method.strategy;
     let is_near = strategy.weight.times() < 2 * strategy.weight.parts();
-    let has_room = strategy.budget.get() < MOST_BUDGET;
-    match (method.bound, is_near, has_room) {
-        (BoundKind::Plain, true, true) => {
-            Some("--bound clearing, --within 2, or a greater --budget")
-        }
-        (BoundKind::Plain, true, false) => Some("--bound clearing, or --within 2"),
-        (BoundKind::Plain, false, true) => Some("--bound clearing, or a greater --budget"),
-        (BoundKind::Plain, false, false) => Some("--bound clearing"),
-        (BoundKind::Clearing, true, true) => Some("--within 2, or a greater --budget"),
-        (BoundKind::Clearing, true, false) => Some("--within 2"),
-        (BoundKind::Clearing, false, true) => Some("a greater --budget"),
-        (BoundKind::Clearing, false, false) => None,
+    match method.bound {
+        BoundKind::Plain => "--bound clearing",
+        BoundKind::Clearing if is_near => "--within 2",
+        BoundKind::Clearing if strategy.budget.get() < MOST_BUDGET => "a greater --budget",
+        BoundKind::Clearing => "a greater --within",
     }
 }

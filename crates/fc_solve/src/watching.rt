@@ -2,6 +2,7 @@
 //! asked for, by a line of numbers. Where a line can't be written, the search goes on.
 
 use fc_best::{BestListener, BestProgress};
+use fc_methods::MOST_BUDGET;
 use fc_plain::read_count;
 use fc_search::{Listener, Progress};
 use std::cell::Cell;
@@ -70,6 +71,14 @@ impl<'a> Line<'a> {
         let _told = match total {
             Some(total) => eprint!(self.rt; "{done} of {total}, {shortest} shortest\r"),
             None => eprint!(self.rt; "{done} done, {shortest} shortest\r"),
+        };
+    }
+
+    // Says below an answer what helps.
+    fn tell_advice(&self, why: &str, step: &str) {
+        let _told = match self.deal {
+            Some(number) => eprintln!(self.rt; "fc_solve: deal {number}: {why} {step}"),
+            None => eprintln!(self.rt; "fc_solve: {why} {step}"),
         };
     }
 
@@ -156,6 +165,11 @@ impl<'a> BestTeller<'a> {
         }
     }
 
+    /// The line.
+    pub fn line(&self) -> &'a Line<'a> {
+        self.line
+    }
+
     /// How many classes all searches stored together, and how many turns they took, as was heard last.
     pub fn stored_and_turns(&self) -> (Option<u64>, Option<u64>) {
         match self.last {
@@ -172,6 +186,21 @@ impl<'a> BestTeller<'a> {
         let floor = floor_told(answer).unwrap_or(far.at_least);
         self.line
             .tell_stats(far.classes as usize, far.turns, far.most_open, floor);
+    }
+
+    /// Where the line is shown, says of an answer by its status what helps, if anything does and it leaves something open.
+    pub fn advise(&self, status: u8) {
+        let (true, Some(far)) = (self.is_shown, self.last) else {
+            return;
+        };
+        let Some(step) = next_step(far.budget) else {
+            return;
+        };
+        match far.shortest {
+            Some(moves) if far.at_least < moves => self.line.tell_advice("closer:", step),
+            None if status == 2 => self.line.tell_advice("gave up: try", step),
+            _ => {}
+        }
     }
 
     // Whether the line is to be written, first after so many turns: where the best list or the floor changed, or after so many
@@ -208,6 +237,17 @@ impl BestListener for BestTeller<'_> {
             self.show(far);
         }
         self.last = Some(far);
+    }
+}
+
+// The next budget that is worth its time, and what the searches within it take of both where all of it is used.
+fn next_step(budget: u32) -> Option<&'static str> {
+    if budget < 250_000 {
+        Some("--budget 500k, some 3 s and 30 MB")
+    } else if budget < MOST_BUDGET {
+        Some("--budget max, some 30 s and 250 MB")
+    } else {
+        None
     }
 }
 

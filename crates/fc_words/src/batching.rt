@@ -7,8 +7,8 @@ ghost use Rattle.fc_words.specs.declared.options.TheConstants.{MOST_CELLS};
 use crate::commands::{BatchBoards, BatchForm, BatchSearch, BatchWords};
 use crate::faults::WordsFault;
 use crate::options::{
-    BOUND, BUDGET, CELLS, EXPAND, GAME, KINGS, Kind, ROWS, RULE, WITHIN, Word, best_search, game,
-    search,
+    BATCH_BUDGET, BOUND, CELLS, EXPAND, GAME, KINGS, Kind, ROWS, RULE, WITHIN, Word, best_search,
+    game, search,
 };
 use crate::places::place_of;
 use crate::subcommands::Subcommand;
@@ -41,7 +41,7 @@ Examples:
         ROWS,
         CERTS,
         TOTALS,
-        BUDGET,
+        BATCH_BUDGET,
         BEST,
         WITHIN,
         BOUND,

@@ -108,20 +108,47 @@ pub(crate) fn game(words: &ArgMatches<'_>) -> Option<GameWords>
     })
 }
 
+/// `--budget` of one search.
 pub(crate) const BUDGET: Word = Word {
-    name: "budget",
+    name: BUDGET_NAME,
     kind: Kind::Text {
         value: "B",
-        default: Some("100000"),
+        default: Some(USUAL_BUDGET),
     },
     help: "Positions to keep before giving up, to 4M or max",
 };
 
-fn budget(words: &ArgMatches<'_>) -> Result<u32, WordsFault> {
-    match words.get_str(BUDGET.name) {
-        Some("max") => Ok(MOST_BUDGET),
-        Some(text) => read_count(text.as_bytes()).ok_or(WordsFault::NoBudget),
-        None => Err(WordsFault::Missing),
+/// `--budget` of all searches for the best answer.
+pub(crate) const BEST_BUDGET: Word = Word {
+    name: BUDGET_NAME,
+    kind: Kind::Text {
+        value: "B",
+        default: Some(USUAL_BEST_BUDGET),
+    },
+    help: "Positions to keep before giving up, to 4M or max",
+};
+
+/// `--budget` of either.
+pub(crate) const BATCH_BUDGET: Word = Word {
+    name: BUDGET_NAME,
+    kind: Kind::Text {
+        value: "B",
+        default: None,
+    },
+    help: "Positions to keep, to 4M or max: 100000, or by --best 500000",
+};
+
+const BUDGET_NAME: &str = "budget";
+
+const USUAL_BUDGET: &str = "100000";
+
+const USUAL_BEST_BUDGET: &str = "500000";
+
+// The budget that is told, else the usual one.
+fn budget(words: &ArgMatches<'_>, usual: &str) -> Result<u32, WordsFault> {
+    match words.get_str(BUDGET_NAME).unwrap_or(usual) {
+        "max" => Ok(MOST_BUDGET),
+        text => read_count(text.as_bytes()).ok_or(WordsFault::NoBudget),
     }
 }
 
@@ -181,7 +208,7 @@ fn expansion(words: &ArgMatches<'_>, bound: BoundKind) -> Option<Expansion> {
 
 /// How the words ask to search.
 pub(crate) fn search(words: &ArgMatches<'_>) -> Result<SearchWords, WordsFault> {
-    let budget = budget(words)?;
+    let budget = budget(words, USUAL_BUDGET)?;
     let weight = weight(words)?;
     let (Some(rule), Some(bound)) = (rule(words), bound(words)) else {
         return Err(WordsFault::Missing);
@@ -200,7 +227,7 @@ pub(crate) fn search(words: &ArgMatches<'_>) -> Result<SearchWords, WordsFault> 
 
 /// How the words ask to search for the best answer.
 pub(crate) fn best_search(words: &ArgMatches<'_>) -> Result<BestSearchWords, WordsFault> {
-    let budget = budget(words)?;
+    let budget = budget(words, USUAL_BEST_BUDGET)?;
     let Some(rule) = rule(words) else {
         return Err(WordsFault::Missing);
     };

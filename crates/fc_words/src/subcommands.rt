@@ -7,9 +7,9 @@ use crate::batching::BATCHING;
 use crate::commands::{BestWords, CheckWords, DealWords, ShowWords, SolveWords};
 use crate::faults::WordsFault;
 use crate::options::{
-    BOARDS, BOUND, BUDGET, CELLS, COLOR, DEAL, EXPAND, GAME, IN_JSON, IN_SEQUENCES, KINGS, Kind,
-    NEEDED_BOARD, OPTIONAL_BOARD, ROWS, RULE, WITHIN, WORDS, Word, best_search, colours, form,
-    game, needed_board, optional_board, search,
+    BEST_BUDGET, BOARDS, BOUND, BUDGET, CELLS, COLOR, DEAL, EXPAND, GAME, IN_JSON, IN_SEQUENCES,
+    KINGS, Kind, NEEDED_BOARD, OPTIONAL_BOARD, ROWS, RULE, WITHIN, WORDS, Word, best_search,
+    colours, form, game, needed_board, optional_board, search,
 };
 use crate::replays::REPLAYING;
 use crate::tasks::Task;
@@ -101,7 +101,7 @@ Examples:
   fc_solve best 617
   fc_solve 617       the same",
     words: &[
-        BUDGET,
+        BEST_BUDGET,
         CERT_OPTION,
         WORDS,
         BOARDS,
