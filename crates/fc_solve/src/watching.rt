@@ -243,7 +243,7 @@ impl BestListener for BestTeller<'_> {
 // The next budget that is worth its time, and what the searches within it take of both where all of it is used.
 fn next_step(budget: u32) -> Option<&'static str> {
     if budget < 250_000 {
-        Some("--budget 500k, some 3 s and 30 MB")
+        Some("--budget 500k, some 3 s and 40 MB")
     } else if budget < MOST_BUDGET {
         Some("--budget max, some 30 s and 250 MB")
     } else {
