@@ -92,13 +92,13 @@ module _ {K : Type 0} (task : Task K) (s : Store K) (x : K) (e : Mark) (stored :
     -- a search keeps from its beginning what it keeps
     pub begins_kept : 1 ≤ task.strategy.budget → e.parent ≡ 0 → IsKept task s
     begins_kept some_room own =
-        let low : e.cost ≤ 53 * 0 + 53 = (let h = lawful.starts x e.cost start in omega (arith, h)) in
+        let low : e.cost + task.graph.spare x ≤ 0 + 1000 = (let h = lawful.starts x e.cost start in omega (arith, h)) in
         record {
           sound = record {
             room = (let size = ap length stored in omega (arith, size, some_room));
             once = λ i j y m n a b. (first_alone i y m a).0 ∙ sym (first_alone j y n b).0;
             reached = first_each (λ i y n. Reached task.graph y n.cost) (0, start);
-            low = first_each (λ i y n. n.cost ≤ 53 * i + 53) low;
+            low = first_each (λ i y n. n.cost + task.graph.spare y ≤ i + 1000) low;
             comes = first_each (Comes task.graph s) (inl (own, start));
             needed = first_each (λ i y n. IsNeeded task.strategy.expansion task.graph task.strategy.weight y)
                 (first_needed task.strategy.expansion);

@@ -1,5 +1,5 @@
 -- Lemmas on offering the children of a key that is taken: what is kept while they find their places.
-use Rattle.std.proofs.Common.{◌≡◌, ℕ, ◌+◌, ◌*◌, ◌<◌, ◌≤◌, ◌⊎◌, suc, Option, Some, None, List, [], ◌∷◌, length, refl, sym, ◌∙◌, ap, subst, inl, inr, ⊎_elim, arith}
+use Rattle.std.proofs.Common.{◌≡◌, ℕ, ◌+◌, ◌<◌, ◌≤◌, ◌⊎◌, suc, Option, Some, None, List, [], ◌∷◌, length, refl, sym, ◌∙◌, ap, subst, inl, inr, ⊎_elim, arith}
 use Rattle.std.specs.Prelude.{Contains}
 use Rattle.std.proofs.lemmas.List.Elements.{Contains-append_right}
 use Rattle.fc_best_first.specs.declared.books.Mark.{Mark}
@@ -110,7 +110,7 @@ module _ {K : Type 0} (task : Task K) where
 
     puts_doing : (old new : Store K) (child : Child K) (i : ℕ) → IsChild child → Doing old → length new.stored ≤ task.strategy.budget
         → Puts task.strategy.weight old new child.key (child_offer child).mark (opening_of task child.key) i
-        → mb.cost + child.cost ≤ 53 * i + 53 → IsNeeded task.strategy.expansion task.graph task.strategy.weight child.key
+        → mb.cost + child.cost + task.graph.spare child.key ≤ i + 1000 → IsNeeded task.strategy.expansion task.graph task.strategy.weight child.key
         → ((n : ℕ) → task.graph.wins n → ReachesLimit task.limit n → mb.cost + child.cost + task.graph.bound child.key ≤ n) → Doing new
     puts_doing old new child i edge d room puts low needed under =
         let e : Mark = (child_offer child).mark in
@@ -148,7 +148,7 @@ module _ {K : Type 0} (task : Task K) where
         let e : Mark = (child_offer child).mark in
         let p = puts_lowered task.strategy old new child.key e was (opening_of task child.key) i at lt lowers in
         let before = d.sound.low i child.key was at in
-        let low : mb.cost + child.cost ≤ 53 * i + 53 = omega (arith, before, lt) in
+        let low : mb.cost + child.cost + task.graph.spare child.key ≤ i + 1000 = omega (arith, before, lt) in
         let room = offers_room task taken old new (child_offer child) Lowered d.sound.room (i, was, at, lt, lowers) in
         let self : mb.cost + child.cost ≤ mb.cost + child.cost = omega arith in (
           puts_doing old new child i edge d room p low (d.sound.needed i child.key was at)
@@ -167,14 +167,14 @@ module _ {K : Type 0} (task : Task K) where
         let was = d.sound.low busy xb mb d.stands in
         let step = (lawful.edges xb child.cost child.key edge).1 in
         let lt = stands_within old busy xb mb d.stands in
-        let low : mb.cost + child.cost ≤ 53 * length old.stored + 53 = omega (arith, was, step, lt) in
+        let low : mb.cost + child.cost + task.graph.spare child.key ≤ length old.stored + 1000 = omega (arith, was, step, lt) in
         let room = offers_room task taken old new (child_offer child) Added d.sound.room (fresh, admits, short, stores) in
         let self : mb.cost + child.cost ≤ mb.cost + child.cost = omega arith in (
           puts_doing old new child (length old.stored) edge d room p low (child_needed task.strategy.expansion old child edge d admits)
               (λ n wins reach. below_under task.limit (mb.cost + child.cost + task.graph.bound child.key) n short reach),
           still_has task.strategy.weight old new child.key e (opening_of task child.key) (length old.stored) p,
           has_met task.limit task.graph new child.key (mb.cost + child.cost) (length old.stored, e, p.here, self),
-          added_work task.strategy old new (child_offer child) stores low,
+          added_work task.strategy old new (child_offer child) stores (omega (arith, low)),
         )
 
     placed_past : (old new : Store K) (child : Child K) → Doing old

@@ -95,8 +95,8 @@ module _ {K : Type 0} (task : Task K) where
       → IsStored new i x m → (d : ℕ) × Reached task.graph x d
   entry_reached old new i x m sound kept at = (m.cost, sound.reached i x m (stands_back old new i x m kept at))
 
-  pub entry_low : (old new : Store K) (i : ℕ) (x : K) (m : Mark) → IsSound task old → task.strategy.budget ≤ 4000000
-      → new.stored ≡ old.stored → IsStored new i x m → m.cost ≤ 212000000
+  pub entry_low : (old new : Store K) (i : ℕ) (x : K) (m : Mark) → IsSound task old → task.strategy.budget ≤ 16000000
+      → new.stored ≡ old.stored → IsStored new i x m → m.cost ≤ 16001000
   entry_low old new i x m sound most kept at =
       let there = stands_back old new i x m kept at in
       let low = sound.low i x m there in
@@ -278,7 +278,7 @@ module _ {K : Type 0} where
 
   module _ (task : Task K) (old new : Store K) (y : K) (e : Mark) (i : ℕ)
       (puts : Puts task.strategy.weight old new y e (opening_of task y) i) (sound : IsSound task old)
-      (room : length new.stored ≤ task.strategy.budget) (reached : Reached task.graph y e.cost) (low : e.cost ≤ 53 * i + 53)
+      (room : length new.stored ≤ task.strategy.budget) (reached : Reached task.graph y e.cost) (low : e.cost + task.graph.spare y ≤ i + 1000)
       (comes : Comes task.graph old i y e) (needed : IsNeeded task.strategy.expansion task.graph task.strategy.weight y)
       (heavy : task.strategy.weight.parts ≤ task.strategy.weight.times)
       (under : (n : ℕ) → task.graph.wins n → ReachesLimit task.limit n → e.cost + task.graph.bound y ≤ n) where
@@ -321,7 +321,7 @@ module _ {K : Type 0} where
       room = room;
       once = once;
       reached = each (λ j x m. Reached task.graph x m.cost) reached sound.reached;
-      low = each (λ j x m. m.cost ≤ 53 * j + 53) low sound.low;
+      low = each (λ j x m. m.cost + task.graph.spare x ≤ j + 1000) low sound.low;
       comes = each (Comes task.graph new)
           (still_comes task.strategy.weight old new y e (opening_of task y) i puts task.graph i y e comes)
           (λ j x m at. still_comes task.strategy.weight old new y e (opening_of task y) i puts task.graph j x m (sound.comes j x m at));

@@ -62,27 +62,27 @@ lowered_falls : (old new less more w v before after room : ℕ) → new + more �
 lowered_falls old new less more w v before after room e lt p most = omega (arith, e, lt, p, most)
 
 -- and so does a place that was taken
-added_falls : (sum cost n here total w v before after : ℕ) → here + (53 * n + 54) ≤ total → cost ≤ 53 * n + 53 → v ≡ suc w
+added_falls : (sum cost n here total w v before after : ℕ) → here + (n + 1001) ≤ total → cost ≤ n + 1000 → v ≡ suc w
     → after ≤ before + 28050
-    → 28051 * (sum + cost + (total - (here + (53 * n + 54)))) + after + v ≤ 28051 * (sum + (total - here)) + before + w
+    → 28051 * (sum + cost + (total - (here + (n + 1001)))) + after + v ≤ 28051 * (sum + (total - here)) + before + w
 added_falls sum cost n here total w v before after room low p more =
-    let rest : ℕ = total - (here + (53 * n + 54)) in
-    let all : total - here ≡ rest + (53 * n + 54) = omega (arith, room) in
+    let rest : ℕ = total - (here + (n + 1001)) in
+    let all : total - here ≡ rest + (n + 1001) = omega (arith, room) in
     omega (arith, all, low, p, more)
 
 -- what so many keys may cost, and one more
-costs_next : (n : ℕ) → costs_below (suc n) ≡ costs_below n + (53 * n + 54)
+costs_next : (n : ℕ) → costs_below (suc n) ≡ costs_below n + (n + 1001)
 unfolding costs_below
 costs_next n = refl
 
-pub costs_twice : (n : ℕ) → 2 * costs_below n ≡ n * (53 * n + 55)
+pub costs_twice : (n : ℕ) → 2 * costs_below n ≡ n * (n + 2001)
 unfolding costs_below
 costs_twice zero = refl
 costs_twice (suc n) = omega (arith, costs_twice n)
 
 costs_more : (n b : ℕ) → n ≤ b → costs_below n ≤ costs_below b
 costs_more n b le =
-    let product : n * (53 * n + 55) ≤ b * (53 * b + 55) = mul-le n (53 * n + 55) b (53 * b + 55) le (omega (arith, le)) in
+    let product : n * (n + 2001) ≤ b * (b + 2001) = mul-le n (n + 2001) b (b + 2001) le (omega (arith, le)) in
     omega (arith, costs_twice n, costs_twice b, product)
 
 module _ {K : Type 0} where
@@ -118,7 +118,7 @@ module _ {K : Type 0} where
       (anew_most old.openings new.openings i opening noted))
 
   pub added_work : (strategy : Strategy) (old new : Store K) (offer : Candidate K) → Stores strategy old new offer Added
-      → offer.mark.cost ≤ 53 * length old.stored + 53 → work_left strategy.budget new ≤ work_left strategy.budget old
+      → offer.mark.cost ≤ length old.stored + 1000 → work_left strategy.budget new ≤ work_left strategy.budget old
   added_work strategy old new offer (lt, stored, opened, noted) low =
       let budget = strategy.budget in
       let n = length old.stored in
@@ -126,13 +126,13 @@ module _ {K : Type 0} where
       let here : ℕ = costs_below n in
       let size : length new.stored ≡ suc n =
       (let more = ap length stored ∙ length_push old.stored (offer.key, offer.mark) in omega (arith, more)) in
-      let now : costs_below (length new.stored) ≡ here + (53 * n + 54) = ap costs_below size ∙ costs_next n in
-      let room : here + (53 * n + 54) ≤ total =
+      let now : costs_below (length new.stored) ≡ here + (n + 1001) = ap costs_below size ∙ costs_next n in
+      let room : here + (n + 1001) ≤ total =
       (let more = costs_more (suc n) budget (omega (arith, lt)) in let next = costs_next n in omega (arith, more, next)) in
       let sum : sum_by (λ e. e.1.cost) new.stored ≡ sum_by (λ e. e.1.cost) old.stored + offer.mark.cost =
       ap (sum_by (λ (e : K × Mark). e.1.cost)) stored ∙ sum_by_push (λ (e : K × Mark). e.1.cost) old.stored (offer.key, offer.mark) in
       subst (λ k. k ≤ work_left budget old)
-      (ap (λ k. 28051 * (k + (total - (here + (53 * n + 54)))) + rises new.openings + length new.waiting) (sym sum)
+      (ap (λ k. 28051 * (k + (total - (here + (n + 1001)))) + rises new.openings + length new.waiting) (sym sum)
       ∙ ap (λ k. 28051 * (sum_by (λ (e : K × Mark). e.1.cost) new.stored + (total - k)) + rises new.openings + length new.waiting) (sym now))
       (added_falls (sum_by (λ e. e.1.cost) old.stored) offer.mark.cost n here total (length old.waiting) (length new.waiting)
       (rises old.openings) (rises new.openings) room low

@@ -4,7 +4,7 @@ use Rattle.fc_best_first.specs.declared.books.Mark.{Mark}
 use Rattle.fc_best_first.specs.declared.books.Opening.{Opening}
 use Rattle.fc_best_first.specs.declared.strategies.Expansion.{Expansion}
 use Rattle.fc_best_first.specs.declared.strategies.Expansion.TheVariants.{Full, Partial}
-use Rattle.fc_best_first.specs.declared.turns.TheConstants.{MOST_COST}
+use Rattle.fc_best_first.specs.declared.turns.TheConstants.{MOST_SPARE}
 use Rattle.fc_best_first.specs.Graph.{Graph, Task, Reached}
 use Rattle.fc_best_first.specs.Limits.{Ratio, ReachesLimit, weigh}
 use Rattle.fc_best_first.specs.Store.{Store, IsStored, opens_at, weighed}
@@ -92,7 +92,7 @@ module _ {K : Type 0} where
     pub room : length s.stored ≤ task.strategy.budget
     pub once : (i j : ℕ) (x : K) (m n : Mark) → IsStored s i x m → IsStored s j x n → i ≡ j
     pub reached : (i : ℕ) (x : K) (m : Mark) → IsStored s i x m → Reached task.graph x m.cost
-    pub low : (i : ℕ) (x : K) (m : Mark) → IsStored s i x m → m.cost ≤ MOST_COST * i + MOST_COST
+    pub low : (i : ℕ) (x : K) (m : Mark) → IsStored s i x m → m.cost + task.graph.spare x ≤ i + MOST_SPARE
     pub comes : (i : ℕ) (x : K) (m : Mark) → IsStored s i x m → Comes task.graph s i x m
     pub needed : (i : ℕ) (x : K) (m : Mark) → IsStored s i x m
         → IsNeeded task.strategy.expansion task.graph task.strategy.weight x

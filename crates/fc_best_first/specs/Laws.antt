@@ -7,7 +7,7 @@ use Rattle.fc_best_first.specs.Limits.{IsUpTo}
 use Rattle.fc_best_first.specs.Store.{Store, IsStored}
 use Rattle.fc_best_first.specs.Kept.{IsCoveredBelow, IsDone, IsSound, f_of}
 use Rattle.fc_best_first.specs.Shown.{AreSettledBut, IsLeastOpen, IsUnder}
-use Rattle.fc_best_first.specs.declared.limits.TheConstants.{MOST_BUDGET, MOST_WEIGHT, TENTHS}
+use Rattle.fc_best_first.specs.declared.limits.TheConstants.{MOST_BUDGET, MOST_GREAT_BUDGET, MOST_WEIGHT, TENTHS}
 
 module _ {K : Type 0} where
   -- each stored key but one is open or expanded, as in a search that found a won key or gave up, and that one is done with below some
@@ -25,6 +25,6 @@ module _ {K : Type 0} where
       → ((i : ℕ) (y : K) (m : Mark) → IsStored s i y m → m.cost + g.bound y < floor → IsCoveredBelow g s y m.cost floor)
       × ((n : ℕ) → g.wins n → floor ≤ n)
 
--- the greatest budget, in stored keys; the greatest weight; and in how many parts a weight is told
+-- the greatest budgets, in stored keys; the greatest weight; and in how many parts a weight is told
 abbrev pub NumbersAreTold : Type 0
-NumbersAreTold = (MOST_BUDGET ≡ 4000000) × (MOST_WEIGHT ≡ 10) × (TENTHS ≡ 10)
+NumbersAreTold = (MOST_BUDGET ≡ 4000000) × (MOST_GREAT_BUDGET ≡ 16000000) × (MOST_WEIGHT ≡ 10) × (TENTHS ≡ 10)

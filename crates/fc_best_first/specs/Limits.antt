@@ -1,6 +1,6 @@
 -- What limits a search: how often costs and bounds may count, and how many keys may be stored.
 use Rattle.std.specs.Prelude.{◌≡◌, ℕ, ◌+◌, ◌*◌, ◌<◌, ◌≤◌, Option, Some, None}
-use Rattle.fc_best_first.specs.declared.limits.TheConstants.{MOST_BUDGET, MOST_WEIGHT, TENTHS}
+use Rattle.fc_best_first.specs.declared.limits.TheConstants.{MOST_BUDGET, MOST_GREAT_BUDGET, MOST_WEIGHT, TENTHS}
 
 -- how a search weighs: a cost counts so many times as there are parts, and a bound so many times
 pub record Ratio : Type 0 where
@@ -42,7 +42,12 @@ abbrev pub IsUpTo : Option ℕ → ℕ → Type 0
 IsUpTo None n = Unit {0}
 IsUpTo (Some limit) n = n ≤ limit
 
--- so many keys may be stored
+-- so many keys may be stored where one search is asked for
 pub record IsBudget (budget : ℕ) : Type 0 where
   pub least : 1 ≤ budget
   pub greatest : budget ≤ MOST_BUDGET
+
+-- so many keys may be stored at all
+pub record IsGreatBudget (budget : ℕ) : Type 0 where
+  pub least : 1 ≤ budget
+  pub greatest : budget ≤ MOST_GREAT_BUDGET

@@ -9,7 +9,7 @@ use Rattle.fc_best_first.specs.declared.turns.Placing.{Placing}
 use Rattle.fc_best_first.specs.declared.turns.Placing.TheVariants.{Whole, Later, NoRoom}
 use Rattle.fc_best_first.specs.declared.turns.Status.{Status}
 use Rattle.fc_best_first.specs.declared.turns.Status.TheVariants.{Running, Won, CannotWin, GaveUp, Stopped}
-use Rattle.fc_best_first.specs.declared.turns.TheConstants.{MOST_COST, MOST_OVER}
+use Rattle.fc_best_first.specs.declared.turns.TheConstants.{MOST_OVER, MOST_SPARE}
 use Rattle.fc_best_first.specs.Graph.{Graph, Task}
 use Rattle.fc_best_first.specs.Store.{Store, Candidate, Offers, IsTaken, opens_at, weighed}
 use Rattle.fc_best_first.specs.Kept.{IsWhereOpen}
@@ -20,11 +20,11 @@ abbrev pub TakesFloor : List (ℕ × ℕ) → ℕ → ℕ → Type 0
 TakesFloor waiting old new = ((waiting ≡ []) × (new ≡ old))
     ⊎ ((f : ℕ) × (number : ℕ) × Contains waiting (f, number) × IsLeast (f, number) waiting × (new ≡ max old f))
 
--- what the keys under the numbers below this one may cost together, and one more for each: a key costs at most MOST_COST times
--- the number after its own
+-- what the keys under the numbers below this one may cost together, and one more for each: a key costs at most its number and
+-- MOST_SPARE
 unfoldable pub costs_below : ℕ → ℕ
 costs_below zero = 0
-costs_below (suc number) = costs_below number + (MOST_COST * number + (MOST_COST + 1))
+costs_below (suc number) = costs_below number + (number + (MOST_SPARE + 1))
 
 module _ {K : Type 0} where
   -- the children of a key: each is at the end of an edge, and each edge's end is one, at no more

@@ -5,9 +5,9 @@ ghost use Rattle.fc_best_first.specs.Limits.{IsWeight};
 ghost use Rattle.fc_best_first.specs.Store.{Store, IsStored, IsNew, Lowers, Stores, opens_at, weighed};
 ghost use Rattle.fc_best_first.specs.Turn.{Reopens};
 
-use crate::limits::{MOST_BUDGET, Weight};
+use crate::limits::{MOST_GREAT_BUDGET, Weight};
 use crate::strategies::{Expansion, Strategy};
-use crate::turns::{MOST_COST, MOST_OVER};
+use crate::turns::{MOST_OVER, MOST_SPARE};
 use fc_frontier::{Frontier, Full, Pairs};
 use fc_keys::ExactKey;
 use indexmap::IndexMap;
@@ -24,7 +24,7 @@ pub struct Mark {
 impl Mark {
     // The mark of a child at the end of an edge of this cost, by that of one that would cost nothing.
     pub(crate) fn onward(self, cost: u8) -> Mark
-        requires low { self.cost ≤ MOST_COST * MOST_BUDGET }
+        requires low { self.cost ≤ MOST_GREAT_BUDGET + MOST_SPARE }
         ensures value { result ≡ record { cost = self.cost + cost; parent = self.parent } }
         ensures near { result.cost ≤ self.cost + 255 }
     {
@@ -36,7 +36,7 @@ impl Mark {
 
     // The cost as it is weighed.
     pub(crate) fn weighed(self, weight: Weight) -> u32
-        requires low { self.cost ≤ MOST_COST * MOST_BUDGET + 255 }
+        requires low { self.cost ≤ MOST_GREAT_BUDGET + MOST_SPARE + 255 }
         ensures value { result ≡ weight.parts * self.cost }
         ensures most { result ≤ 10 * self.cost }
         ensures range { IsWeight weight }
@@ -46,7 +46,7 @@ impl Mark {
 
     // The f of what is open at this opening.
     pub(crate) fn opens_at(self, weight: Weight, opening: Opening) -> u32
-        requires low { self.cost ≤ MOST_COST * MOST_BUDGET + 255 }
+        requires low { self.cost ≤ MOST_GREAT_BUDGET + MOST_SPARE + 255 }
         ensures value { result ≡ opens_at (weight.parts * self.cost) opening }
         ensures range { IsWeight weight }
     {
@@ -188,7 +188,7 @@ impl<K: ExactKey, F: Frontier + Drop> Book<K, F> {
     ) -> Result<(), Full>
         requires within { number < length self.old.stored }
         requires noted { number < length self.old.openings }
-        requires low { mark.cost ≤ MOST_COST * MOST_BUDGET + 255 }
+        requires low { mark.cost ≤ MOST_GREAT_BUDGET + MOST_SPARE + 255 }
         ensures lowers { OnOk result (Lowers strategy.now self.old self.new number mark opening) }
     {
         self.table[number as usize] = mark;
@@ -228,7 +228,7 @@ impl<K: ExactKey, F: Frontier + Drop> Book<K, F> {
         opening: Opening,
     ) -> Result<Offered<K>, Full>
         requires new { IsNew self.old key }
-        requires low { mark.cost ≤ MOST_COST * MOST_BUDGET + 255 }
+        requires low { mark.cost ≤ MOST_GREAT_BUDGET + MOST_SPARE + 255 }
         ensures stores { IfOk result (Stores strategy.now self.old self.new (record { key = key; mark = mark; opening = opening })) }
     {
         let number = self.table.len();

@@ -4,7 +4,7 @@ ghost use Rattle.fc_best_first.specs.Kept.{IsSound};
 ghost use Rattle.fc_best_first.specs.Shown.{IsLeastOpen, TellsAt};
 
 use crate::books::Book;
-use crate::limits::MOST_BUDGET;
+use crate::limits::MOST_GREAT_BUDGET;
 use crate::spaces::Space;
 use crate::strategies::Strategy;
 use fc_frontier::Frontier;
@@ -28,7 +28,7 @@ pub(crate) fn least_open<K: ExactKey, F: Frontier + Drop, S: Space<K>>(
     strategy: &Strategy,
     most: u32,
 ) -> u32
-    requires sound { (strategy.now.budget ≤ MOST_BUDGET) × ((limit : Option ℕ) × IsSound (record { graph = S.graph _space.now; strategy = strategy.now; limit = limit }) book.now) }
+    requires sound { (strategy.now.budget ≤ MOST_GREAT_BUDGET) × ((limit : Option ℕ) × IsSound (record { graph = S.graph _space.now; strategy = strategy.now; limit = limit }) book.now) }
     ensures value { (limit : Option ℕ) → IsLeastOpen (record { graph = S.graph _space.now; strategy = strategy.now; limit = limit }) book.now most result }
 {
     let mut floor = most;
@@ -55,7 +55,7 @@ pub(crate) fn told_by<K: ExactKey, F: Frontier + Drop, S: Space<K>>(
     strategy: &Strategy,
     number: u32,
 ) -> u32
-    requires sound { (strategy.now.budget ≤ MOST_BUDGET) × ((limit : Option ℕ) × IsSound (record { graph = S.graph _space.now; strategy = strategy.now; limit = limit }) book.now) }
+    requires sound { (strategy.now.budget ≤ MOST_GREAT_BUDGET) × ((limit : Option ℕ) × IsSound (record { graph = S.graph _space.now; strategy = strategy.now; limit = limit }) book.now) }
     requires within { number < length book.now.stored }
     ensures told { (limit : Option ℕ) → TellsAt (record { graph = S.graph _space.now; strategy = strategy.now; limit = limit }) book.now number result }
 {

@@ -3,11 +3,13 @@
 #![tactic(auto)]
 
 pub use books::{Book, Mark, Offered, Opening};
-pub use limits::{Budget, MOST_BUDGET, MOST_WEIGHT, TENTHS, Weight};
+pub use limits::{
+    Budget, GreatBudget, MOST_BUDGET, MOST_GREAT_BUDGET, MOST_WEIGHT, TENTHS, Weight,
+};
 pub use searches::{Search, SearchFault, Step};
 pub use spaces::{Child, Space};
 pub use strategies::{Expansion, Strategy};
-pub use turns::{MOST_COST, MOST_OVER, Placing, Status};
+pub use turns::{MOST_OVER, MOST_SPARE, Placing, Status};
 
 mod books;
 mod floors;

@@ -1,10 +1,13 @@
 ghost use Rattle.std.specs.Prelude.{◌≡◌, ◌≢◌, ◌*◌, ◌/◌, ◌%◌, ◌≤◌, ◌↔◌, IsSome, IfSome};
-ghost use Rattle.fc_best_first.specs.Limits.{IsBudget, IsWeight};
+ghost use Rattle.fc_best_first.specs.Limits.{IsBudget, IsGreatBudget, IsWeight};
 
 use std::marker::Model;
 
-/// The greatest budget, in stored keys.
+/// The greatest budget of who asks for one search, in stored keys.
 pub const MOST_BUDGET: u32 = 4_000_000;
+
+/// The greatest budget at all, in stored keys.
+pub const MOST_GREAT_BUDGET: u32 = 16_000_000;
 
 /// The greatest weight, which says how many times as much as a cost a bound counts.
 pub const MOST_WEIGHT: u8 = 10;
@@ -86,7 +89,7 @@ impl Weight {
     }
 }
 
-/// How many keys may be stored, 1 to 4,000,000, seen by contracts as its number.
+/// How many keys may be stored where one search is asked for, 1 to 4,000,000, seen by contracts as its number.
 #[derive(Clone, Copy, Debug, PartialEq, Eq)]
 pub struct Budget {
     keys: u32,
@@ -128,5 +131,64 @@ impl Budget {
         ensures range { IsBudget self }
     {
         self.keys
+    }
+}
+
+/// How many keys a search may store, or several that share it, 1 to 16,000,000, seen by contracts as its number.
+#[derive(Clone, Copy, Debug, PartialEq, Eq)]
+pub struct GreatBudget {
+    number: u32,
+}
+
+impl Model for GreatBudget {
+    ghost use Rattle.std.specs.Prelude.{ℕ};
+    ghost use Rattle.fc_best_first.specs.Limits.{IsGreatBudget};
+
+    ghost Value = { ℕ };
+
+    ghost view = { λ budget. budget.number };
+
+    ghost invariant = { λ budget. IsGreatBudget budget.number };
+
+    ghost inverse = { λ n. record { number = n } };
+}
+
+impl From<Budget> for GreatBudget {
+    ghost use Rattle.std.specs.Prelude.{◌≡◌};
+
+    ghost from_gives = { λ budget great. great ≡ budget };
+
+    fn from(budget: Budget) -> GreatBudget {
+        GreatBudget {
+            number: budget.get(),
+        }
+    }
+}
+
+impl GreatBudget {
+    /// The greatest.
+    pub const MOST: GreatBudget = GreatBudget {
+        number: MOST_GREAT_BUDGET,
+    };
+
+    /// So many keys; `None` outside 1 to 16,000,000.
+    pub fn new(keys: u32) -> Option<GreatBudget>
+        ensures range { IsSome result ↔ IsGreatBudget keys }
+        ensures value { IfSome result (λ budget. budget ≡ keys) }
+    {
+        if keys >= 1 && keys <= MOST_GREAT_BUDGET {
+            Some(GreatBudget { number: keys })
+        } else {
+            None
+        }
+    }
+
+    /// How many keys, 1 to 16,000,000.
+    #[inline]
+    pub fn get(self) -> u32
+        ensures value { result ≡ self }
+        ensures range { IsGreatBudget self }
+    {
+        self.number
     }
 }

@@ -9,10 +9,10 @@ ghost use Rattle.fc_best_first.specs.Turn.{candidate_of};
 ghost use Rattle.fc_best_first.specs.inner.Turn.{IsPutOffNear};
 
 use crate::books::{Book, Mark, Offered, Opening};
-use crate::limits::{MOST_BUDGET, Weight};
+use crate::limits::{MOST_GREAT_BUDGET, Weight};
 use crate::spaces::{Child, Space};
 use crate::strategies::{Expansion, Strategy};
-use crate::turns::MOST_COST;
+use crate::turns::MOST_SPARE;
 use fc_frontier::{Frontier, Full};
 use fc_keys::ExactKey;
 
@@ -75,7 +75,7 @@ fn store_or_put_off<K: ExactKey, F: Frontier + Drop, S: Space<K>>(
     requires owned { S.owns space.now walk.old }
     requires at { S.at walk.old child.key }
     requires new { IsNew book.old child.key }
-    requires low { taken.now.origin.cost ≤ MOST_COST * MOST_BUDGET }
+    requires low { taken.now.origin.cost ≤ MOST_GREAT_BUDGET + MOST_SPARE }
     requires partial { strategy.now.expansion ≡ Expansion.Partial }
     ensures offers { IfOk result (Offers (record { graph = S.graph space.now; strategy = strategy.now; limit = taken.now.limit }) taken.now.f book.old book.new (candidate_of (record { graph = S.graph space.now; strategy = strategy.now; limit = taken.now.limit }) taken.now.origin child)) }
     ensures near { IfOk result (IsPutOffNear (weighed strategy.now taken.now.origin)) }
@@ -114,7 +114,7 @@ pub(crate) fn offer<K: ExactKey, F: Frontier + Drop, S: Space<K>>(
     requires at { S.at walk.old child.key }
     requires room { length book.old.stored ≤ strategy.now.budget }
     requires noted { AreNoted (S.graph space.now) book.old }
-    requires low { taken.now.origin.cost ≤ MOST_COST * MOST_BUDGET }
+    requires low { taken.now.origin.cost ≤ MOST_GREAT_BUDGET + MOST_SPARE }
     ensures offers { IfOk result (Offers (record { graph = S.graph space.now; strategy = strategy.now; limit = taken.now.limit }) taken.now.f book.old book.new (candidate_of (record { graph = S.graph space.now; strategy = strategy.now; limit = taken.now.limit }) taken.now.origin child)) }
     ensures near { IfOk result (IsPutOffNear (weighed strategy.now taken.now.origin)) }
     ensures owned { S.owns space.now walk.new }

@@ -1,6 +1,6 @@
 ghost use Rattle.std.specs.Prelude.{◌≡◌, ◌<◌, ◌≤◌, ◌↔◌, ◌⊎◌, length, IfOk, IfErr, OnOk, OnErr, MatchOption, []};
 ghost use Rattle.fc_frontier.specs.Queue.{Adds};
-ghost use Rattle.fc_best_first.specs.Limits.{IsBudget, IsWeight};
+ghost use Rattle.fc_best_first.specs.Limits.{IsGreatBudget, IsWeight};
 ghost use Rattle.fc_best_first.specs.Search.{Begins, FloorAfter, Turns, Runs, reply_of, task_of};
 ghost use Rattle.fc_best_first.specs.Kept.{IsSound};
 ghost use Rattle.fc_best_first.specs.Shown.{Holds, IsFloor, IsLeastOpen, Shows, TellsAt};
@@ -62,7 +62,7 @@ pub struct Search<K: ExactKey, F: Frontier + Drop, S: Space<K> + Drop> {
 }
 
 impl<K: ExactKey, F: Frontier + Drop, S: Space<K> + Drop> Model for Search<K, F, S> {
-    ghost use Rattle.fc_best_first.specs.Limits.{IsBudget, IsWeight};
+    ghost use Rattle.fc_best_first.specs.Limits.{IsGreatBudget, IsWeight};
     ghost use Rattle.fc_best_first.specs.Search.{Progress};
     ghost use Rattle.fc_best_first.specs.Shown.{Holds, IsFloor};
 
@@ -70,7 +70,7 @@ impl<K: ExactKey, F: Frontier + Drop, S: Space<K> + Drop> Model for Search<K, F,
 
     ghost view = { λ s. record { space = s.space; strategy = s.strategy; limit = s.limit; store = s.book; status = s.status; floor = s.floor } };
 
-    ghost invariant = { λ s. IsWeight s.strategy.weight × IsBudget s.strategy.budget
+    ghost invariant = { λ s. IsWeight s.strategy.weight × IsGreatBudget s.strategy.budget
         × Holds (record { graph = S.graph s.space; strategy = s.strategy; limit = s.limit }) s.book s.status
         × IsFloor (S.graph s.space) s.strategy.weight s.floor × S.owns s.space s.walk };
 }
@@ -144,7 +144,7 @@ impl<K: ExactKey, F: Frontier + Drop, S: Space<K> + Drop> Search<K, F, S> {
     pub fn strategy(&self) -> Strategy
         ensures value { result ≡ self.now.strategy }
         ensures weight { IsWeight self.now.strategy.weight }
-        ensures budget { IsBudget self.now.strategy.budget }
+        ensures budget { IsGreatBudget self.now.strategy.budget }
     {
         self.strategy
     }
@@ -161,7 +161,7 @@ impl<K: ExactKey, F: Frontier + Drop, S: Space<K> + Drop> Search<K, F, S> {
         ensures value { result.now ≡ self.now.status }
         ensures holds { Holds (task_of S.graph self.now) self.now.store self.now.status }
         ensures shows { Shows (task_of S.graph self.now) self.now.store self.now.status }
-        ensures range { IsBudget self.now.strategy.budget }
+        ensures range { IsGreatBudget self.now.strategy.budget }
     {
         &self.status
     }

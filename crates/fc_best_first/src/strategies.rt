@@ -1,6 +1,6 @@
 ghost use Rattle.std.specs.Prelude.{◌≡◌};
 
-use crate::limits::{Budget, Weight};
+use crate::limits::{GreatBudget, Weight};
 
 /// Which children of a key that is taken are stored.
 #[derive(Clone, Copy, Debug, PartialEq, Eq, Default)]
@@ -18,12 +18,12 @@ pub enum Expansion {
 pub struct Strategy {
     pub weight: Weight,
     pub expansion: Expansion,
-    pub budget: Budget,
+    pub budget: GreatBudget,
 }
 
 impl Strategy {
     /// By full expansion.
-    pub fn full(weight: Weight, budget: Budget) -> Self
+    pub fn full(weight: Weight, budget: GreatBudget) -> Self
         ensures value { result ≡ record { weight = weight; expansion = Expansion.Full; budget = budget } }
     {
         Strategy {

@@ -6,15 +6,15 @@ ghost use Rattle.fc_best_first.specs.Turn.{Advances, Closes, Expands, TakesFloor
 ghost use Rattle.fc_best_first.specs.inner.Turn.{AreReached, Becomes, IsLaterNear, IsReady};
 
 use crate::books::{Book, Mark, Offered};
-use crate::limits::MOST_BUDGET;
+use crate::limits::MOST_GREAT_BUDGET;
 use crate::offers::{Taken, offer};
 use crate::spaces::{Child, Space};
 use crate::strategies::Strategy;
 use fc_frontier::{Frontier, Full};
 use fc_keys::ExactKey;
 
-/// The most that a start or an edge may cost.
-pub const MOST_COST: u8 = 53;
+/// The most that a start and all edges behind it may cost beyond one for each edge.
+pub const MOST_SPARE: u32 = 1_000;
 
 /// The most that a key may be open above its weighed cost: ten times the cost of an edge, and a hundred times a bound, each a
 /// byte.
@@ -61,7 +61,7 @@ fn expand<K: ExactKey, F: Frontier + Drop, S: Space<K>>(
 ) -> Result<Placing<K>, Full>
     requires room { length book.old.stored ≤ strategy.now.budget }
     requires noted { AreNoted (S.graph space.now) book.old }
-    requires low { taken.now.origin.cost ≤ MOST_COST * MOST_BUDGET }
+    requires low { taken.now.origin.cost ≤ MOST_GREAT_BUDGET + MOST_SPARE }
     requires owned { S.owns space.now walk.old }
     requires reached { (children : List (Child K)) → S.rest walk.old children → AreReached (S.graph space.now) children }
     ensures expands { IfOk result (λ placing. (children : List (Child K)) × S.rest walk.old children × Expands (record { graph = S.graph space.now; strategy = strategy.now; limit = taken.now.limit }) taken.now.f taken.now.origin children book.old book.new placing) }
