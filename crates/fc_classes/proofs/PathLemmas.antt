@@ -1,20 +1,26 @@
 -- What a reached name spells, and what leads to it.
-use Rattle.std.proofs.Common.{◌≡◌, ℕ, zero, suc, ◌+◌, ◌≤◌, List, [], ◌∷◌, ◌++◌, length, refl, sym, ◌∙◌, subst, arith}
+use Rattle.std.proofs.Common.{◌≡◌, ℕ, zero, suc, ◌+◌, ◌≤◌, List, [], ◌∷◌, ◌++◌, length, refl, sym, ◌∙◌, ap, subst, arith}
+use Rattle.std.specs.Prelude.{slice_set}
 use Rattle.std.proofs.lemmas.List.{length-append}
-use Rattle.fc_position.specs.Board.{Board}
+use Rattle.fc_cards.specs.Card.{rank, suit}
+use Rattle.fc_cards.specs.declared.places.Place.{Place}
+use Rattle.fc_cards.specs.declared.places.Place.TheVariants.{Column, Cell, Home}
+use Rattle.fc_position.specs.Board.{Board, lifted, placed}
 use Rattle.fc_position.specs.Position.{IsPosition, IsWon}
+use Rattle.fc_position.proofs.BoardLemmas.{homes-lifted}
 use Rattle.fc_moves.specs.declared.steps.Move.{Move}
 use Rattle.fc_moves.specs.GameRules.{GameRules, IsPositionOf}
 use Rattle.fc_moves.specs.Run.{Run, WinsIn}
+use Rattle.fc_moves.specs.Step.{Step, Takes}
 use Rattle.fc_moves.proofs.StepLemmas.{step_keeps, run_keeps}
 use Rattle.fc_moves.specs.Class.{SameClass}
 use Rattle.fc_moves.proofs.ClassLemmas.{class-sym, class-trans, class_step}
 use Rattle.fc_home.specs.Settles.{Settles, SettlesBy, sent_home}
 use Rattle.fc_home.proofs.MateLemmas.{class_settle}
-use Rattle.fc_home.proofs.SettleLemmas.{settles_keep, settles_run, settled_stays, sent_position, total, total-most, turn_total}
+use Rattle.fc_home.proofs.SettleLemmas.{settles_keep, settles_run, settled_stays, sent_position, total, total-most, total-next, turn_total}
 use Rattle.fc_best_first.specs.Graph.{Reached, ReachedBy}
 use Rattle.fc_classes.specs.Namings.{Naming, IsNaming}
-use Rattle.fc_classes.specs.Classes.{SettlesTo, LeadsTo, classes}
+use Rattle.fc_classes.specs.Classes.{SettlesTo, LeadsTo, away, classes}
 use Rattle.fc_classes.specs.Laws.{ReachedNamesAreOfPositions, ReachedNamesAreRunTo}
 
 -- what settles by no move stays as it is
@@ -91,25 +97,46 @@ reached_wins naming low g rule p x cost good pp h won =
     let run = reached_run_to naming low g rule p x cost good pp h in
     (run.0, run.2, (run.1, run.3, run.4.homes ∙ won))
 
--- settling has at most 52 moves
-settles_few : (g : GameRules) (rule : ℕ) (b q : Board) (ms : List Move) → IsPosition b → SettlesBy g rule b ms q
-    → length ms + total b.homes ≤ 52
-settles_few g rule b q [] p by = let most = total-most b p in omega (arith, most)
-settles_few g rule b q (m ∷ ms) p (c, first, home, rest) =
+-- each move of settling takes a card home
+settles_total : (g : GameRules) (rule : ℕ) (b q : Board) (ms : List Move) → IsPosition b → SettlesBy g rule b ms q
+    → length ms + total b.homes ≡ total q.homes
+settles_total g rule b q [] p by = let same = ap (λ (x : Board). total x.homes) by.0 in omega (arith, same)
+settles_total g rule b q (m ∷ ms) p (c, first, home, rest) =
     let next = sent_home b m.from c in
     let more = turn_total rule g b next m.from c p first refl in
-    let later = settles_few g rule next q ms (sent_position rule g b m.from c p first) rest in
+    let later = settles_total g rule next q ms (sent_position rule g b m.from c p first) rest in
     omega (arith, more.0, later)
 
-pub settling_few : (naming : Naming) (g : GameRules) (rule : ℕ) (b : Board) (count : ℕ) (x : List ℕ) → IsPosition b
-    → SettlesTo naming g rule b count x → count ≤ 52
-settling_few naming g rule b count x p (q, (ms, long, by), name) =
-    let few = settles_few g rule b q ms p by in omega (arith, few, long)
+-- so what is still away pays for it
+pub settling_away : (naming : Naming) (g : GameRules) (rule : ℕ) (p b : Board) (count : ℕ) (x : List ℕ) → IsNaming naming g p
+    → IsPositionOf g b → SettlesTo naming g rule b count x → count + away (naming.spelled x) + total b.homes ≡ 52
+settling_away naming g rule p b count x good pb (q, (ms, long, by), name) =
+    let pq = settles_keep g rule b q count pb (ms, long, by) in
+    let same = ap total (good.spells q x pq name).1.homes in
+    let all = settles_total g rule b q ms pb.position by in
+    let most = total-most q pq.position in
+    omega (arith, long, all, most, same)
 
--- so an edge costs 1 to 53
+-- no step takes a card from home
+placed_homes : (g : GameRules) (b : Board) (from : Place) (u : ℕ) (to : Place) → IsPosition b → Takes g b u to
+    → total b.homes ≤ total (placed (lifted b from) u to).homes
+placed_homes g b from u (Column j) p takes = let same = ap total (homes-lifted b from) in omega (arith, same)
+placed_homes g b from u (Cell j) p takes = let same = ap total (homes-lifted b from) in omega (arith, same)
+placed_homes g b from u Home p takes =
+    let same = ap (λ h. total (slice_set h (suit u) (rank u))) (homes-lifted b from) in
+    let more = total-next b.homes u p.homes takes in
+    omega (arith, same, more)
+
+step_homes : (g : GameRules) (b c : Board) (m : Move) → IsPosition b → Step g b m c → total b.homes ≤ total c.homes
+step_homes g b c m p s =
+    subst (λ (x : Board). total b.homes ≤ total x.homes) (sym s.after) (placed_homes g b m.from s.card m.to p s.takes)
+
+-- so an edge costs one, and what it takes along
 pub edge_costs : (naming : Naming) (g : GameRules) (rule : ℕ) (p : Board) → IsNaming naming g p
-    → (x : List ℕ) (c : ℕ) (y : List ℕ) → LeadsTo naming g rule x c y → (1 ≤ c) × (c ≤ 53)
+    → (x : List ℕ) (c : ℕ) (y : List ℕ) → LeadsTo naming g rule x c y
+    → (1 ≤ c) × (c + away (naming.spelled y) ≤ 1 + away (naming.spelled x))
 edge_costs naming g rule p good x c y (k, (m, z, count, step, to, paid)) =
-    let pz = step_keeps g (naming.spelled x) z m (good.valid x k).position step in
-    let few = settling_few naming g rule z count y pz.position to in
-    (omega (arith, paid), omega (arith, paid, few))
+    let px = (good.valid x k).position in
+    let all = settling_away naming g rule p z count y good (step_keeps g (naming.spelled x) z m px step) to in
+    let more = step_homes g (naming.spelled x) z m px.position step in
+    (omega (arith, paid), omega (arith, paid, all, more))

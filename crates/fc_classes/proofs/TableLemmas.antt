@@ -20,7 +20,7 @@ use Rattle.fc_classes.specs.inner.Boards.{boards_by}
 use Rattle.fc_classes.specs.Classes.{classes}
 use Rattle.fc_classes.specs.Laws.{ClassesAreLawful}
 use Rattle.fc_classes.proofs.NamingLemmas.{named_settled}
-use Rattle.fc_classes.proofs.PathLemmas.{reached_of_positions, reached_wins, settling_few, edge_costs}
+use Rattle.fc_classes.proofs.PathLemmas.{reached_of_positions, reached_wins, settling_away, edge_costs}
 
 -- what the one lists, the other does
 pub board_listed : (naming : Naming) (table : List (List ℕ × ℕ)) (x : List ℕ) (d : ℕ) → Contains table (x, d)
@@ -111,5 +111,5 @@ lawful naming low g rule p good lower pp = record {
       (closed_board naming low g rule p n table good lower pp closed) wins in
       omega (arith, far, long);
   edges = edge_costs naming g rule p good;
-  starts = λ x d to. let few = settling_few naming g rule p d x pp.position to in omega (arith, few);
+  starts = λ x d to. let all = settling_away naming g rule p p d x good pp to in omega (arith, all);
 }

@@ -1,5 +1,5 @@
 -- The classes of the positions of a game as a graph: settled positions, known by the names of their classes.
-use Rattle.std.specs.Prelude.{◌≡◌, ℕ, ◌+◌, List}
+use Rattle.std.specs.Prelude.{◌≡◌, ℕ, ◌+◌, ◌-◌, List, sum_by}
 use Rattle.fc_position.specs.Board.{Board}
 use Rattle.fc_position.specs.Position.{IsWon}
 use Rattle.fc_moves.specs.declared.steps.Move.{Move}
@@ -19,12 +19,18 @@ abbrev pub LeadsTo : Naming → GameRules → ℕ → List ℕ → ℕ → List 
 LeadsTo naming g rule x cost y = naming.valid g x × ((m : Move) × (z : Board) × (count : ℕ)
     × Step g (naming.spelled x) m z × SettlesTo naming g rule z count y × (cost ≡ 1 + count))
 
--- the question how few moves win from the position, as a graph, with a lower bound of the moves from a position
+-- how many cards aren't home
+abbrev pub away : Board → ℕ
+away b = 52 - sum_by (λ n. n) b.homes
+
+-- the question how few moves win from the position, as a graph, with a lower bound of the moves from a position; a step may take
+-- along each card that isn't home
 abbrev pub classes : Naming → (Board → ℕ) → GameRules → ℕ → Board → Graph (List ℕ)
 classes naming low g rule p = record {
   starts = λ x cost. SettlesTo naming g rule p cost x;
   edge = LeadsTo naming g rule;
   bound = λ x. low (naming.spelled x);
+  spare = λ x. away (naming.spelled x);
   won = λ x. IsWon (naming.spelled x);
   wins = WinsIn g p;
 }
