@@ -2,7 +2,10 @@
 //! Nothing here searches.
 #![tactic(auto)]
 
-pub use fc_best_first::{Budget, Expansion, MOST_BUDGET, MOST_WEIGHT, Strategy, TENTHS, Weight};
+pub use fc_best_first::{
+    Budget, Expansion, GreatBudget, MOST_BUDGET, MOST_GREAT_BUDGET, MOST_WEIGHT, Strategy, TENTHS,
+    Weight,
+};
 pub use fc_bound::BoundKind;
 pub use fc_home::HomeRule;
 pub use methods::{Method, Question};

@@ -27,7 +27,7 @@ impl Method {
         Method {
             rule,
             bound: BoundKind::Plain,
-            strategy: Strategy::full(Weight::ONE, budget),
+            strategy: Strategy::full(Weight::ONE, budget.into()),
         }
     }
 }
