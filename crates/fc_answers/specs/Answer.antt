@@ -1,5 +1,5 @@
 -- What backs an answer.
-use Rattle.std.specs.Prelude.{◌≡◌, ℕ, ◌+◌, ◌<◌, List, length, Contains, IfSome, MatchOption}
+use Rattle.std.specs.Prelude.{◌≡◌, ℕ, ◌+◌, ◌<◌, ◌≤◌, List, length, Contains, IfSome, MatchOption}
 use Rattle.fc_position.specs.Board.{Board}
 use Rattle.fc_moves.specs.GameRules.{GameRules}
 use Rattle.fc_bound.specs.declared.kinds.BoundKind.{BoundKind}
@@ -44,13 +44,13 @@ HasGivenUp (GaveUp told) = Unit {0}
 abbrev pub IsBacked : GameRules → Board → Answer → Type 0
 IsBacked g b answer = MatchOption answer.table (HasGivenUp answer.verdict) (IsBackedBy g b answer.verdict)
 
--- what an answer lists was searched by this home rule and this kind of bound
-abbrev pub IsSearchedBy : ℕ → BoundKind → Answer → Type 0
-IsSearchedBy rule kind answer = IfSome answer.table (λ table. (table.rule ≡ rule) × (table.bound ≡ kind))
+-- what an answer lists was searched by this home rule and this kind of bound, within so many classes
+abbrev pub IsSearchedBy : ℕ → BoundKind → ℕ → Answer → Type 0
+IsSearchedBy rule kind budget answer = IfSome answer.table (λ table. (table.rule ≡ rule) × (table.bound ≡ kind) × (length table.rows ≤ budget))
 
--- the verdict is that of a backed answer, by this home rule and this kind of bound
-pub record CanBeBacked (g : GameRules) (rule : ℕ) (kind : BoundKind) (b : Board) (verdict : Verdict) : Type 0 where
+-- the verdict is that of a backed answer, by this home rule and this kind of bound, within so many classes
+pub record CanBeBacked (g : GameRules) (rule : ℕ) (kind : BoundKind) (budget : ℕ) (b : Board) (verdict : Verdict) : Type 0 where
   pub answer : Answer
   pub told : answer.verdict ≡ verdict
   pub backed : IsBacked g b answer
-  pub searched : IsSearchedBy rule kind answer
+  pub searched : IsSearchedBy rule kind budget answer

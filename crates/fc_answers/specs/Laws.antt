@@ -26,4 +26,4 @@ OnlyGivingUpIsUncertified = (g : GameRules) (b : Board) (answer : Answer) → Is
 
 -- how many classes a table lists at most, and how many moves a list that is written has
 abbrev pub NumbersAreTold : Type 0
-NumbersAreTold = (MOST_CLASSES ≡ 4000000) × (MOST_MOVES ≡ 212000000)
+NumbersAreTold = (MOST_CLASSES ≡ 16000000) × (MOST_MOVES ≡ 16001000)

@@ -28,7 +28,7 @@ IsRising rows = (k : ℕ) (d : List ℕ × ℕ) → k + 1 < length rows
 abbrev pub AreClasses : GameRules → List (List ℕ × ℕ) → Type 0
 AreClasses g rows = (e : List ℕ × ℕ) → Contains rows e → IsKeyIn g e.0
 
--- a table of the game: it is under a home rule, has at most 4,000,000 rows, which rise, and lists classes of the game alone
+-- a table of the game: it is under a home rule, has at most 16,000,000 rows, which rise, and lists classes of the game alone
 pub record IsTable (g : GameRules) (table : Listing) : Type 0 where
   pub known : table.rule ≤ GREATEST_RULE
   pub few : length table.rows ≤ MOST_CLASSES

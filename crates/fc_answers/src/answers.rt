@@ -4,8 +4,8 @@ use crate::tables::{MOST_CLASSES, Table};
 use fc_moves::Move;
 use std::marker::Model;
 
-/// The most moves of a list that is answered: a move and 52 home moves for each class that a table may list.
-pub const MOST_MOVES: u32 = 53 * MOST_CLASSES;
+/// The most moves of a list that is answered: a step for each class that a table may list, and the cards that go home with them.
+pub const MOST_MOVES: u32 = MOST_CLASSES + 1_000;
 
 /// What is answered of a position and a budget: a verdict, and the classes that back it.
 #[derive(Drop)]

@@ -12,9 +12,9 @@ use std::alloc::{AllocError, Global};
 use std::marker::Model;
 
 /// The most classes that a table lists.
-pub const MOST_CLASSES: u32 = 4_000_000;
+pub const MOST_CLASSES: u32 = 16_000_000;
 
-/// Classes, each with a cost in moves from the start, under a home rule and a kind of bound: at most 4,000,000 rows of a key
+/// Classes, each with a cost in moves from the start, under a home rule and a kind of bound: at most 16,000,000 rows of a key
 /// and a cost, each key before the next, byte by byte. A row is kept by its class's code, and its key made when it is asked for.
 #[derive(Drop)]
 pub struct Table {
@@ -103,7 +103,7 @@ impl Table {
         self.bound
     }
 
-    /// How many classes are listed, at most 4,000,000.
+    /// How many classes are listed, at most 16,000,000.
     pub fn len(&self) -> usize
         ensures value { result ≡ length self.now.rows }
         ensures most { result ≤ MOST_CLASSES }
