@@ -102,7 +102,7 @@ module _ (pr : Problem) (s : Store (List ℕ)) (names : IsNaming (by_codes pr.st
 
   -- the table of a search that found no way to win shows that there is none
   pub backed_whole : pr.limit ≡ None → (table : Listing) → IsExhausted (task_of_problem pr) s → table.rule ≡ pr.method.rule → table.rule ≤ 2
-      → length table.rows ≤ 4000000 → IsRising table.rows → IsPermutation (at_no_cost (costs_of pr.start s)) table.rows
+      → length table.rows ≤ 16000000 → IsRising table.rows → IsPermutation (at_no_cost (costs_of pr.start s)) table.rows
       → IsBackedWhole pr.game pr.start table
   backed_whole whole table (sound, done) ruled known few rising moved =
       let closed = λ (n : ℕ). closed_inside (task_of_problem pr) s n sound (λ i x m at lt. expanded_covered (task_of_problem pr) s x m.cost n (up_to whole n) (done i x m at)) in
@@ -176,7 +176,7 @@ module _ (pr : Problem) (s : Store (List ℕ)) (names : IsNaming (by_codes pr.st
       → ((i : ℕ) (y : List ℕ) (m : Mark) → IsStored s i y m → m.cost + guide_of pr.method.bound (board_of_code pr.start y) < n
       → IsCoveredBelow (classes_of pr) s y m.cost n)
       → table.rule ≡ pr.method.rule → table.bound ≡ pr.method.bound → table.rule ≤ 2
-      → length table.rows ≤ 4000000 → IsRising table.rows → IsPermutation (inside (guide_of pr.method.bound) n (costs_of pr.start s)) table.rows
+      → length table.rows ≤ 16000000 → IsRising table.rows → IsPermutation (inside (guide_of pr.method.bound) n (costs_of pr.start s)) table.rows
       → IsBackedBelow pr.game pr.start n table
   backed_below n table sound done ruled bounded known few rising moved =
       let low = guide_of pr.method.bound in
@@ -215,7 +215,7 @@ module _ (pr : Problem) (s : Store (List ℕ)) (names : IsNaming (by_codes pr.st
   pub backed_shortest : pr.limit ≡ None → 1 ≤ pr.method.strategy.weight.parts → IsEven pr.method.strategy.weight → (number : ℕ) (ms : List Move) (table : Listing)
       → IsFound (task_of_problem pr) s number
       → (x : List ℕ) (mark : Mark) → IsStored s number x mark → length ms ≡ mark.cost → table.rule ≡ pr.method.rule → table.bound ≡ pr.method.bound → table.rule ≤ 2
-      → length table.rows ≤ 4000000 → IsRising table.rows → IsPermutation (inside (guide_of pr.method.bound) (length ms) (costs_of pr.start s)) table.rows
+      → length table.rows ≤ 16000000 → IsRising table.rows → IsPermutation (inside (guide_of pr.method.bound) (length ms) (costs_of pr.start s)) table.rows
       → IsBackedBelow pr.game pr.start (length ms) table
   backed_shortest whole positive light number ms table found x mark at long ruled bounded known few rising moved =
       let n = length ms in
@@ -271,26 +271,26 @@ module _ (pr : Problem) (s : Store (List ℕ)) (names : IsNaming (by_codes pr.st
       floor_but_holds heavy number x mark mark.cost floor found.0 found.1.5 at (omega arith) least (up_to whole floor)
 
   -- rows of which no two have one key, as a table of the search's rule and bound
-  as_table : (rows : List (List ℕ × ℕ)) → HaveKeysOnce rows → length rows ≤ 4000000
-      → (table : Listing) × (table.rule ≡ pr.method.rule) × (table.bound ≡ pr.method.bound) × (length table.rows ≤ 4000000) × IsRising table.rows × IsPermutation rows table.rows
+  as_table : (rows : List (List ℕ × ℕ)) → HaveKeysOnce rows → length rows ≤ pr.method.strategy.budget
+      → (table : Listing) × (table.rule ≡ pr.method.rule) × (table.bound ≡ pr.method.bound) × (length table.rows ≤ pr.method.strategy.budget) × IsRising table.rows × IsPermutation rows table.rows
   as_table rows once few =
       let all = in_order rows once in
       let long : length all.0 ≡ length rows = length_permutation rows all.0 all.1 in
       (record { rule = pr.method.rule; bound = pr.method.bound; rows = all.0 }, refl, refl, omega (arith, few, long), all.2, all.1)
 
   -- the rows of the stored classes below n as such a table
-  inside_table : (n : ℕ) → pr.method.strategy.budget ≤ 4000000 → IsSound (task_of_problem pr) s
-      → (table : Listing) × (table.rule ≡ pr.method.rule) × (table.bound ≡ pr.method.bound) × (length table.rows ≤ 4000000) × IsRising table.rows
+  inside_table : (n : ℕ) → IsSound (task_of_problem pr) s
+      → (table : Listing) × (table.rule ≡ pr.method.rule) × (table.bound ≡ pr.method.bound) × (length table.rows ≤ pr.method.strategy.budget) × IsRising table.rows
       × IsPermutation (inside (guide_of pr.method.bound) n (costs_of pr.start s)) table.rows
-  inside_table n few sound =
+  inside_table n sound =
       let room = sound.room in
       let test : (List ℕ × ℕ) → Bool = λ e. nat_lt (e.1 + guide_of pr.method.bound (spelled e.0)) n in
       as_table (inside (guide_of pr.method.bound) n (costs_of pr.start s))
       (inside_once (guide_of pr.method.bound) n (costs_of pr.start s) (stored_once pr s names pp sound))
-      (omega (arith, length-filter test (costs_of pr.start s), count_by-le-length test (costs_of pr.start s), stored_long pr.start s, room, few))
+      (omega (arith, length-filter test (costs_of pr.start s), count_by-le-length test (costs_of pr.start s), stored_long pr.start s, room))
 
   -- the verdict of a search that found a shortest list
-  pub shortest_verdict : pr.limit ≡ None → 1 ≤ pr.method.strategy.weight.parts → IsEven pr.method.strategy.weight → (number : ℕ) (ms : List Move) (b : Board) → pr.method.rule ≤ 2 → pr.method.strategy.budget ≤ 4000000
+  pub shortest_verdict : pr.limit ≡ None → 1 ≤ pr.method.strategy.weight.parts → IsEven pr.method.strategy.weight → (number : ℕ) (ms : List Move) (b : Board) → pr.method.rule ≤ 2 → pr.method.strategy.budget ≤ 16000000
       → IsFound (task_of_problem pr) s number
       → Shows (task_of_problem pr) s (status.Won number)
       → IsAtClass pr.game s pr.start number ms b → IsVerdict pr (Shortest ms)
@@ -301,19 +301,19 @@ module _ (pr : Problem) (s : Store (List ℕ)) (names : IsNaming (by_codes pr.st
       let room = sound.room in
       let run = walked.3 in
       let cost = won.3 in
-      let listed = inside_table (length ms) few sound in
+      let listed = inside_table (length ms) sound in
       let table = listed.0 in
       let backed = backed_shortest whole positive light number ms table (sound, found) won.0 won.1 won.2 won.3 listed.1 listed.2
-      (subst (λ r. r ≤ 2) (sym listed.1) known) listed.3 listed.4 listed.5 in record {
+      (subst (λ r. r ≤ 2) (sym listed.1) known) (omega (arith, listed.3, few)) listed.4 listed.5 in record {
         right = record { wins = won.4; least = won.5 };
         earned = tt;
         written = (run_texts pr.game pr.start b ms pp run, omega (arith, low, inside_store, room, few, cost));
         few = omega (arith, low, inside_store, room, few, cost);
-        backed = record { answer = record { verdict = Shortest ms; table = Some table }; told = refl; backed = backed; searched = (listed.1, listed.2) };
+        backed = record { answer = record { verdict = Shortest ms; table = Some table }; told = refl; backed = backed; searched = (listed.1, listed.2, listed.3) };
       }
 
   -- the verdict of a search by a greater weight that found a list, no longer than the won class costs
-  pub won_verdict : pr.limit ≡ None → pr.method.strategy.weight.parts < pr.method.strategy.weight.times → (number : ℕ) (ms : List Move) (x : List ℕ) (mark : Mark) (floor : ℕ) → pr.method.rule ≤ 2 → pr.method.strategy.budget ≤ 4000000
+  pub won_verdict : pr.limit ≡ None → pr.method.strategy.weight.parts < pr.method.strategy.weight.times → (number : ℕ) (ms : List Move) (x : List ℕ) (mark : Mark) (floor : ℕ) → pr.method.rule ≤ 2 → pr.method.strategy.budget ≤ 16000000
       → IsFound (task_of_problem pr) s number → IsStored s number x mark
       → IsLeastOpen (task_of_problem pr) s mark.cost floor → length ms ≤ mark.cost → Wins pr.game pr.start ms
       → ((others : List Move) → Wins pr.game pr.start others
@@ -324,9 +324,9 @@ module _ (pr : Problem) (s : Store (List ℕ)) (names : IsNaming (by_codes pr.st
       let inside_store = stands_within s number x mark at in
       let room = found.0.room in
       let holds = floor_holds (omega (arith, heavy)) whole number x mark floor found at opened in
-      let listed = inside_table floor few found.0 in
+      let listed = inside_table floor found.0 in
       let table = listed.0 in
-      let backed = backed_below floor table found.0 holds.0 listed.1 listed.2 (subst (λ r. r ≤ 2) (sym listed.1) known) listed.3 listed.4
+      let backed = backed_below floor table found.0 holds.0 listed.1 listed.2 (subst (λ r. r ≤ 2) (sym listed.1) known) (omega (arith, listed.3, few)) listed.4
       listed.5 in record {
         right = record {
           above = heavy;
@@ -337,25 +337,25 @@ module _ (pr : Problem) (s : Store (List ℕ)) (names : IsNaming (by_codes pr.st
         earned = tt;
         written = (run_texts pr.game pr.start wins.0 ms pp wins.1, omega (arith, low, inside_store, room, few, le));
         few = omega (arith, low, inside_store, room, few, le);
-        backed = record { answer = record { verdict = Won ms floor; table = Some table }; told = refl; backed = backed; searched = (listed.1, listed.2) };
+        backed = record { answer = record { verdict = Won ms floor; table = Some table }; told = refl; backed = backed; searched = (listed.1, listed.2, listed.3) };
       }
 
   -- the verdict of a search that found no way to win
-  pub cannot_win_verdict : pr.limit ≡ None → pr.method.rule ≤ 2 → pr.method.strategy.budget ≤ 4000000 → IsExhausted (task_of_problem pr) s
+  pub cannot_win_verdict : pr.limit ≡ None → pr.method.rule ≤ 2 → pr.method.strategy.budget ≤ 16000000 → IsExhausted (task_of_problem pr) s
       → Shows (task_of_problem pr) s status.CannotWin → IsVerdict pr CannotWin
   cannot_win_verdict whole known few (sound, done) none =
       let free : (List ℕ × ℕ) → List ℕ × ℕ = λ e. (e.0, 0) in
       let room = sound.room in
       let listed = as_table (at_no_cost (costs_of pr.start s)) (no_cost_once (costs_of pr.start s) (stored_once pr s names pp sound))
-      (omega (arith, length-map (costs_of pr.start s) free, stored_long pr.start s, room, few)) in
+      (omega (arith, length-map (costs_of pr.start s) free, stored_long pr.start s, room)) in
       let table = listed.0 in
-      let backed = backed_whole whole table (sound, done) listed.1 (subst (λ r. r ≤ 2) (sym listed.1) known) listed.3 listed.4 listed.5 in
+      let backed = backed_whole whole table (sound, done) listed.1 (subst (λ r. r ≤ 2) (sym listed.1) known) (omega (arith, listed.3, few)) listed.4 listed.5 in
       record {
         right = λ ms wins. subst (λ l. ReachesLimit l (length ms) → ⊥) (sym whole) (λ never. never) (none (length ms) (ms, refl, wins));
         earned = tt;
         written = tt;
         few = tt;
-        backed = record { answer = record { verdict = CannotWin; table = Some table }; told = refl; backed = backed; searched = (listed.1, listed.2) };
+        backed = record { answer = record { verdict = CannotWin; table = Some table }; told = refl; backed = backed; searched = (listed.1, listed.2, listed.3) };
       }
 
   -- the verdict of a search that gave up

@@ -37,7 +37,7 @@ use Rattle.fc_search.proofs.AnswerLemmas.{backed_below, backed_whole, capped_mos
 
 -- the list that leads to the won class is one that the search has found
 pub found_there : (s : State) (number : ℕ) (ms : List Move) (b : Board) → IsNaming (by_codes s.problem.start) s.problem.game s.problem.start
-    → IsPositionOf s.problem.game s.problem.start → s.problem.method.strategy.budget ≤ 4000000 → s.status ≡ status.Won number
+    → IsPositionOf s.problem.game s.problem.start → s.problem.method.strategy.budget ≤ 16000000 → s.status ≡ status.Won number
     → Holds (task_of_problem s.problem) s.store (status.Won number) → Shows (task_of_problem s.problem) s.store (status.Won number)
     → IsAtClass s.problem.game s.store s.problem.start number ms b → HasFound s (Some ms)
 found_there s number ms b names fits most stands held shows walked =
@@ -124,7 +124,7 @@ module _ (s : State) (names : IsNaming (by_codes s.problem.start) s.problem.game
     pub rule : table.rule ≡ s.problem.method.rule
     pub bound : table.bound ≡ s.problem.method.bound
     pub known : table.rule ≤ 2
-    pub few : length table.rows ≤ 4000000
+    pub few : length table.rows ≤ 16000000
     pub rising : IsRising table.rows
     pub rows : IsPermutation all table.rows
 

@@ -7,7 +7,7 @@ use Rattle.fc_best_first.specs.declared.books.Mark.{Mark}
 use Rattle.fc_best_first.specs.declared.books.Opening.{Opening}
 use Rattle.fc_best_first.specs.declared.turns.Status.{Status}
 use Rattle.fc_best_first.specs.declared.turns.Status.TheVariants.{Running, Won, CannotWin, GaveUp, Stopped}
-use Rattle.fc_best_first.specs.declared.limits.TheConstants.{MOST_BUDGET}
+use Rattle.fc_best_first.specs.declared.limits.TheConstants.{MOST_GREAT_BUDGET}
 use Rattle.fc_best_first.specs.declared.searches.Step.{Step}
 use Rattle.fc_best_first.specs.declared.searches.Step.TheVariants.{Running as running}
 use Rattle.fc_best_first.specs.declared.searches.SearchFault.{SearchFault}
@@ -102,14 +102,14 @@ first_rises new opening one =
     omega (arith, e)
 
 module _ {K : Type 0} (task : Task K) where
-  pub begun_work : (s : Store K) → IsLawful task.graph → Begins task s → task.strategy.budget ≤ MOST_BUDGET
+  pub begun_work : (s : Store K) → IsLawful task.graph → Begins task s → task.strategy.budget ≤ MOST_GREAT_BUDGET
       → work_left task.strategy.budget s ≤ 3 * 2 ^ 62
   begun_work s lawful (x, cost, starts, stored, waiting, noted) few =
       let budget = task.strategy.budget in
-      let low : cost ≤ 53 = lawful.starts x cost starts in
+      let low : cost ≤ 1000 = (let spared = lawful.starts x cost starts in omega (arith, spared)) in
       let one : length s.waiting ≡ 1 = length_permutation _ s.waiting waiting in
       let sum : sum_by (λ e. e.1.cost) s.stored ≡ cost = ap (sum_by (λ (e : K × Mark). e.1.cost)) stored ∙ zero-add cost in
       let rise = first_rises s.openings _ noted in
-      let each : budget * (53 * budget + 55) ≤ 4000000 * (53 * 4000000 + 55) =
-      mul-le-mul {n₂ = 4000000} {m₂ = 53 * 4000000 + 55} (omega (arith, few)) (omega (arith, few)) in
+      let each : budget * (budget + 2001) ≤ 16000000 * (16000000 + 2001) =
+      mul-le-mul {n₂ = 16000000} {m₂ = 16000000 + 2001} (omega (arith, few)) (omega (arith, few)) in
       omega (arith, low, one, sum, each, costs_twice budget, rise)

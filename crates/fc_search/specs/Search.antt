@@ -48,13 +48,13 @@ pub record IsVerdict (p : Problem) (verdict : Verdict) : Type 0 where
   pub earned : IsEarned p verdict
   pub written : CanBeWritten verdict
   pub few : HasFewMoves verdict
-  pub backed : CanBeBacked p.game p.method.rule p.method.bound p.start verdict
+  pub backed : CanBeBacked p.game p.method.rule p.method.bound p.method.strategy.budget p.start verdict
 
 -- all that an answer of a problem is: a verdict that is right, backed by a table of the problem's rule and bound
 pub record Answers (p : Problem) (answer : Answer) : Type 0 where
   pub told : IsVerdict p answer.verdict
   pub backed : IsBacked p.game p.start answer
-  pub searched : IsSearchedBy p.method.rule p.method.bound answer
+  pub searched : IsSearchedBy p.method.rule p.method.bound p.method.strategy.budget answer
 
 -- one of three verdicts, and right: the moves win and none win in fewer, or no moves win, or the budget is told and more
 -- positions than that can be reached

@@ -19,7 +19,7 @@ impl<F: Frontier + Drop, G: Game + Drop> Search<F, G> {
         self.search.floor().div_ceil(times)
     }
 
-    /// How many classes may be stored, 1 to 4,000,000.
+    /// How many classes may be stored, 1 to 16,000,000.
     pub(crate) fn budget(&self) -> u32
         ensures value { result ≡ self.now.problem.method.strategy.budget }
     {

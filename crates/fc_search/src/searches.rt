@@ -2,7 +2,7 @@ ghost use Rattle.std.specs.Prelude.{◌≡◌, ◌<◌, ◌≤◌, ◌⊎◌, �
 ghost use Rattle.fc_position.specs.Position.{Fits};
 ghost use Rattle.fc_moves.specs.GameRules.{IsPositionOf};
 ghost use Rattle.fc_frontier.specs.Queue.{Adds};
-ghost use Rattle.fc_best_first.specs.Limits.{IsBudget, IsEven, IsWeight};
+ghost use Rattle.fc_best_first.specs.Limits.{IsBudget, IsEven, IsGreatBudget, IsWeight};
 ghost use Rattle.fc_best_first.specs.Search.{Begins, FloorAfter, Turns, Runs, reply_of};
 ghost use Rattle.fc_best_first.specs.Kept.{IsSound};
 ghost use Rattle.fc_best_first.specs.Shown.{Holds, Shows};
@@ -233,7 +233,7 @@ impl<F: Frontier + Drop, G: Game + Drop> Search<F, G> {
     // What is known of each search: its limits are in range, its start fits the game, and codes name the classes from there.
     pub(crate) fn known(&self)
         ensures rule { self.now.problem.method.rule ≤ GREATEST_RULE }
-        ensures budget { IsBudget self.now.problem.method.strategy.budget }
+        ensures budget { IsGreatBudget self.now.problem.method.strategy.budget }
         ensures weight { IsWeight self.now.problem.method.strategy.weight }
         ensures fits { IsPositionOf self.now.problem.game self.now.problem.start }
         ensures names { IsNaming (by_codes self.now.problem.start) self.now.problem.game self.now.problem.start }

@@ -79,7 +79,7 @@ impl<F: Frontier + Drop, G: Game + Drop> Search<F, G> {
     pub fn table(&self, shown: Option<u32>) -> Result<Option<Table>, AllocError>
         requires shown { HasShown self.now shown }
         ensures backs { IfOk result (λ table. IfSome table (BacksShown self.now.problem shown)) }
-        ensures searched { IfOk result (λ table. IfSome table (λ t. (t.rule ≡ self.now.problem.method.rule) × (t.bound ≡ self.now.problem.method.bound))) }
+        ensures searched { IfOk result (λ table. IfSome table (λ t. (t.rule ≡ self.now.problem.method.rule) × (t.bound ≡ self.now.problem.method.bound) × (length t.rows ≤ self.now.problem.method.strategy.budget))) }
         ensures done { IfOk result (λ table. IsSome table ↔ (reply_of self.now.status ≡ Ok Step.Done)) }
     {
         self.known();
@@ -95,7 +95,7 @@ impl<F: Frontier + Drop, G: Game + Drop> Search<F, G> {
         requires shown { HasShown self.now shown }
         requires done { reply_of self.now.status ≡ Ok Step.Done }
         ensures backs { IfOk result (BacksShown self.now.problem shown) }
-        ensures searched { IfOk result (λ t. (t.rule ≡ self.now.problem.method.rule) × (t.bound ≡ self.now.problem.method.bound)) }
+        ensures searched { IfOk result (λ t. (t.rule ≡ self.now.problem.method.rule) × (t.bound ≡ self.now.problem.method.bound) × (length t.rows ≤ self.now.problem.method.strategy.budget)) }
     {
         self.known();
         let _ = self.search.status();

@@ -11,7 +11,7 @@ ghost use Rattle.fc_search.specs.inner.Stored.{costs_of};
 
 use crate::searches::Search;
 use fc_answers::{Row, Table};
-use fc_best_first::MOST_BUDGET;
+use fc_best_first::MOST_GREAT_BUDGET;
 use fc_codes::Layout;
 use fc_frontier::Frontier;
 use fc_home::GREATEST_RULE;
@@ -26,7 +26,7 @@ impl<F: Frontier + Drop, G: Game + Drop> Search<F, G> {
         ensures rule { IfOk result (λ table. table.rule ≡ self.now.problem.method.rule) }
         ensures bound { IfOk result (λ table. table.bound ≡ self.now.problem.method.bound) }
         ensures known { IfOk result (λ table. table.rule ≤ GREATEST_RULE) }
-        ensures few { IfOk result (λ table. length table.rows ≤ MOST_BUDGET) }
+        ensures few { IfOk result (λ table. length table.rows ≤ self.now.problem.method.strategy.budget) }
         ensures rows { IfOk result (λ table. IsPermutation (inside (guide_of self.now.problem.method.bound) n (costs_of self.now.problem.start self.now.store)) table.rows) }
         ensures rising { IfOk result (λ table. IsRising table.rows) }
     {
@@ -58,7 +58,7 @@ impl<F: Frontier + Drop, G: Game + Drop> Search<F, G> {
     fn row_below(&self, number: u32, n: usize) -> Option<Row>
         requires sound { IsSound (task_of_problem self.now.problem) self.now.store }
         requires within { number < length self.now.store.stored }
-        requires few { number < MOST_BUDGET }
+        requires few { number < MOST_GREAT_BUDGET }
         ensures row { inside (guide_of self.now.problem.method.bound) n (take (number + 1) (costs_of self.now.problem.start self.now.store))
             ≡ inside (guide_of self.now.problem.method.bound) n (take number (costs_of self.now.problem.start self.now.store)) ++ pairs_by self.now.problem.start (option_to_list result) }
         ensures coded { IfSome result (IsRowOf self.now.problem.start) }
@@ -77,7 +77,7 @@ impl<F: Frontier + Drop, G: Game + Drop> Search<F, G> {
         ensures rule { IfOk result (λ table. table.rule ≡ self.now.problem.method.rule) }
         ensures bound { IfOk result (λ table. table.bound ≡ self.now.problem.method.bound) }
         ensures known { IfOk result (λ table. table.rule ≤ GREATEST_RULE) }
-        ensures few { IfOk result (λ table. length table.rows ≤ MOST_BUDGET) }
+        ensures few { IfOk result (λ table. length table.rows ≤ self.now.problem.method.strategy.budget) }
         ensures rows { IfOk result (λ table. IsPermutation (at_no_cost (costs_of self.now.problem.start self.now.store)) table.rows) }
         ensures rising { IfOk result (λ table. IsRising table.rows) }
     {
@@ -118,7 +118,7 @@ impl<F: Frontier + Drop, G: Game + Drop> Search<F, G> {
     fn count(&self) -> u32
         requires sound { IsSound (task_of_problem self.now.problem) self.now.store }
         ensures value { result ≡ length self.now.store.stored }
-        ensures few { result ≤ MOST_BUDGET }
+        ensures few { result ≤ MOST_GREAT_BUDGET }
     {
         self.known();
         self.len() as u32

@@ -1,4 +1,4 @@
-use Rattle.std.proofs.Common.{subst}
+use Rattle.std.proofs.Common.{subst, arith}
 use Rattle.fc_best_first.specs.Shown.{Holds, Shows}
 use Rattle.fc_search.proofs.AnswerLemmas.{backed_whole, cannot_win_verdict}
 use Rattle.fc_search.specs.Problem.{task_of_problem}
@@ -18,6 +18,7 @@ returns-clause-answers g c =
           (subst (Holds (task_of_problem q) store) c.requires.done c.requires.held)
           (subst (Shows (task_of_problem q) store) c.requires.done c.requires.shown);
       backed = backed_whole q store c.known.ensures.names c.known.ensures.fits c.requires.whole c.in_ok-table.table
-          (subst (Holds (task_of_problem q) store) c.requires.done c.requires.held) made.rule made.known made.few made.rising made.rows;
-      searched = (made.rule, made.bound);
+          (subst (Holds (task_of_problem q) store) c.requires.done c.requires.held) made.rule made.known
+          (omega (arith, made.few, c.known.ensures.budget.greatest)) made.rising made.rows;
+      searched = (made.rule, made.bound, made.few);
     }

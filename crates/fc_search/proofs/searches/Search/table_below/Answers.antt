@@ -67,5 +67,4 @@ returns-clause-few g c =
     let same = length_permutation (pairs_by c.new-layout.result c.in_ok-rows.rows.items) c.in_ok-table.table.rows c.in_ok-table.ensures.rows in
     let long = stored_long now.problem.start now.store in
     let room = c.requires.sound.room in
-    let most = c.known.ensures.budget.greatest in
-    omega (arith, few, listed, same, long, room, most)
+    omega (arith, few, listed, same, long, room)

@@ -1,4 +1,4 @@
-use Rattle.std.proofs.Common.{subst, sym}
+use Rattle.std.proofs.Common.{subst, sym, arith}
 use Rattle.fc_answers.specs.inner.Table.{at_no_cost, inside}
 use Rattle.fc_best_first.specs.Shown.{Holds}
 use Rattle.fc_bound.specs.Kinds.{guide_of}
@@ -22,13 +22,13 @@ returns-clause-backs g c =
           let made = w.in_ok-table-in-Some.ensures in
           let all = subst (λ t. IsTableWith now names fits heavy t (inside (guide_of now.problem.method.bound) w.in-Some.floor (costs_of now.problem.start now.store)))
           (sym w.table-is)
-          (record { rule = made.rule; bound = made.bound; known = made.known; few = made.few; rising = made.rising; rows = made.rows }) in
+          (record { rule = made.rule; bound = made.bound; known = made.known; few = omega (arith, made.few, c.known.ensures.budget.greatest); rising = made.rising; rows = made.rows }) in
           subst (λ shown. BacksShown now.problem shown table) (sym w.in-Some.is)
           (number_backed now names fits heavy now.status w.in-Some.floor table c.requires.done held (subst (HasShownBy now now.status) w.in-Some.is c.requires.shown) all)
       | in-None+in_ok-table-in-None w ↦
           let made = w.in_ok-table-in-None.ensures in
           let all = subst (λ t. IsTableWith now names fits heavy t (at_no_cost (costs_of now.problem.start now.store))) (sym w.table-is)
-          (record { rule = made.rule; bound = made.bound; known = made.known; few = made.few; rising = made.rising; rows = made.rows }) in
+          (record { rule = made.rule; bound = made.bound; known = made.known; few = omega (arith, made.few, c.known.ensures.budget.greatest); rising = made.rising; rows = made.rows }) in
           subst (λ shown. BacksShown now.problem shown table) (sym w.in-None.is)
           (none_backed now names fits heavy now.status table c.requires.done held (subst (HasShownBy now now.status) w.in-None.is c.requires.shown) all)
     ]

@@ -49,8 +49,8 @@ returns-clause-answers g c =
       told = shortest.0;
       backed = backed_shortest q store c.known.ensures.names c.known.ensures.fits c.requires.whole range.least light c.args.number moves table
           (subst (Holds (task_of_problem q) store) c.requires.done c.requires.held) won.0 won.1 won.2 won.3 made.rule made.bound made.known
-          made.few made.rising (subst (λ n. IsPermutation (inside (guide_of q.method.bound) n (costs_of q.start store)) table.rows) c.len.ensures.value made.rows);
-      searched = (made.rule, made.bound);
+          (omega (arith, made.few, c.known.ensures.budget.greatest)) made.rising (subst (λ n. IsPermutation (inside (guide_of q.method.bound) n (costs_of q.start store)) table.rows) c.len.ensures.value made.rows);
+      searched = (made.rule, made.bound, made.few);
     }
 
 pub returns-then-times-parts-clause-answers : goal.returns-then-times-parts-clause-answers
@@ -70,8 +70,8 @@ returns-then-times-parts-clause-answers g c =
     let made = c.in_ok-table.ensures in record {
       told = (c.in_ok-moves.ensures.within heavy floor told).0;
       backed = backed_below q store c.known.ensures.names c.known.ensures.fits floor c.in_ok-table.table found.0 holds.0
-          made.rule made.bound made.known made.few made.rising made.rows;
-      searched = (made.rule, made.bound);
+          made.rule made.bound made.known (omega (arith, made.few, c.known.ensures.budget.greatest)) made.rising made.rows;
+      searched = (made.rule, made.bound, made.few);
     }
 
 pub returns-clause-kind : goal.returns-clause-kind
