@@ -1,6 +1,6 @@
 -- How long what is written is.
 use Rattle.std.proofs.Common.{◌≡◌, ℕ, suc, ◌+◌, ◌*◌, ◌≤◌, List, [], ◌∷◌, ◌++◌, length, refl, sym, ap, subst, arith, length-append}
-use Rattle.std.specs.Prelude.{All, Option, Some, None, MatchOption}
+use Rattle.std.specs.Prelude.{All, Option, Some, None, IfSome, MatchOption}
 use Rattle.std.specs.List.{flat_map}
 use Rattle.std.proofs.lemmas.List.Elements.{All-head, All-tail}
 use Rattle.fc_position.specs.Board.{Board}
@@ -24,7 +24,8 @@ use Rattle.fc_cert.specs.declared.contents.Form.TheVariants.{First, Second, Thir
 use Rattle.fc_cert.specs.declared.contents.Head.{Head}
 use Rattle.fc_cert.specs.declared.contents.Kind.{Kind}
 use Rattle.fc_cert.specs.declared.contents.Kind.TheVariants as kind
-use Rattle.fc_cert.specs.Claim.{IsWrittenWith}
+use Rattle.fc_answers.specs.declared.answers.Answer.{Answer}
+use Rattle.fc_cert.specs.Claim.{IsWrittenAs, IsWrittenWith, written_head}
 use Rattle.fc_cert.specs.Content.{Content, magic, game_bytes, bound_bytes, kind_byte, floor_bytes, four_bytes, head_bytes, listed_bytes, moves_bytes, record_bytes, rows_bytes, bytes_of}
 use Rattle.fc_cert.specs.Laws.{WrittenCertificatesAreShort}
 use Rattle.fc_cert.proofs.LayoutLemmas.{texts_long}
@@ -73,7 +74,7 @@ head_short h =
     )
 
 -- the moves
-listed_long : (moves : List Move) → length (listed_bytes moves) ≡ 4 + length moves * 2
+pub listed_long : (moves : List Move) → length (listed_bytes moves) ≡ 4 + length moves * 2
 listed_long moves =
     let four : length (four_bytes (length moves)) ≡ 4 = refl in
     let whole : length (listed_bytes moves) ≡ length (four_bytes (length moves) ++ flat_map move_text moves) = refl in
@@ -117,9 +118,9 @@ rows_short g table listed =
     omega (arith, four, whole, records_short rows each, length-append (four_bytes (length rows)) (flat_map record_bytes rows))
 
 -- all of them, of a table of the game and few moves
-all_short : (g : GameRules) (table : Listing) (c : Content) → IsTable g table → c.rows ≡ table.rows
+all_short : (g : GameRules) (table : Listing) (c : Content) → IsTable g table → length table.rows ≤ 14000000 → c.rows ≡ table.rows
     → length (moves_bytes c.head.kind c.moves) ≤ 4 + MOST_MOVES * 2 → length (bytes_of c) ≤ LONGEST_CERTIFICATE
-all_short g table c listed same few =
+all_short g table c listed small same few =
     let records = rows_bytes c.rows in
     let most = rows_short g table listed in
     let whole : length (bytes_of c) ≡ length (head_bytes c.head ++ (moves_bytes c.head.kind c.moves ++ records)) = refl in
@@ -129,7 +130,7 @@ all_short g table c listed same few =
       few,
       most,
       whole,
-      listed.few,
+      small,
       ap (λ l. length (rows_bytes l)) same,
       length-append (moves_bytes c.head.kind c.moves) records,
       length-append (head_bytes c.head) (moves_bytes c.head.kind c.moves ++ records),
@@ -137,23 +138,77 @@ all_short g table c listed same few =
 
 -- what a verdict is written as, by a table that backs it
 short_with : (g : GameRules) (b : Board) (told : Verdict) (table : Listing) (c : Content) → IsBackedBy g b told table
-    → HasFewMoves told → IsWrittenWith g table told c → length (bytes_of c) ≤ LONGEST_CERTIFICATE
-short_with g b (verdict.Shortest moves) table c backed few same =
-    all_short g table c backed.listed (ap (λ x. x.rows) same)
+    → length table.rows ≤ 14000000 → HasFewMoves told → IsWrittenWith g table told c → length (bytes_of c) ≤ LONGEST_CERTIFICATE
+short_with g b (verdict.Shortest moves) table c backed small few same =
+    all_short g table c backed.listed small (ap (λ x. x.rows) same)
     (subst (λ x. length (moves_bytes x.head.kind x.moves) ≤ 4 + MOST_MOVES * 2) (sym same) (omega (arith, listed_long moves, few)))
-short_with g b (verdict.Won moves floor) table c backed few same =
-    all_short g table c backed.listed (ap (λ x. x.rows) same)
+short_with g b (verdict.Won moves floor) table c backed small few same =
+    all_short g table c backed.listed small (ap (λ x. x.rows) same)
     (subst (λ x. length (moves_bytes x.head.kind x.moves) ≤ 4 + MOST_MOVES * 2) (sym same) (omega (arith, listed_long moves, few)))
-short_with g b verdict.CannotWin table c backed few same =
-    all_short g table c backed.listed (ap (λ x. x.rows) same)
+short_with g b verdict.CannotWin table c backed small few same =
+    all_short g table c backed.listed small (ap (λ x. x.rows) same)
     (subst (λ x. length (moves_bytes x.head.kind x.moves) ≤ 4 + MOST_MOVES * 2) (sym same) (omega arith))
-short_with g b (verdict.GaveUp told) table c backed few same = absurd same
+short_with g b (verdict.GaveUp told) table c backed small few same = absurd same
 
 short_by : (g : GameRules) (b : Board) (told : Verdict) (backing : Option Listing) (c : Content)
-    → MatchOption backing (HasGivenUp told) (IsBackedBy g b told) → HasFewMoves told
+    → MatchOption backing (HasGivenUp told) (IsBackedBy g b told) → IfSome backing (λ table. length table.rows ≤ 14000000) → HasFewMoves told
     → MatchOption backing ⊥ (λ table. IsWrittenWith g table told c) → length (bytes_of c) ≤ LONGEST_CERTIFICATE
-short_by g b told (Some table) c backed few same = short_with g b told table c backed few same
-short_by g b told None c backed few same = absurd same
+short_by g b told (Some table) c backed small few same = short_with g b told table c backed small few same
+short_by g b told None c backed small few same = absurd same
 
 pub written_short : WrittenCertificatesAreShort
-written_short g b answered c backed few same = short_by g b answered.verdict answered.table c backed few same
+written_short g b answered c backed small few same = short_by g b answered.verdict answered.table c backed small few same
+
+-- how many bytes the form of a head has before its floor
+abbrev pub form_long : Form → ℕ
+form_long First = 6
+form_long Second = 8
+form_long Third = 9
+
+-- and how many its floor
+abbrev pub floor_long : Kind → ℕ
+floor_long kind.Shortest = 0
+floor_long kind.CannotWin = 0
+floor_long kind.Between = 4
+
+pub head_long : (form : Form) (claimed : Kind) (game cells rule : ℕ) (bound : BoundKind) (floor : ℕ)
+    → length (head_bytes (record { form = form; game = game; cells = cells; rule = rule; bound = bound; kind = claimed; floor = floor }))
+    ≡ form_long form + floor_long claimed
+head_long First kind.Shortest game cells rule bound floor = refl
+head_long First kind.CannotWin game cells rule bound floor = refl
+head_long First kind.Between game cells rule bound floor = refl
+head_long Second kind.Shortest game cells rule bound floor = refl
+head_long Second kind.CannotWin game cells rule bound floor = refl
+head_long Second kind.Between game cells rule bound floor = refl
+head_long Third kind.Shortest game cells rule bound floor = refl
+head_long Third kind.CannotWin game cells rule bound floor = refl
+head_long Third kind.Between game cells rule bound floor = refl
+
+-- all of a content
+content_long : (head : Head) (moves : List Move) (rows : List (List ℕ × ℕ))
+    → length (bytes_of (record { head = head; moves = moves; rows = rows }))
+    ≡ length (head_bytes head) + (length (moves_bytes head.kind moves) + (4 + length (flat_map record_bytes rows)))
+content_long head moves rows =
+    let four : length (four_bytes (length rows)) ≡ 4 = refl in
+    omega (
+      arith,
+      four,
+      length-append (four_bytes (length rows)) (flat_map record_bytes rows),
+      length-append (moves_bytes head.kind moves) (rows_bytes rows),
+      length-append (head_bytes head) (moves_bytes head.kind moves ++ rows_bytes rows),
+    )
+
+-- what is written of an answer with such a table and such a verdict
+pub written_with : (g : GameRules) (answered : Answer) (told : Verdict) (table : Listing) (c : Content) → answered.table ≡ Some table
+    → answered.verdict ≡ told → IsWrittenAs g answered c → IsWrittenWith g table told c
+written_with g answered told table c tabled same is =
+    subst (λ v. IsWrittenWith g table v c) same
+    (subst (λ t. MatchOption t ⊥ (λ x. IsWrittenWith g x answered.verdict c)) tabled is)
+
+pub written_long : (g : GameRules) (table : Listing) (c : Content) (claimed : Kind) (floor before : ℕ) (moves : List Move)
+    → c ≡ record { head = written_head g table claimed floor; moves = moves; rows = table.rows }
+    → length (head_bytes (written_head g table claimed floor)) + length (moves_bytes claimed moves) ≡ before
+    → length (bytes_of c) ≡ before + (4 + length (flat_map record_bytes table.rows))
+written_long g table c claimed floor before moves same long =
+    let all = content_long (written_head g table claimed floor) moves table.rows in
+    omega (arith, ap (λ x. length (bytes_of x)) same, all, long)

@@ -96,7 +96,7 @@ gathers_cut {a} {b} {c} {gathered} {bytes} first cut = subst (IsCutShort a c) (s
 
 module _ {X : Type 0} (bytes_of_one : X → List ℕ) where
   -- the bytes of one element more
-  one_more : (xs : List X) (i : ℕ) (x d : X) → i < length xs → x ≡ get_or xs i d
+  pub one_more : (xs : List X) (i : ℕ) (x d : X) → i < length xs → x ≡ get_or xs i d
       → flat_map bytes_of_one (take (i + 1) xs) ≡ flat_map bytes_of_one (take i xs) ++ bytes_of_one x
   one_more xs i x d within here =
       ap (flat_map bytes_of_one) (take_more xs i d within ∙ ap (λ y. take i xs ++ y ∷ []) (sym here))

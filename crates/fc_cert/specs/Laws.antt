@@ -1,5 +1,5 @@
 -- What the laws of this crate state.
-use Rattle.std.specs.Prelude.{◌≡◌, ℕ, ◌≤◌, ◌↔◌, List, length, Result, Ok}
+use Rattle.std.specs.Prelude.{◌≡◌, ℕ, ◌≤◌, ◌↔◌, List, length, IfSome, Result, Ok}
 use Rattle.fc_position.specs.Board.{Board}
 use Rattle.fc_moves.specs.GameRules.{GameRules, IsGame, IsPositionOf}
 use Rattle.fc_answers.specs.declared.answers.Answer.{Answer}
@@ -36,7 +36,7 @@ BackedAnswersAreCertified = (g : GameRules) (b : Board) (answered : Answer) (c :
 abbrev pub NumbersAreTold : Type 0
 NumbersAreTold = LONGEST_CERTIFICATE ≡ 1073741824
 
--- what is written of a backed answer of few moves is no longer than what is read
+-- what is written of a backed answer of few moves, whose table lists at most fourteen million classes, is no longer than what is read
 abbrev pub WrittenCertificatesAreShort : Type 0
 WrittenCertificatesAreShort = (g : GameRules) (b : Board) (answered : Answer) (c : Content) → IsBacked g b answered
-    → HasFewMoves answered.verdict → IsWrittenAs g answered c → length (bytes_of c) ≤ LONGEST_CERTIFICATE
+    → IfSome answered.table (λ table. length table.rows ≤ 14000000) → HasFewMoves answered.verdict → IsWrittenAs g answered c → length (bytes_of c) ≤ LONGEST_CERTIFICATE

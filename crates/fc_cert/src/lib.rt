@@ -6,6 +6,7 @@ pub use certificates::{Certificate, LONGEST_CERTIFICATE, form_fault};
 pub use claims::Claim;
 pub use contents::{Form, Head, Kind};
 pub use faults::CertFault;
+pub use lengths::certificate_length;
 pub use writers::write_answer;
 
 mod certificates;
@@ -18,5 +19,6 @@ mod fields;
 mod heads;
 pub mod laws;
 mod layouts;
+mod lengths;
 mod readers;
 mod writers;

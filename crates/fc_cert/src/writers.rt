@@ -76,7 +76,7 @@ pub fn write_answer<G: Game, K: Sink>(
 }
 
 // The form in which a table closed by this bound is written: the second where it says all, the third otherwise.
-fn written_form(bound: BoundKind, kind: Kind) -> Form
+pub(crate) fn written_form(bound: BoundKind, kind: Kind) -> Form
     ensures value { result ≡ written_form bound kind }
 {
     match (bound, kind) {
