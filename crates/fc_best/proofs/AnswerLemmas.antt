@@ -60,9 +60,9 @@ module _ (q : Asked) (b : Board) where
   floor_backed (Some table) n is = is.backed
 
   searched_so : (table : Option Listing) (floor : Option ℕ) → IfSome table (IsTableOf q b floor)
-      → IfSome table (λ t. (t.rule ≡ q.method.rule) × (t.bound ≡ q.method.bound))
+      → IfSome table (λ t. (t.rule ≡ q.method.rule) × (t.bound ≡ q.method.bound) × (length t.rows ≤ q.method.strategy.budget))
   searched_so None floor is = tt
-  searched_so (Some table) floor is = (is.rule, is.bound)
+  searched_so (Some table) floor is = (is.rule, is.bound, is.few)
 
   pub lost_best : (s : Standing) (end : Shown) → Stands q b s → s.shown ≡ Some end → end.floor ≡ None
       → IsBestAnswer q b (record { verdict = CannotWin; table = end.table })

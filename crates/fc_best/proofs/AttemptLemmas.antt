@@ -48,9 +48,10 @@ lost_shown s ends.CannotWin done none still free = sym free
 -- what is shown of a problem is so of its question, and its table is one of the question
 table_so : (q : Asked) (b : Board) (limit shown : Option ℕ) (table : Option Listing)
     → IfSome table (BacksShown (problem_below q b limit) shown)
-    → IfSome table (λ t. (t.rule ≡ q.method.rule) × (t.bound ≡ q.method.bound)) → IfSome table (IsTableOf q b shown)
+    → IfSome table (λ t. (t.rule ≡ q.method.rule) × (t.bound ≡ q.method.bound) × (length t.rows ≤ q.method.strategy.budget))
+    → IfSome table (IsTableOf q b shown)
 table_so q b limit shown None backs searched = tt
-table_so q b limit shown (Some table) backs searched = record { rule = searched.0; bound = searched.1; backed = backs }
+table_so q b limit shown (Some table) backs searched = record { rule = searched.0; bound = searched.1; few = searched.2; backed = backs }
 
 shown_in : (q : Asked) (b : Board) (limit : Option ℕ) (s : State) (shown : Option Shown) → s.problem ≡ problem_below q b limit
     → IfSome shown (IsShownAt s) → IfSome shown (IsShownIn q b s)
@@ -59,7 +60,7 @@ shown_in q b limit s (Some end) same is = (
   (
     subst (λ (x : Problem). IsShown x.game x.start end.floor) same is.so,
     table_so q b limit end.floor end.table (subst (λ x. IfSome end.table (BacksShown x end.floor)) same is.backs)
-        (subst (λ (x : Problem). IfSome end.table (λ t. (t.rule ≡ x.method.rule) × (t.bound ≡ x.method.bound))) same is.searched),
+        (subst (λ (x : Problem). IfSome end.table (λ t. (t.rule ≡ x.method.rule) × (t.bound ≡ x.method.bound) × (length t.rows ≤ x.method.strategy.budget))) same is.searched),
   ),
   is.shown,
 )
@@ -135,7 +136,7 @@ looked_table : (q : Asked) (b : Board) (weight : Ratio) (share : ℕ) (kind : Bo
     → IfSome table (IsTableOf (looked_with q weight share) b None) → IfSome (under kind table) (IsTableOf (with_share q weight share) b None)
 looked_table q b weight share kind None same is = tt
 looked_table q b weight share kind (Some table) same is =
-    record { rule = is.rule; bound = same; backed = whole_by q.game b kind table is.backed }
+    record { rule = is.rule; bound = same; few = is.few; backed = whole_by q.game b kind table is.backed }
 
 -- what is left of what a look showed is so of the question
 looked_end : (q : Asked) (b : Board) (weight : Ratio) (share : ℕ) (kind : BoundKind) (s : State) (floor : Option ℕ) (table : Option Listing)

@@ -66,21 +66,22 @@ shown_first q kind ended searches (Some n) by bound shown =
     record { one = ended; of_these = first_of ended searches; bound = by ∙ bound; shown = shown }
 
 -- a table of a question with another weight and budget is one of the question
-tabled_so : (q : Asked) (b : Board) (weight : Ratio) (share : ℕ) (floor : Option ℕ) (table : Option Listing)
+tabled_so : (q : Asked) (b : Board) (weight : Ratio) (share : ℕ) (floor : Option ℕ) (table : Option Listing) → share ≤ q.method.strategy.budget
     → IfSome table (IsTableOf (with_share q weight share) b floor) → IfSome table (IsTableOf q b floor)
-tabled_so q b weight share floor None h = tt
-tabled_so q b weight share floor (Some table) h = record { rule = h.rule; bound = h.bound; backed = h.backed }
+tabled_so q b weight share floor None within h = tt
+tabled_so q b weight share floor (Some table) within h =
+    record { rule = h.rule; bound = h.bound; few = (let few = h.few in omega (arith, few, within)); backed = h.backed }
 
 -- what is shown newly, or was before, is so, and rests on the searches
 newest_shown : (q : Asked) (kind : BoundKind) (b : Board) (weight : Ratio) (share : ℕ) (ended : State) (searches : List State) (new old : Option Shown)
-    → ended.problem.method.bound ≡ kind → IfSome new (IsShownIn (with_share q weight share) b ended)
+    → share ≤ q.method.strategy.budget → ended.problem.method.bound ≡ kind → IfSome new (IsShownIn (with_share q weight share) b ended)
     → IfSome new (λ end. IfSome end.floor (λ n. kind ≡ q.method.bound))
     → IfSome old (λ end. IsEnd q b end × IsShownBy q searches end.floor)
     → IfSome (newest new old) (λ end. IsEnd q b end × IsShownBy q (ended ∷ searches) end.floor)
-newest_shown q kind b weight share ended searches (Some end) old by is bound was =
-    ((is.0.0, tabled_so q b weight share end.floor end.table is.0.1), shown_first q kind ended searches end.floor by bound is.1)
-newest_shown q kind b weight share ended searches None (Some end) by is bound was = (was.0, shown_after q ended searches end.floor was.1)
-newest_shown q kind b weight share ended searches None None by is bound was = tt
+newest_shown q kind b weight share ended searches (Some end) old within by is bound was =
+    ((is.0.0, tabled_so q b weight share end.floor end.table within is.0.1), shown_first q kind ended searches end.floor by bound is.1)
+newest_shown q kind b weight share ended searches None (Some end) within by is bound was = (was.0, shown_after q ended searches end.floor was.1)
+newest_shown q kind b weight share ended searches None None within by is bound was = tt
 
 -- what holds of both holds of the newest
 newest_both : {X : Type 0} (P : X → Type 0) (new old : Option X) → IfSome new P → IfSome old P → IfSome (newest new old) P
@@ -209,7 +210,7 @@ after_stands q kind b weight share old attempt last new list shown most (searche
         (λ moves. IsGoodList q.game b moves × IsListOf q.game b (is.ended ∷ searches) tails moves) old.list
         (λ moves good. (good.0, list_after q.game b is.ended searches tails moves good.1)) was.list);
     shown = subst (λ o. IfSome o (λ (end : Shown). IsEnd q b end × IsShownBy q (is.ended ∷ searches) end.floor)) (sym ends)
-        (newest_shown q kind b weight share is.ended searches attempt.shown old.shown is.by_kind is.shown is.bound was.shown);
+        (newest_shown q kind b weight share is.ended searches attempt.shown old.shown (let all = was.spent in omega (arith, all, within)) is.by_kind is.shown is.bound was.shown);
     none = λ nothing.
         let both = short.none nothing in
         subst (λ g. ShowsNone shown ⊎ AllGaveUp q b (is.ended ∷ searches) shown g) (sym gave)

@@ -130,4 +130,4 @@ pub record IsBestVerdict (q : Asked) (b : Board) (verdict : Verdict) : Type 0 wh
 pub record IsBestAnswer (q : Asked) (b : Board) (answer : Answer) : Type 0 where
   pub told : IsBestVerdict q b answer.verdict
   pub backed : IfSome answer.table (IsBackedBy q.game b answer.verdict)
-  pub tabled : IsSearchedBy q.method.rule q.method.bound answer
+  pub tabled : IsSearchedBy q.method.rule q.method.bound q.method.strategy.budget answer

@@ -2,7 +2,7 @@
 
 ghost use Rattle.fc_position.specs.Board.{Board};
 ghost use Rattle.fc_position.specs.Position.{Fits};
-ghost use Rattle.std.specs.Prelude.{◌≡◌, ◌*◌, ◌/◌, ℕ, List, Option, None, IfOk, IfSome, IsSome, IsTrue, max, min};
+ghost use Rattle.std.specs.Prelude.{length, ◌≡◌, ◌≤◌, ◌*◌, ◌/◌, ℕ, List, Option, None, IfOk, IfSome, IsSome, IsTrue, max, min};
 ghost use Rattle.fc_best_first.specs.Search.{reply_of};
 ghost use Rattle.fc_methods.specs.Method.{Asked};
 ghost use Rattle.fc_search.specs.Problem.{problem_below};
@@ -232,7 +232,7 @@ fn table_of<F: Frontier + Drop, G: Game + Drop>(
     requires done { reply_of search.now.status ≡ Ok Step.Done }
     requires shown { HasShown search.now shown }
     ensures backs { IfOk result (λ table. IfSome table (BacksShown search.now.problem shown)) }
-    ensures searched { IfOk result (λ table. IfSome table (λ t. (t.rule ≡ search.now.problem.method.rule) × (t.bound ≡ search.now.problem.method.bound))) }
+    ensures searched { IfOk result (λ table. IfSome table (λ t. (t.rule ≡ search.now.problem.method.rule) × (t.bound ≡ search.now.problem.method.bound) × (length t.rows ≤ search.now.problem.method.strategy.budget))) }
     ensures made { IsTrue has_table → IfOk result IsSome }
 {
     if has_table {

@@ -3,7 +3,7 @@
 ghost use Rattle.std.specs.Prelude.{◌≡◌};
 ghost use Rattle.fc_best.specs.inner.Standing.{with_share};
 
-use fc_methods::{Budget, Method, Question, Strategy, Weight};
+use fc_methods::{GreatBudget, Method, Question, Strategy, Weight};
 use fc_moves::Game;
 
 // How one more search goes.
@@ -12,7 +12,7 @@ pub(crate) struct Plan {
     // How often its bound counts.
     pub(crate) weight: Weight,
     // How many classes it may store.
-    pub(crate) budget: Budget,
+    pub(crate) budget: GreatBudget,
 }
 
 // The question by a plan: with another weight, and with a share of its budget.

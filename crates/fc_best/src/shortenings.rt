@@ -15,7 +15,7 @@ use crate::plans::{Plan, asked_with};
 use crate::stages::tails_above;
 use crate::standings::{Standing, limit_of, shorter};
 use crate::tails::{Rest, Tail};
-use fc_methods::{Budget, Question, Weight};
+use fc_methods::{GreatBudget, Question, Weight};
 use fc_moves::Game;
 use fc_position::Position;
 use std::alloc::{AllocError, Global};
@@ -83,7 +83,7 @@ impl Standing {
     {
         let whole = question.method().strategy.budget;
         let share = self.share(whole, 100, 10).min(whole.get() / TAIL_SHARE);
-        let (Some(list), Some(budget)) = (&self.list, Budget::new(share)) else {
+        let (Some(list), Some(budget)) = (&self.list, GreatBudget::new(share)) else {
             return Ok(None);
         };
         let is_wanted = !self.is_settled() && self.is_above(tails_above(whole.get()));

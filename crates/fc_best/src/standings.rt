@@ -20,7 +20,7 @@ use crate::plans::{Plan, asked_with};
 use crate::relays::attempt_after;
 use crate::stages::{Purpose, Stage};
 use fc_answers::{Answer, MoveList, Verdict};
-use fc_methods::{Budget, Question, Weight};
+use fc_methods::{GreatBudget, Question, Weight};
 use fc_moves::Game;
 use fc_position::Position;
 use std::alloc::{AllocError, Global};
@@ -46,7 +46,7 @@ pub(crate) struct Standing {
 
 impl Standing {
     // Before the first search.
-    pub(crate) fn new(budget: Budget, has_table: bool) -> Self
+    pub(crate) fn new(budget: GreatBudget, has_table: bool) -> Self
         ensures stands { (q : Asked) (b : Board) → q.method.strategy.budget ≡ budget → Stands q b result }
         ensures left { 1 ≤ result.left }
         ensures has_table { result.has_table ≡ has_table }
@@ -87,7 +87,7 @@ impl Standing {
         if self.is_settled() || !self.wants(stage, whole) {
             return Ok(self);
         }
-        let Some(budget) = Budget::new(share) else {
+        let Some(budget) = GreatBudget::new(share) else {
             return Ok(self);
         };
         let plan = Plan {
@@ -114,7 +114,7 @@ impl Standing {
     }
 
     // Whether a stage is one within this budget, and something is left of its purpose.
-    fn wants(&self, stage: Stage, budget: Budget) -> bool {
+    fn wants(&self, stage: Stage, budget: GreatBudget) -> bool {
         stage.is_within(budget.get()) && self.is_open(stage.purpose)
     }
 
@@ -158,7 +158,7 @@ impl Standing {
             return Ok(self);
         }
         let _ = question.method().strategy.budget.get();
-        let budget = Budget::new(self.left).unwrap();
+        let budget = GreatBudget::new(self.left).unwrap();
         let plan = Plan {
             weight: Weight::ONE,
             budget,
@@ -193,7 +193,7 @@ impl Standing {
     }
 
     // How many classes may be stored where they are at most so many hundredths of the budget, and so many, or one class, are kept.
-    pub(crate) fn share(&self, budget: Budget, most: u8, kept: u8) -> u32
+    pub(crate) fn share(&self, budget: GreatBudget, most: u8, kept: u8) -> u32
         ensures most { 1 ≤ self.now.left → result + 1 ≤ self.now.left }
     {
         let budget = budget.get();

@@ -31,6 +31,7 @@ IsShown g b shown = MatchOption shown (CannotWin g b) (IsFloor g b)
 pub record IsTableOf (q : Asked) (b : Board) (shown : Option ℕ) (table : Listing) : Type 0 where
   pub rule : table.rule ≡ q.method.rule
   pub bound : table.bound ≡ q.method.bound
+  pub few : length table.rows ≤ q.method.strategy.budget
   pub backed : MatchOption shown (IsBackedWhole q.game b table) (λ floor. IsBackedBelow q.game b floor table)
 
 -- what a search of the question showed is so, and its table, where one was made, shows it
@@ -70,7 +71,7 @@ pub record IsShownAt (s : State) (end : Shown) : Type 0 where
   pub shown : HasShown s end.floor
   pub so : IsShown s.problem.game s.problem.start end.floor
   pub backs : IfSome end.table (BacksShown s.problem end.floor)
-  pub searched : IfSome end.table (λ t. (t.rule ≡ s.problem.method.rule) × (t.bound ≡ s.problem.method.bound))
+  pub searched : IfSome end.table (λ t. (t.rule ≡ s.problem.method.rule) × (t.bound ≡ s.problem.method.bound) × (length t.rows ≤ s.problem.method.strategy.budget))
 
 -- what a search of the question by this kind of bound from the board, below this limit if there is one, has found and shown is so; a
 -- floor is by the question's bound; and where it neither found a list nor gave up nor had a limit, it shows that none wins
