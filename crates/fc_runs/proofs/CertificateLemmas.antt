@@ -1,7 +1,8 @@
 -- What is written of an answer of a search certifies its verdict.
-use Rattle.std.proofs.Common.{◌≡◌, ◌∙◌, ℕ, List, Option, Some, None, length, refl, sym, ap, subst, Ok, Err, IsTrue, false}
+use Rattle.std.proofs.Common.{inl, inr, ◌≡◌, ◌∙◌, ◌≤◌, ℕ, [], List, Option, Some, None, length, refl, sym, ap, subst, arith, Ok, Err, IsTrue, false}
 use Rattle.fc_io.specs.Moves.{TakesBytes, TakesFront}
-use Rattle.fc_moves.specs.GameRules.{IsGame, IsPositionOf}
+use Rattle.fc_moves.specs.declared.steps.Move.{Move}
+use Rattle.fc_moves.specs.GameRules.{GameRules, IsGame, IsPositionOf}
 use Rattle.fc_bound.specs.declared.kinds.BoundKind.{BoundKind}
 use Rattle.fc_answers.specs.declared.answers.Answer.{Answer}
 use Rattle.fc_answers.specs.declared.answers.Verdict.{Verdict}
@@ -12,17 +13,19 @@ use Rattle.fc_best.specs.Best.{IsBestAnswer, IsBestVerdict}
 use Rattle.fc_methods.specs.Method.{Asked}
 use Rattle.fc_position.specs.Board.{Board}
 use Rattle.fc_answers.specs.Answer.{IsBacked}
-use Rattle.fc_runs.specs.inner.Certificates.{IsCertifiable, TellsWins}
+use Rattle.fc_runs.specs.inner.Certificates.{IsCertifiable, IsLong, TellsWins}
 use Rattle.fc_search.specs.Search.{Answers, IsVerdict}
 use Rattle.fc_cert.specs.declared.claims.Claim.{Claim}
 use Rattle.fc_cert.specs.declared.claims.Claim.TheVariants as claim
-use Rattle.fc_cert.specs.Claim.{IsWrittenWith, written_form}
+use Rattle.fc_cert.specs.declared.certificates.TheConstants.{LONGEST_CERTIFICATE}
+use Rattle.fc_cert.specs.declared.contents.Kind.{Kind}
+use Rattle.fc_cert.specs.declared.contents.Kind.TheVariants as kind
+use Rattle.fc_cert.specs.Claim.{IsWrittenAs, IsWrittenWith, written_form, written_head}
 use Rattle.fc_cert.specs.Content.{Content, bytes_of}
 use Rattle.fc_cert.proofs.CertifiedLemmas.{backed_certified, backed_spelled}
-use Rattle.fc_cert.proofs.LengthLemmas.{written_short as certificate_short}
 use Rattle.fc_cert.specs.declared.faults.CertFault.TheVariants.{Write}
 use Rattle.fc_cert.specs.Writing.{SinkState, WritesAnswer}
-use Rattle.fc_board_runs.specs.Devices.{Device}
+use Rattle.fc_board_runs.specs.Devices.{Device, IsUntouched}
 use Rattle.fc_board_runs.specs.declared.faults.Output.TheVariants.{Answer as of_answer, Cert as of_certificate}
 use Rattle.fc_board_runs.specs.declared.faults.ProgramFault.TheVariants.{Write as unwritten}
 use Rattle.fc_answer_text.specs.AnswerText.{answer_text, status_of}
@@ -81,7 +84,6 @@ certifies p (Shortest moves) table c game position answers same =
       ruled = ap (λ x. x.head.rule) same ∙ answers.searched.0;
       bound = ap (λ x. x.head.bound) same ∙ answers.searched.1;
       listed = ap (λ x. x.moves) same;
-      short = certificate_short p.game p.start answered c answers.backed answers.few same;
     }
 certifies p (Won moves floor) table c game position answers same =
     let answered : Answer = record { verdict = Won moves floor; table = Some table } in
@@ -96,7 +98,6 @@ certifies p (Won moves floor) table c game position answers same =
       ruled = ap (λ x. x.head.rule) same ∙ answers.searched.0;
       bound = ap (λ x. x.head.bound) same ∙ answers.searched.1;
       listed = ap (λ x. x.moves) same;
-      short = certificate_short p.game p.start answered c answers.backed answers.few same;
     }
 certifies p CannotWin table c game position answers same =
     let answered : Answer = record { verdict = CannotWin; table = Some table } in
@@ -110,7 +111,6 @@ certifies p CannotWin table c game position answers same =
       ruled = ap (λ x. x.head.rule) same ∙ answers.searched.0;
       bound = ap (λ x. x.head.bound) same ∙ answers.searched.1;
       listed = ap (λ x. x.moves) same;
-      short = certificate_short p.game p.start answered c answers.backed answers.few same;
     }
 certifies p (GaveUp told) table c game position answers same = absurd same
 
@@ -125,45 +125,94 @@ sound new is failed = absurd (cc (is, failed))
 -- a sink took a certificate of a verdict whole: it took what there is of its certificates
 certified_so : (p : Problem) (verdict : Verdict) (table : Listing) (c : Content) (sink : Device) → IsWrittenWith p.game table verdict c
     → TakesCertificate p verdict sink → IsCertified p verdict sink
-certified_so p (Shortest moves) table c sink same taken = taken
-certified_so p (Won moves floor) table c sink same taken = taken
-certified_so p CannotWin table c sink same taken = taken
+certified_so p (Shortest moves) table c sink same taken = inl taken
+certified_so p (Won moves floor) table c sink same taken = inl taken
+certified_so p CannotWin table c sink same taken = inl taken
 certified_so p (GaveUp told) table c sink same taken = absurd same
+
+-- what is written of an answer is no more than is read
+abbrev pub IsShortOf : GameRules → Answer → Type 0
+IsShortOf g answered = (c : Content) → IsWrittenAs g answered c → length (bytes_of c) ≤ LONGEST_CERTIFICATE
 
 -- the sink took the certificate of an answer, whole
 whole_of : (p : Problem) (verdict : Verdict) (table : Option Listing) (old new : SinkState) (done : Unit {0}) → IsGame p.game
     → IsPositionOf p.game p.start → IsCertifiable p (record { verdict = verdict; table = table })
+    → IsShortOf p.game (record { verdict = verdict; table = table })
     → WritesAnswer p.game (record { verdict = verdict; table = table }) old new (Ok done)
     → IsCertified p verdict (device_of old new)
-whole_of p verdict (Some table) old new done game position answers (c, same, whole) =
+whole_of p verdict (Some table) old new done game position answers short (c, same, whole) =
     certified_so p verdict table c (device_of old new) same (
-      (bytes_of c, certifies p verdict table c game position answers same, whole.taken),
+      (bytes_of c, (certifies p verdict table c game position answers same, short c same), whole.taken),
       sound new whole.is_sound,
     )
-whole_of p verdict None old new done game position answers (c, same, whole) = absurd same
+whole_of p verdict None old new done game position answers short (c, same, whole) = absurd same
 
 pub written_whole : (p : Problem) (answered : Answer) (old new : SinkState) (done : Unit {0}) → IsGame p.game
-    → IsPositionOf p.game p.start → IsCertifiable p answered → WritesAnswer p.game answered old new (Ok done)
+    → IsPositionOf p.game p.start → IsCertifiable p answered → IsShortOf p.game answered → WritesAnswer p.game answered old new (Ok done)
     → IsCertified p answered.verdict (device_of old new)
-written_whole p answered old new done game position answers writes =
-    whole_of p answered.verdict answered.table old new done game position answers writes
+written_whole p answered old new done game position answers short writes =
+    whole_of p answered.verdict answered.table old new done game position answers short writes
 
 -- the sink failed while it was given the certificate of an answer
 short_of : (p : Problem) (verdict : Verdict) (table : Option Listing) (old new : SinkState) → IsGame p.game
     → IsPositionOf p.game p.start → IsCertifiable p (record { verdict = verdict; table = table })
+    → IsShortOf p.game (record { verdict = verdict; table = table })
     → WritesAnswer p.game (record { verdict = verdict; table = table }) old new (Err Write)
     → IsCutShort p verdict (device_of old new)
-short_of p verdict (Some table) old new game position answers (c, same, short) = (
-  (bytes_of c, certifies p verdict table c game position answers same, short.front),
+short_of p verdict (Some table) old new game position answers few (c, same, short) = (
+  (bytes_of c, (certifies p verdict table c game position answers same, few c same), short.front),
   short.failed,
 )
-short_of p verdict None old new game position answers (c, same, short) = absurd same
+short_of p verdict None old new game position answers few (c, same, short) = absurd same
 
 pub written_short : (p : Problem) (answered : Answer) (old new : SinkState) → IsGame p.game
-    → IsPositionOf p.game p.start → IsCertifiable p answered → WritesAnswer p.game answered old new (Err Write)
+    → IsPositionOf p.game p.start → IsCertifiable p answered → IsShortOf p.game answered → WritesAnswer p.game answered old new (Err Write)
     → IsCutShort p answered.verdict (device_of old new)
-written_short p answered old new game position answers writes =
-    short_of p answered.verdict answered.table old new game position answers writes
+written_short p answered old new game position answers few writes =
+    short_of p answered.verdict answered.table old new game position answers few writes
+
+-- the content that is written of an answer with a table
+abbrev content_of : Problem → Listing → Kind → ℕ → List Move → Content
+content_of p table claimed floor moves = record { head = written_head p.game table claimed floor; moves = moves; rows = table.rows }
+
+-- nothing is written of an answer whose certificate is longer than what is read
+long_of : (p : Problem) (verdict : Verdict) (table : Option Listing) (sink : Device) → IsGame p.game → IsPositionOf p.game p.start
+    → IsCertifiable p (record { verdict = verdict; table = table }) → IsLong (record { verdict = verdict; table = table })
+    → IsUntouched sink → IsCertified p verdict sink
+long_of p verdict None sink game position answers is untouched = absurd (is.certified (inl refl))
+long_of p (Shortest moves) (Some table) sink game position answers is untouched =
+    let c : Content = content_of p table kind.Shortest 0 moves in
+    inr (record {
+      great = (let many = is.many in let few = answers.searched.2 in omega (arith, many, few));
+      bytes = bytes_of c;
+      certificate = certifies p (Shortest moves) table c game position answers refl;
+      long = is.long p.game c refl;
+      untouched = untouched;
+    })
+long_of p (Won moves floor) (Some table) sink game position answers is untouched =
+    let c : Content = content_of p table kind.Between floor moves in
+    inr (record {
+      great = (let many = is.many in let few = answers.searched.2 in omega (arith, many, few));
+      bytes = bytes_of c;
+      certificate = certifies p (Won moves floor) table c game position answers refl;
+      long = is.long p.game c refl;
+      untouched = untouched;
+    })
+long_of p CannotWin (Some table) sink game position answers is untouched =
+    let c : Content = content_of p table kind.CannotWin 0 [] in
+    inr (record {
+      great = (let many = is.many in let few = answers.searched.2 in omega (arith, many, few));
+      bytes = bytes_of c;
+      certificate = certifies p CannotWin table c game position answers refl;
+      long = is.long p.game c refl;
+      untouched = untouched;
+    })
+long_of p (GaveUp told) (Some table) sink game position answers is untouched = absurd (is.certified (inr tt))
+
+pub unwritten_long : (p : Problem) (answered : Answer) (sink : Device) → IsGame p.game → IsPositionOf p.game p.start
+    → IsCertifiable p answered → IsLong answered → IsUntouched sink → IsCertified p answered.verdict sink
+unwritten_long p answered sink game position answers is untouched =
+    long_of p answered.verdict answered.table sink game position answers is untouched
 
 module _ (is_decided : Verdict → Type 0) where
   -- a certificate that is cut short leaves the board unanswered

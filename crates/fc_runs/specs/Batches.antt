@@ -73,12 +73,16 @@ pub record IsAsked (from to count : ℕ) : Type 0 where
   pub deals : AreDeals from to
   pub whole : from + count ≡ to + 1
 
--- a batch was told: it can be asked for, the budget is one, and each of the deals was told
-pub record IsBatched (q : Asked) (from to : ℕ) (sink : Device) (status : ℕ) : Type 0 where
+-- a batch was told: it can be asked for, and each of the deals was told
+pub record IsBatchedBy (q : Asked) (from to : ℕ) (sink : Device) (status : ℕ) : Type 0 where
   pub count : ℕ
   pub asked : IsAsked from to count
-  pub budgeted : IsBudget q.method.strategy.budget
   pub told : AreTold (IsRightOf q) from count sink status
+
+-- and its budget is one of a single search
+pub record IsBatched (q : Asked) (from to : ℕ) (sink : Device) (status : ℕ) : Type 0 where
+  pub budgeted : IsBudget q.method.strategy.budget
+  pub batched : IsBatchedBy q from to sink status
 
 -- the sink failed while it was given the lines of at most so many deals, which are right so
 pub record AreCutShort (is_right : ℕ → Option Outcome → Type 0) (from count : ℕ) (sink : Device) : Type 0 where
@@ -96,11 +100,16 @@ IsUnasked from to (Number told) =
 IsUnasked from to Range = IsDealNumber from × IsDealNumber to × (IsRange from to → ⊥)
 IsUnasked from to other = ⊥
 
--- why no batch was told, or not all of it: the deals can't be asked for, or they can and the budget is none, or it is one and
--- a growth was refused before the first turn, and nothing is written; or the sink failed
+-- why no batch was told, or not all of it: the deals can't be asked for, or they can and a growth was refused before the first
+-- turn, and nothing is written; or the sink failed
+abbrev pub IsBatchFaultBy : Asked → ℕ → ℕ → Device → ProgramFault → Type 0
+IsBatchFaultBy q from to sink Memory = AreDeals from to × IsUntouched sink
+IsBatchFaultBy q from to sink (Write of_answer) = (count : ℕ) × IsAsked from to count × AreCutShort (IsRightOf q) from count sink
+IsBatchFaultBy q from to sink fault = IsUnasked from to fault × IsUntouched sink
+
+-- the same where the deals can be asked for and the budget is none, and what comes after the deals only where it is one
 abbrev pub IsBatchFault : Asked → ℕ → ℕ → Device → ProgramFault → Type 0
 IsBatchFault q from to sink Budget = AreDeals from to × (IsBudget q.method.strategy.budget → ⊥) × IsUntouched sink
-IsBatchFault q from to sink Memory = AreDeals from to × IsBudget q.method.strategy.budget × IsUntouched sink
-IsBatchFault q from to sink (Write of_answer) =
-    IsBudget q.method.strategy.budget × ((count : ℕ) × IsAsked from to count × AreCutShort (IsRightOf q) from count sink)
-IsBatchFault q from to sink fault = IsUnasked from to fault × IsUntouched sink
+IsBatchFault q from to sink Memory = IsBudget q.method.strategy.budget × IsBatchFaultBy q from to sink Memory
+IsBatchFault q from to sink (Write of_answer) = IsBudget q.method.strategy.budget × IsBatchFaultBy q from to sink (Write of_answer)
+IsBatchFault q from to sink fault = IsBatchFaultBy q from to sink fault

@@ -1,11 +1,12 @@
 -- What solving promises, over any source and any sinks.
-use Rattle.std.specs.Prelude.{◌≡◌, ◌⊎◌, ◌≤◌, ℕ, List, [], length, Option, Some, None, IfSome, IsTrue}
+use Rattle.std.specs.Prelude.{◌≡◌, ◌⊎◌, ◌<◌, ◌≤◌, ℕ, List, [], length, Option, Some, None, IfSome, IsTrue}
 use Rattle.fc_io.specs.Moves.{TakesBytes, TakesFront, Stays}
 use Rattle.fc_position.specs.Board.{Board}
 use Rattle.fc_moves.specs.declared.steps.Move.{Move}
 use Rattle.fc_answers.specs.declared.answers.Verdict.{Verdict}
 use Rattle.fc_answers.specs.declared.answers.Verdict.TheVariants.{Shortest, Won, CannotWin, GaveUp}
 use Rattle.fc_best_first.specs.Limits.{IsBudget}
+use Rattle.fc_best_first.specs.declared.limits.TheConstants.{MOST_BUDGET}
 use Rattle.fc_methods.specs.Method.{Asked}
 use Rattle.fc_search.specs.Problem.{Problem, problem_of}
 use Rattle.fc_search.specs.Search.{IsOneOfThree, IsVerdict, IsRunToEnd}
@@ -43,7 +44,7 @@ moves_of CannotWin = []
 moves_of (GaveUp told) = []
 
 -- the bytes are a certificate of what the verdict claims of the start, by the home rule and the bound of the method, in the
--- second form where that says all and else in the third, list its moves, and are no more than are read
+-- second form where that says all and else in the third, and list its moves
 pub record IsCertificateOf (p : Problem) (verdict : Verdict) (bytes : List ℕ) : Type 0 where
   pub claim : Claim
   pub claimed : claim_of verdict ≡ Some claim
@@ -54,24 +55,35 @@ pub record IsCertificateOf (p : Problem) (verdict : Verdict) (bytes : List ℕ) 
   pub ruled : content.head.rule ≡ p.method.rule
   pub bound : content.head.bound ≡ p.method.bound
   pub listed : content.moves ≡ moves_of verdict
-  pub short : length bytes ≤ LONGEST_CERTIFICATE
+
+-- the bytes are a certificate of it, and no more than are read
+abbrev pub IsShortCertificateOf : Problem → Verdict → List ℕ → Type 0
+IsShortCertificateOf p verdict bytes = IsCertificateOf p verdict bytes × (length bytes ≤ LONGEST_CERTIFICATE)
 
 -- a sink took a certificate of the verdict, all of it
 abbrev pub TakesCertificate : Problem → Verdict → Device → Type 0
 TakesCertificate p verdict sink =
-    ((bytes : List ℕ) × IsCertificateOf p verdict bytes × TakesBytes sink.old sink.new bytes) × (IsTrue sink.failed → ⊥)
+    ((bytes : List ℕ) × IsShortCertificateOf p verdict bytes × TakesBytes sink.old sink.new bytes) × (IsTrue sink.failed → ⊥)
 
--- a sink took what there is of certificates of the verdict: of giving up nothing
+-- nothing is written: the certificate of the verdict has more bytes than are read, which needs a budget above that of one search
+pub record IsTooLong (p : Problem) (verdict : Verdict) (sink : Device) : Type 0 where
+  pub great : MOST_BUDGET < p.method.strategy.budget
+  pub bytes : List ℕ
+  pub certificate : IsCertificateOf p verdict bytes
+  pub long : LONGEST_CERTIFICATE < length bytes
+  pub untouched : IsUntouched sink
+
+-- a sink took what there is of certificates of the verdict: one that isn't too long, and of giving up nothing
 abbrev pub IsCertified : Problem → Verdict → Device → Type 0
-IsCertified p (Shortest moves) sink = TakesCertificate p (Shortest moves) sink
-IsCertified p (Won moves floor) sink = TakesCertificate p (Won moves floor) sink
-IsCertified p CannotWin sink = TakesCertificate p CannotWin sink
+IsCertified p (Shortest moves) sink = TakesCertificate p (Shortest moves) sink ⊎ IsTooLong p (Shortest moves) sink
+IsCertified p (Won moves floor) sink = TakesCertificate p (Won moves floor) sink ⊎ IsTooLong p (Won moves floor) sink
+IsCertified p CannotWin sink = TakesCertificate p CannotWin sink ⊎ IsTooLong p CannotWin sink
 IsCertified p (GaveUp told) sink = IsUntouched sink
 
 -- a sink failed while it was given a certificate of the verdict
 abbrev pub IsCutShort : Problem → Verdict → Device → Type 0
 IsCutShort p verdict sink =
-    ((bytes : List ℕ) × IsCertificateOf p verdict bytes × TakesFront sink.old sink.new bytes) × IsTrue sink.failed
+    ((bytes : List ℕ) × IsShortCertificateOf p verdict bytes × TakesFront sink.old sink.new bytes) × IsTrue sink.failed
 
 -- a board was answered: a verdict was decided so, the sink of certificates, where there is one, took its certificate, and the
 -- sink of answers its text, and the status is told

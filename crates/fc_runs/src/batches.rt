@@ -6,7 +6,7 @@ ghost use Rattle.fc_methods.specs.Method.{Asked, shortest_asked};
 ghost use Rattle.fc_search.specs.Search.{State};
 ghost use Rattle.fc_batch.specs.Batch.{OthersStay, search_at, work_left};
 ghost use Rattle.fc_board_runs.specs.Devices.{change};
-ghost use Rattle.fc_runs.specs.Batches.{AreCutShort, AreTold, IsAsked, IsBatched, IsBatchFault, IsRightOf, IsUnasked};
+ghost use Rattle.fc_runs.specs.Batches.{AreCutShort, AreTold, IsAsked, IsBatched, IsBatchedBy, IsBatchFault, IsBatchFaultBy, IsRightOf, IsUnasked};
 ghost use Rattle.fc_runs.specs.inner.Batches.{HaveEnded, HoldsDeals, IsSearchOf};
 
 use crate::solving::shortest;
@@ -66,10 +66,9 @@ pub fn run_batch_by<G: Game + Drop, K: Sink>(
     to: u32,
     out: &mut K,
 ) -> Result<u8, ProgramFault>
-    ensures batched { IfOk result (IsBatched question.now from to (change K.held K.has_failed out.old out.new)) }
-    ensures fault { IfErr result (IsBatchFault question.now from to (change K.held K.has_failed out.old out.new)) }
+    ensures batched { IfOk result (IsBatchedBy question.now from to (change K.held K.has_failed out.old out.new)) }
+    ensures fault { IfErr result (IsBatchFaultBy question.now from to (change K.held K.has_failed out.old out.new)) }
 {
-    let _ = question.method().strategy.budget.get();
     let count = deals_of(from, to)?;
     let mut batch = begin(alloc, question, from, count)?;
     run_to_end(&mut batch, count as usize);

@@ -1,22 +1,27 @@
 //! Solving, over any source and any sinks.
 
-ghost use Rattle.std.specs.Prelude.{◌≡◌, ◌+◌, ◌≤◌, List, Some, None, IfOk, IfErr, OnOk, OnErr, MatchResult};
+ghost use Rattle.std.specs.Prelude.{◌≡◌, ◌+◌, ◌<◌, ◌≤◌, List, Some, None, length, IsTrue, false, IfOk, IfErr, OnOk, OnErr, MatchResult};
 ghost use Rattle.fc_io.specs.Moves.{GivesAtMost};
-ghost use Rattle.fc_moves.specs.GameRules.{IsPositionOf};
+ghost use Rattle.fc_moves.specs.GameRules.{GameRules, IsPositionOf};
+ghost use Rattle.fc_position.specs.Board.{Board};
 ghost use Rattle.fc_position.specs.Position.{Fits};
 ghost use Rattle.fc_best_first.specs.Limits.{IsBudget};
 ghost use Rattle.fc_methods.specs.Method.{shortest_asked};
-ghost use Rattle.fc_answers.specs.Verdict.{CanBeWritten};
+ghost use Rattle.fc_answers.specs.Answer.{IsBacked};
+ghost use Rattle.fc_answers.specs.Verdict.{CanBeWritten, HasFewMoves};
+ghost use Rattle.fc_cert.specs.declared.certificates.TheConstants.{LONGEST_CERTIFICATE};
+ghost use Rattle.fc_cert.specs.Claim.{IsWrittenAs};
+ghost use Rattle.fc_cert.specs.Content.{Content, bytes_of};
 ghost use Rattle.fc_search.specs.declared.listeners.Progress.{Progress};
 ghost use Rattle.fc_search.specs.Problem.{Problem, problem_of};
 ghost use Rattle.fc_search.specs.Watch.{HearsAll, IsHeardAtMost};
 ghost use Rattle.fc_board_runs.specs.Devices.{IsHandedBack, change, lent};
-ghost use Rattle.fc_runs.specs.inner.Certificates.{IsCertifiable};
+ghost use Rattle.fc_runs.specs.inner.Certificates.{IsCertifiable, IsLong};
 ghost use Rattle.fc_runs.specs.Solving.{IsAnswered, IsCertified, IsCutShort, IsHeardAnswered, IsSolved, IsSolveFault, IsUnanswered};
 
 use fc_answer_text::{verdict_status, verdict_text};
 use fc_board_runs::{LONGEST_BOARD, Output, ProgramFault, read_position};
-use fc_cert::{CertFault, write_answer};
+use fc_cert::{CertFault, LONGEST_CERTIFICATE, certificate_length, write_answer};
 use fc_home::GREATEST_RULE;
 use fc_io::{Failed, Sink, Source, write_all};
 use fc_methods::{Budget, HomeRule, Question};
@@ -161,7 +166,7 @@ fn certify<G: Game + Drop, K: Sink, C: Sink, L: Listener>(
     }
 }
 
-// Writes the certificate of an answer, if it has one.
+// Writes the certificate of an answer, if it has one that isn't longer than what is read.
 pub(crate) fn write_certificate<G: Game, C: Sink>(
     game: &G,
     answer: &Answer,
@@ -173,10 +178,35 @@ pub(crate) fn write_certificate<G: Game, C: Sink>(
     ensures cut { (p : Problem) → p.game ≡ G.game game.now → IsPositionOf p.game p.start → IsCertifiable p answer.now
         → OnErr result (IsCutShort p answer.now.verdict (change C.held C.has_failed cert.old cert.new)) }
 {
+    if is_too_long(answer) {
+        return Ok(());
+    }
     match write_answer(game, answer, cert) {
         Ok(()) => Ok(()),
         Err(CertFault::Write) => Err(Failed),
         // Giving up has no certificate.
         Err(_) => Ok(()),
+    }
+}
+
+// The certificate of a table of no more classes is never longer than what is read: so it needn't be measured.
+const FEW_CLASSES: usize = 14_000_000;
+
+// Whether the certificate of an answer is longer than what is read.
+fn is_too_long(answer: &Answer) -> bool
+    requires written { CanBeWritten answer.now.verdict }
+    ensures long { IsTrue result → IsLong answer.now }
+    ensures short { result ≡ false → (g : GameRules) (b : Board) → IsBacked g b answer.now → HasFewMoves answer.now.verdict
+        → (c : Content) → IsWrittenAs g answer.now c → length (bytes_of c) ≤ LONGEST_CERTIFICATE }
+{
+    let Some(table) = &answer.table else {
+        return false;
+    };
+    if table.len() <= FEW_CLASSES {
+        return false;
+    }
+    match certificate_length(answer) {
+        Some(length) => length > LONGEST_CERTIFICATE,
+        None => false,
     }
 }

@@ -1,5 +1,5 @@
 -- What is wanted of an answer to write its certificate.
-use Rattle.std.specs.Prelude.{}
+use Rattle.std.specs.Prelude.{◌<◌, length, IfSome}
 use Rattle.fc_position.specs.Board.{Board}
 use Rattle.fc_moves.specs.GameRules.{GameRules}
 use Rattle.fc_moves.specs.Run.{Wins}
@@ -8,6 +8,10 @@ use Rattle.fc_answers.specs.Verdict.{CanBeWritten, HasFewMoves}
 use Rattle.fc_answers.specs.declared.answers.Answer.{Answer}
 use Rattle.fc_answers.specs.declared.answers.Verdict.{Verdict}
 use Rattle.fc_answers.specs.declared.answers.Verdict.TheVariants.{Shortest, Won, CannotWin, GaveUp}
+use Rattle.fc_cert.specs.declared.certificates.TheConstants.{LONGEST_CERTIFICATE}
+use Rattle.fc_cert.specs.Claim.{IsWrittenAs}
+use Rattle.fc_cert.specs.Content.{Content, bytes_of}
+use Rattle.fc_cert.specs.Writing.{IsUncertified}
 use Rattle.fc_search.specs.Problem.{Problem}
 
 -- the list that a verdict tells, if it tells one, wins
@@ -24,4 +28,10 @@ pub record IsCertifiable (p : Problem) (answer : Answer) : Type 0 where
   pub written : CanBeWritten answer.verdict
   pub few : HasFewMoves answer.verdict
   pub backed : IsBacked p.game p.start answer
-  pub searched : IsSearchedBy p.method.rule p.method.bound answer
+  pub searched : IsSearchedBy p.method.rule p.method.bound p.method.strategy.budget answer
+
+-- the answer has a certificate, of a table of many classes, which is longer than what is read
+pub record IsLong (answer : Answer) : Type 0 where
+  pub certified : IsUncertified answer → ⊥
+  pub many : IfSome answer.table (λ table. 14000000 < length table.rows)
+  pub long : (g : GameRules) (c : Content) → IsWrittenAs g answer c → LONGEST_CERTIFICATE < length (bytes_of c)

@@ -1,6 +1,3 @@
-use Rattle.std.proofs.Common.{subst}
-use Rattle.fc_best_first.specs.Limits.{IsBudget}
-use Rattle.fc_methods.specs.declared.methods.Method.{Method}
 use Rattle.fc_runs.proofs.batches.run_batch_by.Goals as goal
 
 pub returns-in-Ok-clause-batched : goal.returns-in-Ok-clause-batched
@@ -10,7 +7,6 @@ returns-in-Ok-clause-batched g c =
     record {
       count = c.in_ok-count.count;
       asked = c.in_ok-count.ensures.asked;
-      budgeted = subst (λ (m : Method). IsBudget m.strategy.budget) c.method.ensures.value c.get.ensures.range;
       told = c.in-Ok.ensures.told q held c.run_to_end.ensures.ended;
     }
 
@@ -18,4 +14,4 @@ pub returns-clause-fault : goal.returns-clause-fault
 returns-clause-fault g c =
     let q = c.args.question.now in
     let held = c.run_to_end.ensures.held q c.args.from c.in_ok-batch.ensures.holds in
-    ((subst (λ (m : Method). IsBudget m.strategy.budget) c.method.ensures.value c.get.ensures.range), (c.in_ok-count.count, c.in_ok-count.ensures.asked, c.in-Err.ensures.cut q held c.run_to_end.ensures.ended))
+    (c.in_ok-count.count, c.in_ok-count.ensures.asked, c.in-Err.ensures.cut q held c.run_to_end.ensures.ended)

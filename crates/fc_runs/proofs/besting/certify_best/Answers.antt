@@ -1,8 +1,8 @@
-use Rattle.std.proofs.Common.{refl, sym}
+use Rattle.std.proofs.Common.{◌∙◌, refl, sym, rules, IsTrue}
 use Rattle.fc_best.specs.Best.{IsBestVerdict}
 use Rattle.fc_search.specs.Problem.{problem_of}
 use Rattle.fc_board_runs.specs.Devices.{Device}
-use Rattle.fc_runs.proofs.CertificateLemmas.{best_certifiable, uncertified}
+use Rattle.fc_runs.proofs.CertificateLemmas.{best_certifiable, told_whole, uncertified}
 use Rattle.fc_runs.proofs.besting.certify_best.Goals as goal
 
 pub returns-in_default-clause-fault : goal.returns-in_default-clause-fault
@@ -16,3 +16,17 @@ returns-in_default-clause-fault g c =
     let certifiable = best_certifiable q b c.in_ok-answer.answer answered.best (answered.backed refl) in
     uncertified (IsBestVerdict q b) p c.in_ok-answer.answer cert sink answered.best.told
     (c.in_default.ensures.cut p (sym c.game.ensures.value) c.requires.position certifiable) refl
+
+pub returns-in-Ok-write_all-clause-answered : goal.returns-in-Ok-write_all-clause-answered
+returns-in-Ok-write_all-clause-answered g c =
+    let q = c.args.question.now in
+    let b = c.args.start.now in
+    let p = problem_of q b in
+    let cert : Device = record { old = g.C.Sink.held c.args.cert.now; new = g.C.Sink.held c.write_certificate.new.cert; failed = g.C.Sink.has_failed c.write_certificate.new.cert } in
+    let sink : Device = record { old = g.K.Sink.held c.args.out.now; new = g.K.Sink.held c.write_all.new.sink; failed = g.K.Sink.has_failed c.write_all.new.sink } in
+    let sound : IsTrue sink.failed → ⊥ = search rules in
+    let answered = c.in_ok-answer.ensures in
+    let certifiable = best_certifiable q b c.in_ok-answer.answer answered.best (answered.backed refl) in
+    told_whole (IsBestVerdict q b) p c.in_ok-answer.answer cert sink c.as_slice.result.now c.verdict_status.result answered.best.told
+    (c.in-Ok.ensures.certified p (sym c.game.ensures.value) c.requires.position certifiable)
+    (c.as_slice.ensures.value ∙ c.in_ok-text.ensures.text) c.in-Ok-write_all.ensures.whole sound c.verdict_status.ensures.value
