@@ -33,7 +33,7 @@ enum luffaknife_status {
 
     LUFFAKNIFE_BAD_GAME = 16,    /* no game has this name */
     LUFFAKNIFE_BAD_DEAL = 17,    /* no deal has this number: there are 1 to 1000000 */
-    LUFFAKNIFE_BAD_BUDGET = 18,  /* the budget is outside 1 to 4000000 */
+    LUFFAKNIFE_BAD_BUDGET = 18,  /* the budget is outside 1 to 16000000 */
     LUFFAKNIFE_NO_MEMORY = 19,   /* malloc or realloc refused */
     LUFFAKNIFE_NO_ROOM = 20,     /* a text or a certificate has more bytes than its room: both rooms stay as they were */
     LUFFAKNIFE_TOO_LONG = 21,    /* a list of more than 1048576 bytes, or a certificate of more than 1 GiB */
@@ -81,7 +81,8 @@ struct luffaknife_call luffaknife_deal(uint32_t number, uint8_t *text, size_t te
 struct luffaknife_call luffaknife_best(struct luffaknife_game game, uint32_t budget, const uint8_t *board, size_t board_len,
                                        uint8_t *text, size_t text_room);
 
-/* The same, and the certificate of the answer: 72 bytes for each position of the budget and 10000 more were always enough. */
+/* The same, and the certificate of the answer: 72 bytes for each position of the budget and 10000 more were always enough. One of
+   more than 1 GiB, which only a budget above 14000000 can have, isn't made: then it has no byte. */
 struct luffaknife_call luffaknife_best_certified(struct luffaknife_game game, uint32_t budget, const uint8_t *board,
                                                  size_t board_len, uint8_t *text, size_t text_room, uint8_t *certificate,
                                                  size_t certificate_room);

@@ -87,7 +87,7 @@ REFUSALS = [
     )],
     # numbers that are no budget, and no deal's
     ("best", (FREE_CELL, 0, ONE_KING), "BAD_BUDGET", 0),
-    ("best", (FREE_CELL, 4_000_001, ONE_KING), "BAD_BUDGET", 0),
+    ("best", (FREE_CELL, 16_000_001, ONE_KING), "BAD_BUDGET", 0),
     ("deal", (0,), "BAD_DEAL", 0),
     ("deal", (1_000_001,), "BAD_DEAL", 0),
     # bytes that are no certificate of the board

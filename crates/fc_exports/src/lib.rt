@@ -28,7 +28,7 @@ pub extern "C" fn luffaknife_deal(alloc: Global, number: u32, text: &mut [u8]) -
     hand_over(&deal_of(alloc, number), text)
 }
 
-/// The best answer, within a budget of 1 to 4,000,000 classes of positions, for a board's text: what the program prints.
+/// The best answer, within a budget of 1 to 16,000,000 classes of positions, for a board's text: what the program prints.
 #[unsafe(no_mangle)]
 pub extern "C" fn luffaknife_best(
     alloc: Global,

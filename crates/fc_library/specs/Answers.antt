@@ -2,7 +2,7 @@
 use Rattle.std.specs.Prelude.{ℕ, false, List, [], Some, None}
 use Rattle.fc_position.specs.Board.{Board}
 use Rattle.fc_bound.specs.declared.kinds.BoundKind.TheVariants.{Clearing}
-use Rattle.fc_best_first.specs.Limits.{IsBudget}
+use Rattle.fc_best_first.specs.Limits.{IsGreatBudget}
 use Rattle.fc_best_first.specs.declared.strategies.Expansion.TheVariants.{Partial}
 use Rattle.fc_methods.specs.Method.{Asked}
 use Rattle.fc_methods.specs.declared.methods.Method.{Method}
@@ -31,7 +31,7 @@ asked_best name budget = record { game = game_named name; method = best_method b
 -- what is asked can be: the game is one, the budget is one, and the text spells the position
 pub record CanBeAsked (name : GameName) (text : List ℕ) (budget : ℕ) (start : Board) : Type 0 where
   pub named : IsNamed name
-  pub budgeted : IsBudget budget
+  pub budgeted : IsGreatBudget budget
   pub spelled : SpellsPlainly name.cells text start
 
 -- a board was answered, by the text of its best verdict
@@ -47,7 +47,7 @@ IsBestCertified name text budget told = (start : Board) × CanBeAsked name text 
 -- why a board wasn't answered, each fault only where those before it have no cause
 abbrev pub IsBestRefused : GameName → List ℕ → ℕ → Refusal → Type 0
 IsBestRefused name text budget refused.Game = IsNamed name → ⊥
-IsBestRefused name text budget refused.Budget = IsNamed name × (IsBudget budget → ⊥)
-IsBestRefused name text budget (refused.Board fault) = IsNamed name × IsBudget budget × IsTextFault name.cells text fault
+IsBestRefused name text budget refused.Budget = IsNamed name × (IsGreatBudget budget → ⊥)
+IsBestRefused name text budget (refused.Board fault) = IsNamed name × IsGreatBudget budget × IsTextFault name.cells text fault
 IsBestRefused name text budget refused.Memory = (start : Board) × CanBeAsked name text budget start
 IsBestRefused name text budget other = ⊥

@@ -9,7 +9,7 @@ use crate::games::{AnyGame, GameName, game_of};
 use crate::refusals::Refusal;
 use crate::sinks::ToVec;
 use fc_best::Unheard;
-use fc_methods::{BoundKind, Budget, Expansion, HomeRule, Method, Question, Strategy, Weight};
+use fc_methods::{BoundKind, Expansion, GreatBudget, HomeRule, Method, Question, Strategy, Weight};
 use fc_moves::Game;
 use fc_position::Position;
 use fc_runs::run_best;
@@ -31,7 +31,7 @@ pub struct Certified {
     pub certificate: Vec<u8>,
 }
 
-/// The best answer, within a budget of 1 to 4,000,000 classes of positions, for a board of the game of this name: the text that the program prints.
+/// The best answer, within a budget of 1 to 16,000,000 classes of positions, for a board of the game of this name: the text that the program prints.
 ///
 /// # Errors
 /// In this order: `Game`, `Budget`, `Board`, `Memory`.
@@ -74,7 +74,7 @@ fn asked(
     let Some(game) = game_of(name) else {
         return Err(Refusal::Game);
     };
-    let Some(budget) = Budget::new(budget) else {
+    let Some(budget) = GreatBudget::new(budget) else {
         return Err(Refusal::Budget);
     };
     match start_of(board, name.cells) {
@@ -84,7 +84,7 @@ fn asked(
 }
 
 // How a best answer is searched for, as the program does by default.
-fn best_method(budget: Budget) -> Method
+fn best_method(budget: GreatBudget) -> Method
     ensures value { result ≡ best_method budget }
 {
     Method {

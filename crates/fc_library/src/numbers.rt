@@ -13,7 +13,7 @@ pub const NOT_WON: u32 = 3;
 pub const BAD_GAME: u32 = 16;
 /// No deal has this number.
 pub const BAD_DEAL: u32 = 17;
-/// The budget is outside 1 to 4,000,000.
+/// The budget is outside 1 to 16,000,000.
 pub const BAD_BUDGET: u32 = 18;
 /// A growth of memory was refused.
 pub const NO_MEMORY: u32 = 19;

@@ -14,7 +14,7 @@ pub enum Refusal {
     Game,
     /// No deal has this number.
     Deal,
-    /// The budget is outside 1 to 4,000,000.
+    /// The budget is outside 1 to 16,000,000.
     Budget,
     /// The text spells no board of the game.
     Board(BoardFault),
