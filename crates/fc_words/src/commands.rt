@@ -1,11 +1,11 @@
 ghost use Rattle.std.specs.Prelude.{◌≡◌, ◌↔◌, IsSome, IfSome};
 ghost use Rattle.fc_methods.specs.declared.methods.Method.{Method};
-ghost use Rattle.fc_best_first.specs.Limits.{IsBudget};
+ghost use Rattle.fc_best_first.specs.Limits.{IsBudget, IsGreatBudget};
 ghost use Rattle.fc_words.specs.Best.{best_method};
 
 use crate::forms::{Colours, MovesForm, ReplayForm};
 use crate::games::GameName;
-use fc_methods::{BoundKind, Budget, Expansion, HomeRule, Method, Strategy, Weight};
+use fc_methods::{BoundKind, Budget, Expansion, GreatBudget, HomeRule, Method, Strategy, Weight};
 
 /// What a command line asks for.
 #[derive(Drop)]
@@ -93,7 +93,7 @@ impl SearchWords {
             strategy: Strategy {
                 weight: self.weight,
                 expansion: self.expansion,
-                budget: Budget::new(self.budget)?,
+                budget: Budget::new(self.budget)?.into(),
             },
         })
     }
@@ -110,9 +110,9 @@ pub struct BestSearchWords {
 
 impl BestSearchWords {
     /// The method that is asked for: a shortest list is sought, by the clearing bound and partial expansion; `None` where the
-    /// budget is outside 1 to 4,000,000.
+    /// budget is outside 1 to 16,000,000.
     pub fn method(&self) -> Option<Method>
-        ensures range { IsSome result ↔ IsBudget self.now.budget }
+        ensures range { IsSome result ↔ IsGreatBudget self.now.budget }
         ensures value { IfSome result (λ method. method ≡ best_method self.now.rule self.now.budget) }
     {
         let BestSearchWords { rule, budget } = *self;
@@ -122,7 +122,7 @@ impl BestSearchWords {
             strategy: Strategy {
                 weight: Weight::ONE,
                 expansion: Expansion::Partial,
-                budget: Budget::new(budget)?,
+                budget: GreatBudget::new(budget)?,
             },
         })
     }

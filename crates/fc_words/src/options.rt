@@ -125,7 +125,7 @@ pub(crate) const BEST_BUDGET: Word = Word {
         value: "B",
         default: Some(USUAL_BEST_BUDGET),
     },
-    help: "Positions to keep before giving up, to 4M or max",
+    help: "Positions to keep before giving up, to 16M; max is 4M",
 };
 
 /// `--budget` of either.
@@ -135,7 +135,7 @@ pub(crate) const BATCH_BUDGET: Word = Word {
         value: "B",
         default: None,
     },
-    help: "Positions to keep, to 4M or max: 100000, or by --best 500000",
+    help: "Positions to keep, to 4M: 100000; by --best to 16M: 500000",
 };
 
 const BUDGET_NAME: &str = "budget";
