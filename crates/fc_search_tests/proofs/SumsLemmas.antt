@@ -27,20 +27,20 @@ has_one goal x size cost (Some child) h c y le e f =
     let key : child.key ≡ y = (let a = h.0 in omega (arith, a, e)) in
     (child, (0, omega arith, refl), key, low)
 
-pub sums_children : (goal x : ℕ) (a b c : Option (Child ℕ)) → IsChildOf goal x 2 3 a → IsChildOf goal x 4 4 b
+pub sums_children : (goal x : ℕ) (a b c : Option (Child ℕ)) → goal ≤ 255 → IsChildOf goal x 2 3 a → IsChildOf goal x 4 4 b
     → IsChildOf goal x 6 9 c → AreChildren (sums goal) x (option_to_list a ++ (option_to_list b ++ option_to_list c))
-sums_children goal x a b c one two three = record {
+sums_children goal x a b c few one two three = record {
   edges = λ child there. ⊎_elim
       (λ first.
       let h = is_one goal x 2 3 a child one (one_of a child first) in
-      (h.2, inl (h.0, h.1)))
+      (h.2, inl (h.0, h.1), omega (arith, h.2, few)))
       (λ rest. ⊎_elim
       (λ second.
       let h = is_one goal x 4 4 b child two (one_of b child second) in
-      (h.2, inr (inl (h.0, h.1))))
+      (h.2, inr (inl (h.0, h.1)), omega (arith, h.2, few)))
       (λ third.
       let h = is_one goal x 6 9 c child three (one_of c child third) in
-      (h.2, inr (inr (h.0, h.1))))
+      (h.2, inr (inr (h.0, h.1)), omega (arith, h.2, few)))
       (Contains-append_cases (option_to_list b) (option_to_list c) child rest))
       (Contains-append_cases (option_to_list a) (option_to_list b ++ option_to_list c) child there);
   whole = λ cost y edge. ⊎_elim

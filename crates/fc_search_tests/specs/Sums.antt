@@ -1,15 +1,15 @@
 -- A question of the tests' own: to reach a sum by adding 2 at a cost of 3, 4 at a cost of 4 and 6 at a cost of 9.
-use Rattle.std.specs.Prelude.{◌≡◌, ℕ, ◌+◌, ◌-◌, ◌<◌, ◌≤◌, ◌⊎◌, suc, zero, List, Option, Some, None, true, nat_eq}
+use Rattle.std.specs.Prelude.{◌≡◌, ℕ, ◌+◌, ◌-◌, ◌*◌, ◌<◌, ◌≤◌, ◌⊎◌, suc, zero, List, Option, Some, None, true, nat_eq}
 use Rattle.std.proofs.Common.{refl, subst, inl, inr, ⊎_elim, arith}
 use Rattle.std.proofs.lemmas.Bool.{cases_lt}
 use Rattle.std.proofs.lemmas.Bool.Decides.{nat_tests}
 use Rattle.fc_best_first.specs.declared.spaces.Child.{Child}
 use Rattle.fc_best_first.specs.Graph.{Graph, ReachedBy, IsLawful, IsClosedInside, Lists}
 
--- one addend: the sum that it leads to is no more than the goal
+-- one addend: the sum that it leads to is no more than the goal, and a number of one byte
 abbrev pub IsAddend : ℕ → ℕ → ℕ → ℕ → Type 0
 IsAddend goal x c y =
-    (y ≤ goal) × (((y ≡ x + 2) × (c ≡ 3)) ⊎ (((y ≡ x + 4) × (c ≡ 4)) ⊎ ((y ≡ x + 6) × (c ≡ 9))))
+    (y ≤ goal) × (((y ≡ x + 2) × (c ≡ 3)) ⊎ (((y ≡ x + 4) × (c ≡ 4)) ⊎ ((y ≡ x + 6) × (c ≡ 9)))) × (y ≤ 255)
 
 -- so many addends lead from 0 to the sum at this cost
 abbrev pub IsSum : ℕ → ℕ → ℕ → ℕ → Type 0
@@ -17,12 +17,14 @@ IsSum goal zero y cost = (y ≡ 0) × (cost ≡ 0)
 IsSum goal (suc addends) y cost =
     (x : ℕ) × (d : ℕ) × (c : ℕ) × IsSum goal addends x d × IsAddend goal x c y × (cost ≡ d + c)
 
--- the question as a graph: no addend costs less than itself, so what is missing is a lower bound
+-- the question as a graph: no addend costs less than itself, so what is missing is a lower bound; nor more than one and twice
+-- itself
 abbrev pub sums : ℕ → Graph ℕ
 sums goal = record {
   starts = λ x d. (x ≡ 0) × (d ≡ 0);
   edge = IsAddend goal;
   bound = λ x. goal - x;
+  spare = λ x. 2 * (255 - x);
   won = λ x. x ≡ goal;
   wins = λ n. (addends : ℕ) × IsSum goal addends goal n;
 }
@@ -34,10 +36,11 @@ sum_reached : (goal addends y d : ℕ) → ReachedBy addends (sums goal) y d →
 sum_reached goal zero y d h = h
 sum_reached goal (suc addends) y d (x, a, c, h, edge, e) = (x, a, c, sum_reached goal addends x a h, edge, e)
 
-addend_bounds : (goal x c y : ℕ) → IsAddend goal x c y → (1 ≤ c) × (c ≤ 53) × (goal - x ≤ c + (goal - y))
-addend_bounds goal x c y (le, inl h) = (omega (arith, h.1), omega (arith, h.1), omega (arith, h.0, h.1, le))
-addend_bounds goal x c y (le, inr (inl h)) = (omega (arith, h.1), omega (arith, h.1), omega (arith, h.0, h.1, le))
-addend_bounds goal x c y (le, inr (inr h)) = (omega (arith, h.1), omega (arith, h.1), omega (arith, h.0, h.1, le))
+addend_bounds : (goal x c y : ℕ) → IsAddend goal x c y
+    → (1 ≤ c) × (c + 2 * (255 - y) ≤ 1 + 2 * (255 - x)) × (goal - x ≤ c + (goal - y))
+addend_bounds goal x c y (le, inl h, small) = (omega (arith, h.1), omega (arith, h.0, h.1, small), omega (arith, h.0, h.1, le))
+addend_bounds goal x c y (le, inr (inl h), small) = (omega (arith, h.1), omega (arith, h.0, h.1, small), omega (arith, h.0, h.1, le))
+addend_bounds goal x c y (le, inr (inr h), small) = (omega (arith, h.1), omega (arith, h.0, h.1, small), omega (arith, h.0, h.1, le))
 
 abbrev IsLeft : ℕ → ℕ → List (ℕ × ℕ) → ℕ → ℕ → Type 0
 IsLeft goal n table y d = (n ≤ d + (goal - y)) ⊎ Lists table y d

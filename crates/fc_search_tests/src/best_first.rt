@@ -5,10 +5,10 @@ ghost use Rattle.fc_best_first.specs.Store.{Stores};
 ghost use Rattle.fc_best_first.specs.Turn.{AreChildren};
 ghost use Rattle.fc_search_tests.specs.Sums.{IsChildOf, number_exact, sums, sums_lawful};
 
-use crate::given::{budget, must, sure};
+use crate::given::{great_budget, must, sure};
 use fc_best_first::{
-    Book, Budget, Child, Expansion, Mark, Offered, Opening, Search, Space, Status, Step, Strategy,
-    Weight,
+    Book, Budget, Child, Expansion, GreatBudget, Mark, Offered, Opening, Search, Space, Status,
+    Step, Strategy, Weight,
 };
 use fc_frontier::{BucketFrontier, EitherFrontier, Frontier, ListFrontier};
 use fc_keys::ExactKey;
@@ -50,6 +50,7 @@ struct Addends {
 impl Sums {
     fn child(&self, key: Sum, size: u8, cost: u8) -> Option<Child<Sum>>
         ensures child { IsChildOf self.now.goal key size cost result }
+        ensures byte { self.now.goal ≤ 255 }
     {
         let goal = self.goal;
         let room = goal.checked_sub(size)?;
@@ -167,7 +168,7 @@ fn begun<F: Frontier + Drop>(
     let strategy = Strategy {
         weight: Weight::ONE,
         expansion,
-        budget: budget(rt, row.budget),
+        budget: great_budget(rt, row.budget),
     };
     let space = Sums { goal: row.goal };
     sure(rt, Search::new(alloc, space, strategy))
@@ -382,16 +383,18 @@ fn sums_of_a_greater_f_are_put_off(rt: HostRuntime) {
 // A search that has as great a budget as there is.
 static GREATEST: Row = Row {
     goal: 1,
-    budget: 4_000_000,
+    budget: 16_000_000,
     end: End::Other,
     stored: None,
     turns: (0, 0),
 };
 
 #[test]
-fn a_budget_is_one_to_four_million(rt: HostRuntime) {
+fn a_budget_is_one_to_four_million_or_sixteen(rt: HostRuntime) {
     must(&rt, Budget::new(0).is_none());
     must(&rt, Budget::new(4_000_001).is_none());
+    must(&rt, GreatBudget::new(0).is_none());
+    must(&rt, GreatBudget::new(16_000_001).is_none());
     let search: Search<Sum, ListFrontier, Sums> = begun(
         &rt,
         rt.alloc(),
@@ -427,7 +430,7 @@ fn added<F: Frontier + Drop>(
 fn offer_two<F: Frontier + Drop>(rt: &impl Abort, book: &mut Book<Sum, F>)
     requires empty { book.old.stored ≡ [] }
 {
-    let one = Strategy::full(Weight::ONE, budget(rt, 1));
+    let one = Strategy::full(Weight::ONE, great_budget(rt, 1));
     let above = Opening { over: 2, bound: 2 };
     let dear = Mark { cost: 9, parent: 3 };
     let cheap = Mark { cost: 7, parent: 5 };
@@ -446,7 +449,10 @@ fn offer_two<F: Frontier + Drop>(rt: &impl Abort, book: &mut Book<Sum, F>)
 
 // The first key alone is stored, at less; the two pairs are open, the lesser first.
 fn one_place<F: Frontier + Drop>(rt: &impl Abort, alloc: Global) {
-    let mut book: Book<Sum, F> = Book::new(alloc, &Strategy::full(Weight::ONE, budget(rt, 1)));
+    let mut book: Book<Sum, F> = Book::new(
+        alloc,
+        &Strategy::full(Weight::ONE, great_budget(rt, 1)),
+    );
     offer_two(rt, &mut book);
     let (key, mark) = book.entry(0).expect(rt, "the key 40");
     must(rt, key.value == 40 && mark.cost == 7 && mark.parent == 5);

@@ -5,6 +5,7 @@ ghost use Rattle.std.specs.Prelude.{◌≡◌, Ok, IsTrue};
 ghost use Rattle.fc_position.specs.Position.{Fits};
 
 use fc_deal::deal;
+use fc_methods::GreatBudget;
 use fc_moves::{BakersGame, FreeCell, Game, Move, allows, apply};
 use fc_position::Position;
 use fc_search::{BoundKind, Budget, Expansion, HomeRule, Method, Strategy, Weight};
@@ -70,6 +71,13 @@ pub fn budget(rt: &impl Abort, classes: u32) -> Budget
     Budget::new(classes).expect(rt, "a budget is 1 to 4,000,000")
 }
 
+/// A budget of so many stored classes, of a best answer.
+pub fn great_budget(rt: &impl Abort, classes: u32) -> GreatBudget
+    ensures value { result ≡ classes }
+{
+    GreatBudget::new(classes).expect(rt, "a great budget is 1 to 16,000,000")
+}
+
 /// A search under this home rule by so many tenths of a bound of this kind, with a budget of so many classes.
 pub fn method(rt: &impl Abort, rule: u8, tenths: u8, bound: BoundKind, classes: u32) -> Method {
     Method {
@@ -77,7 +85,7 @@ pub fn method(rt: &impl Abort, rule: u8, tenths: u8, bound: BoundKind, classes: 
         bound,
         strategy: Strategy::full(
             Weight::of_tenths(tenths).expect(rt, "a weight is 10 to 100 tenths"),
-            budget(rt, classes),
+            great_budget(rt, classes),
         ),
     }
 }

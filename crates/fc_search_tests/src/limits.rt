@@ -1,6 +1,7 @@
 //! Which numbers are weights, and what they weigh.
 
 use crate::given::must;
+use fc_methods::GreatBudget;
 use fc_search::{Budget, HomeRule, Weight};
 use std::process::Abort;
 
@@ -42,5 +43,6 @@ fn a_weight_is_10_to_100_tenths(rt: HostRuntime) {
 #[test]
 fn the_greatest_are_named(rt: HostRuntime) {
     must(&rt, Budget::MOST.get() == 4_000_000);
+    must(&rt, GreatBudget::MOST.get() == 16_000_000);
     must(&rt, HomeRule::FREE.get() == 2);
 }

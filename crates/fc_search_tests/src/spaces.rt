@@ -30,7 +30,7 @@ fn a_search_knows_its_question(rt: HostRuntime) {
     let game = free_cell(&rt, 4);
     let start = board(&rt, &game, TWO_KINGS);
     let space = Positions::new(game, method, start);
-    let strategy = Strategy::full(Weight::ONE, most);
+    let strategy = Strategy::full(Weight::ONE, most.into());
     let search: Core = sure(&rt, Search::new(rt.alloc(), space, strategy));
     check_start(&rt, &search);
 }
