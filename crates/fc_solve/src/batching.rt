@@ -1,7 +1,7 @@
 //! `batch`: several boards are solved.
 ghost use Rattle.std.specs.Prelude.{◌≤◌};
 
-use crate::endings::{Ending, tell};
+use crate::endings::{Ending, tell, tell_of_great_budget};
 use crate::games::InGame;
 use crate::outputs::Out;
 use crate::tables::{write_deals, write_rows};
@@ -56,6 +56,7 @@ fn write_lines<G: Game + Drop>(
         let (rule, budget) = limits_of(search);
         return match run_batch(alloc, game, rule, from, to, budget, &mut out) {
             Ok(status) => Ok(status),
+            Err(ProgramFault::Budget) => Err(no_budget(rt, search)),
             Err(fault) => Err(unasked(rt, fault, from, to)),
         };
     };
@@ -109,7 +110,7 @@ fn write_table<G: Game + Drop>(
     words: &BatchWords<'_>,
 ) -> Result<u8, Ending> {
     let Some(method) = method_of(&words.search) else {
-        return Err(Ending::Fault(ProgramFault::Budget));
+        return Err(no_budget(rt, &words.search));
     };
     let sought = match words.search {
         BatchSearch::By(_) => Sought::ByMethod,
@@ -129,6 +130,14 @@ fn method_of(search: &BatchSearch) -> Option<Method> {
     match search {
         BatchSearch::By(words) => words.method(),
         BatchSearch::Best(words) => words.method(),
+    }
+}
+
+// Ends with the range of a budget that is none.
+fn no_budget(rt: &HostRuntime, search: &BatchSearch) -> Ending {
+    match search {
+        BatchSearch::By(_) => Ending::Fault(ProgramFault::Budget),
+        BatchSearch::Best(_) => tell_of_great_budget(rt),
     }
 }
 

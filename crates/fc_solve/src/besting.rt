@@ -4,7 +4,7 @@ ghost use Rattle.fc_moves.specs.GameRules.{IsPositionOf};
 use crate::apart::keep_apart;
 use crate::boards::{find_board, read_start};
 use crate::certs::CertFile;
-use crate::endings::Ending;
+use crate::endings::{Ending, tell_of_great_budget, tell_of_long_certificate};
 use crate::forms::{LONGEST_ANSWER, Manner, tell_held};
 use crate::games::InGame;
 use crate::objects::{Name, tell_answer};
@@ -14,7 +14,7 @@ use fc_io::ToArray;
 use fc_methods::Question;
 use fc_moves::Game;
 use fc_position::Position;
-use fc_runs::{ProgramFault, run_best};
+use fc_runs::run_best;
 use fc_words::{BestWords, MovesForm};
 use std::io::IsTerminal;
 
@@ -22,7 +22,7 @@ impl InGame for BestWords<'_> {
     fn perform<G: Game + Drop>(&self, rt: &HostRuntime, game: &G) -> Result<u8, Ending> {
         let source = find_board(rt, &self.board)?;
         let deal = source.deal();
-        let cert = match self.cert {
+        let mut cert = match self.cert {
             Some(path) => {
                 keep_apart(rt, path, source.path())?;
                 Some(CertFile::new(rt, path)?)
@@ -31,15 +31,20 @@ impl InGame for BestWords<'_> {
         };
         // (before anything is read)
         let Some(method) = self.search.method() else {
-            return Err(Ending::Fault(ProgramFault::Budget));
+            return Err(tell_of_great_budget(rt));
         };
         let start = read_start(rt, source, game.cells())?;
         let line = Line::new(rt, deal);
         let mut teller = BestTeller::new(&line, rt.stderr().is_terminal() && !self.is_quiet);
         let question = Question::new(game, method);
-        let status = answer_from(rt, self, &question, &start, cert, &mut teller)?;
+        let status = answer_from(rt, self, &question, &start, cert.as_mut(), &mut teller)?;
         teller.advise(status);
-        Ok(status)
+        match (self.cert, &cert) {
+            (Some(path), Some(cert)) if status <= 1 && !cert.has_bytes() => {
+                Ok(tell_of_long_certificate(rt, path))
+            }
+            _ => Ok(status),
+        }
     }
 }
 
@@ -49,29 +54,21 @@ fn answer_from<G: Game + Drop>(
     words: &BestWords<'_>,
     question: &Question<G>,
     start: &Position,
-    cert: Option<CertFile>,
+    cert: Option<&mut CertFile>,
     teller: &mut BestTeller<'_>,
 ) -> Result<u8, Ending>
     requires position { IsPositionOf question.now.game start.now }
 {
-    let mut cert = cert;
     let line = teller.line();
     if let MovesForm::Letters = words.form {
         let mut out = Out::after(rt, line);
-        let ran = run_best(rt.alloc(), question, start, &mut out, cert.as_mut(), teller);
+        let ran = run_best(rt.alloc(), question, start, &mut out, cert, teller);
         line.clear();
         teller.tell_stats(words.has_stats, out.front());
         return out.end_of(ran);
     }
     let mut answer = ToArray::<LONGEST_ANSWER>::new();
-    let ran = run_best(
-        rt.alloc(),
-        question,
-        start,
-        &mut answer,
-        cert.as_mut(),
-        teller,
-    );
+    let ran = run_best(rt.alloc(), question, start, &mut answer, cert, teller);
     line.clear();
     let told = if let MovesForm::Json = words.form {
         let name = Name::of(&words.board.word, line.deal());

@@ -21,6 +21,7 @@ pub struct CertFile {
     file: File,
     has_old: bool,
     has_failed: bool,
+    has_bytes: bool,
 }
 
 impl CertFile {
@@ -63,7 +64,13 @@ impl CertFile {
             file,
             has_old,
             has_failed: false,
+            has_bytes: false,
         }
+    }
+
+    /// Whether a byte of a certificate was written to it.
+    pub fn has_bytes(&self) -> bool {
+        self.has_bytes
     }
 
     // Takes away what stood there, and writes.
@@ -90,6 +97,7 @@ impl Sink for CertFile {
         if self.has_failed {
             return Err(Failed);
         }
+        self.has_bytes = true;
         match self.write_anew(piece) {
             Some(count) if count > 0 || piece.is_empty() => Ok(count),
             _ => {

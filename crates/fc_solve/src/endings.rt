@@ -2,8 +2,10 @@
 //! which tells where it lies and why. Where a line can't be written, the status still tells the fault.
 
 use crate::notes::add_note;
+use fc_cert::LONGEST_CERTIFICATE;
+use fc_methods::MOST_GREAT_BUDGET;
 use fc_rows::RowFault;
-use fc_runs::{Input, ProgramFault};
+use fc_runs::{Input, Output, ProgramFault};
 use fc_text::BoardFault;
 use std::alloc::AllocError;
 use std::{fs, io};
@@ -47,6 +49,20 @@ impl From<AllocError> for Ending {
 pub fn tell(rt: &HostRuntime, fault: &ProgramFault) -> u8 {
     let _told = eprintln!(rt; "fc_solve: {fault}");
     fault.status()
+}
+
+/// Says that the budget of a best answer is none.
+pub fn tell_of_great_budget(rt: &HostRuntime) -> Ending {
+    let _told = eprintln!(rt; "fc_solve: the budget is outside 1 to {MOST_GREAT_BUDGET}");
+    Ending::Told(REFUSED)
+}
+
+/// Says that no certificate is written, since it would have more bytes than one may have; the status.
+pub fn tell_of_long_certificate(rt: &HostRuntime, path: &str) -> u8 {
+    let _told = eprintln!(rt;
+        "fc_solve: {path}: the certificate would have more than {LONGEST_CERTIFICATE} bytes, and isn't written"
+    );
+    ProgramFault::Write(Output::Cert).status()
 }
 
 /// Says that a file can't be opened or made, and why.

@@ -5,7 +5,7 @@ use crate::apart::keep_apart;
 use crate::board_lists::{is_blank, is_rule, read_list};
 use crate::boards::{deal_for, read_board_text};
 use crate::certs::CertFile;
-use crate::endings::{Ending, REFUSED, tell_of_file};
+use crate::endings::{Ending, REFUSED, tell_of_file, tell_of_long_certificate};
 use crate::objects::{Name, fault_line, row_line};
 use crate::outputs::Out;
 use crate::tallies::{ANSWERS, CountedRows, Tally};
@@ -240,17 +240,23 @@ impl<'a, G: Game + Drop> Desk<'a, G> {
     }
 
     // The row of a board, whose certificate gets its name once it is whole.
-    fn certified_row(&self, folder: &str, number: u64, start: &Position) -> Result<Row, Ending>
-        requires position { IsPositionOf self.now.question.now.game start.now }
+    fn certified_row(&mut self, folder: &str, number: u64, start: &Position) -> Result<Row, Ending>
+        requires position { IsPositionOf self.old.question.now.game start.now }
     {
         let alloc = self.rt.alloc();
         let path = format!(in alloc; "{folder}/{number}.cert")?;
         keep_apart(self.rt, path.as_str(), None)?;
         let (mut cert, part) = CertFile::part(self.rt, path.as_str())?;
         let row = answer_row(alloc, self.question, self.sought, start, Some(&mut cert));
-        let kept = match &row {
-            Ok(row) if row.status() <= 1 => fs::rename(self.rt, part.as_str(), path.as_str()),
-            _ => fs::remove_file(self.rt, part.as_str()),
+        let is_answered = row.as_ref().is_ok_and(|row| row.status() <= 1);
+        if is_answered && !cert.has_bytes() {
+            let status = tell_of_long_certificate(self.rt, path.as_str());
+            self.status = self.status.max(status);
+        }
+        let kept = if is_answered && cert.has_bytes() {
+            fs::rename(self.rt, part.as_str(), path.as_str())
+        } else {
+            fs::remove_file(self.rt, part.as_str())
         };
         match kept {
             Ok(()) => Ok(row?),

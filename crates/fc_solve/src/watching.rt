@@ -2,7 +2,7 @@
 //! asked for, by a line of numbers. Where a line can't be written, the search goes on.
 
 use fc_best::{BestListener, BestProgress};
-use fc_methods::MOST_BUDGET;
+use fc_methods::{MOST_BUDGET, MOST_GREAT_BUDGET};
 use fc_plain::read_count;
 use fc_search::{Listener, Progress};
 use std::cell::Cell;
@@ -246,6 +246,8 @@ fn next_step(budget: u32) -> Option<&'static str> {
         Some("--budget 500k, some 3 s and 40 MB")
     } else if budget < MOST_BUDGET {
         Some("--budget max, some 30 s and 250 MB")
+    } else if budget < MOST_GREAT_BUDGET {
+        Some("--budget 16M, some 120 s and 950 MB")
     } else {
         None
     }
