@@ -13,7 +13,8 @@ use Rattle.fc_search.specs.Search.{State}
 use Rattle.fc_best.specs.declared.attempts.Shown.{Shown}
 use Rattle.fc_best.specs.declared.standings.Standing.{Standing}
 use Rattle.fc_best.specs.Best.{HaveGivenUp, IsBestAnswer, IsFloor, IsFloorOf, IsListOf, IsOfSearches, RestsOn}
-use Rattle.fc_best.specs.Watch.{IsToldOf}
+use Rattle.fc_best.specs.Watch.{IsToldOf, list_told}
+use Rattle.fc_best.specs.inner.Watch.{list_in, with_floor}
 use Rattle.fc_best.specs.inner.Attempt.{IsEnd, IsGoodList, IsShown, IsTableOf, ShowsNone}
 use Rattle.fc_best.specs.inner.Standing.{AllGaveUp, IsLeastOf, IsShownBy, IsStanding, Stands, limit_of}
 
@@ -187,4 +188,37 @@ module _ (q : Asked) (b : Board) where
       let equal : s.far.at_least ≡ length moves = omega (arith, least, most, le) in
       subst (λ v. IsToldOf v s.far) (sym (short le)) (record { listed = count; least = equal }))
       (λ (more : n < length moves). subst (λ v. IsToldOf v s.far) (sym (long more)) (record { listed = count; least = least }))
+      (le_or_more (length moves) n)
+
+  -- and so is the list with its floor
+  no_list : (list : Option (List Move)) (P : List Move → Type 0) → NoneWins q.game b → IfSome list (λ moves. IsGoodList q.game b moves × P moves) → list ≡ None
+  no_list None P none good = refl
+  no_list (Some moves) P none good = absurd (none moves good.0.wins)
+
+  pub lost_listed : (s : Standing) (end : Shown) → Stands q b s → s.shown ≡ Some end → end.floor ≡ None → list_in s ≡ list_told CannotWin
+  lost_listed s end (searches, tails, was) same none =
+      let so = end_so searches s.shown end same was.shown in
+      let lost : NoneWins q.game b = subst (IsShown q.game b) none so.0.0 in
+      ap (λ o. with_floor o s.far.at_least) (no_list s.list _ lost was.list)
+
+  pub gave_listed : (s : Standing) (told : ℕ) → s.list ≡ None → list_in s ≡ list_told (GaveUp told)
+  gave_listed s told nothing = ap (λ o. with_floor o s.far.at_least) nothing
+
+  pub listed_as_told : (s : Standing) (end : Shown) (moves : List Move) (n : ℕ) (verdict : Verdict) → Stands q b s → s.shown ≡ Some end
+      → end.floor ≡ Some n → s.list ≡ Some moves → (length moves ≤ n → verdict ≡ Shortest moves) → (n < length moves → verdict ≡ Won moves n)
+      → list_in s ≡ list_told verdict
+  listed_as_told s end moves n verdict (searches, tails, was) same floor list short long =
+      let so = end_so searches s.shown end same was.shown in
+      let good : IsGoodList q.game b moves × IsListOf q.game b searches tails moves =
+      subst (λ o. IfSome o (λ ms. IsGoodList q.game b ms × IsListOf q.game b searches tails ms)) list was.list in
+      let shown : IsFloor q.game b n = subst (IsShown q.game b) floor so.0.0 in
+      let here : list_in s ≡ Some (moves, s.far.at_least) = ap (λ o. with_floor o s.far.at_least) list in
+      let least : s.far.at_least ≡ n =
+      subst (λ f. IfSome f (λ k. s.far.at_least ≡ k)) floor (subst (λ o. IsLeastOf o s.far.at_least) same was.told.least) in
+      ⊎_elim
+      (λ (le : length moves ≤ n).
+      let most = shown moves good.0.wins in
+      let equal : s.far.at_least ≡ length moves = omega (arith, least, most, le) in
+      subst (λ v. list_in s ≡ list_told v) (sym (short le)) (here ∙ ap (λ k. Some (moves, k)) equal))
+      (λ (more : n < length moves). subst (λ v. list_in s ≡ list_told v) (sym (long more)) (here ∙ ap (λ k. Some (moves, k)) least))
       (le_or_more (length moves) n)

@@ -1,5 +1,5 @@
 -- What a listener hears of searches, one after the other.
-use Rattle.std.proofs.Common.{◌≡◌, ◌∙◌, sym, subst, refl, arith, ℕ, suc, ◌≤◌, List, [], ◌∷◌, ◌++◌, length, Option, Some, None}
+use Rattle.std.proofs.Common.{⊎_elim, ◌≡◌, ◌∙◌, ap, sym, subst, refl, arith, ℕ, suc, ◌≤◌, List, [], ◌∷◌, ◌++◌, length, Option, Some, None}
 use Rattle.std.specs.Prelude.{All, AllPairs, IfErr, IfSome, Result, Ok, Err}
 use Rattle.std.proofs.lemmas.List.Elements.{All-nil, All-cons, All-append}
 use Rattle.std.proofs.lemmas.List.Kept.{AllPairs-cons}
@@ -16,8 +16,8 @@ use Rattle.fc_best.specs.declared.standings.Standing.{Standing}
 use Rattle.fc_best.specs.Best.{IsFloor}
 use Rattle.fc_best.specs.inner.Attempt.{IsEnd, IsGoodList, IsShown}
 use Rattle.fc_best.specs.inner.Standing.{IsLeastOf, Stands, limit_of}
-use Rattle.fc_best.specs.inner.Watch.{HearsFurther, HearsOn, HearsSome, IsFurther, Rises}
-use Rattle.fc_best.specs.Watch.{HearsTold, HearsToEnd, IsNoWorse, IsTold, IsToldOf}
+use Rattle.fc_best.specs.inner.Watch.{HearsFurther, HearsList, HearsOn, HearsSome, HasNoBetter, IsFurther, IsFurtherTold, IsSoUp, Rises, list_in, with_floor}
+use Rattle.fc_best.specs.Watch.{Better, Told, Heard, HearsTold, HearsToEnd, IsNoWorse, IsSo, IsTold, IsToldOf, floor_heard, last_list, list_told, moves_heard}
 
 -- what is so holds of a fault, whichever it is
 pub if_err : {T E : Type 0} (r : Result T E) (P : Type 0) → P → IfErr r (λ e. P)
@@ -30,14 +30,20 @@ hears_both : {L E : Type 0} (hears : L → E → L → Type 0) (old mid new : L)
 hears_both hears old mid new [] more same rest = subst (λ m. HearsAll hears m more new) same rest
 hears_both hears old mid new (far ∷ later) more (next, first, rest) then = (next, first, hears_both hears next mid new later more rest then)
 
+-- the list that was heard last of some and then of others
+last_both : (before : Option (List Move × ℕ)) (heard more : List Heard) → last_list before (heard ++ more) ≡ last_list (last_list before heard) more
+last_both before [] more = refl
+last_both before (Told far ∷ later) more = last_both before later more
+last_both before (Better moves floor ∷ later) more = last_both (Some (moves, floor)) later more
+
 -- what is told again is no worse
 same_listed : (one two : Option ℕ) → two ≡ one → IfSome one (λ n. (m : ℕ) × (two ≡ Some m) × (m ≤ n))
 same_listed None two same = tt
 same_listed (Some n) two same = (n, same, omega arith)
 
-pub no_worse_same : (one two : BestProgress) → two.shortest ≡ one.shortest → two.at_least ≡ one.at_least → IsNoWorse one two
+pub no_worse_same : (one two : Heard) → moves_heard two ≡ moves_heard one → floor_heard two ≡ floor_heard one → IsNoWorse one two
 no_worse_same one two listed least = record {
-  listed = same_listed one.shortest two.shortest listed;
+  listed = same_listed (moves_heard one) (moves_heard two) listed;
   least = let same = least in omega (arith, same);
 }
 
@@ -49,43 +55,50 @@ listed_on (Some n) two three (m, same, le) second =
     let more = subst (λ o. IfSome o (λ k. (j : ℕ) × (three ≡ Some j) × (j ≤ k))) same second in
     (more.0, more.1, let next = more.2 in omega (arith, le, next))
 
-pub no_worse_on : (one two three : BestProgress) → IsNoWorse one two → IsNoWorse two three → IsNoWorse one three
+pub no_worse_on : (one two three : Heard) → IsNoWorse one two → IsNoWorse two three → IsNoWorse one three
 no_worse_on one two three first second = record {
-  listed = listed_on one.shortest two.shortest three.shortest first.listed second.listed;
+  listed = listed_on (moves_heard one) (moves_heard two) (moves_heard three) first.listed second.listed;
   least = let low = first.least in let high = second.least in omega (arith, low, high);
 }
 
 -- what got no worse up to one and then up to another did so
-rises_first : (one two last : BestProgress) (heard : List BestProgress) → IsNoWorse one two → Rises two heard last → Rises one heard last
+rises_first : (one two last : Heard) (heard : List Heard) → IsNoWorse one two → Rises two heard last → Rises one heard last
 rises_first one two last [] first rises = no_worse_on one two last first rises
-rises_first one two last (far ∷ later) first (next, rest) = (no_worse_on one two far first next, rest)
+rises_first one two last (next ∷ later) first (no_worse, rest) = (no_worse_on one two next first no_worse, rest)
 
-rises_both : (first mid last : BestProgress) (heard more : List BestProgress) → Rises first heard mid → Rises mid more last
-    → Rises first (heard ++ more) last
+rises_both : (first mid last : Heard) (heard more : List Heard) → Rises first heard mid → Rises mid more last → Rises first (heard ++ more) last
 rises_both first mid last [] more one two = rises_first first mid last more one two
-rises_both first mid last (far ∷ later) more (next, rest) two = (next, rises_both far mid last later more rest two)
+rises_both first mid last (next ∷ later) more (no_worse, rest) two = (no_worse, rises_both next mid last later more rest two)
 
 -- then each is no worse than the first, and than those before it
-rises_above : (first last : BestProgress) (heard : List BestProgress) → Rises first heard last → All (IsNoWorse first) heard
+rises_above : (first last : Heard) (heard : List Heard) → Rises first heard last → All (IsNoWorse first) heard
 rises_above first last [] rises = All-nil (IsNoWorse first)
-rises_above first last (far ∷ later) (next, rest) =
-    All-cons (IsNoWorse first) far later next (λ k d within. no_worse_on first far _ next (rises_above far last later rest k d within))
+rises_above first last (next ∷ later) (no_worse, rest) =
+    All-cons (IsNoWorse first) next later no_worse (λ k d within. no_worse_on first next _ no_worse (rises_above next last later rest k d within))
 
-rises_pairs : (first last : BestProgress) (heard : List BestProgress) → Rises first heard last → AllPairs IsNoWorse heard
+rises_pairs : (first last : Heard) (heard : List Heard) → Rises first heard last → AllPairs IsNoWorse heard
 rises_pairs first last [] rises = λ i j d lt within. absurd (omega (arith, lt, within))
-rises_pairs first last (far ∷ later) (next, rest) =
-    AllPairs-cons IsNoWorse far later (rises_above far last later rest) (rises_pairs far last later rest)
+rises_pairs first last (next ∷ later) (no_worse, rest) =
+    AllPairs-cons IsNoWorse next later (rises_above next last later rest) (rises_pairs next last later rest)
 
--- while one search goes on nothing changes
-further_rises : (before first last : BestProgress) (heard : List BestProgress) → IsFurther before first → All (IsFurther before) heard
-    → IsNoWorse before last → Rises first heard last
-further_rises before first last [] one all no_worse =
-    no_worse_on first before last (no_worse_same first before (sym one.shortest) (sym one.at_least)) no_worse
-further_rises before first last (far ∷ later) one all no_worse =
-    let next : IsFurther before far = all 0 far (omega arith) in (
-      no_worse_same first far (next.shortest ∙ sym one.shortest) (next.at_least ∙ sym one.at_least),
-      further_rises before far last later next (λ k d within. all (suc k) d (omega (arith, within))) no_worse,
+-- while one search goes on nothing changes, and no list is heard
+further_rises : (before : BestProgress) (first last : Heard) (heard : List Heard) → IsFurtherTold before first → All (IsFurtherTold before) heard
+    → IsNoWorse (Told before) last → Rises first heard last
+further_rises before (Better moves floor) last heard none all no_worse = absurd none
+further_rises before (Told first) last [] one all no_worse =
+    no_worse_on (Told first) (Told before) last (no_worse_same (Told first) (Told before) (sym one.shortest) (sym one.at_least)) no_worse
+further_rises before (Told first) last (Better moves floor ∷ later) one all no_worse =
+    let none : ⊥ = all 0 (Told first) (omega arith) in absurd none
+further_rises before (Told first) last (Told far ∷ later) one all no_worse =
+    let next : IsFurther before far = all 0 (Told first) (omega arith) in (
+      no_worse_same (Told first) (Told far) (next.shortest ∙ sym one.shortest) (next.at_least ∙ sym one.at_least),
+      further_rises before (Told far) last later next (λ k d within. all (suc k) d (omega (arith, within))) no_worse,
     )
+
+further_keeps : (before : BestProgress) (list : Option (List Move × ℕ)) (heard : List Heard) → All (IsFurtherTold before) heard → last_list list heard ≡ list
+further_keeps before list [] all = refl
+further_keeps before list (Told far ∷ later) all = further_keeps before list later (λ k d within. all (suc k) d (omega (arith, within)))
+further_keeps before list (Better moves floor ∷ later) all = let none : ⊥ = all 0 (Better moves floor) (omega arith) in absurd none
 
 -- there is a list of as many moves as are told
 listed_so : (g : GameRules) (b : Board) (P : List Move → Type 0) (list : Option (List Move)) (told : Option ℕ)
@@ -122,61 +135,149 @@ module _ (q : Asked) (b : Board) where
     listed = subst (λ o. IfSome o (λ n. (moves : List Move) × Wins q.game b moves × (length moves ≡ n))) (sym further.shortest) told.listed;
   }
 
-  module _ {L : Type 0} (hears : L → BestProgress → L → Type 0) where
-    pub hears_none : (far : BestProgress) (old new : L) → new ≡ old → HearsOn hears q b far far old new
-    hears_none far old new same = ([], same, All-nil (IsTold q b), no_worse_same far far refl refl)
+  -- what is heard after that is so
+  further_so : (before : BestProgress) (heard : List Heard) → IsTold q b before → All (IsFurtherTold before) heard → All (IsSo q b) heard
+  further_so before [] told all = All-nil (IsSo q b)
+  further_so before (Told far ∷ later) told all =
+      All-cons (IsSo q b) (Told far) later (told_further before far told (all 0 (Told far) (omega arith)))
+      (further_so before later told (λ k d within. all (suc k) d (omega (arith, within))))
+  further_so before (Better moves floor ∷ later) told all = let none : ⊥ = all 0 (Better moves floor) (omega arith) in absurd none
 
-    pub hears_more : (first mid last : BestProgress) (old between new : L) → HearsOn hears q b first mid old between
+  -- and so are the list and the floor of searches that stand so
+  list_so : (P : List Move → Type 0) (list : Option (List Move)) (moves : List Move) → IfSome list (λ ms. IsGoodList q.game b ms × P ms)
+      → list ≡ Some moves → Wins q.game b moves
+  list_so P list moves good same = (subst (λ o. IfSome o (λ ms. IsGoodList q.game b ms × P ms)) same good).0.wins
+
+  list_stands : (s : Standing) (moves : List Move) → Stands q b s → s.list ≡ Some moves → IsSo q b (Better moves s.far.at_least)
+  list_stands s moves (searches, tails, is) same = (list_so _ s.list moves is.list same, (told_stands s (searches, tails, is)).least)
+
+  -- as many moves as are told of it
+  count_stands : (s : Standing) → Stands q b s → s.far.shortest ≡ limit_of s.list
+  count_stands s (searches, tails, is) = is.told.shortest
+
+  -- a list that is told with its floor is as good as what is told of it
+  list_as_told : (s : Standing) (moves : List Move) → Stands q b s → s.list ≡ Some moves → s.far.shortest ≡ Some (length moves)
+  list_as_told s moves stands same = count_stands s stands ∙ ap limit_of same
+
+  -- where none is better, the list is the one before
+  none_before : (old new : Option ℕ) → IfSome old (λ n. (m : ℕ) × (new ≡ Some m) × (m ≤ n)) → new ≡ None → old ≡ None
+  none_before None new kept none = refl
+  none_before (Some n) new (m, some, le) none = absurd (cc)
+
+  no_limit : (list : Option (List Move)) → limit_of list ≡ None → list ≡ None
+  no_limit None same = refl
+  no_limit (Some moves) same = absurd (cc)
+
+  still_listed : (s last : Standing) → Stands q b s → Stands q b last → IsNoWorse (Told s.far) (Told last.far)
+      → (limit_of last.list ≡ limit_of s.list → last.list ≡ s.list) → HasNoBetter s.far last → list_in s ≡ list_in last
+  still_listed s last was stands no_worse same better =
+      ⊎_elim
+      (λ (none : last.list ≡ None).
+      let before : s.list ≡ None = no_limit s.list (sym (count_stands s was) ∙ none_before s.far.shortest last.far.shortest no_worse.listed (count_stands last stands ∙ ap limit_of none)) in
+      ap (λ o. with_floor o s.far.at_least) before ∙ sym (ap (λ o. with_floor o last.far.at_least) none))
+      (λ (equal : (last.far.shortest ≡ s.far.shortest) × (last.far.at_least ≡ s.far.at_least)).
+      let one : last.list ≡ s.list = same (sym (count_stands last stands) ∙ equal.0 ∙ count_stands s was) in
+      ap (λ o. with_floor o s.far.at_least) (sym one) ∙ ap (λ n. with_floor last.list n) (sym equal.1))
+      better
+
+  module _ {L : Type 0} (hears : L → Heard → L → Type 0) where
+    pub hears_none : (s : Standing) (old new : L) → new ≡ old → HearsOn hears q b s s old new
+    hears_none s old new same = ([], same, (All-nil (IsSo q b), no_worse_same (Told s.far) (Told s.far) refl refl), refl)
+
+    pub hears_more : (first mid last : Standing) (old between new : L) → HearsOn hears q b first mid old between
         → HearsOn hears q b mid last between new → HearsOn hears q b first last old new
-    hears_more first mid last old between new (heard, hearing, told, rises) (more, then, so, on) = (
+    hears_more first mid last old between new (heard, hearing, (told, rises), list) (more, then, (so, on), next) = (
       heard ++ more,
       hears_both hears old between new heard more hearing then,
-      All-append (IsTold q b) heard more told so,
-      rises_both first mid last heard more rises on,
+      (All-append (IsSo q b) heard more told so, rises_both (Told first.far) (Told mid.far) (Told last.far) heard more rises on),
+      last_both (list_in first) heard more ∙ ap (λ o. last_list o more) list ∙ next,
     )
 
-    pub some_more : (first mid : BestProgress) (old between new : L) → HearsOn hears q b first mid old between
+    pub some_more : (first mid : Standing) (old between new : L) → HearsOn hears q b first mid old between
         → HearsSome hears q b mid between new → HearsSome hears q b first old new
-    some_more first mid old between new one (last, two) = (last, hears_more first mid last old between new one two)
+    some_more first mid old between new (heard, hearing, (told, rises), list) (more, last, then, (so, on)) = (
+      heard ++ more,
+      last,
+      hears_both hears old between new heard more hearing then,
+      (All-append (IsSo q b) heard more told so, rises_both (Told first.far) (Told mid.far) last heard more rises on),
+    )
 
     -- where the searches so far stand so, and one more is heard after them
-    pub hears_further : (s : Standing) (last : BestProgress) (old new : L) → Stands q b s → HearsFurther hears s.far old new
-        → IsNoWorse s.far last → HearsOn hears q b s.far last old new
-    hears_further s last old new stands (heard, hearing, further) no_worse = (
+    hears_search : (s : Standing) (last : Heard) (old new : L) → Stands q b s → HearsFurther hears s.far old new → IsNoWorse (Told s.far) last
+        → (heard : List Heard) × HearsAll hears old heard new × IsSoUp q b (Told s.far) heard last × (last_list (list_in s) heard ≡ list_in s)
+    hears_search s last old new stands (heard, hearing, further) no_worse = (
       heard,
       hearing,
-      (λ k d within. told_further s.far _ (told_stands s stands) (further k d within)),
-      further_rises s.far s.far last heard (record { budget = refl; shortest = refl; at_least = refl }) further no_worse,
+      (
+        further_so s.far heard (told_stands s stands) further,
+        further_rises s.far (Told s.far) last heard (record { budget = refl; shortest = refl; at_least = refl }) further no_worse,
+      ),
+      further_keeps s.far (list_in s) heard further,
     )
 
-    pub hears_still : (s : Standing) (old new : L) → Stands q b s → HearsFurther hears s.far old new → HearsOn hears q b s.far s.far old new
-    hears_still s old new stands further = hears_further s s.far old new stands further (no_worse_same s.far s.far refl refl)
+    pub hears_still : (s : Standing) (old new : L) → Stands q b s → HearsFurther hears s.far old new → HearsOn hears q b s s old new
+    hears_still s old new stands further = hears_search s (Told s.far) old new stands further (no_worse_same (Told s.far) (Told s.far) refl refl)
 
-    pub some_further : (s : Standing) (old new : L) → Stands q b s → HearsFurther hears s.far old new → HearsSome hears q b s.far old new
-    some_further s old new stands further = (s.far, hears_still s old new stands further)
+    pub some_further : (s : Standing) (old new : L) → Stands q b s → HearsFurther hears s.far old new → HearsSome hears q b s old new
+    some_further s old new stands further =
+        let on = hears_still s old new stands further in (on.0, Told s.far, on.1, on.2)
+
+    -- and then the list, where it is better
+    hears_silent : (s last : Standing) (old mid new : L) → Stands q b s → Stands q b last → HearsFurther hears s.far old mid
+        → IsNoWorse (Told s.far) (Told last.far) → (limit_of last.list ≡ limit_of s.list → last.list ≡ s.list)
+        → HasNoBetter s.far last × (new ≡ mid) → HearsOn hears q b s last old new
+    hears_silent s last old mid new was stands further no_worse same (none, silent) =
+        let on = hears_search s (Told last.far) old mid was further no_worse in
+        subst (λ l. HearsOn hears q b s last old l) (sym silent) (on.0, on.1, on.2, on.3 ∙ still_listed s last was stands no_worse same none)
+
+    hears_better : (s last : Standing) (moves : List Move) (old mid new : L) → Stands q b s → Stands q b last → HearsFurther hears s.far old mid
+        → IsNoWorse (Told s.far) (Told last.far) → last.list ≡ Some moves → hears mid (Better moves last.far.at_least) new
+        → HearsOn hears q b s last old new
+    hears_better s last moves old mid new was stands further no_worse some hearing =
+        let better : Heard = Better moves last.far.at_least in
+        let equal = list_as_told last moves stands some in
+        let up : IsNoWorse (Told last.far) better = no_worse_same (Told last.far) better (sym equal) refl in
+        let down : IsNoWorse better (Told last.far) = no_worse_same better (Told last.far) equal refl in
+        let (heard, hearing_it, (so, rises), list) = hears_search s (Told last.far) old mid was further no_worse in (
+          heard ++ better ∷ [],
+          hears_both hears old mid new heard (better ∷ []) hearing_it (new, hearing, refl),
+          (
+            All-append (IsSo q b) heard (better ∷ []) so (All-cons (IsSo q b) better [] (list_stands last moves stands some) (All-nil (IsSo q b))),
+            rises_both (Told s.far) (Told last.far) (Told last.far) heard (better ∷ []) rises (up, down),
+          ),
+          last_both (list_in s) heard (better ∷ []) ∙ sym (ap (λ o. with_floor o last.far.at_least) some),
+        )
+
+    pub hears_listed : (s last : Standing) (old mid new : L) → Stands q b s → Stands q b last → HearsFurther hears s.far old mid
+        → IsNoWorse (Told s.far) (Told last.far) → (limit_of last.list ≡ limit_of s.list → last.list ≡ s.list) → HearsList hears s.far last mid new
+        → HearsOn hears q b s last old new
+    hears_listed s last old mid new was stands further no_worse same told =
+        ⊎_elim
+        (λ silent. hears_silent s last old mid new was stands further no_worse same silent)
+        (λ better. hears_better s last better.0 old mid new was stands further no_worse better.1 better.2)
+        told
 
     -- what was heard from the first search on
-    pub hears_told : (first last : BestProgress) (old new : L) → HearsOn hears q b first last old new → HearsTold hears q b old new
-    hears_told first last old new (heard, hearing, told, rises) = (heard, (hearing, told, rises_pairs first last heard rises))
+    pub some_told : (first : Standing) (old new : L) → HearsSome hears q b first old new → HearsTold hears q b old new
+    some_told first old new (heard, last, hearing, (so, rises)) = (heard, (hearing, so, rises_pairs (Told first.far) last heard rises))
 
     -- and of the verdict last
-    pub hears_end : (first far : BestProgress) (old mid new : L) (verdict : Verdict) → HearsOn hears q b first far old mid → hears mid far new
-        → IsTold q b far → IsToldOf verdict far → HearsToEnd hears q b verdict old new
-    hears_end first far old mid new verdict (heard, hearing, told, rises) last so of_verdict = (
-      heard,
-      far,
-      (
-        hears_both hears old mid new heard (far ∷ []) hearing (new, last, refl),
-        All-append (IsTold q b) heard (far ∷ []) told (All-cons (IsTold q b) far [] so (All-nil (IsTold q b))),
-        rises_pairs first far (heard ++ far ∷ [])
-            (rises_both first far far heard (far ∷ []) rises (no_worse_same far far refl refl, no_worse_same far far refl refl)),
-      ),
-      of_verdict,
-    )
+    pub hears_end : (first last : Standing) (old mid new : L) (verdict : Verdict) → HearsOn hears q b first last old mid → hears mid (Told last.far) new
+        → first.list ≡ None → Stands q b last → IsToldOf verdict last.far → list_in last ≡ list_told verdict → HearsToEnd hears q b verdict old new
+    hears_end first last old mid new verdict (heard, hearing, (so, rises), list) end none stands of_verdict listed =
+        let far : Heard = Told last.far in
+        let still = no_worse_same far far refl refl in (
+          heard,
+          last.far,
+          (
+            hears_both hears old mid new heard (far ∷ []) hearing (new, end, refl),
+            All-append (IsSo q b) heard (far ∷ []) so (All-cons (IsSo q b) far [] (told_stands last stands) (All-nil (IsSo q b))),
+            rises_pairs (Told first.far) far (heard ++ far ∷ []) (rises_both (Told first.far) far far heard (far ∷ []) rises (still, still)),
+          ),
+          of_verdict,
+          sym (ap (λ o. last_list (with_floor o first.far.at_least) heard) none) ∙ list ∙ listed,
+        )
 
-    -- either is of what is so, and gets no worse
-    pub some_told : (first : BestProgress) (old new : L) → HearsSome hears q b first old new → HearsTold hears q b old new
-    some_told first old new (last, on) = hears_told first last old new on
-
+    -- it is of what is so, and gets no worse
     pub end_told : (old new : L) (verdict : Verdict) → HearsToEnd hears q b verdict old new → HearsTold hears q b old new
-    end_told old new verdict (heard, far, these, of_verdict) = (heard ++ far ∷ [], these)
+    end_told old new verdict (heard, far, these, of_verdict, listed) = (heard ++ Told far ∷ [], these)

@@ -8,7 +8,8 @@ use Rattle.fc_search.specs.Watch.{HearsAll, TellFloors}
 use Rattle.fc_search.specs.declared.listeners.Progress.{Progress}
 use Rattle.fc_best.specs.declared.listeners.BestProgress.{BestProgress}
 use Rattle.fc_best.specs.declared.relays.Relay.{Relay}
-use Rattle.fc_best.specs.inner.Watch.{HearsFurther, IsFurther, IsJoined}
+use Rattle.fc_best.specs.Watch.{Told, Heard}
+use Rattle.fc_best.specs.inner.Watch.{HearsFurther, IsFurther, IsFurtherTold, IsJoined}
 
 -- what was told is told after itself
 pub further_same : (far : BestProgress) → IsFurther far far
@@ -18,18 +19,18 @@ further_same far = record { budget = refl; shortest = refl; at_least = refl }
 further_joined : (before : BestProgress) (one : Progress) (far : BestProgress) → IsJoined before one far → IsFurther before far
 further_joined before one far joined = record { budget = joined.budget; shortest = joined.shortest; at_least = joined.at_least }
 
-module _ {L : Type 0} (hears : L → BestProgress → L → Type 0) where
+module _ {L : Type 0} (hears : L → Heard → L → Type 0) where
   -- what a relay that hears a search does
   abbrev pub relays : Relay L → Progress → Relay L → Type 0
   relays old far new = (new.listener.ghost_name ≡ old.listener.ghost_name) × (new.before ≡ old.before)
-      × IsJoined old.before far new.last × hears old.listener.now new.last new.listener.now
+      × IsJoined old.before far new.last × hears old.listener.now (Told new.last) new.listener.now
 
   -- the relay is still of the same listener, which heard these, all told after what was told before; and so is what was told last
   pub record Passes (before : BestProgress) (old new : Relay L) : Type 0 where
     pub name : new.listener.ghost_name ≡ old.listener.ghost_name
-    pub told : List BestProgress
+    pub told : List Heard
     pub hearing : HearsAll hears old.listener.now told new.listener.now
-    pub further : All (IsFurther before) told
+    pub further : All (IsFurtherTold before) told
     pub last : IsFurther before new.last
 
   passes : (before : BestProgress) (old : Relay L) (heard : List Progress) (new : Relay L) → HearsAll relays old heard new
@@ -38,7 +39,7 @@ module _ {L : Type 0} (hears : L → BestProgress → L → Type 0) where
     name = ap (λ (r : Relay L). r.listener.ghost_name) same;
     told = [];
     hearing = ap (λ (r : Relay L). r.listener.now) same;
-    further = All-nil (IsFurther before);
+    further = All-nil (IsFurtherTold before);
     last = subst (λ (r : Relay L). IsFurther before r.last) (sym same) last;
   }
   passes before old (far ∷ later) new (mid, (name, stays, joined, hearing), rest) kept last =
@@ -46,9 +47,9 @@ module _ {L : Type 0} (hears : L → BestProgress → L → Type 0) where
       let more = passes before mid later new rest (stays ∙ kept) one in
       record {
         name = more.name ∙ name;
-        told = mid.last ∷ more.told;
+        told = Told mid.last ∷ more.told;
         hearing = (mid.listener.now, hearing, more.hearing);
-        further = All-cons (IsFurther before) mid.last more.told one more.further;
+        further = All-cons (IsFurtherTold before) (Told mid.last) more.told one more.further;
         last = more.last;
       }
 

@@ -6,6 +6,7 @@ use Rattle.std.proofs.lemmas.List.Sums.{sum_by-cons}
 use Rattle.fc_position.specs.Board.{Board}
 use Rattle.fc_moves.specs.declared.steps.Move.{Move}
 use Rattle.fc_moves.specs.GameRules.{GameRules}
+use Rattle.fc_moves.specs.MoveText.{HasText}
 use Rattle.fc_moves.specs.Run.{ReachesMore}
 use Rattle.fc_answers.specs.Table.{Listing}
 use Rattle.fc_answers.specs.declared.answers.TheConstants.{MOST_MOVES}
@@ -20,7 +21,7 @@ use Rattle.fc_best.specs.declared.attempts.Shown.{Shown}
 use Rattle.fc_best.specs.declared.listeners.BestProgress.{BestProgress}
 use Rattle.fc_best.specs.declared.standings.Standing.{Standing}
 use Rattle.fc_best.specs.Best.{HasGivenUp, HaveGivenUp, IsListOf, of_search, of_tail, IsOfQuestion}
-use Rattle.fc_best.specs.Watch.{IsNoWorse}
+use Rattle.fc_best.specs.Watch.{Told, IsNoWorse}
 use Rattle.fc_best.specs.inner.Attempt.{IsAttempt, IsEnd, IsFoundIn, IsGivenUp, IsGoodList, IsShownIn, IsTableOf, Raises, ShowsNone, floor_of}
 use Rattle.fc_best.specs.inner.Standing.{AllGaveUp, IsLeastOf, IsShorter, IsShownBy, Stands, greater, limit_of, looked_with, newest, with_share}
 use Rattle.fc_best.specs.inner.Watch.{IsAfter, IsFurther, floor_shown}
@@ -164,7 +165,7 @@ least_after (Some end) old n new least going raises most = least_with old end.fl
 -- what the searches tell is no worse than before
 pub rises_after : (old list : Option (List Move)) (before far : BestProgress) → before.shortest ≡ limit_of old → far.shortest ≡ limit_of list
     → IfSome old (λ moves. (shorter : List Move) × (list ≡ Some shorter) × (length shorter ≤ length moves)) → before.at_least ≤ far.at_least
-    → IsNoWorse before far
+    → IsNoWorse (Told before) (Told far)
 rises_after None list before far was is kept least = record {
   listed = subst (λ o. IfSome o (λ n. (m : ℕ) × (far.shortest ≡ Some m) × (m ≤ n))) (sym was) tt;
   least = least;
@@ -175,7 +176,7 @@ rises_after (Some moves) list before far was is (shorter, same, le) least = reco
 }
 
 pub after_rises : (q : Asked) (b : Board) (old : Standing) (new list : Option (List Move)) (last far : BestProgress) (shown : Option ℕ) → Stands q b old
-    → IsFurther old.far last → IsShorter new old.list list → IsAfter last shown (limit_of list) far → IsNoWorse old.far far
+    → IsFurther old.far last → IsShorter new old.list list → IsAfter last shown (limit_of list) far → IsNoWorse (Told old.far) (Told far)
 after_rises q b old new list last far shown (searches, tails, was) further short after =
     rises_after old.list list old.far far was.told.shortest after.shortest short.kept
     (let same = further.at_least in let most = after.at_least in omega (arith, same, most))
@@ -242,3 +243,16 @@ pub look_found : (q asked : Asked) (b : Board) (weight : Ratio) (share : ℕ) (l
     → IsAttempt (looked_with q weight share) Plain b None one
 look_found q asked b weight share limit one same none is =
     subst (λ a. IsAttempt a a.method.bound b None one) same (subst (λ l. IsAttempt asked asked.method.bound b l one) none is)
+
+-- what a search by a weight and a share found is so of the question
+pub attempt_found : (q asked : Asked) (b : Board) (weight : Ratio) (share : ℕ) (old limit : Option ℕ) (one : Attempt)
+    → asked ≡ with_share q weight share → limit ≡ old → IsAttempt asked asked.method.bound b limit one
+    → IsAttempt (with_share q weight share) q.method.bound b old one
+attempt_found q asked b weight share old limit one same below is =
+    subst (λ a. IsAttempt a a.method.bound b old one) same (subst (λ l. IsAttempt asked asked.method.bound b l one) below is)
+
+-- the list of searches that stand so can be written
+pub list_written : (q : Asked) (b : Board) (s : Standing) → Stands q b s → IfSome s.list (λ moves. All HasText moves × (length moves ≤ MOST_MOVES))
+list_written q b s (searches, tails, is) =
+    if_some (λ moves. IsGoodList q.game b moves × IsListOf q.game b searches tails moves) (λ moves. All HasText moves × (length moves ≤ MOST_MOVES)) s.list
+    (λ moves good. (good.0.written, good.0.few)) is.list

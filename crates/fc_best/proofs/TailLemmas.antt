@@ -19,7 +19,7 @@ use Rattle.fc_best.specs.declared.tails.Tail.{Tail}
 use Rattle.fc_best.specs.declared.standings.Standing.{Standing}
 use Rattle.fc_best.specs.declared.listeners.BestProgress.{BestProgress}
 use Rattle.fc_best.specs.Best.{IsListOf, of_search, of_tail, IsOfQuestion, IsOnTheWay}
-use Rattle.fc_best.specs.Watch.{IsNoWorse}
+use Rattle.fc_best.specs.Watch.{Told, IsNoWorse}
 use Rattle.fc_best.specs.inner.Attempt.{IsAttempt, IsFoundIn, IsGoodList}
 use Rattle.fc_best.specs.inner.Standing.{IsLeastOf, IsShorter, Stands, limit_of}
 use Rattle.fc_best.specs.inner.Watch.{IsAfter, IsFirstTold}
@@ -155,7 +155,7 @@ there : {X : Type 0} (o : Option X) (x : X) → o ≡ Some x → o ≡ None → 
 there o x is none = absurd (cc)
 
 pub tail_rises : (q : Asked) (b : Board) (old : Standing) (tail : Tail) (list : Option (List Move)) (far : BestProgress) → Stands q b old
-    → IsTailFor q b old tail → IsShorter tail.list old.list list → IsAfter tail.far None (limit_of list) far → IsNoWorse old.far far
+    → IsTailFor q b old tail → IsShorter tail.list old.list list → IsAfter tail.far None (limit_of list) far → IsNoWorse (Told old.far) (Told far)
 tail_rises q b old tail list far stands is short after = after_rises q b old tail.list list tail.far far None stands is.far short after
 
 pub tail_stands : (q : Asked) (b : Board) (old : Standing) (tail : Tail) (list : Option (List Move)) (new : BestProgress) → Stands q b old

@@ -1,4 +1,4 @@
--- Searches for a best answer that tell how far they are, and who hears it.
+-- Searches for a best answer that tell how far they are, and each better list, and who hears it.
 use Rattle.std.specs.Prelude.{◌≡◌, ℕ, ◌≤◌, List, [], ◌∷◌, ◌++◌, length, All, AllPairs, Option, None, Some, IfSome}
 use Rattle.fc_position.specs.Board.{Board}
 use Rattle.fc_moves.specs.declared.steps.Move.{Move}
@@ -17,11 +17,37 @@ pub record IsTold (q : Asked) (b : Board) (far : BestProgress) : Type 0 where
   pub least : IsFloor q.game b far.at_least
   pub listed : IfSome far.shortest (λ n. (moves : List Move) × Wins q.game b moves × (length moves ≡ n))
 
--- what is told is no worse than what was told before it: where that told a list there still is one, and it is no longer; and the
+-- what a listener hears: how far the searches are; or a better list, or one with a greater floor
+pub data Heard : Type 0 where
+  Told : BestProgress → Heard
+  Better : List Move → ℕ → Heard
+
+-- what is heard is so: how far the searches are is told so; a list wins, and no list that wins has fewer moves than its floor
+abbrev pub IsSo : Asked → Board → Heard → Type 0
+IsSo q b (Told far) = IsTold q b far
+IsSo q b (Better moves floor) = Wins q.game b moves × IsFloor q.game b floor
+
+-- how many moves the best list so far has, if there is one
+abbrev pub moves_heard : Heard → Option ℕ
+moves_heard (Told far) = far.shortest
+moves_heard (Better moves floor) = Some (length moves)
+
+-- and the floor
+abbrev pub floor_heard : Heard → ℕ
+floor_heard (Told far) = far.at_least
+floor_heard (Better moves floor) = floor
+
+-- what is heard is no worse than what was heard before it: where that told a list there still is one, and it is no longer; and the
 -- floor is no lower
-pub record IsNoWorse (before far : BestProgress) : Type 0 where
-  pub listed : IfSome before.shortest (λ n. (m : ℕ) × (far.shortest ≡ Some m) × (m ≤ n))
-  pub least : before.at_least ≤ far.at_least
+pub record IsNoWorse (before next : Heard) : Type 0 where
+  pub listed : IfSome (moves_heard before) (λ n. (m : ℕ) × (moves_heard next ≡ Some m) × (m ≤ n))
+  pub least : floor_heard before ≤ floor_heard next
+
+-- the list that was heard last, with its floor: the one before, where none was
+abbrev pub last_list : Option (List Move × ℕ) → List Heard → Option (List Move × ℕ)
+last_list before [] = before
+last_list before (Told far ∷ later) = last_list before later
+last_list before (Better moves floor ∷ later) = last_list (Some (moves, floor)) later
 
 -- how many moves the list that a verdict tells has, if it tells one
 abbrev pub moves_told : Verdict → Option ℕ
@@ -37,21 +63,28 @@ floor_told (Won moves floor) = Some floor
 floor_told CannotWin = None
 floor_told (GaveUp told) = None
 
+-- the list that a verdict tells, with its floor, if it tells one
+abbrev pub list_told : Verdict → Option (List Move × ℕ)
+list_told (Shortest moves) = Some (moves, length moves)
+list_told (Won moves floor) = Some (moves, floor)
+list_told CannotWin = None
+list_told (GaveUp told) = None
+
 -- what is told is of the verdict: how many moves its list has, if it tells one, and its floor, if it tells one
 pub record IsToldOf (verdict : Verdict) (far : BestProgress) : Type 0 where
   pub listed : far.shortest ≡ moves_told verdict
   pub least : IfSome (floor_told verdict) (λ floor. far.at_least ≡ floor)
 
-module _ {L : Type 0} (hears : L → BestProgress → L → Type 0) where
+module _ {L : Type 0} (hears : L → Heard → L → Type 0) where
   -- a listener hears these, which are so of searches of the question from the board, and each is no worse than those before it
-  abbrev pub HearsThese : Asked → Board → List BestProgress → L → L → Type 0
-  HearsThese q b heard old new = HearsAll hears old heard new × All (IsTold q b) heard × AllPairs IsNoWorse heard
+  abbrev pub HearsThese : Asked → Board → List Heard → L → L → Type 0
+  HearsThese q b heard old new = HearsAll hears old heard new × All (IsSo q b) heard × AllPairs IsNoWorse heard
 
   -- it hears some
   abbrev pub HearsTold : Asked → Board → L → L → Type 0
-  HearsTold q b old new = (heard : List BestProgress) × HearsThese q b heard old new
+  HearsTold q b old new = (heard : List Heard) × HearsThese q b heard old new
 
-  -- and hears last of the verdict
+  -- and hears last of the verdict; the last list that it hears is the verdict's, with its floor, and it hears none where that has none
   abbrev pub HearsToEnd : Asked → Board → Verdict → L → L → Type 0
-  HearsToEnd q b verdict old new = (heard : List BestProgress) × (far : BestProgress) × HearsThese q b (heard ++ far ∷ []) old new
-      × IsToldOf verdict far
+  HearsToEnd q b verdict old new = (heard : List Heard) × (far : BestProgress) × HearsThese q b (heard ++ Told far ∷ []) old new
+      × IsToldOf verdict far × (last_list None heard ≡ list_told verdict)

@@ -16,3 +16,4 @@ mod shortenings;
 mod stages;
 mod standings;
 mod tails;
+mod tellings;

@@ -1,8 +1,9 @@
-//! How far the searches for a best answer are, and who hears it.
+//! How far the searches for a best answer are, each better list, and who hears it.
 
 ghost use Rattle.std.specs.Prelude.{◌≡◌};
 ghost use Rattle.fc_best.specs.inner.Watch.{IsAfter, IsFirstTold, IsJoined};
 
+use fc_answers::MoveList;
 use fc_search::{Progress, Unheard};
 
 /// How far the searches for a best answer are, taken together. Its counts of classes and of turns stop at the greatest number of
@@ -24,22 +25,34 @@ pub struct BestProgress {
     pub at_least: u32,
 }
 
-/// Who hears how far the searches for a best answer are.
+/// Who hears how far the searches for a best answer are, and each better list.
 pub trait BestListener {
-    ghost use Rattle.fc_best.specs.declared.listeners.BestProgress.{BestProgress};
+    ghost use Rattle.std.specs.Prelude.{◌≤◌, All, length};
+    ghost use Rattle.fc_moves.specs.MoveText.{HasText};
+    ghost use Rattle.fc_answers.specs.declared.answers.TheConstants.{MOST_MOVES};
+    ghost use Rattle.fc_best.specs.Watch.{Better, Told, Heard};
 
-    /// What hearing it does to the listener.
-    ghost hears: { Self → BestProgress → Self → Type 0 };
+    /// What hearing one or the other does to the listener.
+    ghost hears: { Self → Heard → Self → Type 0 };
 
-    /// Hears it once more.
+    /// Hears once more how far they are.
     fn hear(&mut self, far: BestProgress)
-        ensures heard { hears self.old far self.new };
+        ensures heard { hears self.old (Told far) self.new };
+
+    /// Hears the best list so far, and a number of moves that no list that wins is below: once a search has ended by which the list
+    /// or the number got better.
+    fn hear_list(&mut self, moves: &MoveList, at_least: u32)
+        requires texts { All HasText moves.now }
+        requires few { length moves.now ≤ MOST_MOVES }
+        ensures heard { hears self.old (Better moves.now at_least) self.new };
 }
 
 impl BestListener for Unheard {
     ghost hears = { λ old _ new. new ≡ old };
 
     fn hear(&mut self, _far: BestProgress) {}
+
+    fn hear_list(&mut self, _moves: &MoveList, _at_least: u32) {}
 }
 
 impl BestProgress {

@@ -35,8 +35,8 @@ impl Standing {
         ensures stands { IfOk result (Stands question.now position.now) }
         ensures left { IfOk result (λ standing. self.left ≤ standing.left + plan.budget) }
         ensures has_table { IfOk result (λ standing. standing.has_table ≡ self.has_table) }
-        ensures heard { IfOk result (λ standing. HearsOn L.hears question.now position.now self.far standing.far listener.old listener.new) }
-        ensures cut { IfErr result (λ refused. HearsSome L.hears question.now position.now self.far listener.old listener.new) }
+        ensures heard { IfOk result (λ standing. HearsOn L.hears question.now position.now self standing listener.old listener.new) }
+        ensures cut { IfErr result (λ refused. HearsSome L.hears question.now position.now self listener.old listener.new) }
     {
         if self.list.is_some() {
             return Ok(self);
@@ -45,7 +45,10 @@ impl Standing {
         let aim = Aim::any(self.has_table);
         let (attempt, far) = attempt_after(alloc, &asked, position, aim, self.far, listener)?;
         let attempt = attempt.by_bound(question.method().bound);
-        Ok(self.after(attempt, far))
+        let before = self.far;
+        let standing = self.after(attempt, far);
+        standing.tell(before, listener);
+        Ok(standing)
     }
 }
 

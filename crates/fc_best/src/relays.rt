@@ -25,10 +25,11 @@ pub(crate) struct Relay<'a, L: BestListener> {
 
 impl<L: BestListener> Listener for Relay<'_, L> {
     ghost use Rattle.std.specs.Prelude.{◌≡◌};
+    ghost use Rattle.fc_best.specs.Watch.{Told};
     ghost use Rattle.fc_best.specs.inner.Watch.{IsJoined};
 
     ghost hears = { λ old far new. (new.listener.ghost_name ≡ old.listener.ghost_name) × (new.before ≡ old.before)
-        × IsJoined old.before far new.last × L.hears old.listener.now new.last new.listener.now };
+        × IsJoined old.before far new.last × L.hears old.listener.now (Told new.last) new.listener.now };
 
     fn hear(&mut self, far: Progress) {
         let told = self.before.joined(far);

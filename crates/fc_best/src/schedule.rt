@@ -25,7 +25,8 @@ use std::alloc::{AllocError, Global};
 /// the last one, by weight 1, with all that is left. They end as soon as the best list is as long as the greatest floor that one of
 /// them, by the question's own bound, has shown. Only where it is wanted a table is made, which backs the answer. The listener hears
 /// how far all of them are after each stretch of turns of each and once when it ends, also where memory ends it, and once more when
-/// they have ended: then of the list and the floor that are answered. A list or a floor that was told is never lost.
+/// they have ended: then of the list and the floor that are answered. Once one has ended by which the list or the floor got better, it
+/// hears them too; the list that it hears last is the one that is answered. A list or a floor that was told is never lost.
 ///
 /// # Errors
 /// A growth was refused.
@@ -64,8 +65,8 @@ fn after_stages<G: Game + Drop, L: BestListener>(
     ensures stands { IfOk result (Stands question.now position.now) }
     ensures left { IfOk result (λ after. 1 ≤ after.left) }
     ensures has_table { IfOk result (λ after. after.has_table ≡ standing.has_table) }
-    ensures heard { IfOk result (λ after. HearsOn L.hears question.now position.now standing.far after.far listener.old listener.new) }
-    ensures cut { IfErr result (λ refused. HearsSome L.hears question.now position.now standing.far listener.old listener.new) }
+    ensures heard { IfOk result (λ after. HearsOn L.hears question.now position.now standing after listener.old listener.new) }
+    ensures cut { IfErr result (λ refused. HearsSome L.hears question.now position.now standing listener.old listener.new) }
 {
     let mut after = standing;
     for stage in stages() {
@@ -89,8 +90,8 @@ fn after_stage<G: Game + Drop, L: BestListener>(
     ensures stands { IfOk result (Stands question.now position.now) }
     ensures left { IfOk result (λ after. 1 ≤ after.left) }
     ensures has_table { IfOk result (λ after. after.has_table ≡ standing.has_table) }
-    ensures heard { IfOk result (λ after. HearsOn L.hears question.now position.now standing.far after.far listener.old listener.new) }
-    ensures cut { IfErr result (λ refused. HearsSome L.hears question.now position.now standing.far listener.old listener.new) }
+    ensures heard { IfOk result (λ after. HearsOn L.hears question.now position.now standing after listener.old listener.new) }
+    ensures cut { IfErr result (λ refused. HearsSome L.hears question.now position.now standing listener.old listener.new) }
 {
     let mut after = standing;
     for _ in 0..stage.times {

@@ -5,8 +5,8 @@ ghost use Rattle.fc_answers.specs.declared.answers.TheConstants.{MOST_MOVES};
 ghost use Rattle.fc_position.specs.Board.{Board};
 ghost use Rattle.fc_position.specs.Position.{Fits};
 ghost use Rattle.fc_methods.specs.Method.{Asked};
-ghost use Rattle.fc_best.specs.Watch.{IsNoWorse};
-ghost use Rattle.fc_best.specs.inner.Standing.{Stands};
+ghost use Rattle.fc_best.specs.Watch.{Told, IsNoWorse};
+ghost use Rattle.fc_best.specs.inner.Standing.{limit_of, Stands};
 ghost use Rattle.fc_best.specs.inner.Tail.{IsTailFor};
 ghost use Rattle.fc_best.specs.inner.Watch.{HearsFurther, HearsOn, HearsSome};
 
@@ -47,8 +47,8 @@ impl Standing {
         ensures stands { IfOk result (Stands question.now position.now) }
         ensures left { IfOk result (λ standing. 1 ≤ standing.left) }
         ensures has_table { IfOk result (λ standing. standing.has_table ≡ self.has_table) }
-        ensures heard { IfOk result (λ standing. HearsOn L.hears question.now position.now self.far standing.far listener.old listener.new) }
-        ensures cut { IfErr result (λ refused. HearsSome L.hears question.now position.now self.far listener.old listener.new) }
+        ensures heard { IfOk result (λ standing. HearsOn L.hears question.now position.now self standing listener.old listener.new) }
+        ensures cut { IfErr result (λ refused. HearsSome L.hears question.now position.now self listener.old listener.new) }
     {
         let mut standing = self;
         for i in 0..MOST_TAILS {
@@ -58,7 +58,9 @@ impl Standing {
                 return Ok(standing);
             };
             let has_given_up = tail.has_given_up;
+            let before = standing.far;
             standing = standing.with_tail(tail);
+            standing.tell(before, listener);
             if has_given_up {
                 return Ok(standing);
             }
@@ -106,7 +108,8 @@ impl Standing {
         requires few_found { IfSome tail.list (λ moves. length moves ≤ MOST_MOVES) }
         requires room { tail.stored + 1 ≤ self.left }
         ensures stands { (q : Asked) (b : Board) → Stands q b self → IsTailFor q b self tail → Stands q b result }
-        ensures rises { (q : Asked) (b : Board) → Stands q b self → IsTailFor q b self tail → IsNoWorse self.far result.far }
+        ensures rises { (q : Asked) (b : Board) → Stands q b self → IsTailFor q b self tail → IsNoWorse (Told self.far) (Told result.far) }
+        ensures same { limit_of result.list ≡ limit_of self.list → result.list ≡ self.list }
         ensures left { result.left + tail.stored ≡ self.left }
         ensures has_table { result.has_table ≡ self.has_table }
     {

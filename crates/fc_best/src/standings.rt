@@ -9,10 +9,10 @@ ghost use Rattle.fc_best_first.specs.Limits.{Ratio};
 ghost use Rattle.fc_methods.specs.Method.{Asked};
 ghost use Rattle.fc_bound.specs.declared.kinds.BoundKind.{BoundKind};
 ghost use Rattle.fc_best.specs.Best.{IsBestAnswer};
-ghost use Rattle.fc_best.specs.Watch.{IsNoWorse, IsToldOf};
+ghost use Rattle.fc_best.specs.Watch.{Told, IsNoWorse, IsToldOf, list_told};
 ghost use Rattle.fc_best.specs.inner.Attempt.{floor_of, IsAttempt, Raises, ShowsNone};
 ghost use Rattle.fc_best.specs.inner.Standing.{greater, limit_of, newest, with_share, IsShorter, Stands};
-ghost use Rattle.fc_best.specs.inner.Watch.{HearsOn, HearsSome, IsFurther};
+ghost use Rattle.fc_best.specs.inner.Watch.{HearsOn, HearsSome, IsFurther, list_in};
 
 use crate::attempts::{Aim, Attempt, Shown};
 use crate::listeners::{BestListener, BestProgress};
@@ -48,6 +48,7 @@ impl Standing {
     // Before the first search.
     pub(crate) fn new(budget: GreatBudget, has_table: bool) -> Self
         ensures stands { (q : Asked) (b : Board) → q.method.strategy.budget ≡ budget → Stands q b result }
+        ensures none { result.list ≡ None }
         ensures left { 1 ≤ result.left }
         ensures has_table { result.has_table ≡ has_table }
     {
@@ -79,8 +80,8 @@ impl Standing {
         ensures stands { IfOk result (Stands question.now position.now) }
         ensures left { IfOk result (λ standing. 1 ≤ standing.left) }
         ensures has_table { IfOk result (λ standing. standing.has_table ≡ self.has_table) }
-        ensures heard { IfOk result (λ standing. HearsOn L.hears question.now position.now self.far standing.far listener.old listener.new) }
-        ensures cut { IfErr result (λ refused. HearsSome L.hears question.now position.now self.far listener.old listener.new) }
+        ensures heard { IfOk result (λ standing. HearsOn L.hears question.now position.now self standing listener.old listener.new) }
+        ensures cut { IfErr result (λ refused. HearsSome L.hears question.now position.now self listener.old listener.new) }
     {
         let whole = question.method().strategy.budget;
         let share = self.share(whole, stage.most, stage.kept);
@@ -151,8 +152,8 @@ impl Standing {
         ensures stands { IfOk result (Stands question.now position.now) }
         ensures shown { IfOk result (λ standing. IsSome standing.shown) }
         ensures has_table { IfOk result (λ standing. standing.has_table ≡ self.has_table) }
-        ensures heard { IfOk result (λ standing. HearsOn L.hears question.now position.now self.far standing.far listener.old listener.new) }
-        ensures cut { IfErr result (λ refused. HearsSome L.hears question.now position.now self.far listener.old listener.new) }
+        ensures heard { IfOk result (λ standing. HearsOn L.hears question.now position.now self standing listener.old listener.new) }
+        ensures cut { IfErr result (λ refused. HearsSome L.hears question.now position.now self listener.old listener.new) }
     {
         if self.is_settled() {
             return Ok(self);
@@ -183,13 +184,16 @@ impl Standing {
         ensures left { IfOk result (λ standing. self.left ≤ standing.left + plan.budget) }
         ensures shown { IfOk result (λ standing. IsSome standing.shown) }
         ensures has_table { IfOk result (λ standing. standing.has_table ≡ self.has_table) }
-        ensures heard { IfOk result (λ standing. HearsOn L.hears question.now position.now self.far standing.far listener.old listener.new) }
-        ensures cut { IfErr result (λ refused. HearsSome L.hears question.now position.now self.far listener.old listener.new) }
+        ensures heard { IfOk result (λ standing. HearsOn L.hears question.now position.now self standing listener.old listener.new) }
+        ensures cut { IfErr result (λ refused. HearsSome L.hears question.now position.now self listener.old listener.new) }
     {
         let asked = asked_with(question, plan);
         let aim = self.aim();
         let (attempt, far) = attempt_after(alloc, &asked, position, aim, self.far, listener)?;
-        Ok(self.after(attempt, far))
+        let before = self.far;
+        let standing = self.after(attempt, far);
+        standing.tell(before, listener);
+        Ok(standing)
     }
 
     // How many classes may be stored where they are at most so many hundredths of the budget, and so many, or one class, are kept.
@@ -228,7 +232,8 @@ impl Standing {
         ensures stands { (q : Asked) (kind : BoundKind) (b : Board) (weight : Ratio) (share : ℕ) → Stands q b self → share ≤ self.left
             → IsAttempt (with_share q weight share) kind b (limit_of self.list) attempt
             → IsFurther self.far far → Stands q b result }
-        ensures rises { (q : Asked) (b : Board) → Stands q b self → IsFurther self.far far → IsNoWorse self.far result.far }
+        ensures rises { (q : Asked) (b : Board) → Stands q b self → IsFurther self.far far → IsNoWorse (Told self.far) (Told result.far) }
+        ensures same { limit_of result.list ≡ limit_of self.list → result.list ≡ self.list }
         ensures left { result.left + attempt.stored ≡ self.left }
         ensures shown { result.shown ≡ newest attempt.shown self.shown }
         ensures has_table { result.has_table ≡ self.has_table }
@@ -267,6 +272,7 @@ impl Standing {
         ensures best { (q : Asked) (b : Board) → Stands q b self → IsBestAnswer q b result }
         ensures backed { (q : Asked) (b : Board) → Stands q b self → IsTrue self.has_table → IsBacked q.game b result }
         ensures told { (q : Asked) (b : Board) → Stands q b self → IsToldOf result.verdict self.far }
+        ensures listed { (q : Asked) (b : Board) → Stands q b self → list_in self ≡ list_told result.verdict }
     {
         let Standing {
             list,

@@ -59,10 +59,11 @@ pub record IsStanding (q : Asked) (b : Board) (searches tails : List State) (sta
 abbrev pub Stands : Asked → Board → Standing → Type 0
 Stands q b standing = (searches : List State) × (tails : List State) × IsStanding q b searches tails standing
 
--- a list is one of two, and no longer than the old one; it is missing only where both are
+-- a list is one of two, and no longer than the old one, which it is where it has as many moves; it is missing only where both are
 pub record IsShorter (new old list : Option (List Move)) : Type 0 where
   pub one : (list ≡ new) ⊎ (list ≡ old)
   pub kept : IfSome old (λ moves. (shorter : List Move) × (list ≡ Some shorter) × (length shorter ≤ length moves))
+  pub same : limit_of list ≡ limit_of old → list ≡ old
   pub none : list ≡ None → (new ≡ None) × (old ≡ None)
 
 -- the question with another weight, and with a share of its budget

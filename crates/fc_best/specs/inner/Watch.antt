@@ -1,8 +1,10 @@
 -- How far several searches are, as one of them goes on.
-use Rattle.std.specs.Prelude.{◌≡◌, ℕ, ◌+◌, max, min, List, [], ◌∷◌, All, Option, None, Some}
+use Rattle.std.specs.Prelude.{◌≡◌, ◌⊎◌, ℕ, ◌+◌, max, min, List, [], ◌∷◌, All, Option, None, Some}
 use Rattle.fc_position.specs.Board.{Board}
-use Rattle.fc_best.specs.Watch.{IsNoWorse, IsTold}
+use Rattle.fc_moves.specs.declared.steps.Move.{Move}
+use Rattle.fc_best.specs.Watch.{Better, Told, Heard, IsNoWorse, IsSo, last_list}
 use Rattle.fc_best.specs.declared.listeners.BestProgress.{BestProgress}
+use Rattle.fc_best.specs.declared.standings.Standing.{Standing}
 use Rattle.fc_methods.specs.Method.{Asked}
 use Rattle.fc_search.specs.Watch.{HearsAll}
 use Rattle.fc_search.specs.declared.listeners.Progress.{Progress}
@@ -45,20 +47,48 @@ pub record IsFurther (before far : BestProgress) : Type 0 where
   pub shortest : far.shortest ≡ before.shortest
   pub at_least : far.at_least ≡ before.at_least
 
--- what is told from the one on up to the other gets no worse
-abbrev pub Rises : BestProgress → List BestProgress → BestProgress → Type 0
-Rises first [] last = IsNoWorse first last
-Rises first (far ∷ later) last = IsNoWorse first far × Rises far later last
+-- the same of what is heard: no list is
+abbrev pub IsFurtherTold : BestProgress → Heard → Type 0
+IsFurtherTold before (Told far) = IsFurther before far
+IsFurtherTold before (Better moves floor) = ⊥
 
-module _ {L : Type 0} (hears : L → BestProgress → L → Type 0) where
+-- what is heard from the one on up to the other gets no worse
+abbrev pub Rises : Heard → List Heard → Heard → Type 0
+Rises first [] last = IsNoWorse first last
+Rises first (next ∷ later) last = IsNoWorse first next × Rises next later last
+
+-- a list with a floor, if there is a list
+abbrev pub with_floor : Option (List Move) → ℕ → Option (List Move × ℕ)
+with_floor None floor = None
+with_floor (Some moves) floor = Some (moves, floor)
+
+-- the best list so far with the floor that is told
+abbrev pub list_in : Standing → Option (List Move × ℕ)
+list_in s = with_floor s.list s.far.at_least
+
+-- there is no list, or it and the floor are told as before
+abbrev pub HasNoBetter : BestProgress → Standing → Type 0
+HasNoBetter before s = (s.list ≡ None) ⊎ ((s.far.shortest ≡ before.shortest) × (s.far.at_least ≡ before.at_least))
+
+-- what is heard from the one on up to the other is so of searches of the question from the board, and gets no worse
+abbrev pub IsSoUp : Asked → Board → Heard → List Heard → Heard → Type 0
+IsSoUp q b first heard last = All (IsSo q b) heard × Rises first heard last
+
+module _ {L : Type 0} (hears : L → Heard → L → Type 0) where
   -- a listener hears how one search after what was told goes on
   abbrev pub HearsFurther : BestProgress → L → L → Type 0
-  HearsFurther before old new = (heard : List BestProgress) × HearsAll hears old heard new × All (IsFurther before) heard
+  HearsFurther before old new = (heard : List Heard) × HearsAll hears old heard new × All (IsFurtherTold before) heard
 
-  -- a listener hears what is so of searches of the question from the board, and it gets no worse from the one on up to the other
-  abbrev pub HearsOn : Asked → Board → BestProgress → BestProgress → L → L → Type 0
-  HearsOn q b first last old new = (heard : List BestProgress) × HearsAll hears old heard new × All (IsTold q b) heard × Rises first heard last
+  -- a listener hears the list with its floor, unless it has no better one than what was told before
+  abbrev pub HearsList : BestProgress → Standing → L → L → Type 0
+  HearsList before s old new = (HasNoBetter before s × (new ≡ old))
+      ⊎ ((moves : List Move) × (s.list ≡ Some moves) × hears old (Better moves s.far.at_least) new)
+
+  -- a listener hears what is so from where the searches stood so up to where they do, and the list last where it is another
+  abbrev pub HearsOn : Asked → Board → Standing → Standing → L → L → Type 0
+  HearsOn q b first last old new = (heard : List Heard) × HearsAll hears old heard new × IsSoUp q b (Told first.far) heard (Told last.far)
+      × (last_list (list_in first) heard ≡ list_in last)
 
   -- the same up to where memory ended the searches
-  abbrev pub HearsSome : Asked → Board → BestProgress → L → L → Type 0
-  HearsSome q b first old new = (last : BestProgress) × HearsOn q b first last old new
+  abbrev pub HearsSome : Asked → Board → Standing → L → L → Type 0
+  HearsSome q b first old new = (heard : List Heard) × (last : Heard) × HearsAll hears old heard new × IsSoUp q b (Told first.far) heard last
