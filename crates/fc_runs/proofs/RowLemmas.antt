@@ -10,7 +10,7 @@ use Rattle.fc_answers.specs.declared.answers.Verdict.{Verdict}
 use Rattle.fc_answers.specs.declared.answers.Verdict.TheVariants as verdict
 use Rattle.fc_answers.specs.Verdict.{IsRight, outcome_of}
 use Rattle.fc_best.specs.Best.{IsBest, IsFloor}
-use Rattle.fc_best.specs.Watch.{IsTold}
+use Rattle.fc_best.specs.Watch.{Better, Heard, IsSo, IsTold, Told}
 use Rattle.fc_best.specs.declared.listeners.BestProgress.{BestProgress}
 use Rattle.fc_methods.specs.Method.{Asked}
 use Rattle.fc_search.specs.declared.listeners.Progress.{Progress}
@@ -21,7 +21,7 @@ use Rattle.fc_runs.specs.declared.rows.Last.{Last}
 use Rattle.fc_runs.specs.declared.rows.Sought.{Sought}
 use Rattle.fc_runs.specs.declared.rows.Sought.TheVariants.{ByMethod, Best}
 use Rattle.fc_runs.specs.Rows.{IsAnswerOf, IsSought, IsToldIn, floor_of, told_floor}
-use Rattle.fc_runs.specs.inner.Rows.{best_far_of, far_of}
+use Rattle.fc_runs.specs.inner.Rows.{KeepsFar, best_far_of, far_of}
 
 -- who keeps what is told last of a board has a floor of it, if it has any
 pub last_floor : (g : GameRules) (b : Board) (old new : Last) (heard : List Progress) → HearsAll (λ _ far next. next.far ≡ Some (far_of far)) old heard new
@@ -40,9 +40,16 @@ module _ {E : Type 0} (f : E → Far) where
   heard_last old new [] same some = absurd (some refl)
   heard_last old new (far ∷ heard) (mid, keeps, rest) some = kept mid new heard rest (subst IsSome (sym keeps) refl)
 
-  pub heard_end : (old new : Last) (heard : List E) (far : E) → HearsAll (λ _ far next. next.far ≡ Some (f far)) old (heard ++ far ∷ []) new → IsSome new.far
-  heard_end old new [] far hears = heard_last old new (far ∷ []) hears (λ none. absurd (cc none))
-  heard_end old new (first ∷ heard) far hears = heard_last old new (first ∷ (heard ++ far ∷ [])) hears (λ none. absurd (cc none))
+-- so does who hears of the searches for a best answer
+best_kept : (old new : Last) (heard : List Heard) → HearsAll KeepsFar old heard new → IsSome old.far → IsSome new.far
+best_kept old new [] same some = subst (λ (l : Last). IsSome l.far) (sym same) some
+best_kept old new (Told far ∷ heard) (mid, keeps, rest) some = best_kept mid new heard rest (subst IsSome (sym keeps) refl)
+best_kept old new (Better moves floor ∷ heard) (mid, keeps, rest) some =
+    best_kept mid new heard rest (subst (λ (l : Last). IsSome l.far) (sym keeps) some)
+
+pub heard_end : (old new : Last) (heard : List Heard) (far : BestProgress) → HearsAll KeepsFar old (heard ++ Told far ∷ []) new → IsSome new.far
+heard_end old new [] far (mid, keeps, rest) = best_kept mid new [] rest (subst IsSome (sym keeps) refl)
+heard_end old new (first ∷ heard) far (mid, keeps, rest) = heard_end mid new heard far rest
 
 -- what holds of an answer holds where there is one
 pub where_told : {A E : Type 0} (r : Result A E) (P : Type 0) → IfOk r (λ _. P) → IsSome (result_ok r) → P
@@ -50,14 +57,16 @@ where_told (Ok x) P holds some = holds
 where_told (Err e) P holds some = let no : false ≡ true = some in absurd (search rules)
 
 -- and so has who keeps what is told last of the searches for a best answer
-pub best_last_floor : (q : Asked) (b : Board) (old new : Last) (heard : List BestProgress)
-    → HearsAll (λ _ far next. next.far ≡ Some (best_far_of far)) old heard new → All (IsTold q b) heard
+pub best_last_floor : (q : Asked) (b : Board) (old new : Last) (heard : List Heard) → HearsAll KeepsFar old heard new → All (IsSo q b) heard
     → IfSome (told_floor old.far) (IsFloor q.game b) → IfSome (told_floor new.far) (IsFloor q.game b)
-best_last_floor q b old new [] same told floor = subst (λ (l : Last). IfSome (told_floor l.far) (IsFloor q.game b)) (sym same) floor
-best_last_floor q b old new (far ∷ heard) (mid, keeps, rest) told floor =
-    let first : IsTold q b far = told 0 far (omega arith) in
-    best_last_floor q b mid new heard rest (λ k d within. told (suc k) d (omega (arith, within)))
+best_last_floor q b old new [] same so floor = subst (λ (l : Last). IfSome (told_floor l.far) (IsFloor q.game b)) (sym same) floor
+best_last_floor q b old new (Told far ∷ heard) (mid, keeps, rest) so floor =
+    let first : IsTold q b far = so 0 (Told far) (omega arith) in
+    best_last_floor q b mid new heard rest (λ k d within. so (suc k) d (omega (arith, within)))
     (subst (λ o. IfSome (told_floor o) (IsFloor q.game b)) (sym keeps) first.least)
+best_last_floor q b old new (Better moves least ∷ heard) (mid, keeps, rest) so floor =
+    best_last_floor q b mid new heard rest (λ k d within. so (suc k) d (omega (arith, within)))
+    (subst (λ (l : Last). IfSome (told_floor l.far) (IsFloor q.game b)) (sym keeps) floor)
 
 -- the floor that an answer tells of a board, if it tells any
 answered_floor : Outcome → Option ℕ

@@ -7,8 +7,7 @@ use Rattle.fc_answers.specs.declared.answers.Verdict.{Verdict}
 use Rattle.fc_answers.specs.Verdict.{outcome_of}
 use Rattle.fc_answer_text.specs.AnswerText.{answer_text}
 use Rattle.fc_best.specs.Best.{IsBestVerdict}
-use Rattle.fc_best.specs.Watch.{HearsToEnd}
-use Rattle.fc_best.specs.declared.listeners.BestProgress.{BestProgress}
+use Rattle.fc_best.specs.Watch.{Heard, HearsToEnd}
 use Rattle.fc_io.specs.Moves.{TakesBytes}
 use Rattle.fc_methods.specs.Method.{Asked}
 use Rattle.fc_search.specs.Problem.{problem_of}
@@ -27,7 +26,7 @@ IsBestAnswered q b cert sink status = IsAnsweredBy (IsBestVerdict q b) (problem_
 abbrev pub IsBestUnanswered : Asked → Board → Option Device → Device → ProgramFault → Type 0
 IsBestUnanswered q b cert sink fault = IsUnansweredBy (IsBestVerdict q b) (problem_of q b) cert sink fault
 
-module _ {L : Type 0} (hears : L → BestProgress → L → Type 0) where
+module _ {L : Type 0} (hears : L → Heard → L → Type 0) where
   -- a board was answered, and a listener heard of the searches, last of the list that was written
   abbrev pub HearsBestAnswered : Asked → Board → Device → L → L → Type 0
   HearsBestAnswered q b sink old new = (verdict : Verdict) × HearsToEnd hears q b verdict old new

@@ -1,6 +1,10 @@
 //! The best answer of a board, over any sinks.
 
-ghost use Rattle.std.specs.Prelude.{Some, None, IfOk, IfErr, OnOk};
+ghost use Rattle.std.specs.Prelude.{◌≡◌, ◌<◌, ◌≤◌, All, Some, None, IfOk, IfErr, OnOk, length};
+ghost use Rattle.fc_moves.specs.MoveText.{HasText};
+ghost use Rattle.fc_answers.specs.declared.answers.TheConstants.{MOST_MOVES};
+ghost use Rattle.fc_answers.specs.declared.answers.Verdict.TheVariants.{Shortest, Won};
+ghost use Rattle.fc_answer_text.specs.AnswerText.{answer_text};
 ghost use Rattle.fc_moves.specs.GameRules.{IsPositionOf};
 ghost use Rattle.fc_position.specs.Position.{Fits};
 ghost use Rattle.fc_board_runs.specs.Devices.{IsHandedBack, change, lent};
@@ -9,13 +13,14 @@ ghost use Rattle.fc_runs.specs.Besting.{HearsBestAnswered, IsBestAnswered, IsBes
 
 use crate::solving::write_certificate;
 use fc_answer_text::{verdict_status, verdict_text};
+use fc_answers::{MoveList, Verdict};
 use fc_best::{BestListener, best};
 use fc_board_runs::{Output, ProgramFault};
 use fc_io::{Sink, write_all};
 use fc_methods::Question;
 use fc_moves::Game;
 use fc_position::Position;
-use std::alloc::Global;
+use std::alloc::{AllocError, Global};
 
 /// Searches a position of the question's game for the best answer within its budget, by falling weights whatever its own weight
 /// is, and writes it: the moves of a list that wins, a shortest one where that is shown and else with a number of moves that each
@@ -98,4 +103,23 @@ fn certify_best<G: Game + Drop, K: Sink, C: Sink, L: BestListener>(
         Ok(()) => Ok(verdict_status(&answer.verdict)),
         Err(_) => Err(ProgramFault::Write(Output::Answer)),
     }
+}
+
+/// The text of an answer by a list that wins, as a listener hears it, and by a number of moves that none that wins is below.
+///
+/// # Errors
+/// A growth was refused.
+pub fn list_text(alloc: Global, moves: &MoveList, floor: u32) -> Result<Vec<u8>, AllocError>
+    requires texts { All HasText moves.now }
+    requires few { length moves.now ≤ MOST_MOVES }
+    ensures shortest { length moves.now ≤ floor → IfOk result (λ t. t.items ≡ answer_text (Shortest moves.now)) }
+    ensures won { floor < length moves.now → IfOk result (λ t. t.items ≡ answer_text (Won moves.now floor)) }
+{
+    let list = MoveList::new(Vec::from_slice(alloc, moves.as_slice())?);
+    let verdict = if list.len() <= floor as usize {
+        Verdict::Shortest(list)
+    } else {
+        Verdict::Won { moves: list, floor }
+    };
+    verdict_text(alloc, &verdict)
 }

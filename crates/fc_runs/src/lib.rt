@@ -4,7 +4,7 @@
 
 pub use batches::{MOST_DEALS, run_batch, run_batch_by};
 pub use best_batches::run_best_batch;
-pub use besting::run_best;
+pub use besting::{list_text, run_best};
 pub use checking::{run_check, run_check_of};
 pub use fc_board_runs::{
     Asked, Input, LONGEST_BOARD, LONGEST_MOVES, ListQuestion, Look, Output, ProgramFault,

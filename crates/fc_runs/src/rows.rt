@@ -14,7 +14,7 @@ ghost use Rattle.fc_runs.specs.Rows.{IsAnswerOf, IsNoRow, IsRowOf, answer_name, 
 use crate::solving::write_certificate;
 use arrayvec::ArrayString;
 use fc_answer_text::{outcome_of, told_status};
-use fc_answers::Outcome;
+use fc_answers::{MoveList, Outcome};
 use fc_best::{BestListener, BestProgress, best};
 use fc_board_runs::{Output, ProgramFault};
 use fc_io::Sink;
@@ -171,10 +171,9 @@ impl Listener for Last {
 }
 
 impl BestListener for Last {
-    ghost use Rattle.std.specs.Prelude.{◌≡◌, Some};
-    ghost use Rattle.fc_runs.specs.inner.Rows.{best_far_of};
+    ghost use Rattle.fc_runs.specs.inner.Rows.{KeepsFar};
 
-    ghost hears = { λ _ far new. new.far ≡ Some (best_far_of far) };
+    ghost hears = { KeepsFar };
 
     fn hear(&mut self, far: BestProgress) {
         self.far = Some(Far {
@@ -184,6 +183,8 @@ impl BestListener for Last {
             at_least: far.at_least,
         });
     }
+
+    fn hear_list(&mut self, _moves: &MoveList, _at_least: u32) {}
 }
 
 /// The row of a position of the question's game, of which this is sought. Where `cert` is given, the certificate of the answer is

@@ -3,7 +3,6 @@ use Rattle.std.specs.Prelude.{IsSome}
 use Rattle.fc_runs.specs.declared.rows.Last.{Last}
 use Rattle.fc_runs.specs.declared.rows.Sought.TheVariants.{Best}
 use Rattle.fc_runs.specs.Rows.{IsToldIn}
-use Rattle.fc_runs.specs.inner.Rows.{best_far_of}
 use Rattle.fc_runs.proofs.RowLemmas.{best_last_floor, heard_end, row_floor, where_told}
 use Rattle.fc_runs.proofs.rows.best_row.Goals as goal
 
@@ -19,8 +18,8 @@ returns g c =
       row = record {
         told = answered;
         searched = λ some.
-            let (verdict, (front, far, these, told_of)) = where_told c.best_told_of-told.result _ c.best_told_of-told.ensures.ended (subst IsSome c.ok.ensures.value some) in
-            heard_end best_far_of nothing last front far these.0;
+            let (verdict, (front, far, these, told_of, listed)) = where_told c.best_told_of-told.result _ c.best_told_of-told.ensures.ended (subst IsSome c.ok.ensures.value some) in
+            heard_end nothing last front far these.0;
         floor = row_floor Best q b None c.ok.result last.far answered (best_last_floor q b nothing last heard hears told tt);
       };
     }

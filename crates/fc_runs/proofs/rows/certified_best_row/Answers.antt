@@ -4,7 +4,6 @@ use Rattle.fc_board_runs.specs.Devices.{Device, IsUntouched}
 use Rattle.fc_runs.specs.declared.rows.Last.{Last}
 use Rattle.fc_runs.specs.declared.rows.Sought.TheVariants.{Best}
 use Rattle.fc_runs.specs.Rows.{IsToldIn}
-use Rattle.fc_runs.specs.inner.Rows.{best_far_of}
 use Rattle.fc_runs.proofs.CertificateLemmas.{best_certifiable}
 use Rattle.fc_runs.proofs.RowLemmas.{best_last_floor, heard_end, row_floor}
 use Rattle.fc_runs.proofs.rows.certified_best_row.Goals as goal
@@ -54,6 +53,6 @@ returns-clause-row g c =
     } in
     record {
       told = answer;
-      searched = λ _. let (front, far, these, told_of) = answered.ended in heard_end best_far_of nothing last front far these.0;
+      searched = λ _. let (front, far, these, told_of, listed) = answered.ended in heard_end nothing last front far these.0;
       floor = row_floor Best q b (Some cert) (Some c.outcome_of.result) last.far answer (best_last_floor q b nothing last heard hears told tt);
     }
