@@ -167,6 +167,8 @@ pub struct BestWords<'a> {
     pub form: MovesForm,
     /// When red suits are in red, in words and in drawings.
     pub colours: Colours,
+    /// Whether each better answer is written as it comes, and not only the last one.
+    pub is_each: bool,
     /// Whether a line of numbers ends the searches.
     pub has_stats: bool,
     /// Whether nothing is said on a terminal but the answer.

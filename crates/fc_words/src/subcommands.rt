@@ -102,6 +102,7 @@ Examples:
   fc_solve 617       the same",
     words: &[
         BEST_BUDGET,
+        EACH,
         CERT_OPTION,
         WORDS,
         BOARDS,
@@ -139,10 +140,17 @@ pub(crate) fn best<'a>(words: &ArgMatches<'a>) -> Result<BestWords<'a>, WordsFau
         cert,
         form: form(words),
         colours,
+        is_each: words.get_flag(EACH.name),
         has_stats: words.get_flag(STATS.name),
         is_quiet: words.get_flag(QUIET.name),
     })
 }
+
+const EACH: Word = Word {
+    name: "each",
+    kind: Kind::Flag,
+    help: "Writes each better answer as it comes; the last one is the answer",
+};
 
 // `solve`: its words and its help.
 static SOLVING: Subcommand = Subcommand {
