@@ -4,6 +4,7 @@ ghost use Rattle.fc_moves.specs.GameRules.{IsPositionOf};
 use crate::apart::keep_apart;
 use crate::boards::{find_board, read_start};
 use crate::certs::CertFile;
+use crate::each::answer_each;
 use crate::endings::{Ending, tell_of_great_budget, tell_of_long_certificate};
 use crate::forms::{LONGEST_ANSWER, Manner, tell_held};
 use crate::games::InGame;
@@ -59,6 +60,9 @@ fn answer_from<G: Game + Drop>(
 ) -> Result<u8, Ending>
     requires position { IsPositionOf question.now.game start.now }
 {
+    if words.is_each {
+        return answer_each(rt, words, question, start, cert, teller);
+    }
     let line = teller.line();
     if let MovesForm::Letters = words.form {
         let mut out = Out::after(rt, line);

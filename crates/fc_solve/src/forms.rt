@@ -50,8 +50,8 @@ pub fn tell_held<G: Game>(
     Ok(status)
 }
 
-// Writes an answer in this manner.
-fn tell_in_form<G: Game>(
+/// Writes an answer in this manner.
+pub fn tell_in_form<G: Game>(
     rt: &HostRuntime,
     game: &G,
     start: &Position,

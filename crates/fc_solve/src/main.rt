@@ -9,6 +9,7 @@ mod boards;
 mod certs;
 mod checking;
 mod dealing;
+mod each;
 mod endings;
 mod entries;
 mod forms;

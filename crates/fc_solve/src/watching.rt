@@ -1,6 +1,7 @@
 //! How far a search is, told on standard error: on a terminal by one line that is written over, and at the end, where it is
 //! asked for, by a line of numbers. Where a line can't be written, the search goes on.
 
+use fc_answers::MoveList;
 use fc_best::{BestListener, BestProgress};
 use fc_methods::{MOST_BUDGET, MOST_GREAT_BUDGET};
 use fc_plain::read_count;
@@ -238,6 +239,8 @@ impl BestListener for BestTeller<'_> {
         }
         self.last = Some(far);
     }
+
+    fn hear_list(&mut self, _moves: &MoveList, _at_least: u32) {}
 }
 
 // The next budget that is worth its time, and what the searches within it take of both where all of it is used.
