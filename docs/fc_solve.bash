@@ -18,7 +18,7 @@ _fc_solve() {
       case ${COMP_WORDS[1]} in
         "$word") words="deal show best solve check replay batch help --help --version" ;;
         show) words="--plain --color --rows --deal $game --help" ;;
-        best) words="--cert --deal --rows $form --stats --quiet --budget --rule $game --help" ;;
+        best) words="--each --cert --deal --rows $form --stats --quiet --budget --rule $game --help" ;;
         solve) words="--cert --deal --rows $form --stats --quiet $search $game --help" ;;
         batch) words="--table --json --totals --boards --rows --certs --best $search $game --help" ;;
         replay) words="--numbered --expanded --board-at --sequences --must-win --rows $game --help" ;;
