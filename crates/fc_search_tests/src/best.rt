@@ -6,7 +6,7 @@ ghost use Rattle.fc_position.specs.Position.{Fits};
 use crate::given::{bakers_game, board, dealt, expanded, free_cell, method, must, sure};
 use crate::shown::{check_table, check_wins};
 use fc_answer_text::outcome_of;
-use fc_answers::Outcome;
+use fc_answers::{MoveList, Outcome};
 use fc_best::{BestListener, BestProgress, Unheard, best};
 use fc_moves::{Game, Kings};
 use fc_position::Position;
@@ -107,10 +107,11 @@ fn known_boards(rt: HostRuntime) {
     check_known(&rt, alloc, &Kings::new(free_cell(&rt, 0)), &LOST);
 }
 
-// Keeps what it heard last, and whether a floor or the length of a list got worse.
+// Keeps what it heard last, of which list and floor, and whether a floor or the length of a list got worse.
 #[derive(Drop)]
 struct Ear {
     last: Option<BestProgress>,
+    listed: Option<(u32, u32)>,
     has_got_worse: bool,
 }
 
@@ -125,20 +126,29 @@ impl BestListener for Ear {
         }
         self.last = Some(far);
     }
+
+    fn hear_list(&mut self, moves: &MoveList, at_least: u32) {
+        self.listed = Some((moves.len() as u32, at_least));
+    }
 }
 
-// What is heard last of a search of FreeCell by the clearing bound within so many classes; nothing heard before was better.
+// What is heard last of a search of FreeCell by the clearing bound within so many classes; nothing heard before was better, and
+// the list that is heard last is as long.
 fn heard_last(rt: &impl Abort, alloc: Global, start: &Position, classes: u32) -> BestProgress {
     let game = free_cell(rt, 4);
     must(rt, start.fits(game.cells()));
     let question = Question::new(&game, method(rt, 2, 10, BoundKind::Clearing, classes));
     let mut ear = Ear {
         last: None,
+        listed: None,
         has_got_worse: false,
     };
     let _ = sure(rt, best(alloc, &question, start, false, &mut ear));
     must(rt, !ear.has_got_worse);
-    ear.last.expect(rt, "nothing heard")
+    let last = ear.last.expect(rt, "nothing heard");
+    let answered = last.shortest.map(|moves| (moves, last.at_least));
+    must(rt, ear.listed == answered);
+    last
 }
 
 #[test]
