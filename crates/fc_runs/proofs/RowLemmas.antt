@@ -21,7 +21,7 @@ use Rattle.fc_runs.specs.declared.rows.Last.{Last}
 use Rattle.fc_runs.specs.declared.rows.Sought.{Sought}
 use Rattle.fc_runs.specs.declared.rows.Sought.TheVariants.{ByMethod, Best}
 use Rattle.fc_runs.specs.Rows.{IsAnswerOf, IsSought, IsToldIn, floor_of, told_floor}
-use Rattle.fc_runs.specs.inner.Rows.{KeepsFar, best_far_of, far_of}
+use Rattle.fc_runs.specs.inner.Rows.{KeepsFar, far_of}
 
 -- who keeps what is told last of a board has a floor of it, if it has any
 pub last_floor : (g : GameRules) (b : Board) (old new : Last) (heard : List Progress) → HearsAll (λ _ far next. next.far ≡ Some (far_of far)) old heard new
