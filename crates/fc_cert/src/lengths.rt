@@ -14,7 +14,7 @@ use fc_answers::{Answer, Table, Verdict};
 use fc_moves::Move;
 
 /// How many bytes the certificate has that `write_answer` writes of an answer. `None` of giving up, and where there is no table:
-/// such an answer has none. Each record is measured, which takes about as long as writing them.
+/// such an answer has none. Each record is measured, so each key is made as it is for writing.
 pub fn certificate_length(answer: &Answer) -> Option<usize>
     requires written { CanBeWritten answer.now.verdict }
     ensures length { IfSome result (λ n. (g : GameRules) (c : Content) → IsWrittenAs g answer.now c → length (bytes_of c) ≡ n) }
