@@ -7,7 +7,7 @@ ghost use Rattle.fc_position.specs.Position.{Fits};
 
 use crate::given::{board, budget, free_cell, home_rule, method, must, sure};
 use fc_answer_text::verdict_text;
-use fc_cert::write_answer;
+use fc_cert::{certificate_length, write_answer};
 use fc_io::{FromSlice, ToArray};
 use fc_moves::FreeCell;
 use fc_position::Position;
@@ -75,7 +75,7 @@ fn check_verdict(rt: &impl Abort, alloc: Global, verdict: &Verdict, left: &Left)
     must(rt, text.as_slice() == left.out.held());
 }
 
-// An answer, with its moves and its table, is what was written.
+// An answer, with its moves and its table, is what was written, and was measured before.
 fn check_answer(rt: &impl Abort, alloc: Global, answer: &Answer, left: &Left)
     requires written { CanBeWritten answer.now.verdict }
 {
@@ -84,6 +84,9 @@ fn check_answer(rt: &impl Abort, alloc: Global, answer: &Answer, left: &Left)
     let written = write_answer(&free_cell(rt, 4), answer, &mut cert);
     must(rt, written.is_ok() == answer.table.is_some());
     must(rt, cert.held() == left.cert.held());
+    let length = certificate_length(answer);
+    must(rt, length.is_some() == answer.table.is_some());
+    must(rt, length.unwrap_or(0) == cert.held().len());
 }
 
 // The searches of a question for a board answer what was written.
