@@ -29,16 +29,21 @@ const LITTLE: Budgets = Budgets {
 
 const MIDDLE: Budgets = Budgets {
     from: 350_000,
-    below: THOROUGH,
+    below: LEAST_LARGE,
 };
 
 const SMALL: Budgets = Budgets {
     from: 0,
-    below: THOROUGH,
+    below: LEAST_LARGE,
+};
+
+const LARGE: Budgets = Budgets {
+    from: LEAST_LARGE,
+    below: LEAST_GREAT,
 };
 
 const GREAT: Budgets = Budgets {
-    from: THOROUGH,
+    from: LEAST_GREAT,
     below: u32::MAX,
 };
 
@@ -47,8 +52,11 @@ const ANY: Budgets = Budgets {
     below: u32::MAX,
 };
 
-// The least budget of which a hundredth is enough for a search.
-const THOROUGH: u32 = 2_000_000;
+// The least budget that is for the last search, but for a few hundredths.
+const LEAST_LARGE: u32 = 3_000_000;
+
+// The least budget of which more can be spared, since a hundredth is enough for a search.
+const LEAST_GREAT: u32 = 8_000_000;
 
 // A stage before the last search.
 #[derive(Clone, Copy)]
@@ -77,9 +85,10 @@ const FAR_ABOVE: u8 = 13;
 // and by a lower weight, which reaches all that can be reached in fewer turns. Then by weight 2; where no list is found by then, a look
 // by 7 and a search by 4 with all that is left, since no one weight finds a list of every deal: each but the last keeps half of the
 // budget for what follows, so a search that gives up has had half of it. Then shorter lists, as long as enough is left for the last
-// search. A great budget is for that one: a short search by weight 1 foretells its floor, lists that are far above it are searched for
-// again and again, each below the one before, as long as a small share is enough for that, and all else is the last search's.
-static STAGES: [Row; 16] = [
+// search. A large budget is for that one, but for a few hundredths, by which weight 1.7 gives the shortest lists. Of a great one more can
+// be spared: for a look, and for a short search by weight 1, which foretells the last one's floor; lists that are far above it are
+// searched for again and again, each below the one before, as long as a small share is enough for that.
+static STAGES: [Row; 17] = [
     Row(Look(0, 255), 30, 12, 51, 1, LITTLE),
     Row(Look(0, 255), 30, 4, 51, 1, MIDDLE),
     Row(Look(0, 255), 30, 1, 51, 1, GREAT),
@@ -92,6 +101,7 @@ static STAGES: [Row; 16] = [
     Row(Rescue, 40, 100, 0, 1, ANY),
     Row(Shorten(0), 15, 100, 30, 1, SMALL),
     Row(Shorten(0), 13, 100, 40, 1, SMALL),
+    Row(Shorten(0), 17, 100, 96, 20, LARGE),
     Row(Shorten(0), 10, 1, 40, 1, GREAT),
     Row(Shorten(FAR_ABOVE), 20, 1, 40, 20, GREAT),
     Row(Shorten(FAR_ABOVE), 17, 5, 40, 10, GREAT),
@@ -127,5 +137,9 @@ impl Stage {
 
 // How far above the floor the best list is at least that tails of it are searched for, within a budget.
 pub(crate) fn tails_above(budget: u32) -> u8 {
-    if budget < THOROUGH { 0 } else { FAR_ABOVE }
+    match budget {
+        ..LEAST_LARGE => 0,
+        LEAST_LARGE..LEAST_GREAT => u8::MAX,
+        _ => FAR_ABOVE,
+    }
 }
