@@ -1,20 +1,8 @@
 -- What the fields of a layout say of its board.
-use Rattle.std.proofs.Common.{◌≡◌, ℕ, ◌<◌, List, [], ◌∷◌, length, map, set, get_or, refl, sym, ◌∙◌, ap, arith}
+use Rattle.std.proofs.Common.{◌≡◌, ℕ, ◌<◌, List, [], ◌∷◌, length, map, map-id, set, get_or, refl, sym, ◌∙◌, ap, arith}
 use Rattle.std.specs.Prelude.{swap}
 use Rattle.std.proofs.lemmas.List.{map-set, get_or-map, length-map}
 use Rattle.std.proofs.lemmas.List.Edits.{swap_is}
-use Rattle.arrayvec.specs.ArrayVec.{ArrayVec}
-use Rattle.fc_position.specs.Board.{front_of}
-
--- a column without its last card, where it is seen as a list
-pub set_front : (columns : List (ArrayVec ℕ)) (i : ℕ) (d new : ArrayVec ℕ) → i < length columns
-    → new.items ≡ front_of (get_or columns i d).items
-    → map (λ (v : ArrayVec ℕ). v.items) (set columns i new)
-    ≡ set (map (λ (v : ArrayVec ℕ). v.items) columns) i (front_of (get_or (map (λ (v : ArrayVec ℕ). v.items) columns) i []))
-set_front columns i d new below e =
-    map-set (λ (v : ArrayVec ℕ). v.items) columns i new
-    ∙ ap (set (map (λ (v : ArrayVec ℕ). v.items) columns) i)
-    (e ∙ ap front_of (sym (get_or-map (λ (v : ArrayVec ℕ). v.items) columns i d [] below)))
 
 -- exchanging two columns, where they are seen as lists
 pub map-swap : {X Y : Type 0} (f : X → Y) (xs : List X) (i j : ℕ) (d : X) → i < length xs → j < length xs
@@ -43,3 +31,8 @@ eight f (p ∷ q ∷ r ∷ s ∷ t ∷ []) a b c d e g h k l = absurd (omega ari
 eight f (p ∷ q ∷ r ∷ s ∷ t ∷ u ∷ []) a b c d e g h k l = absurd (omega arith)
 eight f (p ∷ q ∷ r ∷ s ∷ t ∷ u ∷ v ∷ []) a b c d e g h k l = absurd (omega arith)
 eight f (p ∷ q ∷ r ∷ s ∷ t ∷ u ∷ v ∷ w ∷ x ∷ xs) a b c d e g h k l = absurd (omega arith)
+
+pub eight_same : {X : Type 0} (xs : List X) (a b c d e g h k : X) → length xs ≡ 8
+    → get_or xs 0 a ∷ get_or xs 1 b ∷ get_or xs 2 c ∷ get_or xs 3 d ∷ get_or xs 4 e ∷ get_or xs 5 g ∷ get_or xs 6 h
+    ∷ get_or xs 7 k ∷ [] ≡ xs
+eight_same xs a b c d e g h k l = eight (λ v. v) xs a b c d e g h k l ∙ map-id xs

@@ -1,11 +1,9 @@
 -- Columns and cells that are compared one by one.
-use Rattle.std.proofs.Common.{rules, ◌≡◌, ℕ, Bool, List, Option, Some, None, map, nat_eq, refl}
+use Rattle.std.proofs.Common.{rules, ◌≡◌, ℕ, Bool, List, Option, Some, None, nat_eq, refl}
 use Rattle.std.specs.Bool.{Decides}
 use Rattle.std.specs.Option.{option_eq}
 use Rattle.std.specs.Cmp.{unsigned_Decides}
 use Rattle.std.specs.Cmp.Lexicographic.{pointwise, pointwise_decides}
-use Rattle.std.specs.Cmp.Derive.Mapped.{pointwise-map}
-use Rattle.arrayvec.specs.ArrayVec.{ArrayVec}
 
 cards_decide : (x y : Option ℕ) → Decides (option_eq nat_eq x y) (x ≡ y)
 cards_decide None None = (λ _. refl, λ _. refl)
@@ -18,8 +16,7 @@ pub cells_same : (r : Bool) (xs ys : List (Option ℕ)) → r ≡ pointwise (opt
 cells_same r xs ys e = (λ t. (pointwise_decides cards_decide xs ys).0 (cc (e, t)), λ same. cc (e, (pointwise_decides cards_decide xs ys).1 same))
 
 -- columns that are equal one by one have the same cards
-pub columns_same : (r : Bool) (xs ys : List (ArrayVec ℕ)) → r ≡ pointwise (λ v w. pointwise nat_eq v.items w.items) xs ys → Decides r (map (λ v. v.items) xs ≡ map (λ v. v.items) ys)
+pub columns_same : (r : Bool) (xs ys : List (List ℕ)) → r ≡ pointwise (pointwise nat_eq) xs ys → Decides r (xs ≡ ys)
 columns_same r xs ys e =
-    let mapped = pointwise-map {X = ArrayVec ℕ} (λ v. v.items) (pointwise nat_eq) xs ys in
-    let decided = pointwise_decides (pointwise_decides unsigned_Decides) (map (λ v. v.items) xs) (map (λ v. v.items) ys) in
-    (λ t. decided.0 (cc (mapped, e, t)), λ same. cc (mapped, e, decided.1 same))
+    let decided = pointwise_decides (pointwise_decides unsigned_Decides) xs ys in
+    (λ t. decided.0 (cc (e, t)), λ same. cc (e, decided.1 same))

@@ -1,10 +1,11 @@
-ghost use Rattle.std.specs.Prelude.{◌≡◌, ◌↔◌, IsTrue, replicate, map};
-ghost use Rattle.fc_position.specs.Board.{playable, lifted, placed, places};
+ghost use Rattle.std.specs.Prelude.{◌≡◌, ◌↔◌, IsTrue, replicate};
+ghost use Rattle.fc_position.specs.Board.{board_of, playable, lifted, placed, places};
 ghost use Rattle.fc_position.specs.inner.Board.{HasRoom};
 ghost use Rattle.fc_position.specs.Position.{IsShaped};
 ghost use Rattle.fc_position.specs.Tally.{Adds};
 ghost use Rattle.fc_position.specs.inner.Tally.{IsOfCards};
 
+use crate::columns::Columns;
 use crate::tallies::Tally;
 use arrayvec::ArrayVec;
 use fc_cards::{Card, Place};
@@ -14,18 +15,18 @@ use std::marker::Model;
 /// card is between two places.
 #[derive(Drop)]
 pub(crate) struct Layout {
-    pub columns: [ArrayVec<Card, 52>; 8],
+    pub columns: Columns,
     pub cells: [Option<Card>; 4],
     pub homes: [u8; 4],
 }
 
 impl Model for Layout {
-    ghost use Rattle.std.specs.Prelude.{◌≡◌, map, length};
+    ghost use Rattle.std.specs.Prelude.{◌≡◌, length};
     ghost use Rattle.fc_position.specs.Board.{Board};
 
     ghost Value = { Board };
 
-    ghost view = { λ p. record { columns = map (λ v. v.items) p.columns; cells = p.cells; homes = p.homes } };
+    ghost view = { λ p. record { columns = p.columns; cells = p.cells; homes = p.homes } };
 
     ghost invariant = { λ p. (length p.columns ≡ 8) × (length p.cells ≡ 4) × (length p.homes ≡ 4) };
 }
@@ -36,7 +37,7 @@ impl Layout {
         ensures { result ≡ playable self.now place }
     {
         match place {
-            Place::Column(i) => self.columns.get(i as usize)?.last().copied(),
+            Place::Column(i) => self.columns.last(i),
             Place::Cell(i) => *self.cells.get(i as usize)?,
             Place::Home => None,
         }
@@ -48,7 +49,7 @@ impl Layout {
         ensures after { self.new ≡ lifted self.old place }
     {
         match place {
-            Place::Column(i) if i < 8 => self.columns[i as usize].pop(),
+            Place::Column(i) if i < 8 => self.columns.pop(i),
             Place::Cell(i) if i < 4 => self.cells[i as usize].take(),
             _ => None,
         }
@@ -60,23 +61,10 @@ impl Layout {
         ensures { self.new ≡ placed self.old card place }
     {
         match place {
-            Place::Column(i) => self.columns[i as usize].push(card),
+            Place::Column(i) => self.columns.push(i, card),
             Place::Cell(i) => self.cells[i as usize] = Some(card),
             Place::Home => self.homes[card.suit().index() as usize] = card.rank(),
         }
-    }
-
-    // How often each card stands.
-    pub fn tally(&self) -> Tally
-        ensures times { Adds (places self.now) (replicate 52 0) result }
-        ensures cards { IsOfCards self.now }
-        ensures shape { IsShaped self.now }
-    {
-        let mut tally = Tally::new();
-        tally.add_columns(&self.columns);
-        tally.add_cells(&self.cells);
-        tally.add_homes(&self.homes);
-        tally
     }
 
     // Whether the two are the same board.
@@ -85,7 +73,7 @@ impl Layout {
     {
         same_cells(&self.cells, &other.cells)
             && self.homes == other.homes
-            && same_columns(&self.columns, &other.columns)
+            && self.columns.equals(&other.columns)
     }
 
     // The same board.
@@ -93,18 +81,28 @@ impl Layout {
         ensures { result ≡ self.now }
     {
         Layout {
-            columns: columns_of(&self.columns),
+            columns: self.columns.copy(),
             cells: cells_of(&self.cells),
             homes: self.homes,
         }
     }
 }
 
-// Whether the columns have the same cards.
-fn same_columns(columns: &[ArrayVec<Card, 52>], others: &[ArrayVec<Card, 52>]) -> bool
-    ensures { IsTrue result ↔ map (λ v. v.items) columns.now ≡ map (λ v. v.items) others.now }
+// How often each card stands in these columns, in these cells, and at home.
+pub(crate) fn tally_of(
+    columns: &[ArrayVec<Card, 52>; 8],
+    cells: &[Option<Card>; 4],
+    homes: &[u8; 4],
+) -> Tally
+    ensures times { Adds (places (board_of columns.now cells.now homes.now)) (replicate 52 0) result }
+    ensures cards { IsOfCards (board_of columns.now cells.now homes.now) }
+    ensures shape { IsShaped (board_of columns.now cells.now homes.now) }
 {
-    columns == others
+    let mut tally = Tally::new();
+    tally.add_columns(columns);
+    tally.add_cells(cells);
+    tally.add_homes(homes);
+    tally
 }
 
 // Whether the cells hold the same cards.
@@ -114,36 +112,10 @@ fn same_cells(cells: &[Option<Card>], others: &[Option<Card>]) -> bool
     cells == others
 }
 
-// The same columns.
-fn columns_of(columns: &[ArrayVec<Card, 52>; 8]) -> [ArrayVec<Card, 52>; 8]
-    ensures { map (λ v. v.items) result ≡ map (λ v. v.items) columns.now }
-{
-    let [a, b, c, d, e, f, g, h] = columns;
-    [
-        column_of(a),
-        column_of(b),
-        column_of(c),
-        column_of(d),
-        column_of(e),
-        column_of(f),
-        column_of(g),
-        column_of(h),
-    ]
-}
-
 // The same cells.
 fn cells_of(cells: &[Option<Card>; 4]) -> [Option<Card>; 4]
     ensures { result ≡ cells.now }
 {
     let [a, b, c, d] = cells;
     [*a, *b, *c, *d]
-}
-
-// The same column.
-fn column_of(cards: &ArrayVec<Card, 52>) -> ArrayVec<Card, 52>
-    ensures { result.items ≡ cards.now.items }
-{
-    let mut copy = ArrayVec::new();
-    let _ = copy.try_extend_from_slice(cards.as_slice());
-    copy
 }

@@ -5,10 +5,12 @@
 //! cards of each suit are home. No call allocates.
 #![tactic(auto)]
 
+pub use columns::{Columns, Filling};
 pub use faults::PartsFault;
 pub use positions::Position;
 pub use tallies::Tally;
 
+mod columns;
 mod faults;
 mod layouts;
 mod positions;

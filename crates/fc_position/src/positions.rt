@@ -4,8 +4,9 @@ ghost use Rattle.fc_position.specs.Board.{board_of, column, cell, home, playable
 ghost use Rattle.fc_position.specs.Position.{IsPosition, IsWon, Fits};
 ghost use Rattle.fc_position.specs.Tally.{IsFaultOf};
 
+use crate::columns::{Columns, Filling};
 use crate::faults::PartsFault;
-use crate::layouts::Layout;
+use crate::layouts::{Layout, tally_of};
 use arrayvec::ArrayVec;
 use fc_cards::{Card, Place, Suit};
 use std::marker::Model;
@@ -44,14 +45,9 @@ impl Position {
         ensures whole { IfOk result IsPosition }
         ensures fault { IfErr result (IsFaultOf (places (board_of columns cells homes))) }
     {
-        let layout = Layout {
-            columns,
-            cells,
-            homes,
-        };
-        match layout.tally().fault() {
+        match tally_of(&columns, &cells, &homes).fault() {
             Some(fault) => Err(fault),
-            None => Ok(Position { layout }),
+            None => Ok(Position::of_parts(columns, cells, homes)),
         }
     }
 
@@ -66,12 +62,37 @@ impl Position {
         requires whole { IsPosition (board_of columns cells homes) }
         ensures value { result ≡ board_of columns cells homes }
     {
-        let layout = Layout {
-            columns,
-            cells,
-            homes,
-        };
-        Position { layout }
+        Position {
+            layout: Layout {
+                columns: Columns::of(&columns),
+                cells,
+                homes,
+            },
+        }
+    }
+
+    /// Makes it the position whose columns are filled by this, with these cells, and so many cards home of each suit, where it
+    /// is known that each card has one place: nothing is tested, and no column is moved.
+    #[inline(always)]
+    pub fn refill<F: Filling>(&mut self, filling: &F, cells: [Option<Card>; 4], homes: [u8; 4])
+        requires ready { F.is_ready filling.now }
+        requires whole { IsPosition (record { columns = F.fills filling.now; cells = cells; homes = homes }) }
+        ensures value { self.new ≡ record { columns = F.fills filling.now; cells = cells; homes = homes } }
+        ensures whole { IsPosition self.new }
+    {
+        let layout = &mut self.layout;
+        filling.fill(&mut layout.columns);
+        layout.cells = cells;
+        layout.homes = homes;
+    }
+
+    // All columns.
+    #[inline]
+    pub(crate) fn columns(&self) -> &Columns
+        ensures value { result.now ≡ self.now.columns }
+    {
+        let layout = &self.layout;
+        &layout.columns
     }
 
     /// The cards of a column, the deepest first.
@@ -82,7 +103,7 @@ impl Position {
         ensures whole { IsPosition self.now }
     {
         let layout = &self.layout;
-        layout.columns[i as usize].as_slice()
+        layout.columns.column(i)
     }
 
     /// The card in a cell, if there is one.
@@ -186,7 +207,7 @@ impl Position {
         ensures whole { IsPosition self.new }
     {
         let layout = &mut self.layout;
-        layout.columns.swap(i as usize, j as usize);
+        layout.columns.swap(i, j);
     }
 
     /// Exchanges the cards of two cells.
