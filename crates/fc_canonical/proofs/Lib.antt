@@ -1,4 +1,6 @@
+pub mod AddedLemmas
 pub mod CheckLemmas
+pub mod DecideLemmas
 pub mod DistinctLemmas
 pub mod FitLemmas
 pub mod KeyLemmas
@@ -7,10 +9,12 @@ pub mod ListingLemmas
 pub mod MoveLemmas
 pub mod OrderLemmas
 pub mod PartLemmas
+pub mod PickedLemmas
 pub mod ReadLemmas
 pub mod SetLemmas
 pub mod SizeLemmas
 pub mod SortLemmas
 pub mod SpelledLemmas
 pub mod TakerLemmas
+pub mod WantedLemmas
 pub mod WrittenLemmas

@@ -26,7 +26,7 @@ first_once P i j one two none before =
     (cases_eq i j)
 
 -- whether a decided fact holds of a number below n, and of which one first
-first_below : (P : ℕ → Type 0) → ((k : ℕ) → P k ⊎ (P k → ⊥)) → (n : ℕ)
+pub first_below : (P : ℕ → Type 0) → ((k : ℕ) → P k ⊎ (P k → ⊥)) → (n : ℕ)
     → ((k : ℕ) × (k < n) × P k × ((i : ℕ) → i < k → P i → ⊥)) ⊎ ((k : ℕ) → k < n → P k → ⊥)
 first_below P decided zero = inr (λ k below. absurd (omega arith))
 first_below P decided (suc n) =
@@ -49,11 +49,11 @@ pub empty_or_not : (cards : List ℕ) → (cards ≡ []) ⊎ (cards ≡ [] → �
 empty_or_not [] = inl refl
 empty_or_not (c ∷ rest) = inr (λ e. absurd (cc e))
 
-none_or_not : (held : Option ℕ) → (held ≡ None) ⊎ (held ≡ None → ⊥)
+pub none_or_not : (held : Option ℕ) → (held ≡ None) ⊎ (held ≡ None → ⊥)
 none_or_not None = inl refl
 none_or_not (Some u) = inr (λ e. absurd (cc e))
 
-contained_or_not : (xs : List ℕ) (u : ℕ) → Contains xs u ⊎ (Contains xs u → ⊥)
+pub contained_or_not : (xs : List ℕ) (u : ℕ) → Contains xs u ⊎ (Contains xs u → ⊥)
 contained_or_not [] u = inr (λ (k, below, e). absurd (omega arith))
 contained_or_not (x ∷ xs) u =
     ⊎_elim (λ e. inl (subst (Contains (x ∷ xs)) e (Contains-first xs x)))
@@ -61,7 +61,7 @@ contained_or_not (x ∷ xs) u =
     (λ none. inr (λ found. ⊎_elim other none (Contains-cases x xs u found))) (contained_or_not xs u))
     (cases_eq x u)
 
-lone_or_not : (g : GameRules) (cards : List ℕ) → IsLone g cards ⊎ (IsLone g cards → ⊥)
+pub lone_or_not : (g : GameRules) (cards : List ℕ) → IsLone g cards ⊎ (IsLone g cards → ⊥)
 lone_or_not g [] = inr (λ (u, e, opens). absurd (cc e))
 lone_or_not g (c ∷ []) =
     ⊎_elim (λ opens. inl (c, refl, opens))

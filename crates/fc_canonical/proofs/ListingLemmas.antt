@@ -126,17 +126,20 @@ column_below (Column i) there low = (i, low, refl)
 column_below (Cell i) there low = absurd (omega (arith, low))
 column_below Home there low = absurd (omega (arith, low))
 
--- where the card is listed to no column, all columns are passed over
-pub columns_pass : (g : GameRules) (b : Board) (from : Place) (ms : List Move) → IsPosition b → IsSource from
-    → ((j : ℕ) → j < 8 → IsListed g b (record { from = from; to = Column j }) → ⊥)
-    → ListsDistinctBelow g b (place_number from * 13) ms → ListsDistinctBelow g b (place_number from * 13 + 8) ms
-columns_pass g b from ms p source none lists =
-    lists_past g b (place_number from * 13) 8 ms lists (λ o other low high.
-    let at = between g b from 0 8 o p source (omega arith) other (omega (arith, low)) (omega (arith, high)) in
-    let is = column_below o.to at.there (omega (arith, at.high)) in
+-- where the card is listed to none of some columns, they are passed over
+pub columns_pass : (g : GameRules) (b : Board) (from : Place) (n d : ℕ) (ms : List Move) → IsPosition b → IsSource from → n + d ≤ 8
+    → ((j : ℕ) → n ≤ j → j < n + d → IsListed g b (record { from = from; to = Column j }) → ⊥)
+    → ListsDistinctBelow g b (place_number from * 13 + n) ms → ListsDistinctBelow g b (place_number from * 13 + (n + d)) ms
+columns_pass g b from n d ms p source few none lists =
+    let next : place_number from * 13 + n + d ≡ place_number from * 13 + (n + d) = omega arith in
+    subst (λ k. ListsDistinctBelow g b k ms) next
+    (lists_past g b (place_number from * 13 + n) d ms lists (λ o other low high.
+    let at = between g b from n d o p source (omega (arith, few)) other low high in
+    let is = column_below o.to at.there (omega (arith, at.high, few)) in
     let m : Move = record { from = from; to = Column is.0 } in
     let same : o ≡ m = move_same o m at.source is.2 in
-    none is.0 is.1 (subst (IsListed g b) same other))
+    let number : place_number o.to ≡ is.0 = ap place_number is.2 in
+    none is.0 (omega (arith, at.low, number)) (omega (arith, at.high, number)) (subst (IsListed g b) same other)))
 
 -- the cells' turn: the move to one is added, or there is none
 a_cell : (g : GameRules) (b : Board) (from : Place) (held : Option ℕ) (o : Move) → IsPosition b → IsSource from
@@ -200,20 +203,25 @@ equal_is (Some k) j t e = (
   λ f. let same : k ≡ j = cc f in e ∙ eq-eqb k j same,
 )
 
+-- a card is listed to a column on whose last card it stands
+pub stands_listed : (g : GameRules) (b : Board) (from : Place) (u l j : ℕ) → IsPosition b → IsGame g → playable b from ≡ Some u
+    → j < 8 → last_of (column b j) ≡ Some l → Stands g u l → IsListed g b (record { from = from; to = Column j })
+stands_listed g b from u l j p game there inside last stands =
+    let takes : Takes g b u (Column j) = (omega (arith, inside, p.columns), inr (l, last, stands)) in
+    record {
+      allowed = allows_to g b from (Column j) u there (joins_standing g b from u l j game there last stands) takes;
+      first = λ empty. absurd (no_last (column b j) l empty last);
+      stays = λ stays _. moves_on g b from (Column j) u there takes
+          (λ k e empty. let same : j ≡ k = cc e in no_last (column b j) l (ap (column b) same ∙ empty) last) stays;
+    }
+
 -- a card is listed to a column where it stands on the last card, and to an empty one where this is so
 pub goes_listed : (g : GameRules) (b : Board) (from : Place) (u j : ℕ) (opening : Option ℕ) (t opens : Bool) → IsPosition b
     → IsGame g → playable b from ≡ Some u → j < 8 → IsOpening g b from opening → (IsTrue opens ↔ (opening ≡ Some j))
     → (IsTrue t ↔ GoesTo g (column b j) u (IsTrue opens)) → IsTrue t ↔ IsListed g b (record { from = from; to = Column j })
 goes_listed g b from u j opening t opens p game there inside told is goes = (
   λ holds. ⊎_elim (λ (empty, open_). (told j empty).0 (is.0 open_))
-      (λ (l, last, stands).
-      let takes : Takes g b u (Column j) = (omega (arith, inside, p.columns), inr (l, last, stands)) in
-      record {
-        allowed = allows_to g b from (Column j) u there (joins_standing g b from u l j game there last stands) takes;
-        first = λ empty. absurd (no_last (column b j) l empty last);
-        stays = λ stays _. moves_on g b from (Column j) u there takes
-            (λ k e empty. let same : j ≡ k = cc e in no_last (column b j) l (ap (column b) same ∙ empty) last) stays;
-      })
+      (λ (l, last, stands). stands_listed g b from u l j p game there inside last stands)
       (goes.0 holds),
   λ ok. goes.1 (⊎_elim (λ empty. inl (empty, is.1 ((told j empty).1 ok)))
       (λ held. ⊎_elim (λ (empty, _). absurd (held empty))

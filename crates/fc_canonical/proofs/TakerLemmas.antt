@@ -1,9 +1,10 @@
 -- Columns as bits: those whose last card has a rank, and those that may take a card.
-use Rattle.std.proofs.Common.{◌≡◌, ℕ, ◌*◌, ◌%◌, ◌^◌, ◌<◌, max, bit_or, Option, Some, None, IfSome, IfNone, List, length, get_or, set, sym, ◌∙◌, ap, subst, ⊎_elim, w8, arith}
-use Rattle.std.specs.Int.{bit_at}
-use Rattle.std.proofs.lemmas.Bool.{cases_eq}
+use Rattle.std.proofs.Common.{◌≡◌, ℕ, ◌+◌, ◌-◌, ◌*◌, ◌/◌, ◌%◌, ◌^◌, ◌<◌, ◌≤◌, max, bit_and, bit_or, Option, Some, None, IfSome, IfNone, List, length, get_or, set, sym, ◌∙◌, ap, subst, ⊎_elim, w8, arith}
+use Rattle.std.specs.Int.{bit_at, trailing_zeros}
+use Rattle.std.proofs.lemmas.Bool.{cases_eq, cases_lt}
 use Rattle.std.proofs.lemmas.List.{get_or-set_same, get_or-set_other}
-use Rattle.std.proofs.lemmas.Nat.Bits.{bit_at_or, bit_at-lt, bit_at_ones, bit_at_set_same}
+use Rattle.std.proofs.lemmas.Nat.Bits.{bit_at_or, bit_at-lt, bit_at_above, bit_at_ones, bit_at_set_same, bit_at-trailing_zeros, shr_and_one}
+use Rattle.std.proofs.lemmas.Nat.{shr-shr, shr_le}
 use Rattle.fc_cards.specs.declared.places.Place.{Place}
 use Rattle.fc_position.specs.Board.{Board, playable}
 use Rattle.fc_moves.specs.GameRules.{GameRules, IsGame, IsPair, Stands}
@@ -50,3 +51,42 @@ have_takers g b from u hosts takers None game there told have all same j inside 
     ok.allowed.1.takes.1
 have_takers g b from u hosts takers (Some i) game there told have all same j inside ok =
     ap (λ n. bit_at n j) all ∙ bit_at_ones 8 j inside
+
+-- the columns from j on that may take a card, as bits that were shifted
+pub record AreTakersFrom (takers j rest : ℕ) : Type 0 where
+  pub most : j ≤ 8
+  pub bits : (i : ℕ) → bit_at rest i ≡ bit_at takers (j + i)
+
+shifted : (n p i : ℕ) → bit_at (n / 2 ^ p / 2) i ≡ bit_at n (p + 1 + i)
+shifted n p i =
+    let e : p + (1 + i) ≡ p + 1 + i = omega arith in
+    sym (shr_and_one (n / 2 ^ p / 2) i) ∙ ap (λ m. bit_and m 1) (shr-shr (n / 2 ^ p) 1 i ∙ shr-shr n p (1 + i) ∙ ap (λ k. n / 2 ^ k) e)
+    ∙ shr_and_one n (p + 1 + i)
+
+-- the next of them is where the bits end with a one
+pub record NextTaker (takers j rest p : ℕ) : Type 0 where
+  pub inside : j + p < 8
+  pub passed : (i : ℕ) → j ≤ i → i < j + p → bit_at takers i ≡ 0
+  pub after : AreTakersFrom takers (j + p + 1) (rest / 2 ^ p / 2)
+  pub fewer : rest / 2 ^ p / 2 < rest
+
+pub next_taker : (takers j rest p : ℕ) → takers < 2 ^ 8 → rest < 2 ^ 8 → 0 < rest → p ≡ trailing_zeros w8 rest
+    → AreTakersFrom takers j rest → NextTaker takers j rest p
+next_taker takers j rest p small fits some is from =
+    let at = bit_at-trailing_zeros w8 rest some fits in
+    let one : bit_at takers (j + p) ≡ 1 = sym (from.bits p) ∙ ap (bit_at rest) is ∙ at.1 in
+    let inside : j + p < 8 =
+    ⊎_elim (λ lt. lt) (λ past. let none = bit_at_above takers 8 (j + p) small past in absurd (omega (arith, one, none)))
+    (cases_lt (j + p) 8) in
+    record {
+      inside = inside;
+      passed = λ i low high.
+          let e : j + (i - j) ≡ i = omega (arith, low) in
+          ap (bit_at takers) (sym e) ∙ sym (from.bits (i - j)) ∙ at.2 (i - j) (omega (arith, low, high, is));
+      after = record {
+        most = omega (arith, inside);
+        bits = λ i. let e : j + (p + 1 + i) ≡ j + p + 1 + i = omega arith in
+            shifted rest p i ∙ from.bits (p + 1 + i) ∙ ap (bit_at takers) e;
+      };
+      fewer = let less = shr_le rest p in omega (arith, less, some);
+    }

@@ -2,3 +2,4 @@
 pub mod Distinct
 pub mod Order
 pub mod Parts
+pub mod Wanted

@@ -7,7 +7,7 @@ ghost use Rattle.fc_position.specs.Board.{Board, playable, column, last_of};
 ghost use Rattle.fc_position.specs.Position.{IsPosition};
 ghost use Rattle.fc_moves.specs.Step.{place_number};
 ghost use Rattle.fc_canonical.specs.Distinct.{ListsClasses, AreFirst, AreInOrder};
-ghost use Rattle.fc_canonical.specs.inner.Distinct.{TellLasts, HaveHosts, IsCellOf, IsOpening, GoesTo, IsFirstCell, IsFirstColumn, ListsDistinctBelow, IsListed, IsLaterLone, IsLoneBelow, IsLone};
+ghost use Rattle.fc_canonical.specs.inner.Distinct.{TellLasts, HaveHosts, IsCellOf, IsEmptyColumn, IsOpening, GoesTo, IsFirstCell, IsFirstColumn, ListsDistinctBelow, AddsDistinct, IsLaterLone, IsLoneBelow, IsLone};
 
 use arrayvec::ArrayVec;
 use fc_cards::{Card, Place};
@@ -44,11 +44,11 @@ pub fn list_distinct_moves<G: Game>(game: &G, position: &Position, list: &mut Ar
 }
 
 // Of each rank the columns whose last card has it, as bits.
-type Lasts = [u8; 15];
+pub(crate) type Lasts = [u8; 15];
 
 // Notes the rank of each column's last card.
 #[inline(always)]
-fn note_lasts(lasts: &mut Lasts, position: &Position)
+pub(crate) fn note_lasts(lasts: &mut Lasts, position: &Position)
     requires count { length lasts.old ≡ 15 }
     ensures lasts { TellLasts position.now 8 lasts.new }
     ensures count { length lasts.new ≡ 15 }
@@ -75,7 +75,7 @@ fn note_last(lasts: &mut Lasts, j: u8, cards: &[Card])
 
 // The columns whose last card is one rank higher than this one, as bits.
 #[inline(always)]
-fn hosts_of(lasts: &Lasts, card: Card) -> u8
+pub(crate) fn hosts_of(lasts: &Lasts, card: Card) -> u8
     requires count { length lasts.now ≡ 15 }
     ensures hosts { (b : Board) → TellLasts b 8 lasts.now → HaveHosts b card result }
 {
@@ -83,7 +83,7 @@ fn hosts_of(lasts: &Lasts, card: Card) -> u8
 }
 
 // The first column that holds no card.
-fn first_empty_column(position: &Position) -> Option<u8>
+pub(crate) fn first_empty_column(position: &Position) -> Option<u8>
     ensures first { IsFirstColumn position.now result }
 {
     for j in 0..8 {
@@ -95,7 +95,7 @@ fn first_empty_column(position: &Position) -> Option<u8>
 }
 
 // The first cell of the game that holds no card.
-fn first_empty_cell<G: Game>(game: &G, position: &Position) -> Option<u8>
+pub(crate) fn first_empty_cell<G: Game>(game: &G, position: &Position) -> Option<u8>
     ensures first { IsFirstCell position.now (G.game game.now).cells result }
 {
     let cells = game.cells();
@@ -170,7 +170,7 @@ fn list_from_cells<G: Game>(
 // The empty column to which the card is listed: the first one, where the card may go there. A column's only card that
 // goes there leads to the class itself, as does another's, so it is listed of the first such column alone.
 #[inline(always)]
-fn opening_of<G: Game>(
+pub(crate) fn opening_of<G: Game>(
     game: &G,
     position: &Position,
     from: Place,
@@ -181,6 +181,7 @@ fn opening_of<G: Game>(
     requires card { playable position.now from ≡ Some card }
     requires column { IsFirstColumn position.now column }
     ensures value { IsOpening (G.game game.now) position.now from result }
+    ensures empty { IfSome result (IsEmptyColumn position.now) }
 {
     let j = column?;
     if game.opens(card) && !is_later_lone(game, position, from) {
@@ -225,15 +226,15 @@ fn is_lone<G: Game>(game: &G, cards: &[Card]) -> bool
 
 // A playable card, its place, and the columns, as bits, whose last card is one rank higher: on no other a card stands.
 #[derive(Clone, Copy)]
-struct Source {
-    from: Place,
-    card: Card,
-    hosts: u8,
+pub(crate) struct Source {
+    pub(crate) from: Place,
+    pub(crate) card: Card,
+    pub(crate) hosts: u8,
 }
 
-// Lists the moves of the card, after those of the cards of the places before it.
+// Lists the moves of the card, behind what is in the list.
 #[inline(always)]
-fn list_from<G: Game>(
+pub(crate) fn list_from<G: Game>(
     game: &G,
     position: &Position,
     source: &Source,
@@ -246,9 +247,8 @@ fn list_from<G: Game>(
     requires hosts { HaveHosts position.now source.now.card source.now.hosts }
     requires opening { IsOpening (G.game game.now) position.now source.now.from opening }
     requires cell { IsCellOf (G.game game.now) position.now source.now.from cell }
-    requires before { ListsDistinctBelow (G.game game.now) position.now (place_number source.now.from * 13) list.old.items }
     requires room { array_vec_len list.old + 10 ≤ 132 }
-    ensures after { ListsDistinctBelow (G.game game.now) position.now (place_number source.now.from * 13 + 13) list.new.items }
+    ensures adds { AddsDistinct (G.game game.now) position.now source.now.from (place_number source.now.from * 13) (place_number source.now.from * 13 + 13) list.old.items list.new.items }
     ensures count { array_vec_len list.new ≤ array_vec_len list.old + 10 }
 {
     list_to_columns(game, position, source, opening, list);
@@ -275,19 +275,18 @@ fn list_to_columns<G: Game>(
     requires card { playable position.now source.now.from ≡ Some source.now.card }
     requires hosts { HaveHosts position.now source.now.card source.now.hosts }
     requires opening { IsOpening (G.game game.now) position.now source.now.from opening }
-    requires before { ListsDistinctBelow (G.game game.now) position.now (place_number source.now.from * 13) list.old.items }
     requires room { array_vec_len list.old + 8 ≤ 132 }
-    ensures after { ListsDistinctBelow (G.game game.now) position.now (place_number source.now.from * 13 + 8) list.new.items }
+    ensures adds { AddsDistinct (G.game game.now) position.now source.now.from (place_number source.now.from * 13) (place_number source.now.from * 13 + 8) list.old.items list.new.items }
     ensures count { array_vec_len list.new ≤ array_vec_len list.old + 8 }
 {
-    let takers = takers_of(source, opening);
-    if takers == 0 {
-        return;
-    }
-    for j in 0..8 {
-        if takers >> j & 1 != 0 {
-            list_to_column(game, position, source, opening, j, list);
-        }
+    let mut rest = takers_of(source, opening);
+    let mut j = 0;
+    while rest != 0 {
+        let passed = rest.trailing_zeros() as u8;
+        j += passed;
+        rest = rest >> passed >> 1;
+        list_to_column(game, position, source, opening, j, list);
+        j += 1;
     }
 }
 
@@ -317,9 +316,8 @@ fn list_to_column<G: Game>(
     requires there { j < 8 }
     requires card { playable position.now source.now.from ≡ Some source.now.card }
     requires opening { IsOpening (G.game game.now) position.now source.now.from opening }
-    requires before { ListsDistinctBelow (G.game game.now) position.now (place_number source.now.from * 13 + j) list.old.items }
     requires room { array_vec_len list.old < 132 }
-    ensures after { ListsDistinctBelow (G.game game.now) position.now (place_number source.now.from * 13 + (j + 1)) list.new.items }
+    ensures adds { AddsDistinct (G.game game.now) position.now source.now.from (place_number source.now.from * 13 + j) (place_number source.now.from * 13 + (j + 1)) list.old.items list.new.items }
     ensures count { array_vec_len list.new ≤ array_vec_len list.old + 1 }
 {
     if goes_to(game, position.column(j), source.card, opening == Some(j)) {
@@ -333,7 +331,7 @@ fn list_to_column<G: Game>(
 
 // Whether the card is listed to a column with these cards: to an empty one where this says so, else where it stands on
 // the last. No card stands on itself, so its own column needs no test.
-fn goes_to<G: Game>(game: &G, cards: &[Card], card: Card, opens: bool) -> bool
+pub(crate) fn goes_to<G: Game>(game: &G, cards: &[Card], card: Card, opens: bool) -> bool
     ensures value { IsTrue result ↔ GoesTo (G.game game.now) cards.now card (IsTrue opens) }
 {
     match cards.last() {
@@ -353,9 +351,8 @@ fn list_to_home<G: Game>(
 )
     requires whole { IsPosition position.now }
     requires card { playable position.now from ≡ Some card }
-    requires before { ListsDistinctBelow (G.game game.now) position.now (place_number from * 13 + 12) list.old.items }
     requires room { array_vec_len list.old < 132 }
-    ensures after { ListsDistinctBelow (G.game game.now) position.now (place_number from * 13 + 13) list.new.items }
+    ensures adds { AddsDistinct (G.game game.now) position.now from (place_number from * 13 + 12) (place_number from * 13 + 13) list.old.items list.new.items }
     ensures count { array_vec_len list.new ≤ array_vec_len list.old + 1 }
 {
     if position.is_next(card) {

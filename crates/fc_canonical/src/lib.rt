@@ -7,6 +7,7 @@ pub use keys::{Key, key};
 pub use orders::canonical;
 pub use readers::{key_len, key_size, position_of, read_key};
 pub use searches::find_move;
+pub use wanted::list_wanted_moves;
 
 mod card_sets;
 mod checks;
@@ -16,3 +17,4 @@ pub mod laws;
 mod orders;
 mod readers;
 mod searches;
+mod wanted;

@@ -1,5 +1,5 @@
 -- Which moves from a position lead to boards of one class, and which of them is listed, within the crate.
-use Rattle.std.specs.Prelude.{◌≡◌, ◌+◌, ◌<◌, ◌⊎◌, ◌↔◌, ℕ, Option, Some, None, length, List, [], ◌∷◌, Contains, slice_index_or}
+use Rattle.std.specs.Prelude.{◌≡◌, ◌+◌, ◌<◌, ◌⊎◌, ◌↔◌, ℕ, Option, Some, None, length, List, [], ◌∷◌, ◌++◌, All, Contains, slice_index_or}
 use Rattle.std.specs.Int.{bit_at}
 use Rattle.fc_cards.specs.Card.{rank}
 use Rattle.fc_cards.specs.declared.places.Place.{Place}
@@ -50,6 +50,16 @@ pub record ListsDistinctBelow (g : GameRules) (b : Board) (n : ℕ) (moves : Lis
   pub complete : (m : Move) → IsListed g b m → move_number m < n → Contains moves m
   pub rising : AreInOrder moves
 
+-- in a game, on a board
+module _ (g : GameRules) (b : Board) where
+  -- the new list is the old one and then moves from this place: behind a list that has the moves to be listed with numbers
+  -- below the lower one, they make one that has those below the higher
+  pub record AddsDistinct (from : Place) (low high : ℕ) (old new : List Move) : Type 0 where
+    pub added : List Move
+    pub items : new ≡ old ++ added
+    pub source : All (λ m. m.from ≡ from) added
+    pub lists : (before : List Move) → ListsDistinctBelow g b low before → ListsDistinctBelow g b high (before ++ added)
+
 -- the first empty column of eight, if there is one
 abbrev pub IsFirstColumn : Board → Option ℕ → Type 0
 IsFirstColumn b None = (k : ℕ) → k < 8 → column b k ≡ [] → ⊥
@@ -64,6 +74,10 @@ IsFirstCell b n (Some j) = (j < n) × (cell b j ≡ None) × ((k : ℕ) → k < 
 -- the last
 abbrev pub GoesTo : GameRules → List ℕ → ℕ → Type 0 → Type 0
 GoesTo g cards u opens = ((cards ≡ []) × opens) ⊎ ((l : ℕ) × (last_of cards ≡ Some l) × Stands g u l)
+
+-- the column holds no card
+abbrev pub IsEmptyColumn : Board → ℕ → Type 0
+IsEmptyColumn b j = column b j ≡ []
 
 -- the number is that of the empty column to which the move of the place's card is listed, if it is
 abbrev pub IsOpening : GameRules → Board → Place → Option ℕ → Type 0

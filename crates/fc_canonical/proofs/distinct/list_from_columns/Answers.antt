@@ -3,6 +3,7 @@ use Rattle.std.specs.Option.{option_copied}
 use Rattle.fc_cards.specs.declared.places.Place.TheVariants.{Column}
 use Rattle.fc_position.specs.Board.{column, last_of}
 use Rattle.fc_canonical.specs.inner.Distinct.{ListsDistinctBelow}
+use Rattle.fc_canonical.proofs.AddedLemmas.{adds_lists}
 use Rattle.fc_canonical.proofs.ListingLemmas.{last_is, source_passes, cell_of_column}
 use Rattle.fc_canonical.proofs.distinct.list_from_columns.Goals as goal
 use Rattle.fc_canonical.proofs.distinct.list_from_columns.Goals.{in-Some, in_default}
@@ -20,10 +21,13 @@ loop-i-preserved g c =
     let game = g.G.Game.game c.args.game.now in
     let b = c.args.position.now in
     let i = c.loop-i.i in
+    let low = i * 13 in
     let next : i * 13 + 13 ≡ (i + 1) * 13 = omega arith in
     elim c.match-last.branch [
       | in-Some w ↦ rw w.list-is (record {
-        listed = subst (λ k. ListsDistinctBelow game b k w.list_from.new.list.items) next w.list_from.ensures.after;
+        listed = subst (λ k. ListsDistinctBelow game b k w.list_from.new.list.items) next
+            (adds_lists game b (Column i) low (low + 13) c.loop-i.list.items w.list_from.new.list.items w.list_from.ensures.adds
+            c.loop-i.invariant.listed);
         count = omega (arith, c.loop-i.invariant.count, w.list_from.ensures.count);
       })
       | in_default w ↦

@@ -9,4 +9,5 @@ returns-then-not-is_later_lone g c = record {
       c.requires.card
       (subst (IsFirstColumn c.args.position.now) c.in_ok-j.was c.requires.column) (c.opens.ensures.value.0 c.if-opens.true)
       (λ later. let holds = c.is_later_lone.ensures.value.1 later in absurd (cc (sym c.if-not-is_later_lone.true ∙ holds)));
+  empty = (subst (IsFirstColumn c.args.position.now) c.in_ok-j.was c.requires.column).1;
 }
