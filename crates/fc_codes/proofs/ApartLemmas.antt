@@ -1,4 +1,4 @@
--- No two cards lie on one, at the start and by the code of a position.
+-- No two cards lie on one by the code of a position.
 use Rattle.std.proofs.Common.{◌≡◌, ℕ, ◌+◌, ◌*◌, ◌/◌, ◌<◌, ◌≤◌, ◌⊎◌, List, [], ◌∷◌, ◌++◌, length, take, get_or, cond, eqb, inl, inr, sym, ◌∙◌, ap, subst, ⊎_elim, arith}
 use Rattle.std.specs.Prelude.{fold}
 use Rattle.std.specs.Int.{bit_at}
@@ -9,9 +9,9 @@ use Rattle.fc_position.specs.Board.{Board}
 use Rattle.fc_position.specs.Position.{IsPosition}
 use Rattle.fc_codes.specs.State.{StandsOn, IsStateOf, unmoved, at_home, in_cell, deepest, in_order, IsCodeOf}
 use Rattle.fc_codes.specs.Spelled.{under, beneath, seat_of, seat}
-use Rattle.fc_codes.specs.inner.Beneath.{AreSeatsAtStart}
-use Rattle.fc_codes.proofs.StandLemmas.{stands_once, where_is, standing_below, nowhere}
-use Rattle.fc_codes.proofs.BeneathLemmas.{last_or, last_or-push, ends, beneath-stands, beneath-nothing}
+use Rattle.fc_codes.specs.inner.Beneath.{AreHeadsOf, IsTableOf}
+use Rattle.fc_codes.proofs.StandLemmas.{stands_once, standing_below}
+use Rattle.fc_codes.proofs.BeneathLemmas.{last_or}
 use Rattle.fc_codes.proofs.SeatLemmas.{next_card, seat_above, seat_found, seat_card, stands_beneath}
 
 on_one : (b : Board) (c d x : ℕ) (w v : List ℕ) → IsPosition b → StandsOn b w c → StandsOn b v d → last_or 52 w ≡ x
@@ -29,39 +29,6 @@ seats_apart s b code c d ps pb k below small lies same =
     let one = seat_found s b code c ps pb k below (omega (arith, lies)) in
     let two = seat_found s b code d ps pb k small (omega (arith, lies, same)) in
     on_one b c d (seat s code c) one.0 two.0 pb one.1 two.1 (sym one.2) (sym two.2 ∙ sym same) lies
-
--- the same of the board at the start
-beneath_found : (s : Board) (c : ℕ) → IsPosition s → c < 52 → beneath s c ≤ 52
-    → (w : List ℕ) × StandsOn s w c × (beneath s c ≡ last_or 52 w)
-beneath_found s c ps below lies =
-    ⊎_elim
-    (λ stands. (stands.0, stands.1, beneath-stands s stands.0 c ps stands.1))
-    (λ else_. absurd (omega (arith, lies, beneath-nothing s c (nowhere s c ps else_))))
-    (where_is s c ps below)
-
-pub beneath_apart : (s : Board) (c d : ℕ) → IsPosition s → c < 52 → d < 52 → beneath s c < 52 → beneath s c ≡ beneath s d → c ≡ d
-beneath_apart s c d ps below small lies same =
-    let one = beneath_found s c ps below (omega (arith, lies)) in
-    let two = beneath_found s d ps small (omega (arith, lies, same)) in
-    on_one s c d (beneath s c) one.0 two.0 ps one.1 two.1 (sym one.2) (sym two.2 ∙ sym same) lies
-
-last_small : (b : Board) (c : ℕ) (w : List ℕ) → IsPosition b → StandsOn b w c → last_or 52 w < 54
-last_small b c w whole p =
-    ⊎_elim
-    (λ none. let table = ap (last_or 52) none in omega (arith, table))
-    (λ some. let last = ap (last_or 52) some.2 ∙ last_or-push 52 some.0 some.1 in
-    let there : StandsOn b (some.0 ++ some.1 ∷ []) c = subst (λ v. StandsOn b v c) some.2 p in
-    let small = standing_below b some.0 some.1 whole (stands_beneath b some.0 some.1 c there) in
-    omega (arith, last, small))
-    (ends w)
-
-pub beneath_small : (s : Board) (c : ℕ) → IsPosition s → c < 52 → beneath s c < 54
-beneath_small s c ps below =
-    ⊎_elim
-    (λ stands. let there = beneath-stands s stands.0 c ps stands.1 in
-    omega (arith, there, last_small s c stands.0 ps stands.1))
-    (λ else_. omega (arith, beneath-nothing s c (nowhere s c ps else_)))
-    (where_is s c ps below)
 
 -- what a card that has moved lies on: nothing, the table, or the card that its state tells
 pub record LiesOnCard (start c n : ℕ) : Type 0 where
@@ -101,14 +68,14 @@ card_below s b c n pb state many =
     (moved_lies s b c n pb state (omega (arith, many)))
 
 -- the tables of a position tell what they are to
-pub told_at_start : (s : Board) (table above : List ℕ) (bits : ℕ) → ((c : ℕ) → c < 52 → get_or table c 0 ≡ beneath s c)
-    → length above ≡ 54 → ((x : ℕ) → x < 52 → get_or above x 0 < 52 → get_or table (get_or above x 0) 0 ≡ x)
-    → ((c : ℕ) → c < 52 → get_or table c 0 < 52 → get_or above (get_or table c 0) 0 ≡ c)
-    → ((c : ℕ) → c < 52 → bit_at bits c ≡ cond (eqb (get_or table c 0) 52) 1 0) → AreSeatsAtStart s above bits
-told_at_start s table above bits each count there lies bits_are = record {
+pub told_at_start : (s : Board) (table heads : List ℕ) (bits : ℕ) → IsPosition s → length table ≡ 52
+    → ((c : ℕ) → c < 52 → get_or table c 0 ≡ beneath s c) → AreHeadsOf s heads
+    → ((c : ℕ) → c < 52 → bit_at bits c ≡ cond (eqb (get_or table c 0) 52) 1 0) → IsTableOf s table heads bits
+told_at_start s table heads bits whole count each over bits_are = record {
+  whole = whole;
   count = count;
-  there = λ x small below. sym (each (get_or above x 0) below) ∙ there x small below;
-  lies = λ c small below. ap (λ x. get_or above x 0) (sym (each c small)) ∙ lies c small (omega (arith, each c small, below));
+  each = each;
+  over = over;
   deepest = λ c small. bits_are c small ∙ ap (λ x. cond (eqb x 52) 1 0) (each c small);
 }
 

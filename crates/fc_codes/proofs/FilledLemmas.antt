@@ -1,26 +1,13 @@
 -- Lists that are filled up with empty elements, one place after the other.
-use Rattle.std.proofs.Common.{◌≡◌, ℕ, suc, ◌+◌, ◌-◌, ◌<◌, Option, Some, None, List, [], ◌∷◌, ◌++◌, length, map, replicate, set, get_or, refl, sym, ◌∙◌, ap, arith}
-use Rattle.std.specs.Prelude.{All}
-use Rattle.std.proofs.lemmas.List.{set_at, get_or_at, append_assoc, append-nil, length_push}
-use Rattle.std.proofs.lemmas.List.Elements.{All-head, All-tail}
-use Rattle.arrayvec.specs.ArrayVec.{ArrayVec}
+use Rattle.std.proofs.Common.{◌≡◌, ℕ, suc, ◌+◌, ◌-◌, ◌<◌, Option, Some, None, List, [], ◌∷◌, ◌++◌, length, replicate, set, sym, ◌∙◌, ap, arith}
+use Rattle.std.proofs.lemmas.List.{set_at, append_assoc, append-nil, length_push}
 use Rattle.fc_codes.specs.Spelled.{filled, grown}
 use Rattle.fc_codes.proofs.GrownLemmas.{grown_none}
-
-no_items : (xs : List ℕ) → length xs ≡ 0 → xs ≡ []
-no_items [] e = refl
-no_items (x ∷ xs) e = absurd (omega (arith, e))
 
 one_more : (n k : ℕ) → k < n → n - k ≡ suc (n - (k + 1))
 one_more n k lt = omega arith
 
--- the first place that is filled up is empty
-pub filled_at : {X : Type 0} (n : ℕ) (e : X) (xs : List X) (d : X) (i : ℕ) → length xs ≡ i → i < n → get_or (filled n e xs) i d ≡ e
-filled_at n e xs d i at few =
-    let size : n - length xs ≡ suc (n - (length xs + 1)) = one_more n (length xs) (omega (arith, at, few)) in
-    ap (λ m. get_or (xs ++ replicate m e) i d) size ∙ get_or_at xs e (replicate (n - (length xs + 1)) e) d i at
-
--- and to write there is to have one element more
+-- to write in the first place that is filled up is to have one element more
 pub filled_push : {X : Type 0} (n : ℕ) (e : X) (xs : List X) (y : X) (i : ℕ) → length xs ≡ i → i < n
     → set (filled n e xs) i y ≡ filled n e (xs ++ y ∷ [])
 filled_push n e xs y i at few =
@@ -29,13 +16,6 @@ filled_push n e xs y i at few =
     let after : n - (length xs + 1) ≡ n - length (xs ++ y ∷ []) = ap (λ m. n - m) (sym (length_push xs y)) in
     ap (λ m. set (xs ++ replicate m e) i y) size ∙ set_at xs e rest y i at ∙ sym (append_assoc xs (y ∷ []) rest)
     ∙ ap (λ m. (xs ++ y ∷ []) ++ replicate m e) after
-
--- columns without a card
-pub empty_columns : (vs : List (ArrayVec ℕ)) → All (λ v. length v.items ≡ 0) vs → map (λ v. v.items) vs ≡ replicate (length vs) []
-empty_columns [] all = refl
-empty_columns (v ∷ vs) all =
-    ap (λ x. x ∷ map (λ (w : ArrayVec ℕ). w.items) vs) (no_items v.items (All-head (λ (w : ArrayVec ℕ). length w.items ≡ 0) v vs all))
-    ∙ ap (λ l. [] ∷ l) (empty_columns vs (All-tail (λ (w : ArrayVec ℕ). length w.items ≡ 0) v vs all))
 
 -- a column that grows: a card, and the rest
 grown_some : (next : ℕ → Option ℕ) (n m c : ℕ) (front : List ℕ) → n ≡ suc m

@@ -15,6 +15,7 @@ pub mod MovedLemmas
 pub mod PassedLemmas
 pub mod SeatLemmas
 pub mod SpelledLemmas
+pub mod StackLemmas
 pub mod StandLemmas
 pub mod StartLemmas
 pub mod StateLemmas

@@ -6,7 +6,7 @@ use Rattle.std.specs.Cmp.Lexicographic.{pointwise, pointwise_decides}
 use Rattle.std.proofs.lemmas.List.{get_or-set_same, get_or-set_other, length-set, ext_get_or, get_or_past}
 use Rattle.std.proofs.lemmas.Nat.{and_mask, mul-le, shr_le, shr_split, shl_whole}
 use Rattle.std.proofs.lemmas.Bool.{cases_eq, cases_lt}
-use Rattle.fc_codes.specs.Words.{digit, read_state, unpacked, word_of, words_of}
+use Rattle.fc_codes.specs.Words.{digit, read_state, unpacked, word_of, words_of, halved}
 use Rattle.fc_codes.specs.inner.Words.{with_number, AreWords}
 use Rattle.fc_codes.proofs.DigitLemmas.{digit_past}
 use Rattle.fc_codes.specs.inner.Packing.{place_value, digit-suc, unpacked-at, length-unpacked, words_back, words_told}
@@ -211,3 +211,15 @@ word_state words k i h below few =
     digit_past (get_or words k 0) 10 i small (omega (arith, past, last))
     ∙ sym (get_or_past (unpacked words) (21 * k + i) 0 (omega (arith, length-unpacked words, past))))
     (cases_lt (21 * k + i) 52)
+
+-- five numbers are the halves of three words
+pub five_are : (words : List ℕ) (a b c d e : ℕ) → a ≡ get_or words 0 0 % 2 ^ 32 → b ≡ get_or words 0 0 / 2 ^ 32
+    → c ≡ get_or words 1 0 % 2 ^ 32 → d ≡ get_or words 1 0 / 2 ^ 32 → e ≡ get_or words 2 0 % 2 ^ 32
+    → a ∷ b ∷ c ∷ d ∷ e ∷ [] ≡ halved words
+five_are words a b c d e one two three four five =
+    let first = get_or words 0 0 in
+    let second = get_or words 1 0 in
+    ap (λ x. x ∷ b ∷ c ∷ d ∷ e ∷ []) one ∙ ap (λ x. first % 2 ^ 32 ∷ x ∷ c ∷ d ∷ e ∷ []) two
+    ∙ ap (λ x. first % 2 ^ 32 ∷ first / 2 ^ 32 ∷ x ∷ d ∷ e ∷ []) three
+    ∙ ap (λ x. first % 2 ^ 32 ∷ first / 2 ^ 32 ∷ second % 2 ^ 32 ∷ x ∷ e ∷ []) four
+    ∙ ap (λ x. first % 2 ^ 32 ∷ first / 2 ^ 32 ∷ second % 2 ^ 32 ∷ second / 2 ^ 32 ∷ x ∷ []) five

@@ -26,3 +26,15 @@ word_of states from count = packed (λ i. slice_index states (from + i)) count
 -- the three words of such a list
 abbrev pub words_of : List ℕ → List ℕ
 words_of states = word_of states 0 21 ∷ word_of states 21 21 ∷ word_of states 42 10 ∷ []
+
+-- the three words of five halves, each lower one first; the last word has no upper half
+abbrev pub joined : List ℕ → List ℕ
+joined halves =
+    (slice_index halves 0 + slice_index halves 1 * 2 ^ 32) ∷ (slice_index halves 2 + slice_index halves 3 * 2 ^ 32)
+    ∷ slice_index halves 4 ∷ []
+
+-- the five halves of three words
+abbrev pub halved : List ℕ → List ℕ
+halved words =
+    slice_index words 0 % 2 ^ 32 ∷ slice_index words 0 / 2 ^ 32 ∷ slice_index words 1 % 2 ^ 32 ∷ slice_index words 1 / 2 ^ 32
+    ∷ slice_index words 2 % 2 ^ 32 ∷ []

@@ -4,4 +4,5 @@ pub mod Bits
 pub mod Landed
 pub mod Packing
 pub mod Seats
+pub mod Stacks
 pub mod Words

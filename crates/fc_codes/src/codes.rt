@@ -1,11 +1,11 @@
-ghost use Rattle.std.specs.Prelude.{◌≡◌, ℕ, ◌+◌, ◌*◌, ◌^◌, ◌<◌, length, slice_index, slice_set};
+ghost use Rattle.std.specs.Prelude.{◌≡◌, ℕ, ◌+◌, ◌*◌, ◌/◌, ◌%◌, ◌^◌, ◌<◌, length, slice_index, slice_set};
 ghost use Rattle.fc_cards.specs.declared.places.Place.{Place};
 ghost use Rattle.fc_position.specs.Board.{Board};
 ghost use Rattle.fc_moves.specs.declared.steps.Move.{Move};
 ghost use Rattle.fc_codes.specs.Moved.{Moves};
 ghost use Rattle.fc_codes.specs.State.{IsCodeOf};
-ghost use Rattle.fc_codes.specs.Words.{digit};
-ghost use Rattle.fc_codes.specs.inner.Words.{with_number};
+ghost use Rattle.fc_codes.specs.Words.{digit, unpacked};
+ghost use Rattle.fc_codes.specs.inner.Words.{AreWords, with_number};
 
 use fc_cards::Card;
 use fc_keys::ExactKey;
@@ -13,28 +13,29 @@ use std::hash::{Hash, Hasher};
 use std::marker::Model;
 
 /// The code of a position: a state of three bits for each card. Contracts see it as the list of the 52 states, each from
-/// 0 to 7, by card. It takes 24 bytes.
+/// 0 to 7, by card. It takes 20 bytes.
 #[derive(Clone, Copy)]
 pub struct Code {
-    // 21, 21 and 10 states, the first one lowest; the other bits are 0.
-    words: [u64; 3],
+    // Three words of 21, 21 and 10 states, the first one lowest; the other bits are 0. Of the first two words the lower half lies
+    // first: so a code lies wherever a number of 32 bits may.
+    halves: [u32; 5],
 }
 
 impl Model for Code {
     ghost use Rattle.std.specs.Prelude.{ℕ, List};
-    ghost use Rattle.fc_codes.specs.Words.{unpacked, words_of};
-    ghost use Rattle.fc_codes.specs.inner.Words.{AreWords};
-    ghost use Rattle.fc_codes.specs.inner.Packing.{words_back};
+    ghost use Rattle.fc_codes.specs.Words.{unpacked, words_of, joined, halved};
+    ghost use Rattle.fc_codes.specs.inner.Words.{AreHalves};
+    ghost use Rattle.fc_codes.specs.inner.Packing.{halves_back};
 
     ghost Value = { List ℕ };
 
-    ghost view = { λ c. unpacked c.words };
+    ghost view = { λ c. unpacked (joined c.halves) };
 
-    ghost invariant = { λ c. AreWords c.words };
+    ghost invariant = { λ c. AreHalves c.halves };
 
-    ghost inverse = { λ states. record { words = words_of states } };
+    ghost inverse = { λ states. record { halves = halved (words_of states) } };
 
-    ghost inverse_ok = { λ c h i. record { words = words_back c.words h i } };
+    ghost inverse_ok = { λ c h i. record { halves = halves_back c.halves h i } };
 }
 
 impl PartialEq for Code {
@@ -47,7 +48,7 @@ impl PartialEq for Code {
     ghost laws = { partial_equiv_from_equiv nat_list_eq_equiv };
 
     fn eq(&self, other: &Code) -> bool {
-        self.words == other.words
+        self.words() == other.words()
     }
 }
 
@@ -70,7 +71,7 @@ impl Hash for Code {
 
     // Three words are written, and not 52 states.
     fn hash<H: Hasher>(&self, state: &mut H) {
-        let [first, second, third] = self.words;
+        let [first, second, third] = self.words();
         state.write_u64(first);
         state.write_u64(second);
         state.write_u64(third);
@@ -84,12 +85,40 @@ impl ExactKey for Code {
 }
 
 impl Code {
+    // The three words.
+    #[inline(always)]
+    fn words(&self) -> [u64; 3]
+        ensures value { unpacked result ≡ self.now }
+        ensures words { AreWords result }
+    {
+        let [a, b, c, d, e] = self.halves;
+        [whole(a, b), whole(c, d), e as u64]
+    }
+
+    // The code with these words.
+    #[inline(always)]
+    fn of(words: [u64; 3]) -> Code
+        requires words { AreWords words }
+        ensures value { result ≡ unpacked words }
+    {
+        let [first, second, third] = words;
+        Code {
+            halves: [
+                lower(first),
+                upper(first),
+                lower(second),
+                upper(second),
+                lower(third),
+            ],
+        }
+    }
+
     // The code with the state 0 for each card.
     pub(crate) fn unmoved() -> Code
         ensures value { (c : ℕ) → c < 52 → slice_index result c ≡ 0 }
         ensures count { length result ≡ 52 }
     {
-        Code { words: [0; 3] }
+        Code::of([0; 3])
     }
 
     /// The code with the state 1, home, for each card.
@@ -98,13 +127,11 @@ impl Code {
         ensures value { (c : ℕ) → c < 52 → slice_index result c ≡ 1 }
         ensures count { length result ≡ 52 }
     {
-        Code {
-            words: [
-                0o1_1111_1111_1111_1111_1111,
-                0o1_1111_1111_1111_1111_1111,
-                0o11_1111_1111,
-            ],
-        }
+        Code::of([
+            0o1_1111_1111_1111_1111_1111,
+            0o1_1111_1111_1111_1111_1111,
+            0o11_1111_1111,
+        ])
     }
 
     /// The code after a move of a card to a cell, from a position with this code.
@@ -133,7 +160,7 @@ impl Code {
         ensures value { (place : ℕ) → place < 21 → digit result place ≡ slice_index self.now (21 * index + place) }
         ensures small { result < 2 ^ 63 }
     {
-        self.words[index as usize]
+        self.words()[index as usize]
     }
 
     // The card's state, 0 to 7.
@@ -144,7 +171,7 @@ impl Code {
         ensures card { card < 52 }
     {
         let index = card.index() as usize;
-        (self.words[index / 21] >> (3 * (index % 21)) & 7) as u8
+        (self.words()[index / 21] >> (3 * (index % 21)) & 7) as u8
     }
 
     // The code with another state, 0 to 7, for one card.
@@ -156,9 +183,10 @@ impl Code {
         ensures card { card < 52 }
     {
         let index = card.index() as usize;
-        let mut words = self.words;
-        words[index / 21] = with_digit(words[index / 21], index % 21, state);
-        Code { words }
+        let mut words = self.words();
+        let word = &mut words[index / 21];
+        *word = with_digit(*word, index % 21, state);
+        Code::of(words)
     }
 }
 
@@ -183,4 +211,28 @@ fn with_digit(word: u64, place: usize, number: u8) -> u64
 {
     let shift = 3 * place;
     word - ((word >> shift & 7) << shift) + ((number as u64) << shift)
+}
+
+// The word with these halves.
+#[inline(always)]
+fn whole(low: u32, high: u32) -> u64
+    ensures value { result ≡ low + high * 2 ^ 32 }
+{
+    low as u64 + ((high as u64) << 32)
+}
+
+// The lower half of a word.
+#[inline(always)]
+fn lower(word: u64) -> u32
+    ensures value { result ≡ word % 2 ^ 32 }
+{
+    (word & 0xFFFF_FFFF) as u32
+}
+
+// The upper half of a word.
+#[inline(always)]
+fn upper(word: u64) -> u32
+    ensures value { result ≡ word / 2 ^ 32 }
+{
+    (word >> 32) as u32
 }

@@ -1,4 +1,4 @@
-ghost use Rattle.std.specs.Prelude.{◌≡◌, ℕ, ◌+◌, ◌*◌, ◌<◌, ◌≤◌, ◌==◌, if◌then◌else◌, Some, IfSome, IfNone, List, [], length, slice_index};
+ghost use Rattle.std.specs.Prelude.{◌≡◌, ℕ, ◌+◌, ◌*◌, ◌<◌, ◌≤◌, ◌==◌, if◌then◌else◌, Some, IfSome, IfNone, List, [], ◌∷◌, length, slice_index};
 ghost use Rattle.std.specs.Int.{bit_at};
 ghost use Rattle.fc_position.specs.Board.{Board, column, last_of};
 ghost use Rattle.fc_position.specs.Position.{IsPosition};
@@ -9,7 +9,8 @@ ghost use Rattle.fc_codes.specs.inner.Landed.{table_state, card_state, IsCellSta
 ghost use Rattle.fc_codes.specs.inner.Seats.{AreSeatsOf, AreSeatsUntil};
 
 use crate::codes::{Code, unmoved_before};
-use crate::seats::{NOTHING, Seats, TABLE, cells_with, fill_columns, with_card};
+use crate::seats::{NOTHING, Seats, TABLE, with_card};
+use crate::stacks::Stacks;
 use fc_cards::{Card, Place};
 use fc_moves::Move;
 use fc_position::Position;
@@ -18,11 +19,11 @@ use std::marker::Model;
 /// What lay beneath each card and on it in the position that a search starts from. Contracts see it as that position's board.
 #[derive(Drop)]
 pub struct Layout {
-    start: Position,
+    pub(crate) start: Position,
     beneath: [u8; 52],
-    // for each card the number of the card that lay on it at the start, or 53; the last two are of no card
-    above: [u8; 54],
-    // the bits of the cards that lay deepest at the start
+    // for each card that lay deepest at the start the number of its column
+    pub(crate) heads: [u8; 52],
+    // the bits of those cards
     deepest: u64,
 }
 
@@ -34,7 +35,7 @@ impl Model for Layout {
 
     ghost view = { λ l. l.start };
 
-    ghost invariant = { λ l. IsTableOf l.start l.beneath l.above l.deepest };
+    ghost invariant = { λ l. IsTableOf l.start l.beneath l.heads l.deepest };
 }
 
 impl Layout {
@@ -50,7 +51,7 @@ impl Layout {
         Layout {
             start: start.copy(),
             beneath,
-            above: cards_above(&beneath),
+            heads: heads_of(start),
             deepest: cards_on_table(&beneath),
         }
     }
@@ -62,7 +63,7 @@ impl Layout {
         Layout {
             start: self.start.copy(),
             beneath: self.beneath,
-            above: self.above,
+            heads: self.heads,
             deepest: self.deepest,
         }
     }
@@ -147,11 +148,22 @@ impl Layout {
         ensures value { (c : Board) (m : Move) → Moves self.now code.now card position.now m c → m.to ≡ to
             → IsCodeOf self.now c result }
     {
-        match (to, position.playable(to)) {
-            (Place::Home, _) => code.at_home(card),
-            (Place::Cell(_), _) => code.in_cell(card),
-            (Place::Column(_), Some(host)) => self.on_card(code, card, host),
-            (Place::Column(_), None) => self.on_table(code, card),
+        match to {
+            Place::Home => code.at_home(card),
+            Place::Cell(_) => code.in_cell(card),
+            Place::Column(i) => self.stacked(code, position, card, i),
+        }
+    }
+
+    // The code after a move of this card to a column.
+    #[inline(always)]
+    fn stacked(&self, code: &Code, position: &Position, card: Card, i: u8) -> Code
+        ensures value { (c : Board) (m : Move) → Moves self.now code.now card position.now m c → m.to ≡ Place.Column i
+            → IsCodeOf self.now c result }
+    {
+        match position.playable(Place::Column(i)) {
+            Some(host) => self.on_card(code, card, host),
+            None => self.on_table(code, card),
         }
     }
 
@@ -202,29 +214,48 @@ impl Layout {
     }
 
     /// The canonical position of the class with this code, which is the code of some position.
-    #[inline(always)]
     pub fn position_of(&self, code: &Code) -> Position
         requires code { (b : Board) × IsPosition b × IsCodeOf self.now b code.now }
         ensures value { result ≡ board_of_code self.now code.now }
         ensures whole { IsPosition result }
     {
-        let _start = &self.start;
-        let seats = self.seats(code);
-        let mut columns = Default::default();
-        fill_columns(seats.deepest, &seats.above, &mut columns);
-        Position::of_parts(columns, cells_with(seats.cells.as_slice()), seats.homes)
+        let mut position = self.start.copy();
+        self.read(code, &mut position);
+        position
     }
 
-    // What the cards lie on by a code: what they lay on at the start, but for those that moved.
-    fn seats(&self, code: &Code) -> Seats
+    /// Makes a position the canonical one of the class with this code, which is the code of some position.
+    #[inline(never)]
+    pub fn read(&self, code: &Code, position: &mut Position)
         requires code { (b : Board) × IsPosition b × IsCodeOf self.now b code.now }
-        ensures value { AreSeatsOf self.now code.now result }
+        ensures value { position.new ≡ board_of_code self.now code.now }
+        ensures whole { IsPosition position.new }
     {
-        let mut seats = Seats::unmoved(&self.above, self.deepest);
-        self.move_word(code, 0, &mut seats);
-        self.move_word(code, 1, &mut seats);
-        self.move_word(code, 2, &mut seats);
-        seats
+        let _start = &self.start;
+        let mut seats = Seats::unmoved(self.deepest);
+        self.move_cards(code, &mut seats);
+        let cells = seats.cells;
+        let stacks = Stacks {
+            layout: self,
+            code,
+            above: &seats.above,
+            deepest: seats.deepest,
+            moved: seats.moved,
+        };
+        position.refill(&stacks, cells, seats.homes);
+    }
+
+    // Moves the cards that a code moves, where none has yet.
+    #[inline(always)]
+    fn move_cards(&self, code: &Code, seats: &mut Seats)
+        requires code { (b : Board) × IsPosition b × IsCodeOf self.now b code.now }
+        requires before { AreSeatsUntil self.now code.now 0 seats.old }
+        ensures value { AreSeatsOf self.now code.now seats.new }
+    {
+        let _start = &self.start;
+        self.move_word(code, 0, seats);
+        self.move_word(code, 1, seats);
+        self.move_word(code, 2, seats);
     }
 
     // Moves the cards whose states stand in a word of a code, over those before them. Most have the state 0 and are passed.
@@ -235,15 +266,15 @@ impl Layout {
         requires before { AreSeatsUntil self.now code.now (21 * index) seats.old }
         ensures value { AreSeatsUntil self.now code.now (21 * index + 21) seats.new }
     {
+        let _start = &self.start;
         let mut rest = code.word(index);
         let mut next = 21 * index;
         while rest != 0 {
             let passed = unmoved_before(rest);
             let states = rest >> (3 * passed);
-            if let Some(card) = Card::from_index(next + passed) {
-                seats.leave(card, self.beneath[card.index() as usize]);
-                seats.put(card, (states & 7) as u8);
-            }
+            let index = next + passed;
+            seats.leave(index);
+            seats.put(index, (states & 7) as u8);
             rest = states >> 3;
             next += passed + 1;
         }
@@ -292,20 +323,19 @@ fn with_homes(start: &Position, code: Code) -> Code
     code
 }
 
-// For each card the card that lies on it.
-fn cards_above(beneath: &[u8; 52]) -> [u8; 54]
-    requires below { (c : ℕ) → c < 52 → slice_index beneath.now c < 54 }
-    requires apart { (c d : ℕ) → c < 52 → d < 52 → slice_index beneath.now c < 52
-        → slice_index beneath.now c ≡ slice_index beneath.now d → c ≡ d }
-    ensures count { length result ≡ 54 }
-    ensures there { (x : ℕ) → x < 52 → slice_index result x < 52 → slice_index beneath.now (slice_index result x) ≡ x }
-    ensures lies { (c : ℕ) → c < 52 → slice_index beneath.now c < 52 → slice_index result (slice_index beneath.now c) ≡ c }
+// For each card that lies deepest in a column the number of that column.
+fn heads_of(start: &Position) -> [u8; 52]
+    ensures count { length result ≡ 52 }
+    ensures there { (c : ℕ) → c < 52 → slice_index result c < 8 }
+    ensures begun { (j c : ℕ) (rest : List ℕ) → j < 8 → column start.now j ≡ c ∷ rest → slice_index result c ≡ j }
 {
-    let mut above = [NOTHING; 54];
-    for card in 0..52 {
-        above[beneath[card as usize] as usize] = card;
+    let mut heads = [0; 52];
+    for i in 0..8 {
+        if let Some(card) = start.column(i).first() {
+            heads[card.index() as usize] = i;
+        }
     }
-    above
+    heads
 }
 
 // The bits of the cards that lie on the table.

@@ -2,12 +2,12 @@
 use Rattle.std.specs.Prelude.{true, nat_eq}
 use Rattle.std.specs.Cmp.{unsigned_Decides}
 use Rattle.std.specs.Cmp.Lexicographic.{pointwise, pointwise_decides}
-use Rattle.std.proofs.Common.{◌≡◌, ℕ, zero, suc, ◌+◌, ◌*◌, ◌/◌, ◌%◌, ◌^◌, ◌<◌, ◌≤◌, List, [], ◌∷◌, length, get_or, refl, sym, ◌∙◌, ap, arith}
+use Rattle.std.proofs.Common.{◌≡◌, ℕ, zero, suc, ◌+◌, ◌*◌, ◌/◌, ◌%◌, ◌^◌, ◌<◌, ◌≤◌, List, [], ◌∷◌, length, get_or, refl, sym, ◌∙◌, ap, subst, arith}
 use Rattle.std.proofs.lemmas.List.FromFn.{get_or-map-range_with_len, length-map-range_with_len}
 use Rattle.std.proofs.lemmas.Nat.{pow-add, shr-shr}
 use Rattle.fc_cards.specs.Card.{all_cards}
-use Rattle.fc_codes.specs.Words.{digit, packed, read_state, unpacked, word_of, words_of}
-use Rattle.fc_codes.specs.inner.Words.{AreWords}
+use Rattle.fc_codes.specs.Words.{digit, packed, read_state, unpacked, word_of, words_of, joined, halved}
+use Rattle.fc_codes.specs.inner.Words.{AreWords, AreHalves}
 
 -- the place value of one number more
 pub place_value : (i : ℕ) → 2 ^ (3 * suc i) ≡ 8 * 2 ^ (3 * i)
@@ -72,6 +72,50 @@ words_back words h =
     ap (λ x. x ∷ word_of (unpacked words) 21 21 ∷ word_of (unpacked words) 42 10 ∷ []) one
     ∙ ap (λ x. get_or words 0 0 ∷ x ∷ word_of (unpacked words) 42 10 ∷ []) two
     ∙ ap (λ x. get_or words 0 0 ∷ get_or words 1 0 ∷ x ∷ []) three ∙ three_of words h.three
+
+-- and the halves by the words
+whole_back : (a b : ℕ) → a < 2 ^ 32 → ((a + b * 2 ^ 32) % 2 ^ 32 ≡ a) × ((a + b * 2 ^ 32) / 2 ^ 32 ≡ b)
+whole_back a b small = (omega (arith, small), omega (arith, small))
+
+five_back : (halves : List ℕ) → length halves ≡ 5 → get_or halves 0 0 < 2 ^ 32 → get_or halves 2 0 < 2 ^ 32 → get_or halves 4 0 < 2 ^ 30
+    → halved (joined halves) ≡ halves
+five_back (a ∷ b ∷ c ∷ d ∷ e ∷ []) l one two three =
+    let first = whole_back a b one in
+    let second = whole_back c d two in
+    let last : e % 2 ^ 32 ≡ e = omega (arith, three) in
+    ap (λ x. x ∷ (a + b * 2 ^ 32) / 2 ^ 32 ∷ (c + d * 2 ^ 32) % 2 ^ 32 ∷ (c + d * 2 ^ 32) / 2 ^ 32 ∷ e % 2 ^ 32 ∷ []) first.0
+    ∙ ap (λ x. a ∷ x ∷ (c + d * 2 ^ 32) % 2 ^ 32 ∷ (c + d * 2 ^ 32) / 2 ^ 32 ∷ e % 2 ^ 32 ∷ []) first.1
+    ∙ ap (λ x. a ∷ b ∷ x ∷ (c + d * 2 ^ 32) / 2 ^ 32 ∷ e % 2 ^ 32 ∷ []) second.0
+    ∙ ap (λ x. a ∷ b ∷ c ∷ x ∷ e % 2 ^ 32 ∷ []) second.1 ∙ ap (λ x. a ∷ b ∷ c ∷ d ∷ x ∷ []) last
+five_back [] l one two three = absurd (omega arith)
+five_back (a ∷ []) l one two three = absurd (omega arith)
+five_back (a ∷ b ∷ []) l one two three = absurd (omega arith)
+five_back (a ∷ b ∷ c ∷ []) l one two three = absurd (omega arith)
+five_back (a ∷ b ∷ c ∷ d ∷ []) l one two three = absurd (omega arith)
+five_back (a ∷ b ∷ c ∷ d ∷ e ∷ f ∷ xs) l one two three = absurd (omega arith)
+
+pub halves_back : (halves : List ℕ) → AreHalves halves → halved (words_of (unpacked (joined halves))) ≡ halves
+halves_back halves h = ap halved (words_back (joined halves) h.words) ∙ five_back halves h.five h.first h.third h.words.third
+
+-- three words are those of their halves
+pub joined_back : (words : List ℕ) → AreWords words → joined (halved words) ≡ words
+joined_back words h =
+    let a = get_or words 0 0 in
+    let b = get_or words 1 0 in
+    let c = get_or words 2 0 in
+    let one : a % 2 ^ 32 + a / 2 ^ 32 * 2 ^ 32 ≡ a = omega arith in
+    let two : b % 2 ^ 32 + b / 2 ^ 32 * 2 ^ 32 ≡ b = omega arith in
+    let three : c % 2 ^ 32 ≡ c = omega (arith, h.third) in
+    ap (λ x. x ∷ (b % 2 ^ 32 + b / 2 ^ 32 * 2 ^ 32) ∷ c % 2 ^ 32 ∷ []) one ∙ ap (λ x. a ∷ x ∷ c % 2 ^ 32 ∷ []) two
+    ∙ ap (λ x. a ∷ b ∷ x ∷ []) three ∙ three_of words h.three
+
+pub words_halved : (words : List ℕ) → AreWords words → AreHalves (halved words)
+words_halved words h = record {
+  five = refl;
+  first = omega arith;
+  third = omega arith;
+  words = subst AreWords (sym (joined_back words h)) h;
+}
 
 pub words_told : (words others : List ℕ) → AreWords words → AreWords others → unpacked words ≡ unpacked others → words ≡ others
 words_told words others h i e = sym (words_back words h) ∙ ap words_of e ∙ words_back others i

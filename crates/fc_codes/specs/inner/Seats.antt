@@ -1,10 +1,10 @@
 -- What the cards lie on by a code, within the crate.
-use Rattle.std.specs.Prelude.{◌≡◌, ℕ, ◌<◌, ◌==◌, ◌&&◌, ◌⊎◌, nat_lt, if◌then◌else◌, length, map, filter, count_by, List, [], ◌∷◌, slice_index}
+use Rattle.std.specs.Prelude.{◌≡◌, ℕ, ◌<◌, ◌==◌, ◌&&◌, nat_lt, if◌then◌else◌, length, map, filter, count_by, List, [], ◌∷◌, Some, None, slice_index}
 use Rattle.std.specs.List.{range_with_len}
 use Rattle.std.specs.Int.{bit_at}
 use Rattle.fc_cards.specs.Card.{suit, all_cards}
 use Rattle.fc_position.specs.Board.{Board}
-use Rattle.fc_codes.specs.Spelled.{beneath, seat, lying_on}
+use Rattle.fc_codes.specs.Spelled.{beneath, filled, seat, lying_on}
 use Rattle.fc_codes.specs.inner.Beneath.{card_at}
 use Rattle.fc_codes.specs.inner.Bits.{cards_of}
 use Rattle.fc_codes.specs.declared.seats.Seats.{Seats}
@@ -17,19 +17,46 @@ seat_until s code k c = if nat_lt c k then seat s code c else beneath s c
 abbrev pub home_among : List ℕ → List ℕ → ℕ → ℕ
 home_among code cards u = count_by (λ c. (suit c == u) && (slice_index code c == 1)) cards
 
--- these tell what the cards lie on where those before k have moved; a card that has moved may lie where one still to come lay
+-- the bits are of the cards before k that have moved
+abbrev pub AreMovedUntil : List ℕ → ℕ → ℕ → Type 0
+AreMovedUntil code k bits =
+    (c : ℕ) → c < 52 → bit_at bits c ≡ (if (nat_lt c k) && (nat_lt 0 (slice_index code c)) then 1 else 0)
+
+-- the bits are of the cards that have moved
+abbrev pub AreMoved : List ℕ → ℕ → Type 0
+AreMoved code bits = (c : ℕ) → c < 52 → bit_at bits c ≡ (if nat_lt 0 (slice_index code c) then 1 else 0)
+
+-- no card that hasn't moved lies on x
+abbrev pub IsBare : Board → List ℕ → ℕ → Type 0
+IsBare s code x = (c : ℕ) → c < 52 → slice_index code c ≡ 0 → beneath s c ≡ x → ⊥
+
+-- these tell what the cards lie on where those before k have moved
 pub record AreSeatsUntil (s : Board) (code : List ℕ) (k : ℕ) (seats : Seats) : Type 0 where
-  pub count : length seats.above ≡ 54
-  pub there : (x : ℕ) → x < 52 → slice_index seats.above x < 52 → seat_until s code k (slice_index seats.above x) ≡ x
-  pub lies : (c : ℕ) → c < 52 → (c < k) ⊎ (slice_index code c ≡ 0) → seat s code c < 52 → slice_index seats.above (seat s code c) ≡ c
+  pub count : length seats.above ≡ 52
+  pub there : (x : ℕ) → x < 52 → slice_index seats.above x < 52 → seat s code (slice_index seats.above x) ≡ x
+  pub lies : (c : ℕ) → c < 52 → c < k → 0 < slice_index code c → seat s code c < 52 → slice_index seats.above (seat s code c) ≡ c
   pub deepest : (c : ℕ) → c < 52 → bit_at seats.deepest c ≡ (if seat_until s code k c == 52 then 1 else 0)
-  pub cells : seats.cells.items ≡ filter (λ c. slice_index code c == 2) (range_with_len 0 k)
+  pub moved : AreMovedUntil code k seats.moved
+  pub cells : seats.cells ≡ filled 4 None (map (λ c. Some c) (filter (λ c. slice_index code c == 2) (range_with_len 0 k)))
+  pub four : length seats.cells ≡ 4
+  pub held : seats.held ≡ length (filter (λ c. slice_index code c == 2) (range_with_len 0 k))
   pub homes : seats.homes ≡ map (home_among code (range_with_len 0 k)) (0 ∷ 1 ∷ 2 ∷ 3 ∷ [])
 
--- these tell of each card what it lies on by the code
+-- the table tells what lies on a card, where none that hasn't moved does
+pub record AreOver (s : Board) (code table : List ℕ) : Type 0 where
+  pub count : length table ≡ 52
+  pub above : (x : ℕ) → x < 52 → IsBare s code x → card_at table x ≡ lying_on s code x
+  pub there : (x : ℕ) → x < 52 → slice_index table x < 52 → seat s code (slice_index table x) ≡ x
+
+-- so does the table, and the bits are of the deepest cards and of those that have moved
+pub record AreStacksOf (s : Board) (code table : List ℕ) (tops marks : ℕ) : Type 0 where
+  pub over : AreOver s code table
+  pub deepest : cards_of tops ≡ filter (λ c. seat s code c == 52) all_cards
+  pub on_table : (c : ℕ) → c < 52 → bit_at tops c ≡ 1 → seat s code c ≡ 52
+  pub moved : AreMoved code marks
+
+-- these tell where the cards are by the code
 pub record AreSeatsOf (s : Board) (code : List ℕ) (seats : Seats) : Type 0 where
-  pub count : length seats.above ≡ 54
-  pub above : (x : ℕ) → x < 52 → card_at seats.above x ≡ lying_on s code x
-  pub deepest : cards_of seats.deepest ≡ filter (λ c. seat s code c == 52) all_cards
-  pub cells : seats.cells.items ≡ filter (λ c. slice_index code c == 2) all_cards
+  pub stacks : AreStacksOf s code seats.above seats.deepest seats.moved
+  pub cells : seats.cells ≡ filled 4 None (map (λ c. Some c) (filter (λ c. slice_index code c == 2) all_cards))
   pub homes : seats.homes ≡ map (home_among code all_cards) (0 ∷ 1 ∷ 2 ∷ 3 ∷ [])

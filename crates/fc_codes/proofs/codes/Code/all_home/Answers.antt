@@ -1,4 +1,4 @@
-use Rattle.std.proofs.Common.{◌≡◌, ℕ, ◌<◌, List, [], ◌∷◌, get_or, eqb, true, arith, ◌∙◌, refl}
+use Rattle.std.proofs.Common.{◌≡◌, ℕ, ◌<◌, List, [], ◌∷◌, get_or, length, eqb, true, arith, ap, ◌∙◌, refl}
 use Rattle.std.proofs.lemmas.Bool.{agree_below, agree_below_at}
 use Rattle.std.proofs.lemmas.Bool.Decides.{nat_tests}
 use Rattle.fc_codes.specs.Words.{unpacked, read_state}
@@ -16,4 +16,7 @@ ones_state : (c : ℕ) → c < 52 → get_or (unpacked ones) c 0 ≡ 1
 ones_state c below = unpacked-at ones c below ∙ each_is refl c below
 
 pub returns : goal.returns
-returns c = record { value = ones_state; count = length-unpacked _ }
+returns c = record {
+  value = λ k below. ap (λ l. get_or l k 0) c.of.ensures.value ∙ ones_state k below;
+  count = ap length c.of.ensures.value ∙ length-unpacked _;
+}

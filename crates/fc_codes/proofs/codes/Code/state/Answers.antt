@@ -6,6 +6,6 @@ use Rattle.fc_codes.proofs.codes.Code.state.Goals as goal
 pub returns-clause-value : goal.returns-clause-value
 returns-clause-value c =
     let k = c.index-index.result in
-    digit_masked (get_or c.self.inside.words (k / 21) 0) (k % 21)
-    ∙ sym (unpacked-at c.self.inside.words k c.index-index.ensures.below)
-    ∙ ap (λ l. get_or l k 0) c.self.view_is ∙ ap (λ n. get_or c.args.self.now n 0) c.index-index.ensures.value
+    digit_masked (get_or c.words.result (k / 21) 0) (k % 21)
+    ∙ sym (unpacked-at c.words.result k c.index-index.ensures.below)
+    ∙ ap (λ l. get_or l k 0) c.words.ensures.value ∙ ap (λ n. get_or c.args.self.now n 0) c.index-index.ensures.value

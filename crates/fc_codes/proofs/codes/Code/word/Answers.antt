@@ -4,9 +4,9 @@ use Rattle.fc_codes.proofs.codes.Code.word.Goals as goal
 
 pub returns : goal.returns
 returns c =
-    let words = c.self.inside.words in
+    let words = c.words.result in
     record {
-      value = λ place small. word_state words c.args.index place c.self.invariant c.requires.there small
-          ∙ ap (λ l. get_or l (21 * c.args.index + place) 0) c.self.view_is;
-      small = word_fits words c.args.index c.self.invariant c.requires.there;
+      value = λ place small. word_state words c.args.index place c.words.ensures.words c.requires.there small
+          ∙ ap (λ l. get_or l (21 * c.args.index + place) 0) c.words.ensures.value;
+      small = word_fits words c.args.index c.words.ensures.words c.requires.there;
     }

@@ -3,7 +3,7 @@ use Rattle.fc_codes.proofs.codes.CodeHash.hash.Goals as goal
 
 pub returns : goal.returns
 returns g c =
-    let three = words_are c.self.inside.words c.args.self.now c.self.invariant c.self.view_is in
+    let three = words_are c.words.result c.args.self.now c.words.ensures.words c.words.ensures.value in
     let one = three.0 in
     let two = three.1 in
     let last = three.2 in

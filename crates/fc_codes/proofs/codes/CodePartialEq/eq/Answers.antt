@@ -7,6 +7,6 @@ use Rattle.fc_codes.proofs.codes.CodePartialEq.eq.Goals as goal
 
 pub returns : goal.returns
 returns c =
-    c.eq.ensures ∙ compared c.self.inside.words c.other.inside.words c.self.invariant c.other.invariant
-    ∙ ap (λ l. pointwise nat_eq l (unpacked c.other.inside.words)) c.self.view_is
-    ∙ ap (pointwise nat_eq c.args.self.now) c.other.view_is
+    c.eq.ensures ∙ compared c.words.result c.words-2.result c.words.ensures.words c.words-2.ensures.words
+    ∙ ap (λ l. pointwise nat_eq l (unpacked c.words-2.result)) c.words.ensures.value
+    ∙ ap (pointwise nat_eq c.args.self.now) c.words-2.ensures.value

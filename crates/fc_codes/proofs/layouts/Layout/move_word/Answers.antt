@@ -1,10 +1,9 @@
-use Rattle.std.proofs.Common.{◌≡◌, ◌+◌, ◌-◌, ◌*◌, set, ◌/◌, ◌^◌, ◌++◌, ◌∷◌, [], bit_and, cond, eqb, get_or, length, refl, sym, ◌∙◌, ap, subst, arith}
+use Rattle.std.proofs.Common.{◌≡◌, ◌+◌, ◌-◌, ◌*◌, set, ◌/◌, ◌^◌, Some, bit_and, cond, eqb, get_or, length, refl, sym, ◌∙◌, ap, subst, arith}
 use Rattle.fc_cards.specs.Card.{suit}
 use Rattle.fc_position.specs.Position.{IsPosition}
-use Rattle.fc_codes.specs.Spelled.{beneath}
 use Rattle.fc_codes.specs.State.{IsStateOf}
 use Rattle.fc_codes.specs.inner.Seats.{AreSeatsUntil}
-use Rattle.fc_codes.proofs.ApartLemmas.{beneath_small, card_below}
+use Rattle.fc_codes.proofs.ApartLemmas.{card_below}
 use Rattle.fc_codes.proofs.BuiltLemmas.{few_in_cells}
 use Rattle.fc_codes.proofs.DigitLemmas.{digit_past}
 use Rattle.fc_codes.proofs.GatherLemmas.{room_cells, room_home}
@@ -12,48 +11,41 @@ use Rattle.fc_codes.proofs.PassedLemmas.{all_passed}
 use Rattle.fc_codes.proofs.TurnLemmas.{one_moved}
 use Rattle.fc_codes.proofs.WalkLemmas.{turn, next_inside, rest_after, states_after}
 use Rattle.fc_codes.proofs.layouts.Layout.move_word.Goals as goal
-use Rattle.fc_codes.proofs.layouts.Layout.move_word.Goals.{in-Some, in_default}
 
-pub leave-requires-clause-from : goal.leave-requires-clause-from
-leave-requires-clause-from c =
-    let at = c.self.invariant.each c.index.result c.index.ensures.below in
-    let small = beneath_small c.self.inside.start c.index.result c.self.invariant.whole c.index.ensures.below in
-    omega (arith, at, small)
-
-pub put-requires-clause-on_card : goal.put-requires-clause-on_card
-put-requires-clause-on_card c = λ many.
+pub leave-requires : goal.leave-requires
+leave-requires c =
     let (b, p, k) = c.requires.code in
     let passed = c.unmoved_before-passed in
     let n = bit_and (c.loop-rest.rest / 2 ^ (3 * passed.result)) 7 in
     let t = turn c.args.code.now (21 * c.args.index + 21) c.loop-rest.next c.loop-rest.rest passed.result c.loop-rest.invariant.small
-    c.loop-rest.invariant.states c.args.self.now c.in-Some.card n c.loop-rest.seats k.count c.loop-rest.invariant.most
-    c.loop-rest.invariant.moved passed.ensures.unmoved passed.ensures.moved c.in-Some.ensures.value refl in
-    card_below c.args.self.now b c.in-Some.card n p
-    (subst (λ m. IsStateOf c.args.self.now b c.in-Some.card m) (sym t.state) (k.states c.in-Some.card t.below)) many
+    c.loop-rest.invariant.states c.args.self.now (c.loop-rest.next + passed.result) n c.loop-rest.seats k.count c.loop-rest.invariant.most
+    c.loop-rest.invariant.moved passed.ensures.unmoved passed.ensures.moved refl refl in
+    record { card = t.below }
 
-pub put-requires-clause-in_cell : goal.put-requires-clause-in_cell
-put-requires-clause-in_cell c = λ two.
+pub put-requires : goal.put-requires
+put-requires c =
     let (b, p, k) = c.requires.code in
     let passed = c.unmoved_before-passed in
+    let card = c.loop-rest.next + passed.result in
     let n = bit_and (c.loop-rest.rest / 2 ^ (3 * passed.result)) 7 in
     let t = turn c.args.code.now (21 * c.args.index + 21) c.loop-rest.next c.loop-rest.rest passed.result c.loop-rest.invariant.small
-    c.loop-rest.invariant.states c.args.self.now c.in-Some.card n c.loop-rest.seats k.count c.loop-rest.invariant.most
-    c.loop-rest.invariant.moved passed.ensures.unmoved passed.ensures.moved c.in-Some.ensures.value refl in
-    let few = few_in_cells c.args.self.now b c.args.code.now (subst IsPosition c.self.view_is c.self.invariant.whole) p k in
-    let room = room_cells c.args.code.now c.in-Some.card t.below few (sym t.state ∙ two) in
-    let cells = ap (λ v. length v.items) c.leave.ensures.cells in
-    omega (arith, cells, ap length t.so_far.cells, room)
-
-pub put-requires-clause-few : goal.put-requires-clause-few
-put-requires-clause-few c =
-    let (b, p, k) = c.requires.code in
-    let passed = c.unmoved_before-passed in
-    let n = bit_and (c.loop-rest.rest / 2 ^ (3 * passed.result)) 7 in
-    let t = turn c.args.code.now (21 * c.args.index + 21) c.loop-rest.next c.loop-rest.rest passed.result c.loop-rest.invariant.small
-    c.loop-rest.invariant.states c.args.self.now c.in-Some.card n c.loop-rest.seats k.count c.loop-rest.invariant.most
-    c.loop-rest.invariant.moved passed.ensures.unmoved passed.ensures.moved c.in-Some.ensures.value refl in
-    room_home c.args.code.now c.in-Some.card (suit c.in-Some.card) c.leave.new.self.homes t.below (omega arith)
-    (c.leave.ensures.homes ∙ t.so_far.homes)
+    c.loop-rest.invariant.states c.args.self.now card n c.loop-rest.seats k.count c.loop-rest.invariant.most
+    c.loop-rest.invariant.moved passed.ensures.unmoved passed.ensures.moved refl refl in
+    record {
+      card = t.below;
+      moved = t.moved;
+      on_card = λ many. card_below c.args.self.now b card n p
+          (subst (λ m. IsStateOf c.args.self.now b card m) (sym t.state) (k.states card t.below)) many;
+      in_cell = λ two.
+          let few = few_in_cells c.args.self.now b c.args.code.now (subst IsPosition c.self.view_is c.self.invariant.whole) p k in
+          let room = room_cells c.args.code.now card t.below few (sym t.state ∙ two) in
+          omega (arith, c.leave.ensures.held, t.so_far.held, room);
+      above = ap length c.leave.ensures.above ∙ t.so_far.count;
+      cells = ap length c.leave.ensures.cells ∙ t.so_far.four;
+      homes = ap length c.leave.ensures.homes ∙ ap length t.so_far.homes;
+      few = room_home c.args.code.now card (suit card) c.leave.new.self.homes t.below (omega arith)
+          (c.leave.ensures.homes ∙ t.so_far.homes);
+    }
 
 pub loop-rest-preserved : goal.loop-rest-preserved
 loop-rest-preserved c =
@@ -65,36 +57,29 @@ loop-rest-preserved c =
     let rest = c.loop-rest.rest in
     let passed = c.unmoved_before-passed in
     let inv = c.loop-rest.invariant in
+    let card = next + passed.result in
     let n = bit_and (rest / 2 ^ (3 * passed.result)) 7 in
     let old = c.loop-rest.seats in
     let inside = next_inside code end next rest passed.result inv.small inv.states passed.ensures.moved in
     let more : next + passed.result + 1 ≡ next + (passed.result + 1) = omega arith in
     let ps = subst IsPosition c.self.view_is c.self.invariant.whole in
+    let t = turn code end next rest passed.result inv.small inv.states s card n old k.count inv.most inv.moved
+    passed.ensures.unmoved passed.ensures.moved refl refl in
     record {
       from = omega (arith, inv.from);
       most = omega (arith, inside);
       small = rest_after code end next rest passed.result inv.small inv.states passed.ensures.moved;
       states = states_after code end next rest passed.result inv.small inv.states;
-      moved = elim c.match-from_index.branch [
-        | in-Some w ↦
-            let card = w.in-Some.card in
-            let t = turn code end next rest passed.result inv.small inv.states s card n old k.count inv.most inv.moved
-            passed.ensures.unmoved passed.ensures.moved w.in-Some.ensures.value refl in
-            let lay = ap (λ x. get_or c.self.inside.beneath x 0) w.index.ensures.value
-            ∙ c.self.invariant.each card t.below ∙ ap (λ x. beneath x card) c.self.view_is in
-            let all = one_moved s b code ps p k card (get_or c.self.inside.beneath w.index.result 0) n old w.leave.new.self w.put.new.self
-            t.so_far t.below lay t.state t.moved w.leave.ensures.count w.leave.ensures.gone w.leave.ensures.others w.leave.ensures.only
-            w.put.ensures.above w.leave.ensures.deepest w.put.ensures.deepest
-            (w.put.ensures.cells ∙ ap (λ v. v.items ++ cond (eqb n 2) (card ∷ []) []) w.leave.ensures.cells)
-            (w.put.ensures.homes
-            ∙ ap (λ l. cond (eqb n 1) (set l (suit card) (get_or l (suit card) 0 + 1)) l) w.leave.ensures.homes) in
-            subst (λ x. AreSeatsUntil s code (next + (passed.result + 1)) x) (sym w.seats-is)
-            (subst (λ m. AreSeatsUntil s code m w.put.new.self) (ap (λ m. m + 1) w.in-Some.ensures.value ∙ more) all)
-        | in_default w ↦
-            let t = turn code end next rest passed.result inv.small inv.states s (next + passed.result) n old k.count inv.most inv.moved
-            passed.ensures.unmoved passed.ensures.moved refl refl in
-            let none = w.in_default.ensures.valid.1 t.below in absurd (cc none)
-      ];
+      moved = subst (λ m. AreSeatsUntil s code m c.put.new.self) more
+          (one_moved s b code ps p k card n old c.leave.new.self c.put.new.self t.so_far t.below t.state t.moved
+          c.leave.ensures.above c.put.ensures.above c.leave.ensures.deepest c.put.ensures.deepest c.leave.ensures.moved c.put.ensures.moved
+          (λ two. let few = few_in_cells s b code ps p k in let room = room_cells code card t.below few (sym t.state ∙ two) in
+          omega (arith, t.so_far.held, room))
+          (c.put.ensures.cells ∙ ap (λ v. cond (eqb n 2) (set v c.leave.new.self.held (Some card)) v) c.leave.ensures.cells
+          ∙ ap (λ h. cond (eqb n 2) (set old.cells h (Some card)) old.cells) c.leave.ensures.held)
+          (c.put.ensures.held ∙ ap (λ h. cond (eqb n 2) (h + 1) h) c.leave.ensures.held)
+          (c.put.ensures.homes
+          ∙ ap (λ l. cond (eqb n 1) (set l (suit card) (get_or l (suit card) 0 + 1)) l) c.leave.ensures.homes));
     }
 
 pub returns : goal.returns
