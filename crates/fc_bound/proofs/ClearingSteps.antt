@@ -44,7 +44,7 @@ lower_among u (d ∷ cards) any =
     ] refl any
 
 -- a card that is next waits for none: every lower card of its suit is home
-next_waits : (b : Board) (u : ℕ) → IsPosition b → IsNext b.homes u → waits b.columns (Some u) ≡ false
+pub next_waits : (b : Board) (u : ℕ) → IsPosition b → IsNext b.homes u → waits b.columns (Some u) ≡ false
 next_waits b u p next = not_true (waits b.columns (Some u)) (λ waiting.
     let f = found (list_any (is_lower u)) b.columns waiting in
     let one = lower_among u (column b f.place) f.passes in

@@ -65,7 +65,7 @@ guide_same Clearing x y columns homes = λ i.
     count_by (λ c. nat_lt (slice_index (homes i) (suit c)) (rank c)) all_cards + knot_count (columns i)
 
 -- a card that is put on a column and taken away again
-put_back : (columns : List (List ℕ)) (j u : ℕ) → j < length columns
+pub put_back : (columns : List (List ℕ)) (j u : ℕ) → j < length columns
     → set (set columns j (get_or columns j [] ++ u ∷ [])) j (front_of (get_or (set columns j (get_or columns j [] ++ u ∷ [])) j []))
     ≡ columns
 put_back columns j u inside =
@@ -75,7 +75,7 @@ put_back columns j u inside =
     ∙ ap (λ (x : List ℕ). set columns j (front_of x)) (get_or-set_same columns j (own ++ u ∷ []) [] inside)
     ∙ ap (λ (x : List ℕ). set columns j x) (take_at own (u ∷ []) (length (own ++ u ∷ []) - 1) (omega (arith, more))) ∙ set-get_or columns j []
 
-long_lifted : (b : Board) (from : Place) → length (lifted b from).columns ≡ length b.columns
+pub long_lifted : (b : Board) (from : Place) → length (lifted b from).columns ≡ length b.columns
 long_lifted b (Column i) = length-set b.columns i (front_of (column b i))
 long_lifted b (Cell i) = refl
 long_lifted b Home = refl
@@ -96,7 +96,7 @@ guide_lifted kind g b z m step away =
         let x : Board = lifted b m.from in guide_same kind x (lifted (placed x step.card (Cell j)) (Cell j)) refl refl
     go Home takes away = absurd (away refl)
 
-long_cells : (b : Board) (from : Place) → length (lifted b from).cells ≡ length b.cells
+pub long_cells : (b : Board) (from : Place) → length (lifted b from).cells ≡ length b.cells
 long_cells b (Column i) = refl
 long_cells b (Cell i) = length-set b.cells i None
 long_cells b Home = refl
@@ -114,7 +114,7 @@ put_there b z from j u p after joins inside =
     (last, held-last z j u p last ∙ ap (list_any (is_lower u)) there ∙ lower-push u (column b j))
 
 -- a step to a column leads to a board where that has the card last, held back where a lower one of its suit stood there
-step_put : (g : GameRules) (b z : Board) (m : Move) (j u : ℕ) (step : Step g b m z) → IsPosition b → step.card ≡ u → m.to ≡ Column j
+pub step_put : (g : GameRules) (b z : Board) (m : Move) (j u : ℕ) (step : Step g b m z) → IsPosition b → step.card ≡ u → m.to ≡ Column j
     → (last_of (column z j) ≡ Some u) × (is_held_back z u ≡ list_any (is_lower u) (column b j))
 step_put g b z m j u step p is at =
     put_there b z m.from j u (step_position g b z m p step)
@@ -133,7 +133,7 @@ held_there g b z m j u step p is at lower =
     let put = step_put g b z m j u step p is at in (u, put.0, put.1 ∙ lower)
 
 -- a card that was put into a cell is there
-put_in : (b z : Board) (from : Place) (j u : ℕ) → z ≡ placed (lifted b from) u (Cell j) → j < length b.cells → cell z j ≡ Some u
+pub put_in : (b z : Board) (from : Place) (j u : ℕ) → z ≡ placed (lifted b from) u (Cell j) → j < length b.cells → cell z j ≡ Some u
 put_in b z from j u after inside =
     ap (λ (y : Board). cell y j) after
     ∙ get_or-set_same (lifted b from).cells j (Some u) None (omega (arith, inside, long_cells b from))

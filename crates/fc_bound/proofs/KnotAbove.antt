@@ -1,10 +1,10 @@
 -- The knot bound is nowhere less than the plain one.
-use Rattle.std.proofs.Common.{◌≡◌, ◌≢◌, ℕ, ◌+◌, ◌-◌, ◌≤◌, zero, suc, Bool, true, false, cond, Some, List, [], ◌∷◌, length, get_or, refl, sym, ◌∙◌, ap, ⊎_elim, true≢false, arith}
+use Rattle.std.proofs.Common.{◌≡◌, ◌≢◌, ℕ, ◌+◌, ◌-◌, ◌≤◌, zero, suc, Bool, true, false, cond, Some, List, [], ◌∷◌, ◌++◌, length, get_or, refl, sym, ◌∙◌, ap, ⊎_elim, true≢false, arith}
 use Rattle.std.specs.Prelude.{◌||◌, not, count_by}
 use Rattle.std.specs.List.{list_any}
 use Rattle.std.proofs.Math.Bool.{or_assoc}
 use Rattle.std.proofs.lemmas.Bool.{and_parts, or_parts, cases_lt, cond_both}
-use Rattle.std.proofs.lemmas.List.Folds.{list_any_at}
+use Rattle.std.proofs.lemmas.List.Folds.{list_any_at, list_any-append}
 use Rattle.std.proofs.lemmas.List.Sums.{sum_by-cons}
 use Rattle.std.proofs.lemmas.Option.{slice_get-get_or}
 use Rattle.fc_position.specs.Board.{last_of, front_of}
@@ -18,9 +18,15 @@ use Rattle.fc_bound.proofs.AboveLemmas.{or-false, above-other, above-top}
 use Rattle.fc_bound.proofs.CountLemmas.{count-but_one, count-same}
 use Rattle.fc_bound.proofs.HeldLemmas.{found, held_in}
 use Rattle.fc_bound.proofs.ClearingLemmas.{last_there}
-use Rattle.fc_bound.proofs.ClearingAbove.{any-front, some_card, held-few}
 use Rattle.fc_bound.proofs.KnotShed.{tight-above}
 use Rattle.fc_bound.proofs.KnotSteps.{shed_at, shed_knot}
+use Rattle.fc_bound.proofs.RingCosts.{some_card}
+use Rattle.fc_bound.proofs.RingHeld.{held-few}
+
+-- a list that passes a test in its front passes it
+any-front : (u : ℕ) (front rest : List ℕ) → list_any (is_lower u) front ≡ true → list_any (is_lower u) (front ++ rest) ≡ true
+any-front u front rest any =
+    list_any-append (is_lower u) front rest ∙ ap (λ t. t || list_any (is_lower u) rest) any
 
 -- a last card that is held back waits for a card beneath it
 above-waits : (x : List ℕ) (u : ℕ) → last_of x ≡ Some u → is_above_lower u x ≡ true → waits_above x ≡ true
@@ -117,7 +123,7 @@ shed-loose_one columns some_loose =
 -- columns without last cards hold none back
 held-empty : (columns : List (List ℕ)) → list_any (λ column. has_last (last_of column)) columns ≡ false → held_in columns ≡ 0
 held-empty columns no_last =
-    ⊎_elim (λ none. none)
+    ⊎_elim (λ none. omega (arith, none, held-few columns))
     (λ (i, u, last). absurd (true≢false (sym (list_any_at (λ column. has_last (last_of column)) columns i []
     (last_there columns i u last) (ap has_last last)) ∙ no_last)))
     (some_card columns)
@@ -125,7 +131,7 @@ held-empty columns no_last =
 -- no fewer knots are met than cards are held back
 held-knots : (steps : ℕ) (columns : List (List ℕ)) → cards_in columns ≤ steps → held_in columns ≤ knots steps columns
 unfolding knots
-held-knots zero columns few = omega (arith, held-few 0 columns few)
+held-knots zero columns few = omega (arith, few, held-few columns)
 held-knots (suc steps) columns few =
     let loose : List (List ℕ) = shed (is_loose columns) columns in
     let tight : List (List ℕ) = shed (is_in_knot columns) columns in

@@ -28,7 +28,7 @@ taken_stands v i u c last other =
     any-set (λ column. stands_in column c) v i (front_of (get_or v i []))
     (sym (stands-other (front_of (get_or v i [])) u c (λ e. other (sym e))) ∙ ap (λ x. stands_in x c) (sym (front_last (get_or v i []) u last)))
 
-front_once : (x : List ℕ) (u : ℕ) → last_of x ≡ Some u → count_in_column u x ≤ 1 → stands_in (front_of x) u ≡ false
+pub front_once : (x : List ℕ) (u : ℕ) → last_of x ≡ Some u → count_in_column u x ≤ 1 → stands_in (front_of x) u ≡ false
 front_once x u last once =
     not_true (stands_in (front_of x) u) (λ stands.
     let one : ◌≡◌ {A = ℕ} (cond (u == u) 1 0) 1 = grind (arith, nat_tests) in

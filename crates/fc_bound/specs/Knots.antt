@@ -3,13 +3,8 @@ use Rattle.std.specs.Prelude.{ℕ, zero, suc, ◌+◌, ◌==◌, ◌&&◌, ◌||
 use Rattle.std.specs.List.{list_any}
 use Rattle.fc_position.specs.Board.{Board, last_of, front_of}
 use Rattle.fc_cards.specs.Card.{all_cards}
-use Rattle.fc_bound.specs.Bound.{is_away, is_lower, stands_in}
+use Rattle.fc_bound.specs.Bound.{is_away}
 use Rattle.fc_bound.specs.Clearing.{waits, cards_in}
-
--- in a column, the deepest card first, a lower card of the suit of c lies beneath the card e
-abbrev pub is_beneath : ℕ → ℕ → List ℕ → Bool
-is_beneath c e [] = false
-is_beneath c e (d ∷ above) = (is_lower c d && stands_in above e) || is_beneath c e above
 
 -- the column has a last card
 abbrev pub has_last : Option ℕ → Bool

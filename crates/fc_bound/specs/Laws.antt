@@ -1,21 +1,22 @@
 -- What the laws of this crate state.
 use Rattle.std.specs.Prelude.{◌≡◌, ◌≢◌, ℕ, ◌+◌, ◌≤◌, ◌↔◌, IsTrue, false, cond, length, List, [], ◌∷◌, Some, slice_index_or, All, AllPairs, Contains}
-use Rattle.std.specs.List.{list_any}
 use Rattle.fc_cards.specs.declared.places.Place.TheVariants.{Home}
-use Rattle.fc_position.specs.Board.{Board, playable, last_of, IsHome}
+use Rattle.fc_position.specs.Board.{Board, playable, last_of, lifted, IsHome, IsNext}
 use Rattle.fc_position.specs.Position.{IsPosition}
 use Rattle.fc_moves.specs.declared.steps.Move.{Move}
 use Rattle.fc_moves.specs.GameRules.{GameRules}
 use Rattle.fc_moves.specs.Run.{Wins}
 use Rattle.fc_moves.specs.Step.{Step}
 use Rattle.fc_moves.specs.Class.{SameClass}
+use Rattle.fc_home.specs.Settles.{Settles}
 use Rattle.fc_bound.specs.declared.bounds.TheConstants.{GREATEST_BOUND}
-use Rattle.fc_bound.specs.Bound.{bound, is_away, is_held_back, stands_in, StandsAboveLower}
+use Rattle.fc_bound.specs.Bound.{bound, is_away, is_held_back, StandsAboveLower}
 use Rattle.fc_bound.specs.Clearing.{waits, without, order_cost, clearing_cost, clearing_bound}
 use Rattle.fc_bound.specs.declared.kinds.BoundKind.{BoundKind}
-use Rattle.fc_bound.specs.Kinds.{guide_of, low_of}
-use Rattle.fc_bound.specs.Knots.{knot_bound, is_beneath}
+use Rattle.fc_bound.specs.Kinds.{guide_of, low_of, IsShown}
+use Rattle.fc_bound.specs.Knots.{knot_bound}
 use Rattle.fc_bound.specs.LowerBound.{IsLowerBound}
+use Rattle.fc_bound.specs.Rings.{AreApart, IsFamily, IsRing}
 
 -- the tests by which the bound counts tell exactly the cards that are not home, and those above a lower card of their suit
 abbrev pub TestsTellTheCards : Type 0
@@ -94,25 +95,52 @@ abbrev pub OneOfTheTiedGoesFirst : Type 0
 OneOfTheTiedGoesFirst = (columns : List (List ℕ)) (tied : List ℕ) → AreTied columns tied
     → (i : ℕ) × Contains tied i × (clearing_cost columns ≡ 1 + clearing_cost (without columns i))
 
--- a knot: cards in columns, each of which waits for a lower card of its suit that lies beneath one of them
-pub record IsKnot (columns : List (List ℕ)) (knot : List ℕ) : Type 0 where
-  pub some_card : knot ≢ []
-  pub stand : (c : ℕ) → Contains knot c → IsTrue (list_any (λ column. stands_in column c) columns)
-  pub wait : (c : ℕ) → Contains knot c → (e : ℕ) × Contains knot e × IsTrue (list_any (is_beneath c e) columns)
-
--- no card stands in both
-abbrev pub AreApart : List ℕ → List ℕ → Type 0
-AreApart a b = (c : ℕ) → Contains a c → Contains b c → ⊥
-
--- knots without a card in common cost one each
-abbrev pub KnotsCostOneEach : Type 0
-KnotsCostOneEach = (columns : List (List ℕ)) (knots : List (List ℕ)) → All (IsKnot columns) knots → AllPairs AreApart knots
-    → length knots ≤ clearing_cost columns
-
--- the bound that a search goes by and the one that a table is closed by are lower bounds, of each kind
+-- the guide and the bound that a table is closed by are lower bounds, of each kind
 abbrev pub TheBoundsAreLowerBounds : Type 0
 TheBoundsAreLowerBounds = (kind : BoundKind) → IsLowerBound (guide_of kind) × IsLowerBound (low_of kind)
 
--- of a position the bound that a search goes by is nowhere greater than the one that a table is closed by
+-- of a position the guide is nowhere greater than the bound that a table is closed by
 abbrev pub GuidesAreNoGreater : Type 0
 GuidesAreNoGreater = (kind : BoundKind) (b : Board) → IsPosition b → guide_of kind b ≤ low_of kind b
+
+-- rings without a card in common cost one each
+abbrev pub RingsCostOneEach : Type 0
+RingsCostOneEach = (columns : List (List ℕ)) (rings : List (List ℕ)) → All (IsRing columns) rings → AllPairs AreApart rings
+    → length rings ≤ clearing_cost columns
+
+-- a list that wins has a move for each card that is away and each card that is held back, and one more for each ring of a family
+abbrev pub WinsNeedTheRings : Type 0
+WinsNeedTheRings = (g : GameRules) (b : Board) (ms : List Move) (cards : ℕ) (rings : List (List ℕ)) → IsPosition b → Wins g b ms
+    → IsFamily b.columns cards rings → bound b + length rings ≤ length ms
+
+-- a ring stays one where another card moves
+abbrev pub RingsStay : Type 0
+RingsStay = (g : GameRules) (b c : Board) (m : Move) (u : ℕ) (ring : List ℕ) → IsPosition b → Step g b m c → playable b m.from ≡ Some u
+    → (Contains ring u → ⊥) → IsRing b.columns ring → IsRing c.columns ring
+
+-- no card of a ring goes home
+abbrev pub RingsKeepFromHome : Type 0
+RingsKeepFromHome = (b : Board) (u : ℕ) (ring : List ℕ) → IsPosition b → IsRing b.columns ring → Contains ring u → IsNext b.homes u → ⊥
+
+-- what is shown of a board is no greater than the bound that a table is closed by
+abbrev pub ShownIsNoGreater : Type 0
+ShownIsNoGreater = (kind : BoundKind) (b : Board) (number note : ℕ) → IsShown kind b number note → number ≤ low_of kind b
+
+-- what is shown of a position is no greater than the greatest bound
+abbrev pub ShownIsSmall : Type 0
+ShownIsSmall = (kind : BoundKind) (b : Board) (number note : ℕ) → IsPosition b → IsShown kind b number note → number ≤ GREATEST_BOUND
+
+-- of boards of one class the same is shown
+abbrev pub ClassMatesShowTheSame : Type 0
+ClassMatesShowTheSame = (kind : BoundKind) (b c : Board) (number note : ℕ) → SameClass b c → IsShown kind b number note
+    → IsShown kind c number note
+
+-- once a card is lifted and goes home, one less is shown by the same note
+abbrev pub HomeShowsOneLess : Type 0
+HomeShowsOneLess = (kind : BoundKind) (g : GameRules) (b c : Board) (m : Move) (number note : ℕ) → IsPosition b → Step g b m c → m.to ≡ Home
+    → IsShown kind (lifted b m.from) number note → (less : ℕ) × (number ≡ less + 1) × IsShown kind c less note
+
+-- once a position has settled, one less for each move is shown by the same note
+abbrev pub SettlingShowsOneLessEach : Type 0
+SettlingShowsOneLessEach = (kind : BoundKind) (g : GameRules) (rule : ℕ) (b q : Board) (count number note : ℕ) → IsPosition b
+    → Settles g rule b count q → IsShown kind b number note → (less : ℕ) × (number ≡ less + count) × IsShown kind q less note

@@ -4,5 +4,6 @@ pub mod Kinds
 pub mod Knots
 pub mod Laws
 pub mod LowerBound
+pub mod Rings
 pub mod Rows
 pub mod inner

@@ -17,7 +17,7 @@ use fc_position::Position;
 
 // Whether a card is held back where it is put.
 #[inline]
-fn is_held_there(position: &Position, card: Card, to: Place) -> bool
+pub(crate) fn is_held_there(position: &Position, card: Card, to: Place) -> bool
     ensures value { (g : GameRules) (z : Board) (m : Move) (step : Step g position.now m z) → step.card ≡ card → m.to ≡ to → to ≢ Home
         → result ≡ is_held_back z card }
 {

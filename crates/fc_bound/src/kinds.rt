@@ -5,18 +5,15 @@ ghost use Rattle.fc_position.specs.Position.{IsPosition};
 ghost use Rattle.fc_moves.specs.GameRules.{GameRules};
 ghost use Rattle.fc_moves.specs.Step.{Step};
 ghost use Rattle.fc_bound.specs.Kinds.{guide_of, low_of};
-ghost use Rattle.fc_bound.specs.Rows.{IsTableOf};
 
 use crate::bounds::{GREATEST_BOUND, bound};
 use crate::clearing::clearing_bound;
-use crate::counts::WholeCount;
 use crate::fares::{bound_after, knots_after};
-use crate::knots::{knot_bound, knot_bound_by, knot_bound_whole, knot_bound_within};
-use crate::rows::ColumnTable;
+use crate::knots::{knot_bound, knot_bound_within};
 use fc_moves::Move;
 use fc_position::Position;
 
-/// The lower bound that a search goes by and a table is closed by.
+/// The lower bound by which a search shows numbers and a table is closed.
 #[derive(Clone, Copy, Debug, PartialEq, Eq, Default)]
 pub enum BoundKind {
     /// The cards that are not home, and those that stand above a lower card of their own suit.
@@ -27,7 +24,7 @@ pub enum BoundKind {
 }
 
 impl BoundKind {
-    /// The bound by which a search of this kind goes, at most 104: the plain bound, or the knot bound, which is counted
+    /// The guide, by which a table's rows are chosen, at most 104: the plain bound, or the knot bound, which is counted
     /// quickly, and is nowhere less than the plain bound and nowhere greater than the clearing bound.
     #[inline]
     pub fn guide(self, position: &Position) -> u8
@@ -41,7 +38,7 @@ impl BoundKind {
         }
     }
 
-    /// The bound by which a search of this kind goes, counted no further than asked: the bound itself where that is at most
+    /// The guide, counted no further than asked: the bound itself where that is at most
     /// `most`, else a number above `most` that is nowhere greater than the bound. At most 104.
     #[inline]
     pub fn guide_within(self, position: &Position, most: u8) -> u8
@@ -56,32 +53,7 @@ impl BoundKind {
         }
     }
 
-    /// The bound by which a search of this kind goes, counted to its end, with what [`BoundKind::guide_within`] would have given.
-    #[inline]
-    pub fn guide_whole(self, position: &Position) -> WholeCount
-        ensures value { result.bound ≡ guide_of self position.now }
-        ensures whole { IsPosition position.now }
-    {
-        match self {
-            BoundKind::Plain => WholeCount::at_once(bound(position)),
-            BoundKind::Clearing => knot_bound_whole(position),
-        }
-    }
-
-    /// The same by the table of the position's columns.
-    #[inline]
-    pub fn guide_by(self, position: &Position, table: &ColumnTable) -> WholeCount
-        requires table { IsTableOf position.now.columns table.now }
-        ensures value { result.bound ≡ guide_of self position.now }
-        ensures whole { IsPosition position.now }
-    {
-        match self {
-            BoundKind::Plain => WholeCount::at_once(bound(position)),
-            BoundKind::Clearing => knot_bound_by(position, table),
-        }
-    }
-
-    /// The bound by which a search of this kind goes of where a move leads that takes no card home, by the bound of where it is made,
+    /// The guide of where a move leads that takes no card home, by that of where it is made,
     /// where that is plain to see: it isn't counted. By the plain bound it always is.
     pub fn guide_after(self, position: &Position, m: Move, bound: u8) -> Option<u8>
         requires bound { bound ≡ guide_of self position.now }

@@ -3,13 +3,11 @@ ghost use Rattle.std.specs.List.{list_any};
 ghost use Rattle.fc_position.specs.Position.{IsPosition};
 ghost use Rattle.fc_bound.specs.Clearing.{cards_in};
 ghost use Rattle.fc_bound.specs.Knots.{is_loose, knot_count, knot_bound};
-ghost use Rattle.fc_bound.specs.Rows.{IsTableOf};
 ghost use Rattle.fc_bound.specs.inner.Rows.{AreLow, waiting_in};
 
 use crate::bounds::{GREATEST_BOUND, away};
 use crate::columns::Left;
-use crate::counts::WholeCount;
-use crate::rows::{ColumnTable, blank, fill};
+use crate::rows::{blank, fill};
 use fc_position::Position;
 
 // Takes out loose cards, one at a time, until no card is loose: the bits of the cards that wait for none afterwards, by those before.
@@ -70,34 +68,7 @@ pub fn knot_bound(position: &Position) -> u8
     ensures most { result ≤ GREATEST_BOUND }
     ensures whole { IsPosition position.now }
 {
-    knot_bound_whole(position).bound
-}
-
-// The knot bound, and what a count of it that goes no further than asked would have given.
-pub(crate) fn knot_bound_whole(position: &Position) -> WholeCount
-    ensures value { result.bound ≡ knot_bound position.now }
-    ensures most { result.bound ≤ GREATEST_BOUND }
-    ensures whole { IsPosition position.now }
-{
-    knot_bound_by(position, &ColumnTable::new(position))
-}
-
-// The same by the table of the position's columns.
-pub(crate) fn knot_bound_by(position: &Position, table: &ColumnTable) -> WholeCount
-    requires table { IsTableOf position.now.columns table.now }
-    ensures value { result.bound ≡ knot_bound position.now }
-    ensures most { result.bound ≤ GREATEST_BOUND }
-    ensures whole { IsPosition position.now }
-{
-    let away = away(position);
-    let mut left = Left::new(position, &table.rows, table.marks);
-    let waiting = left.waiting();
-    let count = knot_count(&mut left);
-    WholeCount {
-        bound: away + count,
-        away,
-        plain: away + waiting,
-    }
+    knot_bound_within(position, GREATEST_BOUND)
 }
 
 // The knot bound, counted no further than asked: the bound itself where it is at most so much, else a number above that which

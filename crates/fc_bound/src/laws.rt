@@ -1,6 +1,6 @@
 //! Laws of the bounds, each the contract of a function that does nothing.
 
-ghost use Rattle.fc_bound.specs.Laws.{TestsTellTheCards, StepsLowerTheBoundByOne, StepsMoveTheBoundByTheirCard, WinsNeedTheBound, ClassMatesHaveOneBound, BoundsAreSmall, ClearingCostIsLeast, ClassMatesHaveOneClearingBound, FreeCardsGoFirst, StepsLowerTheClearingBoundByOne, WinsNeedTheClearingBound, ClearingIsNoLess, KnotBoundIsNoGreater, KnotBoundIsNoLess, ClassMatesHaveOneKnotBound, OneOfTheTiedGoesFirst, KnotsCostOneEach, TheBoundsAreLowerBounds, GuidesAreNoGreater};
+ghost use Rattle.fc_bound.specs.Laws.{TestsTellTheCards, StepsLowerTheBoundByOne, StepsMoveTheBoundByTheirCard, WinsNeedTheBound, ClassMatesHaveOneBound, BoundsAreSmall, ClearingCostIsLeast, ClassMatesHaveOneClearingBound, FreeCardsGoFirst, StepsLowerTheClearingBoundByOne, WinsNeedTheClearingBound, ClearingIsNoLess, KnotBoundIsNoGreater, KnotBoundIsNoLess, ClassMatesHaveOneKnotBound, OneOfTheTiedGoesFirst, TheBoundsAreLowerBounds, GuidesAreNoGreater, RingsCostOneEach, WinsNeedTheRings, RingsStay, RingsKeepFromHome, ShownIsNoGreater, ShownIsSmall, ClassMatesShowTheSame, HomeShowsOneLess, SettlingShowsOneLessEach};
 
 /// The bound counts exactly the cards that are not home, and the cards that stand above a lower card of their own suit
 /// in their column.
@@ -84,17 +84,58 @@ pub fn one_of_the_tied_goes_first()
     ensures { OneOfTheTiedGoesFirst }
 {}
 
-/// Knots without a card in common cost one each, at least.
-pub fn knots_cost_one_each()
-    ensures { KnotsCostOneEach }
-{}
-
 /// The bounds of each kind are lower bounds: no list that wins is shorter, and boards of one class have the same.
 pub fn the_bounds_are_lower_bounds()
     ensures { TheBoundsAreLowerBounds }
 {}
 
-/// Of a position the bound that a search goes by is nowhere greater than the one that a table is closed by.
+/// Of a position the guide is nowhere greater than the bound that a table is closed by.
 pub fn guides_are_no_greater()
     ensures { GuidesAreNoGreater }
+{}
+
+/// Rings without a card in common cost one each, at least.
+pub fn rings_cost_one_each()
+    ensures { RingsCostOneEach }
+{}
+
+/// A list that wins has a move for each card that is not home and each that is held back, and one more for each ring of
+/// a family, in every game.
+pub fn wins_need_the_rings()
+    ensures { WinsNeedTheRings }
+{}
+
+/// A ring stays one where a card that isn't in it moves.
+pub fn rings_stay()
+    ensures { RingsStay }
+{}
+
+/// No card of a ring of a position is next to go home.
+pub fn rings_keep_from_home()
+    ensures { RingsKeepFromHome }
+{}
+
+/// What is shown of a position is no greater than the bound that a table is closed by.
+pub fn shown_is_no_greater()
+    ensures { ShownIsNoGreater }
+{}
+
+/// What is shown of a position is at most 104, so a byte holds it.
+pub fn shown_is_small()
+    ensures { ShownIsSmall }
+{}
+
+/// Of boards of one class the same is shown.
+pub fn class_mates_show_the_same()
+    ensures { ClassMatesShowTheSame }
+{}
+
+/// Where a card that was lifted goes home, one less is shown than without it, by the same note.
+pub fn home_shows_one_less()
+    ensures { HomeShowsOneLess }
+{}
+
+/// Once a position has settled, one less for each card that went home is shown by the same note.
+pub fn settling_shows_one_less_each()
+    ensures { SettlingShowsOneLessEach }
 {}

@@ -9,19 +9,22 @@
 
 pub use bounds::{GREATEST_BOUND, bound, is_held_back};
 pub use clearing::clearing_bound;
-pub use counts::WholeCount;
 pub use kinds::BoundKind;
 pub use knots::knot_bound;
+pub use rings::Shown;
 pub use rows::ColumnTable;
 
 mod bits;
 mod bounds;
 mod clearing;
 mod columns;
-mod counts;
+mod emptying;
+mod families;
 mod fares;
 mod kinds;
 mod knots;
 pub mod laws;
+mod ring_search;
+mod rings;
 mod rows;
 mod tables;

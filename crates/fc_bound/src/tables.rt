@@ -4,7 +4,8 @@ ghost use Rattle.std.specs.Prelude.{◌≡◌, ◌<◌, ℕ, Some, IfSome, lengt
 ghost use Rattle.fc_position.specs.Board.{Board, column, last_of, front_of, lifted};
 ghost use Rattle.fc_position.specs.Position.{IsPosition};
 ghost use Rattle.fc_cards.specs.declared.places.Place.TheVariants.{Column};
-ghost use Rattle.fc_bound.specs.Rows.{IsTableOf};
+ghost use Rattle.fc_bound.specs.Bound.{is_held_back};
+ghost use Rattle.fc_bound.specs.Rows.{AreBits, IsTableOf};
 
 use crate::bits::{higher_cards, remove};
 use crate::rows::{ColumnTable, Row, blank, fill};
@@ -32,6 +33,14 @@ impl ColumnTable {
     {
         let _cell = position.cell(0);
         self.marks = fill(&mut self.rows, position);
+    }
+
+    /// The cards that stand above a lower card of their own suit, one bit for each.
+    #[inline]
+    pub fn held(&self) -> u64
+        ensures value { (b : Board) → IsTableOf b.columns self.now → AreBits result (is_held_back b) }
+    {
+        self.marks.held
     }
 
     /// Takes the playable card of a place out of the table of the position's columns.

@@ -1,4 +1,4 @@
-use Rattle.fc_bound.proofs.ClearingAbove.{no_less}
+use Rattle.fc_bound.proofs.RingHeld.{no_less}
 use Rattle.fc_bound.proofs.laws.clearing_is_no_less.Goals as goal
 
 pub returns : goal.returns
