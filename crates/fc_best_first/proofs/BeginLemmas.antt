@@ -12,9 +12,8 @@ use Rattle.fc_best_first.specs.declared.strategies.Expansion.{Expansion}
 use Rattle.fc_best_first.specs.declared.strategies.Expansion.TheVariants as expansion
 use Rattle.fc_best_first.specs.declared.strategies.Strategy.{Strategy}
 use Rattle.fc_best_first.specs.Graph.{Task, Reached, IsLawful}
-use Rattle.fc_best_first.specs.Limits.{ReachesLimit}
-use Rattle.fc_best_first.specs.Store.{Store, Candidate, IsStored, Stores, opens_at, weighed}
-use Rattle.fc_best_first.specs.Turn.{opening_of}
+use Rattle.fc_best_first.specs.Limits.{ReachesLimit, weigh}
+use Rattle.fc_best_first.specs.Store.{Store, Candidate, IsOpening, IsStored, Stores, bound_at, bound_in, opens_at, weighed}
 use Rattle.fc_best_first.specs.Kept.{AreNoted, Comes, IsKept, IsNeeded, IsOpenAt, IsOpenOrExpanded, f_of}
 use Rattle.fc_best_first.specs.Shown.{IsFloor}
 use Rattle.fc_best_first.proofs.KeptLemmas.{added_there, added_cases, open_under}
@@ -38,7 +37,8 @@ first_stored strategy empty new offer (Full y) none quiet unnoted some_room (sam
     absurd (let size = ap length none in omega (arith, size, full, some_room))
 
 module _ {K : Type 0} (task : Task K) (s : Store K) (x : K) (e : Mark) (stored : s.stored ≡ (x, e) ∷ [])
-    (opened : Adds [] s.waiting (f_of task x e, 0)) (notes : s.openings ≡ opening_of task x ∷ []) where
+    (opening : Opening) (opens : IsOpening task.graph task.strategy.weight x opening)
+    (opened : Adds [] s.waiting (opens_at (weighed task.strategy e) opening, 0)) (notes : s.openings ≡ opening ∷ []) where
   first_alone : (i : ℕ) (y : K) (n : Mark) → IsStored s i y n → (i ≡ 0) × (x ≡ y) × (e ≡ n)
   first_alone i y n at = by i (subst (λ es. slice_get es i ≡ Some (y, n)) stored at)
     where
@@ -57,12 +57,21 @@ module _ {K : Type 0} (task : Task K) (s : Store K) (x : K) (e : Mark) (stored :
   first_noted : AreNoted task.graph s
   first_noted = (
     ap length notes ∙ sym (ap length stored),
-    first_each (λ i y n. (opening : Opening) × (slice_get s.openings i ≡ Some opening) × (opening.bound ≡ task.graph.bound y))
-        (opening_of task x, ap (λ os. slice_get os 0) notes, refl),
+    first_each (λ i y n. (o : Opening) × (slice_get s.openings i ≡ Some o) × task.graph.shown y o.bound o.note)
+        (opening, ap (λ os. slice_get os 0) notes, opens.1),
   )
 
-  first_open : IsOpenAt s 0 (weighed task.strategy e) (f_of task x e)
-  first_open = (added_there [] s.waiting (f_of task x e, 0) opened, (opening_of task x, ap (λ os. slice_get os 0) notes, refl))
+  first_bound : bound_at s 0 ≡ opening.bound
+  first_bound = ap (λ os. bound_in (slice_get os 0)) notes
+
+  first_f : f_of task s 0 e ≡ opens_at (weighed task.strategy e) opening
+  first_f = ap (λ b. weigh task.strategy.weight e.cost b) first_bound ∙ ap (λ n. task.strategy.weight.parts * e.cost + n) (sym opens.0)
+
+  first_open : IsOpenAt s 0 (weighed task.strategy e) (f_of task s 0 e)
+  first_open = subst (IsOpenAt s 0 (weighed task.strategy e)) (sym first_f) (
+    added_there [] s.waiting (opens_at (weighed task.strategy e) opening, 0) opened,
+    (opening, ap (λ os. slice_get os 0) notes, refl),
+  )
 
   module _ (lawful : IsLawful task.graph) (heavy : task.strategy.weight.parts ≤ task.strategy.weight.times) (start : task.graph.starts x e.cost)
       (alone : (y : K) (d : ℕ) → task.graph.starts y d → (y ≡ x) × (e.cost ≤ d)) where
@@ -81,13 +90,21 @@ module _ {K : Type 0} (task : Task K) (s : Store K) (x : K) (e : Mark) (stored :
         (λ within. within)
         (cases_lt n (e.cost + task.graph.bound x))
 
+    -- nor below its cost plus what is noted of it
+    begins_under : (n : ℕ) → task.graph.wins n → e.cost + opening.bound ≤ n
+    begins_under n wins = omega (arith, begins_least n wins, lawful.shown x opening.bound opening.note opens.1)
+
     -- so none, weighed as a bound is, is below what it is open at
-    pub begins_floor : IsFloor task.graph task.strategy.weight (f_of task x e)
-    begins_floor n wins = open_under task.strategy.weight e.cost (task.graph.bound x) n heavy (begins_least n wins)
+    pub begins_floor : IsFloor task.graph task.strategy.weight (opens_at (weighed task.strategy e) opening)
+    begins_floor n wins = omega (arith, open_under task.strategy.weight e.cost opening.bound n heavy (begins_under n wins), opens.0)
 
     first_needed : (expansion : Expansion) → IsNeeded expansion task.graph task.strategy.weight x
     first_needed expansion.Full = inl (e.cost, start)
-    first_needed expansion.Partial = (e.cost, (0, start), begins_floor)
+    first_needed expansion.Partial = (
+      e.cost,
+      (0, start),
+      (opening.bound, opening.note, opens.1, λ n wins. open_under task.strategy.weight e.cost opening.bound n heavy (begins_under n wins)),
+    )
 
     -- a search keeps from its beginning what it keeps
     pub begins_kept : 1 ≤ task.strategy.budget → e.parent ≡ 0 → IsKept task s
@@ -106,18 +123,18 @@ module _ {K : Type 0} (task : Task K) (s : Store K) (x : K) (e : Mark) (stored :
             pairs = λ h i there. ⊎_elim
                 (λ same.
                 let here : IsStored s i x e = subst (λ k. IsStored s k x e) (ap (λ p. p.1) same) first_here in
-                let self : f_of task x e ≤ f_of task x e = omega arith in
-                let le : f_of task x e ≤ h = subst (λ k. f_of task x e ≤ k) (ap (λ p. p.0) same) self in
-                (x, e, here, le))
+                let level : opens_at (weighed task.strategy e) opening ≡ h = ap (λ p. p.0) same in
+                let at_i : f_of task s i e ≡ f_of task s 0 e = ap (λ k. f_of task s k e) (sym (ap (λ p. p.1) same)) in
+                (x, e, here, omega (arith, level, at_i, first_f)))
                 (λ none. absurd (omega (arith, none.1)))
-                (added_cases [] s.waiting (f_of task x e, 0) (h, i) opened there);
+                (added_cases [] s.waiting (opens_at (weighed task.strategy e) opening, 0) (h, i) opened there);
             noted = first_noted;
-            under = first_each (λ i y m. (n : ℕ) → task.graph.wins n → ReachesLimit task.limit n → m.cost + task.graph.bound y ≤ n)
-                (λ n wins reach. begins_least n wins);
+            under = first_each (λ i y m. (n : ℕ) → task.graph.wins n → ReachesLimit task.limit n → m.cost + bound_at s i ≤ n)
+                (λ n wins reach. omega (arith, begins_under n wins, first_bound));
             near = λ h i there. ⊎_elim
                 (λ same. λ n wins reach. subst (λ k. k ≤ task.strategy.weight.times * n) (ap (λ p. p.0) same) (begins_floor n wins))
                 (λ none. absurd (omega (arith, none.1)))
-                (added_cases [] s.waiting (f_of task x e, 0) (h, i) opened there);
+                (added_cases [] s.waiting (opens_at (weighed task.strategy e) opening, 0) (h, i) opened there);
           };
           settled = first_each (IsOpenOrExpanded task s) (inl first_open);
         }

@@ -13,7 +13,7 @@ use Rattle.fc_best_first.specs.declared.strategies.Expansion.{Expansion}
 use Rattle.fc_best_first.specs.declared.strategies.Expansion.TheVariants.{Full, Partial}
 use Rattle.fc_best_first.specs.Graph.{Graph, Task, Reached, IsLawful, IsClosedInside, Lists}
 use Rattle.fc_best_first.specs.Limits.{IsEven, IsUpTo, IsWithinLimit, Ratio, ReachesLimit, weigh}
-use Rattle.fc_best_first.specs.Store.{Store, IsStored, IsTaken, opens_at, weighed}
+use Rattle.fc_best_first.specs.Store.{Store, IsStored, IsTaken, bound_at, bound_in, opens_at, weighed}
 use Rattle.fc_best_first.specs.Turn.{IsStale, TakesFloor}
 use Rattle.fc_best_first.specs.Kept.{AreNoted, HasAt, IsWhereOpen, IsCoveredBelow, IsDone, IsExpanded, IsExpandedBelow, IsMet, IsOpenAt, IsOpenLater, IsOpenOrExpanded, IsSound, IsKept, f_of}
 use Rattle.fc_best_first.specs.Shown.{IsFloor}
@@ -193,6 +193,22 @@ module _ {K : Type 0} where
     kept_below task old new x m.cost h kept below,
   )
 
+module _ {K : Type 0} where
+  -- what is noted is the same where the openings are
+  pub same_bound : (old new : Store K) (i : ℕ) → new.openings ≡ old.openings → bound_at new i ≡ bound_at old i
+  same_bound old new i same = ap (λ os. bound_in (slice_get os i)) same
+
+  pub same_f : (task : Task K) (old new : Store K) (i : ℕ) (m : Mark) → new.openings ≡ old.openings → f_of task new i m ≡ f_of task old i m
+  same_f task old new i m same = ap (λ b. weigh task.strategy.weight m.cost b) (same_bound old new i same)
+
+  -- what is noted of a stored key is no greater than its bound
+  pub noted_under : (g : Graph K) → IsLawful g → (s : Store K) (i : ℕ) (x : K) (m : Mark) → AreNoted g s → IsStored s i x m
+      → bound_at s i ≤ g.bound x
+  noted_under g lawful s i x m noted at =
+      let was = noted.1 i x m at in
+      let level : bound_at s i ≡ was.0.bound = ap bound_in was.1 in
+      omega (arith, level, lawful.shown x was.0.bound was.0.note was.2)
+
 module _ {K : Type 0} (task : Task K) where
   -- the same stored keys, and fewer pairs
   fewer_pairs : (stored : List (K × Mark)) (old new : List (ℕ × ℕ)) (was is : List Opening)
@@ -207,12 +223,21 @@ module _ {K : Type 0} (task : Task K) where
     comes = h.comes;
     needed = h.needed;
     starts = h.starts;
-    pairs = λ f i there. h.pairs f i (fewer (f, i) there);
+    pairs = λ f i there. let was = h.pairs f i (fewer (f, i) there) in
+        (was.0, was.1, was.2, omega (arith, was.3, level_f i was.1));
     noted = noted_same task.graph (record { stored = stored; waiting = old; openings = was })
         (record { stored = stored; waiting = new; openings = is }) refl same h.noted;
-    under = h.under;
+    under = λ i x m at n wins reach. omega (arith, h.under i x m at n wins reach, level i);
     near = λ f i there. h.near f i (fewer (f, i) there);
   }
+    where
+      level : (i : ℕ) → bound_at (record { stored = stored; waiting = new; openings = is }) i
+          ≡ bound_at (record { stored = stored; waiting = old; openings = was }) i
+      level i = same_bound (record { stored = stored; waiting = old; openings = was }) (record { stored = stored; waiting = new; openings = is }) i same
+
+      level_f : (i : ℕ) (m : Mark) → f_of task (record { stored = stored; waiting = new; openings = is }) i m
+          ≡ f_of task (record { stored = stored; waiting = old; openings = was }) i m
+      level_f i m = same_f task (record { stored = stored; waiting = old; openings = was }) (record { stored = stored; waiting = new; openings = is }) i m same
 
   pub taken_sound : (old new : Store K) (f i : ℕ) → IsSound task old → new.stored ≡ old.stored → new.openings ≡ old.openings
       → Adds new.waiting old.waiting (f, i) → IsSound task new
@@ -221,17 +246,17 @@ module _ {K : Type 0} (task : Task K) where
       (fewer_pairs old.stored old.waiting new.waiting old.openings new.openings
       (λ p there. added_stays new.waiting old.waiting (f, i) p taken there) noted sound)
 
-  -- the pair that is taken has an f no less than the weighed cost plus bound of its key
-  pub taken_high : (old new : Store K) (f i : ℕ) (x : K) (m : Mark) → IsSound task old → IsTaken old new f i x m → f_of task x m ≤ f
+  -- the pair that is taken has an f no less than the cost of its key plus what is noted of it, both weighed
+  pub taken_high : (old new : Store K) (f i : ℕ) (x : K) (m : Mark) → IsSound task old → IsTaken old new f i x m → f_of task old i m ≤ f
   taken_high old new f i x m sound t = pair_high task old f i new.waiting x m sound t.taken t.stands
 
-  -- a key whose weighed cost plus bound is below the least f is done with below that
+  -- a key whose cost plus what is noted of it, both weighed, is below the least f is done with below that
   pub below_least : (s : Store K) (f i : ℕ) → IsKept task s → IsLeast (f, i) s.waiting
-      → (j : ℕ) (y : K) (l : Mark) → IsStored s j y l → f_of task y l < f
+      → (j : ℕ) (y : K) (l : Mark) → IsStored s j y l → f_of task s j l < f
       → IsDone task.strategy.expansion task s y l.cost f
   below_least s f i kept least j y l at lt = elim (kept.settled j y l at) [
     | inl is_open ↦ absurd (
-        let le = least_below f i (f_of task y l) j s.waiting least is_open.0 in
+        let le = least_below f i (f_of task s j l) j s.waiting least is_open.0 in
         omega (arith, le, lt))
     | inr (inl done) ↦ expanded_done task.strategy.expansion task s y l.cost f done
     | inr (inr later) ↦ later_done task.strategy.expansion task s j y l f i least later
@@ -242,8 +267,9 @@ module _ {K : Type 0} (task : Task K) where
       → (j : ℕ) (y : K) (l : Mark) → ((h : ℕ) → IsAt task old j l h → h ≡ f → j ≡ i → ⊥) → IsStored new j y l
       → IsOpenOrExpanded task new j y l
   others_settled old new f i x m kept t j y l other at = elim (kept.settled j y l (kept_back old new j y l t.kept at)) [
-    | inl is_open ↦ inl (kept_open old new (f, i) j (weighed task.strategy l) (f_of task y l) t.noted t.taken
-        (other (f_of task y l) is_open.1) is_open)
+    | inl is_open ↦ inl (subst (IsOpenAt new j (weighed task.strategy l)) (sym (same_f task old new j l t.noted))
+        (kept_open old new (f, i) j (weighed task.strategy l) (f_of task old j l) t.noted t.taken
+        (other (f_of task old j l) is_open.1) is_open))
     | inr (inl done) ↦ inr (inl (kept_expanded task old new y l.cost t.kept done))
     | inr (inr later) ↦ inr (inr (kept_later task.strategy.expansion task old new (f, i) j y l t.kept t.noted t.taken other later))
   ]
@@ -305,10 +331,10 @@ module _ {K : Type 0} (task : Task K) where
   )
 
   module _ (lawful : IsLawful task.graph) (heavy : task.strategy.weight.parts ≤ task.strategy.weight.times) where
-    -- where each key whose weighed cost plus bound is below f is done with below f, no answer, weighed as a bound is, is below f:
+    -- where each key whose cost plus what is noted of it, both weighed, is below f is done with below f, no answer, weighed as a bound is, is below f:
     -- else the stored keys leave none below the next number
     pub none_below : (s : Store K) (f : ℕ) → IsSound task s
-        → ((i : ℕ) (x : K) (m : Mark) → IsStored s i x m → f_of task x m < f
+        → ((i : ℕ) (x : K) (m : Mark) → IsStored s i x m → f_of task s i m < f
         → IsDone task.strategy.expansion task s x m.cost f)
         → ((n : ℕ) → task.graph.wins n → ReachesLimit task.limit n → f ≤ task.strategy.weight.times * n)
         → IsFloor task.graph task.strategy.weight f
@@ -316,7 +342,8 @@ module _ {K : Type 0} (task : Task K) where
         (λ over.
         let closed = closed_inside s (suc n) sound
         (λ i x m at lt. done_covered task.strategy.expansion s x m.cost n f up heavy over
-        (done i x m at (weighed_below task.strategy.weight m.cost (task.graph.bound x) n f heavy lt over))) in
+        (done i x m at (weighed_below task.strategy.weight m.cost (bound_at s i) n f heavy
+        (omega (arith, lt, noted_under task.graph lawful s i x m sound.noted at)) over))) in
         absurd (let le = lawful.closed (suc n) (rows s) closed n wins in omega (arith, le)))
         (λ within. within)
         (cases_lt (task.strategy.weight.times * n) f)) (limit_cases task.limit n)

@@ -1,6 +1,6 @@
 -- Lemmas on offering the children of a key that is taken: what is kept while they find their places.
-use Rattle.std.proofs.Common.{◌≡◌, ℕ, ◌+◌, ◌<◌, ◌≤◌, ◌⊎◌, suc, Option, Some, None, List, [], ◌∷◌, length, refl, sym, ◌∙◌, ap, subst, inl, inr, ⊎_elim, arith}
-use Rattle.std.specs.Prelude.{Contains}
+use Rattle.std.proofs.Common.{◌≡◌, ℕ, ◌+◌, ◌*◌, ◌<◌, ◌≤◌, ◌⊎◌, suc, Option, Some, None, List, [], ◌∷◌, length, refl, sym, ◌∙◌, ap, subst, inl, inr, ⊎_elim, arith}
+use Rattle.std.specs.Prelude.{Contains, slice_get}
 use Rattle.std.proofs.lemmas.List.Elements.{Contains-append_right}
 use Rattle.fc_best_first.specs.declared.books.Mark.{Mark}
 use Rattle.fc_best_first.specs.declared.books.Opening.{Opening}
@@ -12,12 +12,13 @@ use Rattle.fc_best_first.specs.declared.turns.Placing.{Placing}
 use Rattle.fc_best_first.specs.declared.turns.Placing.TheVariants.{Whole, Later, NoRoom}
 use Rattle.fc_best_first.specs.Graph.{Graph, Reached, IsLawful, Task}
 use Rattle.fc_best_first.specs.Limits.{IsBelowLimit, IsWithinLimit, ReachesLimit, weigh}
-use Rattle.fc_best_first.specs.Store.{Store, Candidate, IsStored, Admits, Offers, weighed}
-use Rattle.fc_best_first.specs.Turn.{Expands, candidate_of, opening_of, put_off, work_left}
+use Rattle.fc_best_first.specs.Store.{Store, Candidate, IsStored, IsOpening, IsOpenedAnew, Admits, Offers, bound_at, bound_in, opens_at, weighed}
+use Rattle.fc_best_first.specs.Turn.{Expands, candidate_of, put_off, work_left}
 use Rattle.fc_best_first.specs.Kept.{AreNoted, HasAt, IsDone, IsMet, IsOpenOrExpanded, IsNeeded, IsWhereOpen, Comes, IsSound, f_of}
 use Rattle.fc_best_first.specs.Shown.{IsFloor, IsGivenUp}
 use Rattle.fc_best_first.proofs.KeptLemmas.{front_there, front_cases, stands_within, Notes, Puts, puts_lowered, puts_added, still_done, still_has, other_number, still_sound, still_settled}
 use Rattle.fc_best_first.proofs.ClosedLemmas.{has_met, past_met, stays_met}
+use Rattle.fc_best_first.proofs.OfferLemmas.{noted_shown}
 use Rattle.fc_best_first.proofs.TurnLemmas.{off_past, offers_room}
 use Rattle.fc_best_first.proofs.WorkLemmas.{lowered_work, added_work}
 
@@ -74,7 +75,8 @@ still_present : {K : Type 0} (g : Graph K) (old new : Store K) (opening : Openin
 still_present g old new opening i busy cost f notes noted ne (last, there, at) = (last, notes.2 noted.0 busy ne ∙ there, at)
 
 module _ {K : Type 0} (task : Task K) where
-  module _ (busy : ℕ) (xb : K) (mb : Mark) (taken : ℕ) (high : f_of task xb mb ≤ taken)
+  module _ (busy : ℕ) (xb : K) (mb : Mark) (own note : ℕ) (is_shown : task.graph.shown xb own note) (taken : ℕ)
+      (high : weigh task.strategy.weight mb.cost own ≤ taken)
       (floor : IsFloor task.graph task.strategy.weight taken) (heavy : task.strategy.weight.parts ≤ task.strategy.weight.times) where
     -- the mark of a child that would cost nothing
     abbrev origin : Mark
@@ -85,12 +87,13 @@ module _ {K : Type 0} (task : Task K) where
       pub sound : IsSound task s
       pub settled : (j : ℕ) (y : K) (l : Mark) → (j ≡ busy → ⊥) → IsStored s j y l → IsOpenOrExpanded task s j y l
       pub stands : IsStored s busy xb mb
+      pub noted : bound_at s busy ≡ own
       pub present : IsWhereOpen s busy (weighed task.strategy mb) taken
-      pub done : f_of task xb mb < taken → IsDone task.strategy.expansion task s xb mb.cost taken
+      pub done : f_of task s busy mb < taken → IsDone task.strategy.expansion task s xb mb.cost taken
 
     -- the child as it is offered
-    abbrev child_offer : Child K → Candidate K
-    child_offer child = candidate_of task origin child
+    abbrev child_offer : Child K → Opening → Candidate K
+    child_offer child opening = candidate_of origin child opening
 
     abbrev IsChild : Child K → Type 0
     IsChild child = task.graph.edge xb child.cost child.key
@@ -100,33 +103,41 @@ module _ {K : Type 0} (task : Task K) where
         let before = d.sound.reached busy xb mb d.stands in
         (suc before.0, (xb, mb.cost, child.cost, before.1, edge, refl))
 
-    child_needed : (expansion : Expansion) (s : Store K) (child : Child K) → IsChild child → Doing s
-        → Admits expansion taken (weigh task.strategy.weight (mb.cost + child.cost) (task.graph.bound child.key))
+    child_needed : (expansion : Expansion) (s : Store K) (child : Child K) (opening : Opening) → IsChild child → Doing s
+        → IsOpening task.graph task.strategy.weight child.key opening
+        → Admits expansion taken (opens_at (weighed task.strategy (child_offer child opening).mark) opening)
         → IsNeeded expansion task.graph task.strategy.weight child.key
-    child_needed Full s child edge d admits =
-        inr (xb, mb.cost, child.cost, d.sound.reached busy xb mb d.stands, edge, λ n wins. let le = floor n wins in omega (arith, le, high))
-    child_needed Partial s child edge d admits =
-        (mb.cost + child.cost, child_reached s child edge d, λ n wins. let le = floor n wins in omega (arith, le, admits))
+    child_needed Full s child opening edge d opens admits =
+        inr (xb, mb.cost, child.cost, d.sound.reached busy xb mb d.stands, edge, (own, note, is_shown, λ n wins. omega (arith, floor n wins, high)))
+    child_needed Partial s child opening edge d opens admits = (
+      mb.cost + child.cost,
+      child_reached s child edge d,
+      (opening.bound, opening.note, opens.1, λ n wins. omega (arith, floor n wins, admits, opens.0)),
+    )
 
-    puts_doing : (old new : Store K) (child : Child K) (i : ℕ) → IsChild child → Doing old → length new.stored ≤ task.strategy.budget
-        → Puts task.strategy.weight old new child.key (child_offer child).mark (opening_of task child.key) i
+    puts_doing : (old new : Store K) (child : Child K) (opening : Opening) (i : ℕ) → IsChild child → Doing old
+        → length new.stored ≤ task.strategy.budget → IsOpening task.graph task.strategy.weight child.key opening
+        → Puts task.strategy.weight old new child.key (child_offer child opening).mark opening i
         → mb.cost + child.cost + task.graph.spare child.key ≤ i + 1000 → IsNeeded task.strategy.expansion task.graph task.strategy.weight child.key
-        → ((n : ℕ) → task.graph.wins n → ReachesLimit task.limit n → mb.cost + child.cost + task.graph.bound child.key ≤ n) → Doing new
-    puts_doing old new child i edge d room puts low needed under =
-        let e : Mark = (child_offer child).mark in
+        → ((n : ℕ) → task.graph.wins n → ReachesLimit task.limit n → mb.cost + child.cost + opening.bound ≤ n) → Doing new
+    puts_doing old new child opening i edge d room opens puts low needed under =
+        let e : Mark = (child_offer child opening).mark in
         let reached = child_reached old child edge d in
         let self : mb.cost + child.cost ≤ mb.cost + child.cost = omega arith in
         let comes : Comes task.graph old i child.key e = inr (xb, mb, child.cost, d.stands, edge, self) in
         let more : mb.cost ≤ e.cost = omega arith in
-        let other = other_number task.strategy.weight old new child.key e (opening_of task child.key) i puts busy xb mb d.stands more in
+        let other = other_number task.strategy.weight old new child.key e opening i puts busy xb mb d.stands more in
+        let same : bound_at new busy ≡ bound_at old busy = ap bound_in (puts.notes.2 d.sound.noted.0 busy other) in
         record {
-          sound = still_sound task old new child.key e i puts d.sound room reached low comes needed heavy under;
-          settled = still_settled task old new child.key e i puts d.sound room reached low comes needed heavy under busy d.settled;
+          sound = still_sound task old new child.key e opening i puts opens.0 opens.1 d.sound room reached low comes needed heavy under;
+          settled = still_settled task old new child.key e opening i puts opens.0 opens.1 d.sound room reached low comes needed heavy under busy d.settled;
           stands = puts.on busy xb mb other d.stands;
-          present = still_present task.graph old new (opening_of task child.key) i busy (weighed task.strategy mb) taken puts.notes
+          noted = same ∙ d.noted;
+          present = still_present task.graph old new opening i busy (weighed task.strategy mb) taken puts.notes
               d.sound.noted other d.present;
-          done = λ lt. still_done task.strategy.weight old new child.key e (opening_of task child.key) i puts
-              task.strategy.expansion task xb mb.cost taken (d.done lt);
+          done = λ lt. still_done task.strategy.weight old new child.key e opening i puts
+              task.strategy.expansion task xb mb.cost taken
+              (d.done (subst (λ b. weigh task.strategy.weight mb.cost b < taken) same lt));
         }
 
     -- a child that found its place
@@ -134,53 +145,65 @@ module _ {K : Type 0} (task : Task K) where
     Placed old new child = Doing new × ((x : K) (d : ℕ) → HasAt old x d → HasAt new x d)
         × IsMet task.limit task.graph new child.key (mb.cost + child.cost) × (work_left task.strategy.budget new ≤ work_left task.strategy.budget old)
 
-    placed_known : (old new : Store K) (child : Child K) → Doing old
-        → Offers task taken old new (child_offer child) Known
+    placed_known : (old new : Store K) (child : Child K) (opening : Opening) → Doing old
+        → Offers task taken old new (child_offer child opening) Known
         → Placed old new child
-    placed_known old new child d (i, was, at, le, same) =
+    placed_known old new child opening d (i, was, at, le, same) =
         let still_left : work_left task.strategy.budget old ≤ work_left task.strategy.budget old = omega arith in
         subst (λ s. Placed old s child) (sym same) (d, λ x c h. h, has_met task.limit task.graph old child.key (mb.cost + child.cost) (i, was, at, le), still_left)
 
-    placed_lowered : (old new : Store K) (child : Child K) → IsChild child → Doing old
-        → Offers task taken old new (child_offer child) Lowered
-        → Placed old new child
-    placed_lowered old new child edge d (i, was, at, lt, lowers) =
-        let e : Mark = (child_offer child).mark in
-        let p = puts_lowered task.strategy old new child.key e was (opening_of task child.key) i at lt lowers in
-        let before = d.sound.low i child.key was at in
-        let low : mb.cost + child.cost + task.graph.spare child.key ≤ i + 1000 = omega (arith, before, lt) in
-        let room = offers_room task taken old new (child_offer child) Lowered d.sound.room (i, was, at, lt, lowers) in
-        let self : mb.cost + child.cost ≤ mb.cost + child.cost = omega arith in (
-          puts_doing old new child i edge d room p low (d.sound.needed i child.key was at)
-              (λ n wins reach. let le = d.sound.under i child.key was at n wins reach in omega (arith, le, lt)),
-          still_has task.strategy.weight old new child.key e (opening_of task child.key) i p,
-          has_met task.limit task.graph new child.key (mb.cost + child.cost) (i, e, p.here, self),
-          lowered_work task.strategy old new i child.key was e (opening_of task child.key) at lt lowers,
+    lowered_opens : (old : Store K) (child : Child K) (opening : Opening) (i : ℕ) (was : Mark) → Doing old → IsStored old i child.key was
+        → (before : Opening) × (slice_get old.openings i ≡ Some before) × IsOpenedAnew task.strategy.weight before opening
+        → IsOpening task.graph task.strategy.weight child.key opening
+    lowered_opens old child opening i was d at (before, there, anew) =
+        let first = noted_shown task.graph old i child.key was before d.sound.noted at there in (
+          anew.0 ∙ ap (λ n. task.strategy.weight.times * n) (sym anew.1),
+          subst (λ n. task.graph.shown child.key opening.bound n) (sym anew.2)
+              (subst (λ n. task.graph.shown child.key n before.note) (sym anew.1) first),
         )
 
-    placed_added : IsLawful task.graph → (old new : Store K) (child : Child K) → IsChild child → Doing old
-        → Offers task taken old new (child_offer child) Added
+    placed_lowered : (old new : Store K) (child : Child K) (opening : Opening) → IsChild child → Doing old
+        → Offers task taken old new (child_offer child opening) Lowered
         → Placed old new child
-    placed_added lawful old new child edge d (fresh, admits, short, stores) =
-        let e : Mark = (child_offer child).mark in
-        let p = puts_added task.strategy old new (child_offer child) fresh stores in
+    placed_lowered old new child opening edge d (i, was, at, lt, anew, lowers) =
+        let e : Mark = (child_offer child opening).mark in
+        let p = puts_lowered task.strategy old new child.key e was opening i at lt anew lowers in
+        let level : opening.bound ≡ bound_at old i = anew.2.1 ∙ sym (ap bound_in anew.1) in
+        let before = d.sound.low i child.key was at in
+        let low : mb.cost + child.cost + task.graph.spare child.key ≤ i + 1000 = omega (arith, before, lt) in
+        let room = offers_room task taken old new (child_offer child opening) Lowered d.sound.room (i, was, at, lt, anew, lowers) in
+        let self : mb.cost + child.cost ≤ mb.cost + child.cost = omega arith in (
+          puts_doing old new child opening i edge d room (lowered_opens old child opening i was d at anew) p low (d.sound.needed i child.key was at)
+              (λ n wins reach. omega (arith, d.sound.under i child.key was at n wins reach, lt, level)),
+          still_has task.strategy.weight old new child.key e opening i p,
+          has_met task.limit task.graph new child.key (mb.cost + child.cost) (i, e, p.here, self),
+          lowered_work task.strategy old new i child.key was e opening at lt lowers,
+        )
+
+    placed_added : IsLawful task.graph → (old new : Store K) (child : Child K) (opening : Opening) → IsChild child → Doing old
+        → Offers task taken old new (child_offer child opening) Added
+        → Placed old new child
+    placed_added lawful old new child opening edge d (fresh, opens, admits, short, stores) =
+        let e : Mark = (child_offer child opening).mark in
+        let p = puts_added task.strategy old new (child_offer child opening) fresh stores in
         let was = d.sound.low busy xb mb d.stands in
         let step = (lawful.edges xb child.cost child.key edge).1 in
         let lt = stands_within old busy xb mb d.stands in
         let low : mb.cost + child.cost + task.graph.spare child.key ≤ length old.stored + 1000 = omega (arith, was, step, lt) in
-        let room = offers_room task taken old new (child_offer child) Added d.sound.room (fresh, admits, short, stores) in
+        let room = offers_room task taken old new (child_offer child opening) Added d.sound.room (fresh, opens, admits, short, stores) in
         let self : mb.cost + child.cost ≤ mb.cost + child.cost = omega arith in (
-          puts_doing old new child (length old.stored) edge d room p low (child_needed task.strategy.expansion old child edge d admits)
-              (λ n wins reach. below_under task.limit (mb.cost + child.cost + task.graph.bound child.key) n short reach),
-          still_has task.strategy.weight old new child.key e (opening_of task child.key) (length old.stored) p,
+          puts_doing old new child opening (length old.stored) edge d room opens p low
+              (child_needed task.strategy.expansion old child opening edge d opens admits)
+              (λ n wins reach. below_under task.limit (mb.cost + child.cost + opening.bound) n short reach),
+          still_has task.strategy.weight old new child.key e opening (length old.stored) p,
           has_met task.limit task.graph new child.key (mb.cost + child.cost) (length old.stored, e, p.here, self),
-          added_work task.strategy old new (child_offer child) stores (omega (arith, low)),
+          added_work task.strategy old new (child_offer child opening) stores (omega (arith, low)),
         )
 
-    placed_past : (old new : Store K) (child : Child K) → Doing old
-        → Offers task taken old new (child_offer child) Past
+    placed_past : (old new : Store K) (child : Child K) (opening : Opening) → Doing old
+        → Offers task taken old new (child_offer child opening) Past
         → Placed old new child
-    placed_past old new child d (fresh, past, same) =
+    placed_past old new child opening d (past, same) =
         let still_left : work_left task.strategy.budget old ≤ work_left task.strategy.budget old = omega arith in
         subst (λ s. Placed old s child) (sym same)
         (d, λ x c h. h, past_met task.limit task.graph old child.key (mb.cost + child.cost) past, still_left)
@@ -247,7 +270,7 @@ module _ {K : Type 0} (task : Task K) where
           omega (arith, left),
           subst (IsNearLimit task.limit task.strategy.weight.times) (sym whole) tt,
         )
-    expands_done lawful (child ∷ children) old new placing edges d (inl ((fresh, admits, short, (is, no_room, same)), out)) =
+    expands_done lawful (child ∷ children) old new placing edges d (opening, inl ((fresh, opens, admits, short, (is, no_room, same)), out)) =
         let edge = edges child (front_there child children) in
         inr (
           child.key,
@@ -256,22 +279,22 @@ module _ {K : Type 0} (task : Task K) where
             d.sound,
             no_room,
             fresh,
-            child_needed task.strategy.expansion old child edge d admits,
+            child_needed task.strategy.expansion old child opening edge d opens admits,
             (xb, mb, child.cost, taken, record { stands = d.stands; at = d.present; done = d.done }, edge),
             d.settled,
           ),
         )
-    expands_done lawful (child ∷ children) old new placing edges d (inr (inl (mid, how, rest))) =
+    expands_done lawful (child ∷ children) old new placing edges d (opening, inr (inl (mid, how, rest))) =
         let edge = edges child (front_there child children) in
         let placed : Placed old mid child = ⊎_elim
-        (λ known. placed_known old mid child d known)
-        (λ other. ⊎_elim (λ lowered. placed_lowered old mid child edge d lowered)
-        (λ new_one. ⊎_elim (λ added. placed_added lawful old mid child edge d added) (λ past. placed_past old mid child d past) new_one) other)
+        (λ known. placed_known old mid child opening d known)
+        (λ other. ⊎_elim (λ lowered. placed_lowered old mid child opening edge d lowered)
+        (λ new_one. ⊎_elim (λ added. placed_added lawful old mid child opening edge d added) (λ past. placed_past old mid child opening d past) new_one) other)
         how in
         done_on child children old mid new placing placed
         (expands_done lawful children mid new placing
         (λ c there. edges c (Contains-append_right (child ∷ []) children c there)) placed.0 rest)
-    expands_done lawful (child ∷ children) old new placing edges d (inr (inr (later, (fresh, off, within, same), (others, rest, is)))) =
+    expands_done lawful (child ∷ children) old new placing edges d (opening, inr (inr (later, (off, within, same), (others, rest, is)))) =
         subst (Done (child ∷ children) old new) (sym is)
         (done_off child children old new others later (off_past task.strategy.expansion taken _ later off).0
         (off_past task.strategy.expansion taken _ later off).2 (off_past task.strategy.expansion taken _ later off).1 within

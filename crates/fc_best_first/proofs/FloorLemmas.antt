@@ -8,8 +8,8 @@ use Rattle.std.proofs.lemmas.List.Sorted.{Contains-permutation, IsPermutation-sy
 use Rattle.fc_best_first.specs.declared.books.Mark.{Mark}
 use Rattle.fc_best_first.specs.declared.strategies.Expansion.{Expansion}
 use Rattle.fc_best_first.specs.declared.strategies.Expansion.TheVariants.{Full, Partial}
-use Rattle.fc_best_first.specs.Graph.{Graph, Task}
-use Rattle.fc_best_first.specs.Store.{Store, IsStored, opens_at, weighed}
+use Rattle.fc_best_first.specs.Graph.{Graph, IsLawful, Task}
+use Rattle.fc_best_first.specs.Store.{Store, IsStored, bound_at, opens_at, weighed}
 use Rattle.fc_best_first.specs.Limits.{IsUpTo, ReachesLimit, weigh}
 use Rattle.std.proofs.lemmas.Nat.{mul-le}
 use Rattle.std.proofs.Math.Nat.{mul-le-mul_left}
@@ -17,7 +17,7 @@ use Rattle.fc_best_first.specs.Kept.{IsCoveredBelow, IsDone, IsOpenAt, IsOpenLat
 use Rattle.fc_best_first.specs.Laws.{OpenFloorsHold}
 use Rattle.fc_best_first.specs.Shown.{AreSettledBut, IsLeastOpen, IsOpen, IsTold, IsUnder}
 use Rattle.fc_best_first.proofs.KeptLemmas.{front_cases, front_there, same_entry, stands_within}
-use Rattle.fc_best_first.proofs.ClosedLemmas.{IsAt, closed_inside, expanded_covered, limit_cases, met_covered}
+use Rattle.fc_best_first.proofs.ClosedLemmas.{IsAt, closed_inside, expanded_covered, limit_cases, met_covered, noted_under}
 
 -- what reaches the limit is no less than what is no more than that
 reach_up : (limit : Option ℕ) (n floor : ℕ) → ReachesLimit limit n → IsUpTo limit floor → floor ≤ n
@@ -31,17 +31,18 @@ at_same s i cost f h (last, is, at) (other, was, where_it_is) =
     at ∙ ap (λ o. opens_at cost o) one ∙ sym where_it_is
 
 -- what is no more than a lesser number
-pub under_less : {K : Type 0} (task : Task K) (x : K) (m : Mark) (f n floor : ℕ) → floor ≤ n → IsUnder task x m f n → IsUnder task x m f floor
-under_less task x m f n floor le (inl own) = inl (omega (arith, le, own))
-under_less task x m f n floor le (inr over) =
+pub under_less : {K : Type 0} (task : Task K) (s : Store K) (i : ℕ) (m : Mark) (f n floor : ℕ) → floor ≤ n → IsUnder task s i m f n
+    → IsUnder task s i m f floor
+under_less task s i m f n floor le (inl own) = inl (omega (arith, le, own))
+under_less task s i m f n floor le (inr over) =
     let all : task.strategy.weight.times * floor ≤ task.strategy.weight.times * n = mul-le-mul_left task.strategy.weight.times le in
     inr (omega (arith, all, over))
 
--- what a key tells, by its own cost plus bound and how many times a bound counts
-pub told_so : {K : Type 0} (task : Task K) (x : K) (m : Mark) (f bound times told : ℕ) → bound ≡ task.graph.bound x
+-- what a key tells, by its cost plus what is noted of it and how many times a bound counts
+pub told_so : {K : Type 0} (task : Task K) (s : Store K) (i : ℕ) (m : Mark) (f bound times told : ℕ) → bound ≡ bound_at s i
     → times ≡ task.strategy.weight.times → m.cost + bound ≤ told → f ≤ times * told → (told ≤ m.cost + bound) ⊎ (times * told < f + times)
-    → IsTold task x m f told
-told_so task x m f bound times told same counts own most under = record {
+    → IsTold task s i m f told
+told_so task s i m f bound times told same counts own most under = record {
   own = subst (λ b. m.cost + b ≤ told) same own;
   weighed = subst (λ t. f ≤ t * told) counts most;
   under = subst (λ b. (told ≤ m.cost + b) ⊎ (task.strategy.weight.times * told < f + task.strategy.weight.times)) same
@@ -54,9 +55,9 @@ module _ {K : Type 0} (task : Task K) (s : Store K) (most : ℕ) where
     pub inside : (p : ℕ × ℕ) → Contains rest p → Contains s.waiting p
     pub within : floor ≤ most
     pub least : (number : ℕ) (x : K) (mark : Mark) (h : ℕ) → IsOpen task s number x mark h
-        → IsUnder task x mark h floor ⊎ Contains rest (h, number)
+        → IsUnder task s number mark h floor ⊎ Contains rest (h, number)
     pub met : (floor ≡ most)
-        ⊎ ((number : ℕ) × (x : K) × (mark : Mark) × (h : ℕ) × IsOpen task s number x mark h × IsTold task x mark h floor)
+        ⊎ ((number : ℕ) × (x : K) × (mark : Mark) × (h : ℕ) × IsOpen task s number x mark h × IsTold task s number mark h floor)
 
   pub least_begins : (all : List (ℕ × ℕ)) → IsPermutation all s.waiting → IsLeastBut most all
   least_begins all same = record {
@@ -88,7 +89,7 @@ module _ {K : Type 0} (task : Task K) (s : Store K) (most : ℕ) where
 
     -- an open key is counted, or its pair is the next or behind it
     next_cases : (number : ℕ) (x : K) (mark : Mark) (k : ℕ) → IsOpen task s number x mark k
-        → IsUnder task x mark k floor ⊎ (((f ≡ k) × (i ≡ number)) ⊎ Contains rest (k, number))
+        → IsUnder task s number mark k floor ⊎ (((f ≡ k) × (i ≡ number)) ⊎ Contains rest (k, number))
     next_cases number x mark k is = ⊎_elim
         (λ under. inl under)
         (λ left. ⊎_elim
@@ -122,7 +123,7 @@ module _ {K : Type 0} (task : Task K) (s : Store K) (most : ℕ) where
       }
 
       -- an open key is counted
-      pub least_counts : (told new : ℕ) → IsAt task s i m f → IsTold task x m f told → new ≡ min floor told
+      pub least_counts : (told new : ℕ) → IsAt task s i m f → IsTold task s i m f told → new ≡ min floor told
           → IsLeastBut new rest
       least_counts told new present tells is_min = ⊎_elim (λ lt. by_floor lt) (λ le. by_key le) (cases_lt floor told)
         where
@@ -130,14 +131,14 @@ module _ {K : Type 0} (task : Task K) (s : Store K) (most : ℕ) where
           opened = record { stands = at; at = present; waits = next_waits }
 
           each : new ≤ floor → new ≤ told → (number : ℕ) (y : K) (mark : Mark) (k : ℕ) → IsOpen task s number y mark k
-              → IsUnder task y mark k new ⊎ Contains rest (k, number)
+              → IsUnder task s number mark k new ⊎ Contains rest (k, number)
           each low own number y mark k is = ⊎_elim
-              (λ under. inl (under_less task y mark k floor new low under))
+              (λ under. inl (under_less task s number mark k floor new low under))
               (λ later. ⊎_elim
               (λ here.
               let both = same_entry s i x y m mark at (subst (λ n. IsStored s n y mark) (sym here.1) is.stands) in
-              inl (subst (λ v. IsUnder task v mark k new) both.0 (subst (λ l. IsUnder task x l k new) both.1
-              (subst (λ g. IsUnder task x m g new) here.0 (under_less task x m f told new own tells.under)))))
+              inl (subst (λ n. IsUnder task s n mark k new) here.1 (subst (λ l. IsUnder task s i l k new) both.1
+              (subst (λ g. IsUnder task s i m g new) here.0 (under_less task s i m f told new own tells.under)))))
               (λ behind. inr behind)
               later)
               (next_cases number y mark k is)
@@ -149,7 +150,7 @@ module _ {K : Type 0} (task : Task K) (s : Store K) (most : ℕ) where
                 inside = rest_inside;
                 within = omega (arith, same, h.within);
                 least = each (omega (arith, same)) (omega (arith, same, lt));
-                met = subst (λ n. (n ≡ most) ⊎ ((number : ℕ) × (y : K) × (mark : Mark) × (k : ℕ) × IsOpen task s number y mark k × IsTold task y mark k n))
+                met = subst (λ n. (n ≡ most) ⊎ ((number : ℕ) × (y : K) × (mark : Mark) × (k : ℕ) × IsOpen task s number y mark k × IsTold task s number mark k n))
                     (sym same) h.met;
               }
 
@@ -160,7 +161,7 @@ module _ {K : Type 0} (task : Task K) (s : Store K) (most : ℕ) where
                 inside = rest_inside;
                 within = omega (arith, same, le, h.within);
                 least = each (omega (arith, same, le)) (omega (arith, same));
-                met = inr (i, x, m, f, opened, subst (IsTold task x m f) (sym same) tells);
+                met = inr (i, x, m, f, opened, subst (IsTold task s i m f) (sym same) tells);
               }
 
 module _ {K : Type 0} (task : Task K) (s : Store K) (heavy : task.strategy.weight.parts ≤ task.strategy.weight.times) where
@@ -191,32 +192,32 @@ module _ {K : Type 0} (task : Task K) (s : Store K) (heavy : task.strategy.weigh
         (done.1 c y edge),
   )
 
-  -- so a key that tells no less than a floor, and whose cost plus bound is below that, is covered below it, where it is done with below
+  -- so a key that tells no less than a floor, and whose cost plus what is noted of it is below that, is covered below it, where it is done with below
   -- what it is open at
-  under_covered : (x : K) (m : Mark) (f floor : ℕ) → IsUpTo task.limit floor → IsUnder task x m f floor
-      → m.cost + task.graph.bound x < floor → (f_of task x m < f → IsDone task.strategy.expansion task s x m.cost f)
+  under_covered : (i : ℕ) (x : K) (m : Mark) (f floor : ℕ) → IsUpTo task.limit floor → IsUnder task s i m f floor
+      → m.cost + bound_at s i < floor → (f_of task s i m < f → IsDone task.strategy.expansion task s x m.cost f)
       → IsCoveredBelow task.graph s x m.cost floor
-  under_covered x m f floor up (inl own) lt done = absurd (omega (arith, own, lt))
-  under_covered x m f floor up (inr over) lt done = ⊎_elim
+  under_covered i x m f floor up (inl own) lt done = absurd (omega (arith, own, lt))
+  under_covered i x m f floor up (inr over) lt done = ⊎_elim
       (λ later. below_covered task.strategy.expansion x m.cost f floor up over (done later))
       (λ own. absurd (
-      let most = weighed_most m.cost (task.graph.bound x) in
-      let le = counted_most task.strategy.weight.times floor f (m.cost + task.graph.bound x) over (omega (arith, own, most)) in
+      let most = weighed_most m.cost (bound_at s i) in
+      let le = counted_most task.strategy.weight.times floor f (m.cost + bound_at s i) over (omega (arith, own, most)) in
       omega (arith, le, lt)))
-      (cases_lt (f_of task x m) f)
+      (cases_lt (f_of task s i m) f)
 
   -- a key that is open at its own f, or later, is covered below what is open
   open_covered : (most floor : ℕ) (i : ℕ) (y : K) (m : Mark) → IsLeastOpen task s most floor → IsUpTo task.limit floor → IsStored s i y m
-      → m.cost + task.graph.bound y < floor → (expansion : Expansion) → expansion ≡ task.strategy.expansion
-      → IsOpenAt s i (weighed task.strategy m) (f_of task y m) ⊎ IsOpenLater expansion task s i y m
+      → m.cost + bound_at s i < floor → (expansion : Expansion) → expansion ≡ task.strategy.expansion
+      → IsOpenAt s i (weighed task.strategy m) (f_of task s i m) ⊎ IsOpenLater expansion task s i y m
       → IsCoveredBelow task.graph s y m.cost floor
   open_covered most floor i y m least up there lt expansion is (inl (waits, at)) =
-      under_covered y m (f_of task y m) floor up
-      (least.least i y m (f_of task y m) (record { stands = there; at = at; waits = waits }))
+      under_covered i y m (f_of task s i m) floor up
+      (least.least i y m (f_of task s i m) (record { stands = there; at = at; waits = waits }))
       lt (λ less. absurd (omega (arith, less)))
   open_covered most floor i y m least up there lt Full is (inr later) = absurd later
   open_covered most floor i y m least up there lt Partial is (inr (h, (waits, at), below)) =
-      under_covered y m h floor up
+      under_covered i y m h floor up
       (least.least i y m h (record { stands = there; at = at; waits = waits }))
       lt (λ less. subst (λ e. IsDone e task s y m.cost h) is below)
 
@@ -224,17 +225,17 @@ module _ {K : Type 0} where
   -- a key is covered where every pair that is open tells no less, and so does the one that was taken
   floor_covered : (task : Task K) (s : Store K) → task.strategy.weight.parts ≤ task.strategy.weight.times
       → (number : ℕ) (x : K) (mark : Mark) (f most floor : ℕ) → IsStored s number x mark
-      → AreSettledBut task s number → IsUnder task x mark f most
-      → (f_of task x mark < f → IsDone task.strategy.expansion task s x mark.cost f) → IsLeastOpen task s most floor → IsUpTo task.limit floor
-      → (i : ℕ) (y : K) (m : Mark) → IsStored s i y m → m.cost + task.graph.bound y < floor → IsCoveredBelow task.graph s y m.cost floor
+      → AreSettledBut task s number → IsUnder task s number mark f most
+      → (f_of task s number mark < f → IsDone task.strategy.expansion task s x mark.cost f) → IsLeastOpen task s most floor → IsUpTo task.limit floor
+      → (i : ℕ) (y : K) (m : Mark) → IsStored s i y m → m.cost + bound_at s i < floor → IsCoveredBelow task.graph s y m.cost floor
   floor_covered task s heavy number x mark f most floor at settled under done least up i y m there lt = ⊎_elim
       (λ same.
       let both = same_entry s number x y mark m at (subst (λ k. IsStored s k y m) same there) in
       let cost : mark.cost ≡ m.cost = ap (λ n. n.cost) both.1 in
-      let bound : task.graph.bound x ≡ task.graph.bound y = ap task.graph.bound both.0 in
+      let bound : bound_at s number ≡ bound_at s i = ap (bound_at s) (sym same) in
       subst (λ v. IsCoveredBelow task.graph s v m.cost floor) both.0
       (subst (λ d. IsCoveredBelow task.graph s x d floor) cost
-      (under_covered task s heavy x mark f floor up (under_less task x mark f most floor least.within under)
+      (under_covered task s heavy number x mark f floor up (under_less task s number mark f most floor least.within under)
       (omega (arith, cost, bound, lt)) done)))
       (λ other. elim (settled i y m other there) [
         | inl is_open ↦ open_covered task s heavy most floor i y m least up there lt task.strategy.expansion refl (inl is_open)
@@ -259,7 +260,8 @@ module _ {K : Type 0} where
             (λ on. ⊎_elim
             (λ below. absurd (
             let closed = closed_inside task s (suc n) sound
-            (λ i z l here lt. covered_less g s z l.cost (suc n) floor (omega (arith, below)) (covered i z l here (omega (arith, lt, below)))) in
+            (λ i z l here lt. covered_less g s z l.cost (suc n) floor (omega (arith, below))
+            (covered i z l here (omega (arith, lt, below, noted_under g lawful s i z l sound.noted here)))) in
             let over = lawful.closed (suc n) _ closed n wins in omega (arith, over)))
             (λ within. within)
             (cases_lt n floor))

@@ -18,8 +18,8 @@ use Rattle.fc_best_first.specs.declared.strategies.Expansion.TheVariants.{Full, 
 use Rattle.fc_best_first.specs.declared.strategies.Strategy.{Strategy}
 use Rattle.fc_best_first.specs.Graph.{Graph, Task, Reached}
 use Rattle.fc_best_first.specs.Limits.{Ratio, ReachesLimit, weigh}
-use Rattle.fc_best_first.specs.Store.{Store, Candidate, IsStored, IsNew, Lowers, Stores, opens_at, weighed}
-use Rattle.fc_best_first.specs.Turn.{TakesFloor, opening_of}
+use Rattle.fc_best_first.specs.Store.{Store, Candidate, IsStored, IsNew, IsOpenedAnew, Lowers, Stores, bound_at, bound_in, opens_at, weighed}
+use Rattle.fc_best_first.specs.Turn.{TakesFloor}
 use Rattle.fc_best_first.specs.Kept.{AreNoted, HasAt, IsDone, IsExpanded, IsExpandedBelow, IsMet, IsOpenAt, IsOpenLater, IsOpenOrExpanded, IsNeeded, Comes, IsSound, f_of}
 use Rattle.fc_best_first.proofs.StoreLemmas.{set_here, set_elsewhere, push_here, push_elsewhere, slot_here, slot_elsewhere, length-slot}
 
@@ -56,8 +56,7 @@ taken_floor old new f i before after taken least greatest =
     inr (f, i, added_there new old (f, i) taken, least, turned)
 
 pub least_below : (f i d j : ℕ) (ps : List (ℕ × ℕ)) → IsLeast (f, i) ps → Contains ps (d, j) → f ≤ d
-least_below f i d j ps least (k, lt, e) =
-    subst (λ p. f ≤ p.0) e (least k (d, j) lt)
+least_below f i d j ps least (k, lt, e) = subst (λ p. f ≤ p.0) e (least k (d, j) lt)
 
 module _ {K : Type 0} where
   pub same_entry : (s : Store K) (i : ℕ) (x y : K) (m n : Mark) → IsStored s i x m → IsStored s i y n → (x ≡ y) × (m ≡ n)
@@ -72,7 +71,7 @@ module _ {K : Type 0} where
 module _ {K : Type 0} (task : Task K) where
   -- a pair that is taken is of a stored key
   pub taken_stands : (old : Store K) (f i : ℕ) (rest : List (ℕ × ℕ)) → IsSound task old → Adds rest old.waiting (f, i)
-      → (x : K) × (m : Mark) × IsStored old i x m × (f_of task x m ≤ f)
+      → (x : K) × (m : Mark) × IsStored old i x m × (f_of task old i m ≤ f)
   taken_stands old f i rest sound taken = sound.pairs f i (added_there rest old.waiting (f, i) taken)
 
   pub taken_within : (old new : Store K) (f i : ℕ) → IsSound task old → Adds new.waiting old.waiting (f, i)
@@ -83,13 +82,13 @@ module _ {K : Type 0} (task : Task K) where
       let size = ap length kept in
       omega (arith, lt, size)
 
-  -- its f is no less than the weighed cost plus bound of its key
+  -- its f is no less than the cost of its key plus what is noted of it, both weighed
   pub pair_high : (old : Store K) (f i : ℕ) (rest : List (ℕ × ℕ)) (x : K) (m : Mark) → IsSound task old
-      → Adds rest old.waiting (f, i) → IsStored old i x m → f_of task x m ≤ f
+      → Adds rest old.waiting (f, i) → IsStored old i x m → f_of task old i m ≤ f
   pair_high old f i rest x m sound taken at =
       let there = taken_stands old f i rest sound taken in
       let both = same_entry old i there.0 x there.1 m there.2 at in
-      subst (λ v. f_of task v m ≤ f) both.0 (subst (λ n. f_of task there.0 n ≤ f) both.1 there.3)
+      subst (λ n. f_of task old i n ≤ f) both.1 there.3
 
   pub entry_reached : (old new : Store K) (i : ℕ) (x : K) (m : Mark) → IsSound task old → new.stored ≡ old.stored
       → IsStored new i x m → (d : ℕ) × Reached task.graph x d
@@ -117,7 +116,8 @@ module _ {K : Type 0} where
     pub back : (j : ℕ) (x : K) (m : Mark) → (j ≡ i → ⊥) → IsStored new j x m → IsStored old j x m
     pub on : (j : ℕ) (x : K) (m : Mark) → (j ≡ i → ⊥) → IsStored old j x m → IsStored new j x m
     pub opened : Adds old.waiting new.waiting (opens_at (weight.parts * e.cost) opening, i)
-    pub was : (IsNew old y × (i ≡ length old.stored)) ⊎ ((m : Mark) × IsStored old i y m × (e.cost < m.cost))
+    pub was : (IsNew old y × (i ≡ length old.stored))
+        ⊎ ((m : Mark) × IsStored old i y m × (e.cost < m.cost) × (opening.bound ≡ bound_at old i))
     pub notes : Notes old new i opening
 
   pub anew_notes : (old new : Store K) (i : ℕ) (opening : Opening) → i < length old.stored
@@ -138,14 +138,15 @@ module _ {K : Type 0} where
   )
 
   pub puts_lowered : (strategy : Strategy) (old new : Store K) (y : K) (e was : Mark) (opening : Opening) (i : ℕ)
-      → IsStored old i y was → e.cost < was.cost → Lowers strategy old new i e opening
-      → Puts strategy.weight old new y e opening i
-  puts_lowered strategy old new y e was opening i at lt (stored, opened, noted) = record {
+      → IsStored old i y was → e.cost < was.cost
+      → (before : Opening) × (slice_get old.openings i ≡ Some before) × IsOpenedAnew strategy.weight before opening
+      → Lowers strategy old new i e opening → Puts strategy.weight old new y e opening i
+  puts_lowered strategy old new y e was opening i at lt (before, there_before, anew) (stored, opened, noted) = record {
     here = subst (λ es. slice_get es i ≡ Some (y, e)) (sym stored) (set_here old.stored i y was e at);
     back = λ j x n ne there. sym (set_elsewhere old.stored i j e ne) ∙ ap (λ es. slice_get es j) (sym stored) ∙ there;
     on = λ j x n ne there. ap (λ es. slice_get es j) stored ∙ set_elsewhere old.stored i j e ne ∙ there;
     opened = opened;
-    was = inr (was, at, lt);
+    was = inr (was, at, lt, anew.1 ∙ sym (ap bound_in there_before));
     notes = anew_notes old new i opening (stands_within old i y was at)
         (ap length stored ∙ length-set_value_at old.stored i e) noted;
   }
@@ -225,6 +226,21 @@ module _ {K : Type 0} where
         omega (arith, q, lower.2, le))
         puts.was
 
+    -- what is noted of the key that is put in is what it was put in with
+    pub bound_here : (g : Graph K) → AreNoted g old → bound_at new i ≡ opening.bound
+    bound_here g noted = ap bound_in (puts.notes.1 noted.0)
+
+    -- what was noted of a stored key still is
+    pub still_bound : (g : Graph K) → AreNoted g old → (j : ℕ) (x : K) (m : Mark) → IsStored old j x m → bound_at new j ≡ bound_at old j
+    still_bound g noted j x m at =
+        ⊎_elim
+        (λ same. ⊎_elim
+        (λ fresh. absurd (let lt = stands_within old j x m at in omega (arith, lt, same, fresh.1)))
+        (λ lower. ap (bound_at new) same ∙ bound_here g noted ∙ lower.3 ∙ ap (bound_at old) (sym same))
+        puts.was)
+        (λ ne. ap bound_in (puts.notes.2 noted.0 j ne))
+        (cases_eq j i)
+
     still_comes : (g : Graph K) (j : ℕ) (x : K) (m : Mark) → Comes g old j x m → Comes g new j x m
     still_comes g j x m h = elim h [
       | inl start ↦ inl start
@@ -250,15 +266,15 @@ module _ {K : Type 0} where
       (added_there old.waiting new.waiting (opens_at cost opening, i) opened, (opening, notes.1 noted.0, refl))
 
   pub still_noted : (weight : Ratio) (g : Graph K) (old new : Store K) (y : K) (e : Mark) (opening : Opening) (i : ℕ)
-      → Puts weight old new y e opening i → opening.bound ≡ g.bound y → AreNoted g old → AreNoted g new
-  still_noted weight g old new y e opening i puts told noted = (
+      → Puts weight old new y e opening i → g.shown y opening.bound opening.note → AreNoted g old → AreNoted g new
+  still_noted weight g old new y e opening i puts shown noted = (
     puts.notes.0 noted.0,
     λ j x m at. ⊎_elim
         (λ same.
         let both = at_here weight old new y e opening i puts j x m same at in (
           opening,
           subst (λ k. slice_get new.openings k ≡ Some opening) (sym same) (puts.notes.1 noted.0),
-          told ∙ ap (λ v. g.bound v) (sym both.0),
+          subst (λ v. g.shown v opening.bound opening.note) (sym both.0) shown,
         ))
         (λ ne.
         let was = noted.1 j x m (puts.back j x m ne at) in
@@ -276,20 +292,21 @@ module _ {K : Type 0} where
     still_below task.strategy.weight old new y e opening i puts task x m.cost f below,
   )
 
-  module _ (task : Task K) (old new : Store K) (y : K) (e : Mark) (i : ℕ)
-      (puts : Puts task.strategy.weight old new y e (opening_of task y) i) (sound : IsSound task old)
+  module _ (task : Task K) (old new : Store K) (y : K) (e : Mark) (opening : Opening) (i : ℕ)
+      (puts : Puts task.strategy.weight old new y e opening i) (is : opening.over ≡ task.strategy.weight.times * opening.bound)
+      (shown : task.graph.shown y opening.bound opening.note) (sound : IsSound task old)
       (room : length new.stored ≤ task.strategy.budget) (reached : Reached task.graph y e.cost) (low : e.cost + task.graph.spare y ≤ i + 1000)
       (comes : Comes task.graph old i y e) (needed : IsNeeded task.strategy.expansion task.graph task.strategy.weight y)
       (heavy : task.strategy.weight.parts ≤ task.strategy.weight.times)
-      (under : (n : ℕ) → task.graph.wins n → ReachesLimit task.limit n → e.cost + task.graph.bound y ≤ n) where
+      (under : (n : ℕ) → task.graph.wins n → ReachesLimit task.limit n → e.cost + opening.bound ≤ n) where
     again : (j : ℕ) (x : K) (m : Mark) → IsStored old j x m → (n : Mark) × IsStored new j x n × (n.cost ≤ m.cost)
-    again = still task.strategy.weight old new y e (opening_of task y) i puts
+    again = still task.strategy.weight old new y e opening i puts
 
     here_again : (j : ℕ) (x : K) (m : Mark) → j ≡ i → IsStored new j x m → (x ≡ y) × (m ≡ e)
-    here_again = at_here task.strategy.weight old new y e (opening_of task y) i puts
+    here_again = at_here task.strategy.weight old new y e opening i puts
 
     own_again : (j : ℕ) (m : Mark) → IsStored old j y m → j ≡ i
-    own_again j m at = own_number task.strategy.weight old new y e (opening_of task y) i puts j m at sound.once
+    own_again j m at = own_number task.strategy.weight old new y e opening i puts j m at sound.once
 
     once : (j k : ℕ) (x : K) (m n : Mark) → IsStored new j x m → IsStored new k x n → j ≡ k
     once j k x m n a b =
@@ -316,6 +333,17 @@ module _ {K : Type 0} where
         (λ ne. rest j x m (puts.back j x m ne at))
         (cases_eq j i)
 
+    -- where it is open
+    own_f : f_of task new i e ≡ opens_at (weighed task.strategy e) opening
+    own_f = ap (λ b. weigh task.strategy.weight e.cost b) (bound_here task.strategy.weight old new y e opening i puts task.graph sound.noted)
+        ∙ ap (λ n. task.strategy.weight.parts * e.cost + n) (sym is)
+
+    same_bound : (j : ℕ) (x : K) (m : Mark) → IsStored old j x m → bound_at new j ≡ bound_at old j
+    same_bound = still_bound task.strategy.weight old new y e opening i puts task.graph sound.noted
+
+    same_f : (j : ℕ) (x : K) (m : Mark) → IsStored old j x m → (n : Mark) → f_of task new j n ≡ f_of task old j n
+    same_f j x m at n = ap (λ b. weigh task.strategy.weight n.cost b) (same_bound j x m at)
+
     pub still_sound : IsSound task new
     still_sound = record {
       room = room;
@@ -323,30 +351,32 @@ module _ {K : Type 0} where
       reached = each (λ j x m. Reached task.graph x m.cost) reached sound.reached;
       low = each (λ j x m. m.cost + task.graph.spare x ≤ j + 1000) low sound.low;
       comes = each (Comes task.graph new)
-          (still_comes task.strategy.weight old new y e (opening_of task y) i puts task.graph i y e comes)
-          (λ j x m at. still_comes task.strategy.weight old new y e (opening_of task y) i puts task.graph j x m (sound.comes j x m at));
+          (still_comes task.strategy.weight old new y e opening i puts task.graph i y e comes)
+          (λ j x m at. still_comes task.strategy.weight old new y e opening i puts task.graph j x m (sound.comes j x m at));
       needed = each (λ j x m. IsNeeded task.strategy.expansion task.graph task.strategy.weight x) needed sound.needed;
-      starts = λ x d start. still_has task.strategy.weight old new y e (opening_of task y) i puts x d (sound.starts x d start);
+      starts = λ x d start. still_has task.strategy.weight old new y e opening i puts x d (sound.starts x d start);
       pairs = λ h j there. ⊎_elim
           (λ same.
           let here : IsStored new j y e = subst (λ k. IsStored new k y e) (ap (λ p. p.1) same) puts.here in
-          let own : f_of task y e ≤ f_of task y e = omega arith in
-          let le : f_of task y e ≤ h = subst (λ k. f_of task y e ≤ k) (ap (λ p. p.0) same) own in
-          (y, e, here, le))
+          let level : opens_at (weighed task.strategy e) opening ≡ h = ap (λ p. p.0) same in
+          let at_j : f_of task new j e ≡ f_of task new i e = ap (λ k. f_of task new k e) (sym (ap (λ p. p.1) same)) in
+          (y, e, here, omega (arith, level, at_j, own_f)))
           (λ before.
           let was = sound.pairs h j before in
           let now = again j was.0 was.1 was.2 in
-          let le : f_of task was.0 now.0 ≤ h = (let a = was.3 in omega (arith, mul-le-mul_left task.strategy.weight.parts now.2, a)) in
+          let le : f_of task new j now.0 ≤ h =
+          (let a = was.3 in omega (arith, mul-le-mul_left task.strategy.weight.parts now.2, a, same_f j was.0 was.1 was.2 now.0)) in
           (was.0, now.0, now.1, le))
-          (added_cases old.waiting new.waiting (f_of task y e, i) (h, j) puts.opened there);
-      noted = still_noted task.strategy.weight task.graph old new y e (opening_of task y) i puts refl sound.noted;
-      under = each (λ j x m. (n : ℕ) → task.graph.wins n → ReachesLimit task.limit n → m.cost + task.graph.bound x ≤ n)
-          under sound.under;
+          (added_cases old.waiting new.waiting (opens_at (weighed task.strategy e) opening, i) (h, j) puts.opened there);
+      noted = still_noted task.strategy.weight task.graph old new y e opening i puts shown sound.noted;
+      under = each (λ j x m. (n : ℕ) → task.graph.wins n → ReachesLimit task.limit n → m.cost + bound_at new j ≤ n)
+          (λ n wins reach. omega (arith, under n wins reach, bound_here task.strategy.weight old new y e opening i puts task.graph sound.noted))
+          (λ j x m at n wins reach. omega (arith, sound.under j x m at n wins reach, same_bound j x m at));
       near = λ h j there. ⊎_elim
           (λ same. λ n wins reach. subst (λ k. k ≤ task.strategy.weight.times * n) (ap (λ p. p.0) same)
-          (open_under task.strategy.weight e.cost (task.graph.bound y) n heavy (under n wins reach)))
+          (omega (arith, open_under task.strategy.weight e.cost opening.bound n heavy (under n wins reach), is)))
           (λ before. sound.near h j before)
-          (added_cases old.waiting new.waiting (f_of task y e, i) (h, j) puts.opened there);
+          (added_cases old.waiting new.waiting (opens_at (weighed task.strategy e) opening, i) (h, j) puts.opened there);
     }
 
     pub still_settled : (busy : ℕ)
@@ -355,15 +385,16 @@ module _ {K : Type 0} where
     still_settled busy settled j x m ne at =
         ⊎_elim
         (λ same. let both = here_again j x m same at in
-        inl (subst (λ k. IsOpenAt new k (weighed task.strategy m) (f_of task x m)) (sym same)
-        (subst (λ v. IsOpenAt new i (weighed task.strategy m) (f_of task v m)) (sym both.0)
-        (subst (λ n. IsOpenAt new i (weighed task.strategy n) (f_of task y n)) (sym both.1)
-        (opened_here task.graph old new (opening_of task y) i (weighed task.strategy e) puts.opened puts.notes sound.noted)))))
+        inl (subst (λ k. IsOpenAt new k (weighed task.strategy m) (f_of task new k m)) (sym same)
+        (subst (λ n. IsOpenAt new i (weighed task.strategy n) (f_of task new i n)) (sym both.1)
+        (subst (IsOpenAt new i (weighed task.strategy e)) (sym own_f)
+        (opened_here task.graph old new opening i (weighed task.strategy e) puts.opened puts.notes sound.noted)))))
         (λ other. elim (settled j x m ne (puts.back j x m other at)) [
-          | inl is_open ↦ inl (still_open task.graph old new (opening_of task y) i j (weighed task.strategy m) (f_of task y e, i) (f_of task x m)
-              puts.opened puts.notes sound.noted other is_open)
-          | inr (inl done) ↦ inr (inl (still_expanded task.strategy.weight old new y e (opening_of task y) i puts task x m.cost done))
-          | inr (inr later) ↦ inr (inr (still_later task.strategy.expansion task old new y e (opening_of task y) i
+          | inl is_open ↦ inl (subst (IsOpenAt new j (weighed task.strategy m)) (sym (same_f j x m (puts.back j x m other at) m))
+              (still_open task.graph old new opening i j (weighed task.strategy m) (opens_at (weighed task.strategy e) opening, i) (f_of task old j m)
+              puts.opened puts.notes sound.noted other is_open))
+          | inr (inl done) ↦ inr (inl (still_expanded task.strategy.weight old new y e opening i puts task x m.cost done))
+          | inr (inr later) ↦ inr (inr (still_later task.strategy.expansion task old new y e opening i
               puts sound.noted j x m other later))
         ])
         (cases_eq j i)

@@ -18,13 +18,13 @@ use Rattle.fc_best_first.specs.declared.turns.Status.{Status}
 use Rattle.fc_best_first.specs.declared.turns.Status.TheVariants.{Running, Won, CannotWin, GaveUp, Stopped}
 use Rattle.fc_best_first.specs.Graph.{Task, IsLawful}
 use Rattle.fc_best_first.specs.Limits.{weigh}
-use Rattle.fc_best_first.specs.Store.{Store, IsStored, IsTaken, opens_at, weighed}
+use Rattle.fc_best_first.specs.Store.{Store, IsStored, IsTaken, bound_at, bound_in, opens_at, weighed}
 use Rattle.fc_best_first.specs.Turn.{Advances, AreChildren, Closes, DropsTaken, ExpandsTaken, Expands, Reopens, work_left}
-use Rattle.fc_best_first.specs.Kept.{AreNoted, Comes, IsExpanded, IsExpandedBelow, IsMet, IsOpenLater, IsOpenOrExpanded, IsNeeded, IsSound, IsKept, IsWhereOpen, f_of}
+use Rattle.fc_best_first.specs.Kept.{AreNoted, Comes, IsExpanded, IsExpandedBelow, IsMet, IsOpenAt, IsOpenLater, IsOpenOrExpanded, IsNeeded, IsSound, IsKept, IsWhereOpen, f_of}
 use Rattle.fc_best_first.specs.Shown.{IsFloor, IsFound, IsExhausted, IsGivenUp, Holds, Shows}
 use Rattle.fc_best_first.proofs.KeptLemmas.{Notes, added_cases, added_there, anew_notes, open_under, same_entry, stands_within, still_open}
 use Rattle.fc_best_first.proofs.WorkLemmas.{reopened_work, taken_work}
-use Rattle.fc_best_first.proofs.ClosedLemmas.{IsAt, closed_inside, below_least, expanded_covered, kept_back, kept_below, kept_done, kept_expanded, kept_has, kept_met, least_floor, less_done, limit_cases, limit_within, more_met, none_below, others_settled, rows, stale_elsewhere, taken_high, taken_sound}
+use Rattle.fc_best_first.proofs.ClosedLemmas.{IsAt, closed_inside, below_least, expanded_covered, kept_back, kept_below, kept_done, kept_expanded, kept_has, kept_met, least_floor, less_done, limit_cases, limit_within, more_met, none_below, others_settled, rows, same_bound, same_f, stale_elsewhere, taken_high, taken_sound}
 use Rattle.fc_best_first.proofs.ExpandLemmas.{Done, IsNearLimit, IsPlaced, PutOffTo, expands_done}
 
 -- a key of a list of keys is a stored one, or the one at the end
@@ -45,15 +45,14 @@ module _ {K : Type 0} (task : Task K) (after new : Store K) (number : ℕ) (x : 
   next = reopens.1
 
   reopened_notes : IsStored after number x mark → Notes after new number next
-  reopened_notes at = anew_notes after new number next (stands_within after number x mark at) (ap length reopens.6) reopens.8
+  reopened_notes at = anew_notes after new number next (stands_within after number x mark at) (ap length reopens.7) reopens.9
 
   reopened_later : (by : Expansion) → by ≡ expansion.Partial → AreNoted task.graph after → IsStored after number x mark
-      → IsExpandedBelow task new x mark.cost later
-      → IsOpenLater by task new number x mark
+      → IsExpandedBelow task new x mark.cost later → IsOpenLater by task new number x mark
   reopened_later expansion.Full partial noted at below = absurd (cc)
   reopened_later expansion.Partial partial noted at below = (
     later,
-    (added_there after.waiting new.waiting (later, number) reopens.7, (next, (reopened_notes at).1 noted.0, reopens.5)),
+    (added_there after.waiting new.waiting (later, number) reopens.8, (next, (reopened_notes at).1 noted.0, reopens.6)),
     below,
   )
 
@@ -62,14 +61,15 @@ module _ {K : Type 0} (task : Task K) (after new : Store K) (number : ℕ) (x : 
       let notes = reopened_notes at in (
         notes.0 noted.0,
         λ j z l there.
-            let before = kept_back after new j z l reopens.6 there in
+            let before = kept_back after new j z l reopens.7 there in
             let was = noted.1 j z l before in
             ⊎_elim
             (λ same.
             let one : was.0 ≡ reopens.0 = (let both = sym was.1 ∙ ap (λ k. slice_get after.openings k) same ∙ reopens.2 in cc) in (
               next,
               ap (λ k. slice_get new.openings k) same ∙ notes.1 noted.0,
-              reopens.3 ∙ ap (λ o. o.bound) (sym one) ∙ was.2,
+              subst (λ n. task.graph.shown z next.bound n) (sym (reopens.4 ∙ ap (λ (o : Opening). o.note) (sym one)))
+                  (subst (λ n. task.graph.shown z n was.0.note) (sym (reopens.3 ∙ ap (λ (o : Opening). o.bound) (sym one))) was.2),
             ))
             (λ ne. (was.0, notes.2 noted.0 j ne ∙ was.1, was.2))
             (cases_eq j number),
@@ -83,43 +83,56 @@ module _ {K : Type 0} (task : Task K) (after new : Store K) (number : ℕ) (x : 
       let level = ap (λ o. o.over) one in
       omega (arith, lt, at, level)
 
-  reopened_sound : IsSound task after → IsStored after number x mark → f_of task x mark ≤ later
+  -- what is noted of each key stays
+  reopened_bound : AreNoted task.graph after → IsStored after number x mark → (j : ℕ) → bound_at new j ≡ bound_at after j
+  reopened_bound noted at j =
+      let notes = reopened_notes at in
+      ⊎_elim
+      (λ same. ap (bound_at new) same ∙ ap bound_in (notes.1 noted.0) ∙ reopens.3 ∙ sym (ap bound_in reopens.2) ∙ ap (bound_at after) (sym same))
+      (λ ne. ap bound_in (notes.2 noted.0 j ne))
+      (cases_eq j number)
+
+  reopened_f : AreNoted task.graph after → IsStored after number x mark → (j : ℕ) (l : Mark) → f_of task new j l ≡ f_of task after j l
+  reopened_f noted at j l = ap (λ b. weigh task.strategy.weight l.cost b) (reopened_bound noted at j)
+
+  reopened_sound : IsSound task after → IsStored after number x mark → f_of task after number mark ≤ later
       → IsNearLimit {K = K} task.limit task.strategy.weight.times (Later later) → IsSound task new
   reopened_sound sound at high near = record {
-    room = (let size = ap length reopens.6 in let room = sound.room in omega (arith, size, room));
-    once = λ i j y m n a b. sound.once i j y m n (kept_back after new i y m reopens.6 a) (kept_back after new j y n reopens.6 b);
-    reached = λ i y m a. sound.reached i y m (kept_back after new i y m reopens.6 a);
-    low = λ i y m a. sound.low i y m (kept_back after new i y m reopens.6 a);
+    room = (let size = ap length reopens.7 in let room = sound.room in omega (arith, size, room));
+    once = λ i j y m n a b. sound.once i j y m n (kept_back after new i y m reopens.7 a) (kept_back after new j y n reopens.7 b);
+    reached = λ i y m a. sound.reached i y m (kept_back after new i y m reopens.7 a);
+    low = λ i y m a. sound.low i y m (kept_back after new i y m reopens.7 a);
     comes = λ i y m a. subst (λ es. Comes task.graph (record { stored = es; waiting = new.waiting; openings = new.openings }) i y m)
-        (sym reopens.6) (sound.comes i y m (kept_back after new i y m reopens.6 a));
-    needed = λ i y m a. sound.needed i y m (kept_back after new i y m reopens.6 a);
-    starts = λ y d start. kept_has after new y d reopens.6 (sound.starts y d start);
+        (sym reopens.7) (sound.comes i y m (kept_back after new i y m reopens.7 a));
+    needed = λ i y m a. sound.needed i y m (kept_back after new i y m reopens.7 a);
+    starts = λ y d start. kept_has after new y d reopens.7 (sound.starts y d start);
     pairs = λ h i there. ⊎_elim
         (λ same. (
           x,
           mark,
-          subst (λ es. slice_get es i ≡ Some (x, mark)) (sym reopens.6) (subst (λ k. IsStored after k x mark) (ap (λ p. p.1) same) at),
-          subst (λ k. f_of task x mark ≤ k) (ap (λ p. p.0) same) high,
+          subst (λ es. slice_get es i ≡ Some (x, mark)) (sym reopens.7) (subst (λ k. IsStored after k x mark) (ap (λ p. p.1) same) at),
+          omega (arith, high, ap (λ p. p.0) same, reopened_f sound.noted at i mark, ap (λ k. f_of task after k mark) (sym (ap (λ p. p.1) same))),
         ))
         (λ before.
         let was = sound.pairs h i before in
-        (was.0, was.1, subst (λ es. slice_get es i ≡ Some (was.0, was.1)) (sym reopens.6) was.2, was.3))
-        (added_cases after.waiting new.waiting (later, number) (h, i) reopens.7 there);
+        (was.0, was.1, subst (λ es. slice_get es i ≡ Some (was.0, was.1)) (sym reopens.7) was.2, omega (arith, was.3, reopened_f sound.noted at i was.1)))
+        (added_cases after.waiting new.waiting (later, number) (h, i) reopens.8 there);
     noted = reopened_noted sound.noted at;
-    under = λ i y m a. sound.under i y m (kept_back after new i y m reopens.6 a);
+    under = λ i y m a n wins reach. omega (arith, sound.under i y m (kept_back after new i y m reopens.7 a) n wins reach, reopened_bound sound.noted at i);
     near = λ h i there. ⊎_elim
         (λ same n wins reach. subst (λ k. k ≤ task.strategy.weight.times * n) (ap (λ p. p.0) same)
         (limit_within task.limit task.strategy.weight.times later n near reach))
         (λ before. sound.near h i before)
-        (added_cases after.waiting new.waiting (later, number) (h, i) reopens.7 there);
+        (added_cases after.waiting new.waiting (later, number) (h, i) reopens.8 there);
   }
 
   reopened_others : IsSound task after → IsStored after number x mark → (j : ℕ) (y : K) (l : Mark) → (j ≡ number → ⊥)
       → IsOpenOrExpanded task after j y l → IsOpenOrExpanded task new j y l
   reopened_others sound at j y l ne h = elim h [
-    | inl is_open ↦ inl (still_open task.graph after new next number j (weighed task.strategy l) (later, number) (f_of task y l) reopens.7
-        (reopened_notes at) sound.noted ne is_open)
-    | inr (inl done) ↦ inr (inl (kept_expanded task after new y l.cost reopens.6 done))
+    | inl is_open ↦ inl (subst (IsOpenAt new j (weighed task.strategy l)) (sym (reopened_f sound.noted at j l))
+        (still_open task.graph after new next number j (weighed task.strategy l) (later, number) (f_of task after j l) reopens.8
+        (reopened_notes at) sound.noted ne is_open))
+    | inr (inl done) ↦ inr (inl (kept_expanded task after new y l.cost reopens.7 done))
     | inr (inr is_open) ↦ inr (inr (by task.strategy.expansion is_open))
   ]
     where
@@ -127,8 +140,8 @@ module _ {K : Type 0} (task : Task K) (after new : Store K) (number : ℕ) (x : 
       by expansion.Full is_open = absurd is_open
       by expansion.Partial (f, is_open, below) = (
         f,
-        still_open task.graph after new next number j (weighed task.strategy l) (later, number) f reopens.7 (reopened_notes at) sound.noted ne is_open,
-        kept_below task after new y l.cost f reopens.6 below,
+        still_open task.graph after new next number j (weighed task.strategy l) (later, number) f reopens.8 (reopened_notes at) sound.noted ne is_open,
+        kept_below task after new y l.cost f reopens.7 below,
       )
 
 module _ {K : Type 0} (task : Task K) where
@@ -136,32 +149,43 @@ module _ {K : Type 0} (task : Task K) where
     module _ (number : ℕ) (f : ℕ) (x : K) (mark : Mark) (mid : Store K) (taken : IsTaken old mid f number x mark)
         (present : IsWhereOpen old number (weighed task.strategy mark) f) (not_won : task.graph.won x → ⊥)
         (children : List (Child K)) (are : AreChildren task.graph x children) (after : Store K) where
-      high : f_of task x mark ≤ f
+      high : f_of task old number mark ≤ f
       high = taken_high task old mid f number x mark kept.sound taken
+
+      -- what is noted of it
+      abbrev last : Opening
+      last = (kept.sound.noted.1 number x mark taken.stands).0
+
+      last_shown : task.graph.shown x (bound_at old number) last.note
+      last_shown =
+          let was = kept.sound.noted.1 number x mark taken.stands in
+          subst (λ n. task.graph.shown x n last.note) (sym (ap bound_in was.1)) was.2
 
       floor : IsFloor task.graph task.strategy.weight f
       floor = least_floor task lawful heavy old f number kept (added_there mid.waiting old.waiting (f, number) taken.taken) taken.least
 
       -- what is done once the children were offered
       abbrev Offered : Placing K → Type 0
-      Offered placing = Done task number x mark f high floor heavy children mid after placing
+      Offered placing = Done task number x mark (bound_at old number) last.note last_shown f high floor heavy children mid after placing
 
       offered : (placing : Placing K) → Expands task f (record { cost = mark.cost; parent = number }) children mid after placing
           → Offered placing
       offered placing expands =
-          expands_done task number x mark f high floor heavy lawful children mid after placing are.edges
+          expands_done task number x mark (bound_at old number) last.note last_shown f high floor heavy lawful children mid after placing are.edges
           (record {
             sound = taken_sound task old mid f number kept.sound taken.kept taken.noted taken.taken;
             settled = λ j y l ne at. others_settled task old mid f number x mark kept taken j y l (λ h is same e. ne e) at;
             stands = subst (λ es. slice_get es number ≡ Some (x, mark)) (sym taken.kept) taken.stands;
+            noted = same_bound old mid number taken.noted;
             present = (present.0, ap (λ os. slice_get os number) taken.noted ∙ present.1, present.2);
             done = λ lt. kept_done task.strategy.expansion task old mid x mark.cost f taken.kept
-                (below_least task old f number kept taken.least number x mark taken.stands lt);
+                (below_least task old f number kept taken.least number x mark taken.stands
+                (omega (arith, lt, same_f task old mid number mark taken.noted)));
           })
           expands
 
       -- each edge's end is stored, or can wait until what the children were put off to
-      ends : (placing : Placing K) → ((child : Child K) → Contains children child → IsPlaced task number x mark f high floor heavy after placing child)
+      ends : (placing : Placing K) → ((child : Child K) → Contains children child → IsPlaced task number x mark (bound_at old number) last.note last_shown f high floor heavy after placing child)
           → (c : ℕ) (y : K) → task.graph.edge x c y
           → IsMet task.limit task.graph after y (mark.cost + c) ⊎ ((h : ℕ) → placing ≡ Later h → h ≤ weigh task.strategy.weight (mark.cost + c) (task.graph.bound y))
       ends placing all c y edge =
@@ -202,10 +226,11 @@ module _ {K : Type 0} (task : Task K) where
               (all child.0 child.1)
       closed_kept Whole (inr (y, out, gave_up)) closes = absurd (cc)
       closed_kept (Later later) (inl (past, doing, stays, all, less, near)) (reopens, none) =
-          let up : f_of task x mark ≤ later = omega (arith, past.0, high) in record {
+          let level : f_of task after number mark ≡ f_of task old number mark = ap (λ b. weigh task.strategy.weight mark.cost b) doing.noted in
+          let up : f_of task after number mark ≤ later = omega (arith, past.0, high, level) in record {
             sound = reopened_sound task after new number x mark later reopens doing.sound doing.stands up near;
             settled = λ j y l at.
-                let before = kept_back after new j y l reopens.6 at in
+                let before = kept_back after new j y l reopens.7 at in
                 ⊎_elim
                 (λ e.
                 let both = same_entry after number y x l mark (subst (λ k. IsStored after k y l) e before) doing.stands in
@@ -215,7 +240,7 @@ module _ {K : Type 0} (task : Task K) where
                 (reopened_later task after new number x mark later reopens task.strategy.expansion past.1 doing.sound.noted doing.stands (
                   not_won,
                   λ c z edge. ⊎_elim
-                      (λ met. inl (kept_met task.limit task.graph after new z (mark.cost + c) reopens.6 met))
+                      (λ met. inl (kept_met task.limit task.graph after new z (mark.cost + c) reopens.7 met))
                       (λ off. inr (off later refl))
                       (ends (Later later) all c z edge),
                 )))))))
@@ -300,7 +325,8 @@ module _ {K : Type 0} (task : Task K) where
             won,
             λ i y m at lt. kept_done task.strategy.expansion task old new y m.cost (weighed task.strategy mark) taken.kept
                 (less_done task.strategy.expansion task old y m.cost (weighed task.strategy mark) f (omega (arith, high))
-                (below_least task old f number kept taken.least i y m (kept_back old new i y m taken.kept at) (omega (arith, lt, high)))),
+                (below_least task old f number kept taken.least i y m (kept_back old new i y m taken.kept at)
+                (omega (arith, lt, high, same_f task old new i m taken.noted)))),
             λ i y m ne at. others_settled task old new f number x mark kept taken i y m (λ h is same e. ne e) at,
           ),
         )
@@ -309,7 +335,7 @@ module _ {K : Type 0} (task : Task K) where
     none_exhausted (empty, same) = subst (IsExhausted task) (sym same) (
       kept.sound,
       λ i y m at. elim (kept.settled i y m at) [
-        | inl is_open ↦ absurd (none_waits (f_of task y m) i is_open.0)
+        | inl is_open ↦ absurd (none_waits (f_of task old i m) i is_open.0)
         | inr (inl done) ↦ done
         | inr (inr later) ↦ absurd (by task.strategy.expansion i y m later)
       ],
@@ -342,7 +368,7 @@ module _ {K : Type 0} (task : Task K) where
         reached,
         lawful.answers x mark.cost reached won,
         none_below task lawful heavy s (weighed task.strategy mark) sound done
-            (λ n wins reach. let le = open_under task.strategy.weight mark.cost (task.graph.bound x) n heavy (sound.under number x mark at n wins reach) in omega (arith, le)),
+            (λ n wins reach. let le = open_under task.strategy.weight mark.cost (bound_at s number) n heavy (sound.under number x mark at n wins reach) in omega (arith, le)),
       )
   holds_shows lawful heavy s CannotWin (sound, done) = λ n wins. ⊎_elim (λ reach. reach)
       (λ up.

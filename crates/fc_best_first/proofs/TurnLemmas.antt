@@ -1,7 +1,9 @@
 -- Lemmas on offering the children of a key one after the other.
-use Rattle.std.proofs.Common.{◌≡◌, ℕ, ◌+◌, ◌<◌, ◌≤◌, ◌⊎◌, suc, Option, Some, None, List, [], ◌∷◌, length, refl, sym, ◌∙◌, ap, subst, inl, inr, ⊎_elim, arith}
-use Rattle.std.specs.Prelude.{MatchOption, min}
+use Rattle.std.proofs.Common.{◌≡◌, ◌≢◌, ℕ, ◌+◌, ◌<◌, ◌≤◌, ◌⊎◌, suc, Option, Some, None, List, [], ◌∷◌, ◌++◌, length, refl, sym, ◌∙◌, ap, subst, inl, inr, ⊎_elim, arith}
+use Rattle.std.specs.Prelude.{Bool, true, false, Contains, IfSome, IsTrue, MatchOption, min}
+use Rattle.std.proofs.Math.Nat.{mul-le-mul_left}
 use Rattle.std.proofs.lemmas.List.{length_push}
+use Rattle.std.proofs.lemmas.List.Elements.{Contains-append_right}
 use Rattle.indexmap.specs.Layout.{length-set_value_at}
 use Rattle.fc_best_first.specs.declared.books.Mark.{Mark}
 use Rattle.fc_best_first.specs.declared.books.Offered.{Offered}
@@ -15,16 +17,14 @@ use Rattle.fc_best_first.specs.declared.turns.Status.TheVariants.{Running, Won, 
 use Rattle.fc_best_first.specs.declared.turns.Placing.{Placing}
 use Rattle.fc_best_first.specs.declared.turns.Placing.TheVariants.{Whole, Later, NoRoom}
 use Rattle.fc_best_first.specs.Graph.{Graph, Task, Reached}
+use Rattle.fc_best_first.specs.Limits.{IsWithinLimit, ReachesLimit, weigh}
 use Rattle.fc_best_first.specs.Store.{Store, Candidate, Offers, PutsOff}
-use Rattle.fc_best_first.specs.Turn.{Advances, AreChildren, Closes, Expands, ExpandsTaken, candidate_of, opening_of, put_off}
+use Rattle.fc_best_first.specs.Turn.{Advances, AreChildren, Closes, Expands, ExpandsTaken, candidate_of, put_off}
 use Rattle.fc_best_first.specs.Kept.{AreNoted}
-use Rattle.fc_best_first.specs.inner.Turn.{AreReached, Becomes, IsLaterNear, IsReady}
+use Rattle.fc_best_first.specs.inner.Turn.{AreReached, Becomes, IsLaterNear, IsReady, put_off_first}
+use Rattle.fc_best_first.specs.declared.books.Opening.{Opening}
 use Rattle.fc_best_first.proofs.KeptLemmas.{puts_added, puts_lowered, still_noted}
-
--- so many children were put off before the others
-abbrev pub put_off_first : {K : Type 0} → Option ℕ → Placing K → Placing K
-put_off_first None others = others
-put_off_first (Some f) others = put_off f others
+use Rattle.fc_best_first.proofs.OfferLemmas.{noted_shown, reach_more}
 
 -- a child that found no place is told, whatever was put off before
 pub put_off_room : {K : Type 0} (first : Option ℕ) (y : K) → put_off_first first (NoRoom y) ≡ NoRoom y
@@ -52,6 +52,29 @@ near_least K expansion taken cost None f least near partial lt le is = (partial,
 near_least K expansion taken cost (Some before) f least near partial lt le is =
     (partial, omega (arith, lt, is, near.1), omega (arith, le, is, near.2))
 
+-- what was put off before all others
+pub first_near : (K : Type 0) (expansion : Expansion) (taken cost : ℕ) (first : Option ℕ)
+    → IfSome first (λ f. (expansion ≡ Partial) × (taken < f) × (f ≤ cost + 28050))
+    → IsLaterNear {K = K} expansion taken cost (put_off_first first Whole)
+first_near K expansion taken cost None near = tt
+first_near K expansion taken cost (Some f) near = near
+
+-- what is past what was taken, and near, is past it
+pub later_past : (taken most : ℕ) (until : Option ℕ) → IfSome until (λ later. (taken < later) × (later ≤ most)) → IfSome until (λ later. taken < later)
+later_past taken most None near = near
+later_past taken most (Some later) near = near.0
+
+-- what may leave children out at a first visit alone was one
+pub visited_first : (first some : Bool) → (first ≡ false → some ≡ false) → some ≡ true → IsTrue first
+visited_first true some later told = refl
+visited_first false some later told = let never = later refl in absurd (cc)
+
+-- and twice is once
+put_off_again : {K : Type 0} (f : ℕ) (others : Placing K) → put_off f (put_off f others) ≡ put_off f others
+put_off_again f Whole = ap Later (omega arith)
+put_off_again f (Later g) = ap Later (omega arith)
+put_off_again f (NoRoom y) = refl
+
 -- what is put off is put off past what was taken, no further than its own f, and by partial expansion alone
 pub off_past : (expansion : Expansion) (taken f later : ℕ) → PutsOff expansion taken f later
     → (taken < later) × (later ≤ f) × (expansion ≡ Partial)
@@ -64,63 +87,55 @@ module _ {K : Type 0} where
       → length old.stored ≤ task.strategy.budget → Offers task taken old new offer o → length new.stored ≤ task.strategy.budget
   offers_room task taken old new offer Known room (i, was, at, le, same) =
       subst (λ s. length s.stored ≤ task.strategy.budget) (sym same) room
-  offers_room task taken old new offer Lowered room (i, was, at, lt, (stored, opened, noted)) =
+  offers_room task taken old new offer Lowered room (i, was, at, lt, anew, (stored, opened, noted)) =
       let same : length new.stored ≡ length old.stored = ap length stored ∙ length-set_value_at old.stored i offer.mark in
       omega (arith, same, room)
-  offers_room task taken old new offer Added room (fresh, admits, short, (lt, stored, opened, noted)) =
+  offers_room task taken old new offer Added room (fresh, opens, admits, short, (lt, stored, opened, noted)) =
       let more = ap length stored ∙ length_push old.stored (offer.key, offer.mark) in
       omega (arith, more, lt)
-  offers_room task taken old new offer (Full y) room (fresh, admits, short, (is, full, same)) =
+  offers_room task taken old new offer (Full y) room (fresh, opens, admits, short, (is, full, same)) =
       subst (λ s. length s.stored ≤ task.strategy.budget) (sym same) room
-  offers_room task taken old new offer (PutOff later) room (fresh, off, within, same) =
+  offers_room task taken old new offer (PutOff later) room (off, within, same) =
       subst (λ s. length s.stored ≤ task.strategy.budget) (sym same) room
-  offers_room task taken old new offer Past room (fresh, past, same) =
+  offers_room task taken old new offer Past room (past, same) =
       subst (λ s. length s.stored ≤ task.strategy.budget) (sym same) room
 
   -- and each keeps what is noted
   pub offers_noted : (task : Task K) (taken : ℕ) (old new : Store K) (offer : Candidate K) (o : Offered K)
-      → offer.opening.bound ≡ task.graph.bound offer.key → AreNoted task.graph old → Offers task taken old new offer o
-      → AreNoted task.graph new
-  offers_noted task taken old new offer Known told noted (i, was, at, le, same) =
+      → AreNoted task.graph old → Offers task taken old new offer o → AreNoted task.graph new
+  offers_noted task taken old new offer Known noted (i, was, at, le, same) =
       subst (AreNoted task.graph) (sym same) noted
-  offers_noted task taken old new offer Lowered told noted (i, was, at, lt, lowers) =
+  offers_noted task taken old new offer Lowered noted (i, was, at, lt, (before, there, anew), lowers) =
       still_noted task.strategy.weight task.graph old new offer.key offer.mark offer.opening i
-      (puts_lowered task.strategy old new offer.key offer.mark was offer.opening i at lt lowers) told noted
-  offers_noted task taken old new offer Added told noted (fresh, admits, short, stores) =
+      (puts_lowered task.strategy old new offer.key offer.mark was offer.opening i at lt (before, there, anew) lowers)
+      (subst (λ n. task.graph.shown offer.key offer.opening.bound n) (sym anew.2)
+      (subst (λ n. task.graph.shown offer.key n before.note) (sym anew.1)
+      (noted_shown task.graph old i offer.key was before noted at there))) noted
+  offers_noted task taken old new offer Added noted (fresh, opens, admits, short, stores) =
       still_noted task.strategy.weight task.graph old new offer.key offer.mark offer.opening (length old.stored)
-      (puts_added task.strategy old new offer fresh stores) told noted
-  offers_noted task taken old new offer (Full y) told noted (fresh, admits, short, (is, full, same)) =
+      (puts_added task.strategy old new offer fresh stores) opens.1 noted
+  offers_noted task taken old new offer (Full y) noted (fresh, opens, admits, short, (is, full, same)) =
       subst (AreNoted task.graph) (sym same) noted
-  offers_noted task taken old new offer (PutOff later) told noted (fresh, off, within, same) =
+  offers_noted task taken old new offer (PutOff later) noted (off, within, same) =
       subst (AreNoted task.graph) (sym same) noted
-  offers_noted task taken old new offer Past told noted (fresh, past, same) =
+  offers_noted task taken old new offer Past noted (past, same) =
       subst (AreNoted task.graph) (sym same) noted
-
-  -- a child as it is offered with a mark, and the mark that it has
-  abbrev offered_with : Task K → Child K → Mark → Candidate K
-  offered_with task child mark = record { key = child.key; mark = mark; opening = opening_of task child.key }
-
-  abbrev mark_of : Mark → Child K → Mark
-  mark_of origin child = record { cost = origin.cost + child.cost; parent = origin.parent }
 
   -- a child that found its place, and the others after it
   pub expands_on : (task : Task K) (taken : ℕ) (origin : Mark) (child : Child K) (children : List (Child K)) (old mid new : Store K)
-      (placing : Placing K) (mark : Mark) (o : Offered K) → mark ≡ mark_of origin child → ((y : K) → o ≡ Full y → ⊥) → ((f : ℕ) → o ≡ PutOff f → ⊥)
-      → Offers task taken old mid (offered_with task child mark) o
+      (placing : Placing K) (opening : Opening) (o : Offered K) → ((y : K) → o ≡ Full y → ⊥) → ((f : ℕ) → o ≡ PutOff f → ⊥)
+      → Offers task taken old mid (candidate_of origin child opening) o
       → Expands task taken origin children mid new placing
       → Expands task taken origin (child ∷ children) old new placing
-  expands_on task taken origin child children old mid new placing mark o e placed stays offers rest =
-      inr (inl (mid, by o placed stays at_child, rest))
+  expands_on task taken origin child children old mid new placing opening o placed stays offers rest =
+      (opening, inr (inl (mid, by o placed stays offers, rest)))
     where
-      at_child : Offers task taken old mid (candidate_of task origin child) o
-      at_child = subst (λ v. Offers task taken old mid (offered_with task child v) o) e offers
-
       by : (p : Offered K) → ((y : K) → p ≡ Full y → ⊥) → ((f : ℕ) → p ≡ PutOff f → ⊥)
-          → Offers task taken old mid (candidate_of task origin child) p
-          → Offers task taken old mid (candidate_of task origin child) Known
-          ⊎ (Offers task taken old mid (candidate_of task origin child) Lowered
-          ⊎ (Offers task taken old mid (candidate_of task origin child) Added
-          ⊎ Offers task taken old mid (candidate_of task origin child) Past))
+          → Offers task taken old mid (candidate_of origin child opening) p
+          → Offers task taken old mid (candidate_of origin child opening) Known
+          ⊎ (Offers task taken old mid (candidate_of origin child opening) Lowered
+          ⊎ (Offers task taken old mid (candidate_of origin child opening) Added
+          ⊎ Offers task taken old mid (candidate_of origin child opening) Past))
       by Known q s h = inl h
       by Lowered q s h = inr (inl h)
       by Added q s h = inr (inr (inl h))
@@ -130,67 +145,67 @@ module _ {K : Type 0} where
 
   -- a child that was put off, and the others after it
   pub expands_off : (task : Task K) (taken : ℕ) (origin : Mark) (child : Child K) (children : List (Child K)) (old mid new : Store K)
-      (placing : Placing K) (mark : Mark) (f : ℕ) (o : Offered K) → mark ≡ mark_of origin child → o ≡ PutOff f
-      → Offers task taken old mid (offered_with task child mark) o
+      (placing : Placing K) (opening : Opening) (f : ℕ) (o : Offered K) → o ≡ PutOff f
+      → Offers task taken old mid (candidate_of origin child opening) o
       → Expands task taken origin children mid new placing
       → Expands task taken origin (child ∷ children) old new (put_off f placing)
-  expands_off task taken origin child children old mid new placing mark f o e is offers rest =
-      let here : Offers task taken old mid (candidate_of task origin child) (PutOff f) =
-      subst (λ v. Offers task taken old mid (offered_with task child v) (PutOff f)) e
-      (subst (Offers task taken old mid (offered_with task child mark)) is offers) in
-      inr (inr (
-        f,
-        (here.0, here.1, here.2, refl),
-        (placing, subst (λ s. Expands task taken origin children s new placing) here.3 rest, refl),
-      ))
+  expands_off task taken origin child children old mid new placing opening f o is offers rest =
+      let here : Offers task taken old mid (candidate_of origin child opening) (PutOff f) =
+      subst (Offers task taken old mid (candidate_of origin child opening)) is offers in (
+        opening,
+        inr (inr (
+          f,
+          (here.0, here.1, refl),
+          (placing, subst (λ s. Expands task taken origin children s new placing) here.2 rest, refl),
+        )),
+      )
 
   -- a child that found no place, whatever others are after it
   pub expands_full : (task : Task K) (taken : ℕ) (origin : Mark) (child : Child K) (children : List (Child K)) (old new : Store K)
-      (key : K) (mark : Mark) (o : Offered K) → mark ≡ mark_of origin child → o ≡ Full key
-      → Offers task taken old new (offered_with task child mark) o
+      (key : K) (opening : Opening) (o : Offered K) → o ≡ Full key
+      → Offers task taken old new (candidate_of origin child opening) o
       → Expands task taken origin (child ∷ children) old new (NoRoom key)
-  expands_full task taken origin child children old new key mark o e is offers =
-      let full : Offers task taken old new (candidate_of task origin child) (Full key) =
-      subst (λ v. Offers task taken old new (offered_with task child v) (Full key)) e
-      (subst (Offers task taken old new (offered_with task child mark)) is offers) in
-      inl ((full.0, full.1, full.2, (refl, full.3.1, full.3.2)), ap NoRoom full.3.0)
+  expands_full task taken origin child children old new key opening o is offers =
+      let full : Offers task taken old new (candidate_of origin child opening) (Full key) =
+      subst (Offers task taken old new (candidate_of origin child opening)) is offers in
+      (opening, inl ((full.0, full.1, full.2, full.3, (refl, full.4.1, full.4.2)), ap NoRoom full.4.0))
 
   -- none that is stored is lost
   offers_grow : (task : Task K) (taken : ℕ) (old new : Store K) (offer : Candidate K) (o : Offered K)
       → Offers task taken old new offer o → length old.stored ≤ length new.stored
   offers_grow task taken old new offer Known (i, was, at, le, same) =
       let size = ap (λ (s : Store K). length s.stored) same in omega (arith, size)
-  offers_grow task taken old new offer Lowered (i, was, at, lt, (stored, opened, noted)) =
+  offers_grow task taken old new offer Lowered (i, was, at, lt, anew, (stored, opened, noted)) =
       let size = ap length stored ∙ length-set_value_at old.stored i offer.mark in omega (arith, size)
-  offers_grow task taken old new offer Added (fresh, admits, short, (lt, stored, opened, noted)) =
+  offers_grow task taken old new offer Added (fresh, opens, admits, short, (lt, stored, opened, noted)) =
       let more = ap length stored ∙ length_push old.stored (offer.key, offer.mark) in omega (arith, more)
-  offers_grow task taken old new offer (Full y) (fresh, admits, short, (is, full, same)) =
+  offers_grow task taken old new offer (Full y) (fresh, opens, admits, short, (is, full, same)) =
       let size = ap (λ (s : Store K). length s.stored) same in omega (arith, size)
-  offers_grow task taken old new offer (PutOff later) (fresh, off, within, same) =
+  offers_grow task taken old new offer (PutOff later) (off, within, same) =
       let size = ap (λ (s : Store K). length s.stored) same in omega (arith, size)
-  offers_grow task taken old new offer Past (fresh, past, same) =
+  offers_grow task taken old new offer Past (past, same) =
       let size = ap (λ (s : Store K). length s.stored) same in omega (arith, size)
 
   pub expands_grow : (task : Task K) (taken : ℕ) (origin : Mark) (children : List (Child K)) (old new : Store K) (placing : Placing K)
       → Expands task taken origin children old new placing → length old.stored ≤ length new.stored
   expands_grow task taken origin [] old new placing (same, whole) =
       let size = ap (λ (s : Store K). length s.stored) same in omega (arith, size)
-  expands_grow task taken origin (child ∷ children) old new placing (inl (full, out)) =
-      offers_grow task taken old new (candidate_of task origin child) (Full child.key) full
-  expands_grow task taken origin (child ∷ children) old new placing (inr (inl (mid, how, rest))) =
+  expands_grow task taken origin (child ∷ children) old new placing (opening, inl (full, out)) =
+      offers_grow task taken old new (candidate_of origin child opening) (Full child.key) full
+  expands_grow task taken origin (child ∷ children) old new placing (opening, inr (inl (mid, how, rest))) =
       let first : length old.stored ≤ length mid.stored = ⊎_elim
-      (λ known. offers_grow task taken old mid (candidate_of task origin child) Known known)
+      (λ known. offers_grow task taken old mid (candidate_of origin child opening) Known known)
       (λ other. ⊎_elim
-      (λ lowered. offers_grow task taken old mid (candidate_of task origin child) Lowered lowered)
+      (λ lowered. offers_grow task taken old mid (candidate_of origin child opening) Lowered lowered)
       (λ new_one. ⊎_elim
-      (λ added. offers_grow task taken old mid (candidate_of task origin child) Added added)
-      (λ past. offers_grow task taken old mid (candidate_of task origin child) Past past)
+      (λ added. offers_grow task taken old mid (candidate_of origin child opening) Added added)
+      (λ past. offers_grow task taken old mid (candidate_of origin child opening) Past past)
       new_one)
       other)
       how in
       let then = expands_grow task taken origin children mid new placing rest in
       omega (arith, first, then)
-  expands_grow task taken origin (child ∷ children) old new placing (inr (inr (later, off, (others, rest, is)))) =
+  expands_grow task taken origin (child ∷ children) old new placing (opening, inr (inr (later, off, (others, rest, is)))) =
       expands_grow task taken origin children old new others rest
 
   -- a key of which children were put off can be opened again
@@ -220,3 +235,78 @@ module _ {K : Type 0} where
   children_reached g x children (d, (edges, reached)) are child there =
       let edge = are.edges child there in
       (d + child.cost, (suc edges, (x, d, child.cost, reached, edge, refl)))
+
+  -- children that are left out are put off together, or are past the limit, before the others are offered
+  module _ (task : Task K) (taken : ℕ) (origin : Mark) (old new : Store K) (opening : Opening) where
+    -- such a child
+    abbrev pub IsLeftOut : ℕ → Child K → Type 0
+    IsLeftOut bound child = (1 ≤ child.cost) × (bound ≤ task.graph.bound child.key)
+
+    left_off : (bound later : ℕ) (child : Child K) → task.strategy.expansion ≡ Partial → taken < later
+        → later ≡ weigh task.strategy.weight (origin.cost + 1) bound → IsLeftOut bound child
+        → PutsOff task.strategy.expansion taken (weigh task.strategy.weight (origin.cost + child.cost) (task.graph.bound child.key)) later
+    left_off bound later child partial lt is left =
+        let cost = mul-le-mul_left task.strategy.weight.parts left.0 in
+        let far = mul-le-mul_left task.strategy.weight.times left.1 in
+        subst (λ e. PutsOff e taken (weigh task.strategy.weight (origin.cost + child.cost) (task.graph.bound child.key)) later) (sym partial)
+        (lt, omega (arith, is, cost, far))
+
+    expands_together : (bound later : ℕ) (children : List (Child K)) (child : Child K) (others : List (Child K)) (placing : Placing K)
+        → task.strategy.expansion ≡ Partial → taken < later → later ≡ weigh task.strategy.weight (origin.cost + 1) bound
+        → IsWithinLimit task.limit task.strategy.weight.times later
+        → ((c : Child K) → Contains (child ∷ others) c → IsLeftOut bound c) → Expands task taken origin children old new placing
+        → Expands task taken origin (child ∷ others ++ children) old new (put_off later placing)
+    expands_together bound later children child [] placing partial lt is within left rest = (
+      opening,
+      inr (inr (
+        later,
+        (left_off bound later child partial lt is (left child (0, omega arith, refl)), within, refl),
+        (placing, rest, refl),
+      )),
+    )
+    expands_together bound later children child (next ∷ more) placing partial lt is within left rest = (
+      opening,
+      inr (inr (
+        later,
+        (left_off bound later child partial lt is (left child (0, omega arith, refl)), within, refl),
+        (
+          put_off later placing,
+          expands_together bound later children next more placing partial lt is within
+              (λ c there. left c (Contains-append_right (child ∷ []) (next ∷ more) c there)) rest,
+          sym (put_off_again later placing),
+        ),
+      )),
+    )
+
+    expands_past : (bound : ℕ) (children others : List (Child K)) (placing : Placing K) → ReachesLimit task.limit (origin.cost + 1 + bound)
+        → ((child : Child K) → Contains others child → IsLeftOut bound child) → Expands task taken origin children old new placing
+        → Expands task taken origin (others ++ children) old new placing
+    expands_past bound children [] placing past left rest = rest
+    expands_past bound children (child ∷ others) placing past left rest = (
+      opening,
+      inr (inl (
+        old,
+        inr (inr (inr (
+          reach_more task.limit (origin.cost + 1 + bound) (origin.cost + child.cost + task.graph.bound child.key)
+              (omega (arith, (left child (0, omega arith, refl)).0, (left child (0, omega arith, refl)).1)) past,
+          refl,
+        ))),
+        expands_past bound children others placing past (λ c there. left c (Contains-append_right (child ∷ []) others c there)) rest,
+      )),
+    )
+
+    pub expands_left : (bound : ℕ) (children others : List (Child K)) (until : Option ℕ) (placing : Placing K) → task.strategy.expansion ≡ Partial
+        → MatchOption until (ReachesLimit task.limit (origin.cost + 1 + bound))
+        (λ later. (later ≡ weigh task.strategy.weight (origin.cost + 1) bound) × IsWithinLimit task.limit task.strategy.weight.times later)
+        → IfSome until (λ later. taken < later) → others ≢ [] → ((child : Child K) → Contains others child → IsLeftOut bound child)
+        → Expands task taken origin children old new placing → Expands task taken origin (others ++ children) old new (put_off_first until placing)
+    expands_left bound children others None placing partial past lt some left rest = expands_past bound children others placing past left rest
+    expands_left bound children [] (Some later) placing partial is lt some left rest = absurd (some refl)
+    expands_left bound children (child ∷ others) (Some later) placing partial is lt some left rest =
+        expands_together bound later children child others placing partial lt is.0 is.1 left rest
+
+    -- where none is left out, these are all
+    pub none_left : (children others : List (Child K)) (placing : Placing K) → ((others ≢ []) → ⊥) → Expands task taken origin children old new placing
+        → Expands task taken origin (others ++ children) old new placing
+    none_left children [] placing none rest = rest
+    none_left children (child ∷ others) placing none rest = absurd (none (λ e. cc))

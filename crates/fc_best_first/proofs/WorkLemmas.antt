@@ -152,7 +152,7 @@ module _ {K : Type 0} where
   pub reopened_work : (budget : ℕ) (old new : Store K) (number cost : ℕ) (was : Opening) (later : ℕ)
       → slice_get old.openings number ≡ Some was → opens_at cost was < later → Reopens old new number cost later
       → work_left budget new ≤ work_left budget old
-  reopened_work budget old new number cost was later at rises_to (before, next, there, bound, most, opens, kept, opened, noted) =
+  reopened_work budget old new number cost was later at rises_to (before, next, there, bound, note, most, opens, kept, opened, noted) =
       let one = added_one old.waiting new.waiting (later, number) opened in
       let same = ap (λ es. 28051 * (sum_by (λ (e : K × Mark). e.1.cost) es + (costs_below budget - costs_below (length es)))) kept in
       let sum = ap (λ os. rises os) noted in

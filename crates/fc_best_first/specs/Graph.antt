@@ -4,12 +4,13 @@ use Rattle.fc_best_first.specs.declared.strategies.Strategy.{Strategy}
 use Rattle.fc_best_first.specs.declared.turns.TheConstants.{MOST_SPARE}
 
 -- a question over keys: where it starts and at which cost, which edges lead on and what each costs, a lower bound of
--- what is still to pay, how much all edges from a key on may cost beyond one each, which keys are won, and at which costs the
--- question has an answer
+-- what is still to pay, which numbers a search may go by of a key, each shown with a note, how much all edges from a key on
+-- may cost beyond one each, which keys are won, and at which costs the question has an answer
 pub record Graph (K : Type 0) : Type 1 where
   pub starts : K → ℕ → Type 0
   pub edge : K → ℕ → K → Type 0
   pub bound : K → ℕ
+  pub shown : K → ℕ → ℕ → Type 0
   pub spare : K → ℕ
   pub won : K → Type 0
   pub wins : ℕ → Type 0
@@ -50,9 +51,11 @@ module _ {K : Type 0} where
         → Covers g n table y (d + c)
 
   -- what a search asks of its question: a won key that is reached is an answer, a table that is closed inside n leaves no
-  -- answer below n, an edge costs one and what its key spares, and a start's cost and what it may spare are small
+  -- answer below n, what is shown of a key is no greater than its bound, an edge costs one and what its key spares, and a start's cost
+  -- and what it may spare are small
   pub record IsLawful (g : Graph K) : Type 0 where
     pub answers : (x : K) (d : ℕ) → Reached g x d → g.won x → g.wins d
     pub closed : (n : ℕ) (table : List (K × ℕ)) → IsClosedInside g n table → (m : ℕ) → g.wins m → n ≤ m
+    pub shown : (x : K) (bound note : ℕ) → g.shown x bound note → bound ≤ g.bound x
     pub edges : (x : K) (c : ℕ) (y : K) → g.edge x c y → (1 ≤ c) × (c + g.spare y ≤ 1 + g.spare x)
     pub starts : (x : K) (d : ℕ) → g.starts x d → d + g.spare x ≤ MOST_SPARE

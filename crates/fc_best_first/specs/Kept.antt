@@ -7,7 +7,7 @@ use Rattle.fc_best_first.specs.declared.strategies.Expansion.TheVariants.{Full, 
 use Rattle.fc_best_first.specs.declared.turns.TheConstants.{MOST_SPARE}
 use Rattle.fc_best_first.specs.Graph.{Graph, Task, Reached}
 use Rattle.fc_best_first.specs.Limits.{Ratio, ReachesLimit, weigh}
-use Rattle.fc_best_first.specs.Store.{Store, IsStored, opens_at, weighed}
+use Rattle.fc_best_first.specs.Store.{Store, IsStored, bound_at, opens_at, weighed}
 
 module _ {K : Type 0} where
   -- the key is stored at no more than this cost
@@ -41,9 +41,9 @@ module _ {K : Type 0} where
   IsCoveredBelow g s x cost n = (g.won x → ⊥)
       × ((c : ℕ) (y : K) → g.edge x c y → HasAt s y (cost + c) ⊎ (n ≤ cost + c + g.bound y))
 
-  -- the weighed cost plus bound of a key with this mark
-  abbrev pub f_of : Task K → K → Mark → ℕ
-  f_of task x mark = weigh task.strategy.weight mark.cost (task.graph.bound x)
+  -- the cost of the key with this number and mark plus what is noted of it, both weighed
+  abbrev pub f_of : Task K → Store K → ℕ → Mark → ℕ
+  f_of task s number mark = weigh task.strategy.weight mark.cost (bound_at s number)
 
   -- where the key with this number and weighed cost is open, if it is: where it was opened last
   abbrev pub IsWhereOpen : Store K → ℕ → ℕ → ℕ → Type 0
@@ -59,18 +59,19 @@ module _ {K : Type 0} where
   IsOpenLater Partial task s number x mark =
       (f : ℕ) × IsOpenAt s number (weighed task.strategy mark) f × IsExpandedBelow task s x mark.cost f
 
-  -- the key is open at its weighed cost plus bound, or expanded, or open later
+  -- the key is open at its cost plus what is noted of it, both weighed, or expanded, or open later
   abbrev pub IsOpenOrExpanded : Task K → Store K → ℕ → K → Mark → Type 0
-  IsOpenOrExpanded task s number x mark = IsOpenAt s number (weighed task.strategy mark) (f_of task x mark)
+  IsOpenOrExpanded task s number x mark = IsOpenAt s number (weighed task.strategy mark) (f_of task s number mark)
       ⊎ (IsExpanded task s x mark.cost
       ⊎ IsOpenLater task.strategy.expansion task s number x mark)
 
-  -- no answer, weighed as a bound is, is below this cost plus the bound of the key, both weighed
+  -- no answer, weighed as a bound is, is below this cost plus some number that is shown of the key, both weighed
   abbrev pub IsWithin : Graph K → Ratio → K → ℕ → Type 0
-  IsWithin g weight x cost = (n : ℕ) → g.wins n → weigh weight cost (g.bound x) ≤ weight.times * n
+  IsWithin g weight x cost = (bound : ℕ) × (note : ℕ) × g.shown x bound note
+      × ((n : ℕ) → g.wins n → weigh weight cost bound ≤ weight.times * n)
 
-  -- the key came by needed work. By full expansion it starts, or an edge leads to it from a key whose weighed cost plus bound
-  -- no answer, weighed as a bound is, is below; by partial expansion it was itself reached at such a cost
+  -- the key came by needed work. By full expansion it starts, or an edge leads to it from a key whose weighed cost plus what is
+  -- shown no answer, weighed as a bound is, is below; by partial expansion it was itself reached at such a cost
   abbrev pub IsNeeded : Expansion → Graph K → Ratio → K → Type 0
   IsNeeded Full g weight y = ((d : ℕ) × g.starts y d)
       ⊎ ((x : K) × (d : ℕ) × (c : ℕ) × Reached g x d × g.edge x c y × IsWithin g weight x d)
@@ -81,11 +82,11 @@ module _ {K : Type 0} where
   Comes g s number x mark = ((mark.parent ≡ number) × g.starts x mark.cost)
       ⊎ ((w : K) × (was : Mark) × (c : ℕ) × IsStored s mark.parent w was × g.edge w c x × (was.cost + c ≤ mark.cost))
 
-  -- the openings that are noted: one for each stored key, which tells its bound
+  -- the openings that are noted: one for each stored key, with a number that is shown of it
   abbrev pub AreNoted : Graph K → Store K → Type 0
   AreNoted g s = (length s.openings ≡ length s.stored)
       × ((i : ℕ) (x : K) (m : Mark) → IsStored s i x m
-      → (opening : Opening) × (slice_get s.openings i ≡ Some opening) × (opening.bound ≡ g.bound x))
+      → (opening : Opening) × (slice_get s.openings i ≡ Some opening) × g.shown x opening.bound opening.note)
 
   -- what holds of the stored keys and the open pairs, whichever keys are expanded
   pub record IsSound (task : Task K) (s : Store K) : Type 0 where
@@ -98,10 +99,10 @@ module _ {K : Type 0} where
         → IsNeeded task.strategy.expansion task.graph task.strategy.weight x
     pub starts : (x : K) (d : ℕ) → task.graph.starts x d → HasAt s x d
     pub pairs : (f i : ℕ) → Contains s.waiting (f, i)
-        → (x : K) × (m : Mark) × IsStored s i x m × (f_of task x m ≤ f)
+        → (x : K) × (m : Mark) × IsStored s i x m × (f_of task s i m ≤ f)
     pub noted : AreNoted task.graph s
     pub under : (i : ℕ) (x : K) (m : Mark) → IsStored s i x m → (n : ℕ) → task.graph.wins n
-        → ReachesLimit task.limit n → m.cost + task.graph.bound x ≤ n
+        → ReachesLimit task.limit n → m.cost + bound_at s i ≤ n
     pub near : (f i : ℕ) → Contains s.waiting (f, i) → (n : ℕ) → task.graph.wins n
         → ReachesLimit task.limit n → f ≤ task.strategy.weight.times * n
 

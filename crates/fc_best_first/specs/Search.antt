@@ -1,6 +1,7 @@
 -- A search as a whole: what it is of, where it stands, and what a turn does to it.
 use Rattle.std.specs.Prelude.{◌≡◌, ℕ, ◌⊎◌, List, suc, zero, [], ◌∷◌, Option, Result, Ok, Err}
 use Rattle.fc_frontier.specs.Queue.{Adds}
+use Rattle.fc_best_first.specs.declared.books.Opening.{Opening}
 use Rattle.fc_best_first.specs.declared.turns.Status.{Status}
 use Rattle.fc_best_first.specs.declared.turns.Status.TheVariants.{Running, Stopped}
 use Rattle.fc_best_first.specs.declared.searches.Step.{Step}
@@ -9,9 +10,8 @@ use Rattle.fc_best_first.specs.declared.searches.SearchFault.{SearchFault}
 use Rattle.fc_best_first.specs.declared.searches.SearchFault.TheVariants as fault
 use Rattle.fc_best_first.specs.declared.strategies.Strategy.{Strategy}
 use Rattle.fc_best_first.specs.Graph.{Graph, Task}
-use Rattle.fc_best_first.specs.Kept.{f_of}
-use Rattle.fc_best_first.specs.Store.{Store}
-use Rattle.fc_best_first.specs.Turn.{Advances, TakesFloor, opening_of}
+use Rattle.fc_best_first.specs.Store.{Store, IsOpening, opens_at, weighed}
+use Rattle.fc_best_first.specs.Turn.{Advances, TakesFloor}
 
 -- a search: the space that it is of, its strategy, its limit, what it stores and has open, where it stands, and the greatest f
 -- that was taken
@@ -29,11 +29,12 @@ module _ {S K : Type 0} where
   task_of graph s = record { graph = graph s.space; strategy = s.strategy; limit = s.limit }
 
 module _ {K : Type 0} where
-  -- the key that starts is stored under 0, as its own parent, and open at its weighed cost plus bound
+  -- the key that starts is stored under 0, as its own parent, and open at its cost plus a number that is shown of it, both weighed
   abbrev pub Begins : Task K → Store K → Type 0
-  Begins task s = (x : K) × (cost : ℕ) × task.graph.starts x cost × (s.stored ≡ (x, record { cost = cost; parent = 0 }) ∷ [])
-      × Adds [] s.waiting (f_of task x (record { cost = cost; parent = 0 }), 0)
-      × (s.openings ≡ opening_of task x ∷ [])
+  Begins task s = (x : K) × (cost : ℕ) × (opening : Opening) × task.graph.starts x cost
+      × IsOpening task.graph task.strategy.weight x opening × (s.stored ≡ (x, record { cost = cost; parent = 0 }) ∷ [])
+      × Adds [] s.waiting (opens_at (weighed task.strategy (record { cost = cost; parent = 0 })) opening, 0)
+      × (s.openings ≡ opening ∷ [])
 
   -- what a turn answers, by the status that it leaves
   abbrev pub reply_of : Status K → Result Step SearchFault

@@ -5,7 +5,7 @@ use Rattle.fc_best_first.specs.declared.turns.Status.{Status}
 use Rattle.fc_best_first.specs.declared.turns.Status.TheVariants.{Running, Won, CannotWin, GaveUp, Stopped}
 use Rattle.fc_best_first.specs.Graph.{Graph, Task, Reached}
 use Rattle.fc_best_first.specs.Limits.{Ratio, ReachesLimit}
-use Rattle.fc_best_first.specs.Store.{Store, IsStored, IsNew, weighed}
+use Rattle.fc_best_first.specs.Store.{Store, IsStored, IsNew, bound_at, weighed}
 use Rattle.fc_best_first.specs.Kept.{IsWhereOpen, IsSound, IsKept, IsDone, IsExpanded, IsOpenOrExpanded, IsNeeded, f_of}
 
 module _ {K : Type 0} where
@@ -17,12 +17,12 @@ module _ {K : Type 0} where
   abbrev pub AreSettledBut : Task K → Store K → ℕ → Type 0
   AreSettledBut task s number = (i : ℕ) (y : K) (m : Mark) → (i ≡ number → ⊥) → IsStored s i y m → IsOpenOrExpanded task s i y m
 
-  -- a won key is stored under this number, each key whose weighed cost plus bound is below its weighed cost is done with below
+  -- a won key is stored under this number, each key whose cost plus what is noted of it, both weighed, is below its weighed cost is done with below
   -- that, and each other key is open or expanded
   abbrev pub IsFound : Task K → Store K → ℕ → Type 0
   IsFound task s number = IsSound task s
       × ((x : K) × (mark : Mark) × IsStored s number x mark × task.graph.won x
-      × ((i : ℕ) (y : K) (m : Mark) → IsStored s i y m → f_of task y m < weighed task.strategy mark
+      × ((i : ℕ) (y : K) (m : Mark) → IsStored s i y m → f_of task s i m < weighed task.strategy mark
       → IsDone task.strategy.expansion task s y m.cost (weighed task.strategy mark))
       × AreSettledBut task s number)
 
@@ -31,11 +31,11 @@ module _ {K : Type 0} where
   IsExhausted task s = IsSound task s
       × ((i : ℕ) (y : K) (m : Mark) → IsStored s i y m → IsExpanded task s y m.cost)
 
-  -- the key with this number is where it was taken, and done with below that, if that is more than its weighed cost plus bound
+  -- the key with this number is where it was taken, and done with below that, if that is more than its cost plus what is noted of it, both weighed
   pub record IsTakenAt (task : Task K) (s : Store K) (number : ℕ) (x : K) (mark : Mark) (f : ℕ) : Type 0 where
     pub stands : IsStored s number x mark
     pub at : IsWhereOpen s number (weighed task.strategy mark) f
-    pub done : f_of task x mark < f → IsDone task.strategy.expansion task s x mark.cost f
+    pub done : f_of task s number mark < f → IsDone task.strategy.expansion task s x mark.cost f
 
   -- as many keys as the budget are stored, one more came by needed work from the key with this number, which was taken, and each
   -- other key is open or expanded
@@ -71,22 +71,22 @@ module _ {K : Type 0} where
   Shows task s (GaveUp y number) = (keys : List K) × AreNeeded task (task.strategy.budget + 1) keys
   Shows task s Stopped = Unit {0}
 
-  -- a number is no more than what a key tells that is open at f: its cost plus its bound, or f over how many times a bound counts,
-  -- rounded up
-  abbrev pub IsUnder : Task K → K → Mark → ℕ → ℕ → Type 0
-  IsUnder task x mark f n = (n ≤ mark.cost + task.graph.bound x)
+  -- a number is no more than what a key tells that is open at f: its cost plus what is noted of it, or f over how many times a bound
+  -- counts, rounded up
+  abbrev pub IsUnder : Task K → Store K → ℕ → Mark → ℕ → ℕ → Type 0
+  IsUnder task s number mark f n = (n ≤ mark.cost + bound_at s number)
       ⊎ (task.strategy.weight.times * n < f + task.strategy.weight.times)
 
   -- a number is what a key tells that is open at f: no less than either, and no more than both
-  pub record IsTold (task : Task K) (x : K) (mark : Mark) (f told : ℕ) : Type 0 where
-    pub own : mark.cost + task.graph.bound x ≤ told
+  pub record IsTold (task : Task K) (s : Store K) (number : ℕ) (mark : Mark) (f told : ℕ) : Type 0 where
+    pub own : mark.cost + bound_at s number ≤ told
     pub weighed : f ≤ task.strategy.weight.times * told
-    pub under : IsUnder task x mark f told
+    pub under : IsUnder task s number mark f told
 
   -- the number is what the key with this one tells, by where it is open
   abbrev pub TellsAt : Task K → Store K → ℕ → ℕ → Type 0
   TellsAt task s number told = (x : K) × (mark : Mark) × (f : ℕ) × IsStored s number x mark
-      × IsWhereOpen s number (weighed task.strategy mark) f × IsTold task x mark f told
+      × IsWhereOpen s number (weighed task.strategy mark) f × IsTold task s number mark f told
 
   -- the key with this number and mark is open at f
   pub record IsOpen (task : Task K) (s : Store K) (number : ℕ) (x : K) (mark : Mark) (f : ℕ) : Type 0 where
@@ -97,6 +97,6 @@ module _ {K : Type 0} where
   -- the least that the open keys tell, at most a number
   pub record IsLeastOpen (task : Task K) (s : Store K) (most floor : ℕ) : Type 0 where
     pub within : floor ≤ most
-    pub least : (number : ℕ) (x : K) (mark : Mark) (f : ℕ) → IsOpen task s number x mark f → IsUnder task x mark f floor
+    pub least : (number : ℕ) (x : K) (mark : Mark) (f : ℕ) → IsOpen task s number x mark f → IsUnder task s number mark f floor
     pub met : (floor ≡ most)
-        ⊎ ((number : ℕ) × (x : K) × (mark : Mark) × (f : ℕ) × IsOpen task s number x mark f × IsTold task x mark f floor)
+        ⊎ ((number : ℕ) × (x : K) × (mark : Mark) × (f : ℕ) × IsOpen task s number x mark f × IsTold task s number mark f floor)

@@ -33,16 +33,12 @@ module _ {K : Type 0} where
     pub whole : (c : ℕ) (y : K) → g.edge x c y
         → (child : Child K) × Contains children child × (child.key ≡ y) × (child.cost ≤ c)
 
-  -- where a key is open at its cost plus its weighed bound
-  abbrev pub opening_of : Task K → K → Opening
-  opening_of task x = record { over = task.strategy.weight.times * task.graph.bound x; bound = task.graph.bound x }
-
-  -- a child as it is offered: its mark, by the mark of a child that would cost nothing, and where it is open
-  abbrev pub candidate_of : Task K → Mark → Child K → Candidate K
-  candidate_of task origin child = record {
+  -- a child as it is offered: its mark, by the mark of a child that would cost nothing, and where it would be open
+  abbrev pub candidate_of : Mark → Child K → Opening → Candidate K
+  candidate_of origin child opening = record {
     key = child.key;
     mark = record { cost = origin.cost + child.cost; parent = origin.parent };
-    opening = opening_of task child.key;
+    opening = opening;
   }
 
   -- one child more was put off, until this f: the least of them counts
@@ -58,21 +54,21 @@ module _ {K : Type 0} (task : Task K) (taken : ℕ) where
   abbrev pub Expands : Mark → List (Child K) → Store K → Store K → Placing K → Type 0
   Expands origin [] old new placing = (new ≡ old) × (placing ≡ Whole)
   Expands origin (child ∷ children) old new placing =
-      (Offers task taken old new (candidate_of task origin child) (Full child.key) × (placing ≡ NoRoom child.key))
+      (opening : Opening) × ((Offers task taken old new (candidate_of origin child opening) (Full child.key) × (placing ≡ NoRoom child.key))
       ⊎ (((mid : Store K)
-      × (Offers task taken old mid (candidate_of task origin child) Known
-      ⊎ (Offers task taken old mid (candidate_of task origin child) Lowered
-      ⊎ (Offers task taken old mid (candidate_of task origin child) Added
-      ⊎ Offers task taken old mid (candidate_of task origin child) Past)))
+      × (Offers task taken old mid (candidate_of origin child opening) Known
+      ⊎ (Offers task taken old mid (candidate_of origin child opening) Lowered
+      ⊎ (Offers task taken old mid (candidate_of origin child opening) Added
+      ⊎ Offers task taken old mid (candidate_of origin child opening) Past)))
       × Expands origin children mid new placing)
-      ⊎ ((later : ℕ) × Offers task taken old old (candidate_of task origin child) (PutOff later)
-      × ((others : Placing K) × Expands origin children old new others × (placing ≡ put_off later others))))
+      ⊎ ((later : ℕ) × Offers task taken old old (candidate_of origin child opening) (PutOff later)
+      × ((others : Placing K) × Expands origin children old new others × (placing ≡ put_off later others)))))
 
 module _ {K : Type 0} where
-  -- a key with this number and weighed cost is open again at a later f, by the bound that is noted of it
+  -- a key with this number and weighed cost is open again at a later f, and the same is noted of it
   abbrev pub Reopens : Store K → Store K → ℕ → ℕ → ℕ → Type 0
   Reopens old new number cost later = (was : Opening) × (next : Opening) × (slice_get old.openings number ≡ Some was)
-      × (next.bound ≡ was.bound) × (next.over ≤ MOST_OVER) × (later ≡ opens_at cost next) × (new.stored ≡ old.stored)
+      × (next.bound ≡ was.bound) × (next.note ≡ was.note) × (next.over ≤ MOST_OVER) × (later ≡ opens_at cost next) × (new.stored ≡ old.stored)
       × Adds old.waiting new.waiting (later, number) × (new.openings ≡ slice_set old.openings number next)
 
   -- what becomes of an expanded key of this weighed cost, by how its children were placed: where some were put off it is open

@@ -54,11 +54,65 @@ impl Mark {
     }
 }
 
-/// Where a key is open: how far above its weighed cost, at most 28,050, and its bound.
+/// Where a key is open: how far above its weighed cost, at most 28,050, and what is noted of it: the number that the search goes by,
+/// which is no greater than its bound, and the note of seven bytes that shows it.
 #[derive(Clone, Copy, Debug, PartialEq, Eq)]
 pub struct Opening {
     pub over: u16,
     pub bound: u8,
+    pub note: u64,
+}
+
+// An opening as it is kept, in ten bytes: two that are its own, and eight that have the note and, in the last of them, the number.
+#[derive(Drop)]
+struct Kept {
+    over: u16,
+    first: u16,
+    second: u16,
+    third: u16,
+    fourth: u16,
+}
+
+impl Model for Kept {
+    ghost use Rattle.std.specs.Prelude.{◌+◌, ◌*◌, ◌/◌, ◌%◌};
+    ghost use Rattle.fc_best_first.specs.declared.books.Opening.{Opening};
+
+    ghost Value = { Opening };
+
+    ghost view = { λ k. record { over = k.over; bound = k.fourth / 256; note = k.first + 65536 * (k.second + 65536 * (k.third + 65536 * (k.fourth % 256))) } };
+}
+
+impl Kept {
+    fn new(opening: Opening) -> Kept
+        requires small { opening.note < 2 ^ 56 }
+        ensures value { result ≡ opening }
+    {
+        let note = opening.note;
+        let second = note / 65536;
+        let third = second / 65536;
+        let last = third / 65536;
+        Kept {
+            over: opening.over,
+            first: (note % 65536) as u16,
+            second: (second % 65536) as u16,
+            third: (third % 65536) as u16,
+            fourth: last as u16 + 256 * u16::from(opening.bound),
+        }
+    }
+
+    fn opening(&self) -> Opening
+        ensures value { result ≡ self.now }
+        ensures small { result.note < 2 ^ 56 }
+    {
+        let last = u64::from(self.fourth % 256);
+        let third = u64::from(self.third) + 65536 * last;
+        let second = u64::from(self.second) + 65536 * third;
+        Opening {
+            over: self.over,
+            bound: (self.fourth / 256) as u8,
+            note: u64::from(self.first) + 65536 * second,
+        }
+    }
 }
 
 /// What became of a key that was offered: it was stored at no more, it was stored at more and its cost fell, it was
@@ -79,7 +133,7 @@ pub enum Offered<K> {
 pub struct Book<K: ExactKey, F: Frontier + Drop> {
     table: IndexMap<K, Mark>,
     queue: F,
-    openings: Vec<Opening>,
+    openings: Vec<Kept>,
 }
 
 impl<K: ExactKey, F: Frontier + Drop> Model for Book<K, F> {
@@ -172,9 +226,10 @@ impl<K: ExactKey, F: Frontier + Drop> Book<K, F> {
     pub fn opening(&self, number: u32) -> Opening
         requires noted { number < length self.now.openings }
         ensures value { slice_get self.now.openings number ≡ Some result }
+        ensures small { result.note < 2 ^ 56 }
     {
         let at = number as usize;
-        self.openings[at]
+        self.openings[at].opening()
     }
 
     /// Gives the key that is stored under a number another mark, and opens it. At `Err` a growth was refused, and nothing is
@@ -189,6 +244,7 @@ impl<K: ExactKey, F: Frontier + Drop> Book<K, F> {
         requires within { number < length self.old.stored }
         requires noted { number < length self.old.openings }
         requires low { mark.cost ≤ MOST_GREAT_BUDGET + MOST_SPARE + 255 }
+        requires small { opening.note < 2 ^ 56 }
         ensures lowers { OnOk result (Lowers strategy.now self.old self.new number mark opening) }
     {
         self.table[number as usize] = mark;
@@ -197,7 +253,7 @@ impl<K: ExactKey, F: Frontier + Drop> Book<K, F> {
             opening.bound,
             number,
         )?;
-        self.openings[number as usize] = opening;
+        self.openings[number as usize] = Kept::new(opening);
         Ok(())
     }
 
@@ -214,7 +270,7 @@ impl<K: ExactKey, F: Frontier + Drop> Book<K, F> {
             ..self.opening(number)
         };
         self.queue.push_tied(later, next.bound, number)?;
-        self.openings[number as usize] = next;
+        self.openings[number as usize] = Kept::new(next);
         Ok(())
     }
 
@@ -229,6 +285,7 @@ impl<K: ExactKey, F: Frontier + Drop> Book<K, F> {
     ) -> Result<Offered<K>, Full>
         requires new { IsNew self.old key }
         requires low { mark.cost ≤ MOST_GREAT_BUDGET + MOST_SPARE + 255 }
+        requires small { opening.note < 2 ^ 56 }
         ensures stores { IfOk result (Stores strategy.now self.old self.new (record { key = key; mark = mark; opening = opening })) }
     {
         let number = self.table.len();
@@ -243,7 +300,7 @@ impl<K: ExactKey, F: Frontier + Drop> Book<K, F> {
             opening.bound,
             number as u32,
         )?;
-        self.openings.push(opening)?;
+        self.openings.push(Kept::new(opening))?;
         Ok(Offered::Added)
     }
 

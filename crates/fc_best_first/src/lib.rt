@@ -7,7 +7,7 @@ pub use limits::{
     Budget, GreatBudget, MOST_BUDGET, MOST_GREAT_BUDGET, MOST_WEIGHT, TENTHS, Weight,
 };
 pub use searches::{Search, SearchFault, Step};
-pub use spaces::{Child, Space};
+pub use spaces::{Child, Noted, Space};
 pub use strategies::{Expansion, Strategy};
 pub use turns::{MOST_OVER, MOST_SPARE, Placing, Status};
 

@@ -1,30 +1,43 @@
 //! A child of a key that is taken, as it finds its place: it is known, stored, or put off.
 
-ghost use Rattle.std.specs.Prelude.{◌≡◌, ◌+◌, ◌*◌, ◌<◌, ◌≤◌, ◌↔◌, ℕ, List, length, IfOk, IsTrue};
+ghost use Rattle.std.specs.Prelude.{◌≡◌, ◌+◌, ◌*◌, ◌<◌, ◌≤◌, ◌↔◌, ℕ, List, length, IfOk, IfSome, IsTrue, MatchOption};
 ghost use Rattle.fc_best_first.specs.Graph.{Graph, Reached, Task};
 ghost use Rattle.fc_best_first.specs.Kept.{AreNoted};
-ghost use Rattle.fc_best_first.specs.Limits.{IsBelowLimit, ReachesLimit};
-ghost use Rattle.fc_best_first.specs.Store.{IsNew, Offers, weighed};
+ghost use Rattle.fc_best_first.specs.Limits.{IsBelowLimit, IsWithinLimit, ReachesLimit, weigh};
+ghost use Rattle.fc_best_first.specs.Store.{Store, IsNew, Offers, weighed};
+ghost use Rattle.fc_best_first.specs.declared.books.Opening.{Opening};
+ghost use Rattle.fc_best_first.specs.declared.spaces.Child.{Child};
 ghost use Rattle.fc_best_first.specs.Turn.{candidate_of};
 ghost use Rattle.fc_best_first.specs.inner.Turn.{IsPutOffNear};
 
 use crate::books::{Book, Mark, Offered, Opening};
 use crate::limits::{MOST_GREAT_BUDGET, Weight};
-use crate::spaces::{Child, Space};
+use crate::spaces::{Noted, Space};
 use crate::strategies::{Expansion, Strategy};
-use crate::turns::MOST_SPARE;
+use crate::turns::{MOST_OVER, MOST_SPARE};
 use fc_frontier::{Frontier, Full};
 use fc_keys::ExactKey;
 
 impl Opening {
-    // At the weighed bound above the weighed cost.
-    pub(crate) fn new(weight: Weight, bound: u8) -> Self
-        ensures value { result ≡ record { over = weight.times * bound; bound = bound } }
+    // At what is noted, weighed, above the weighed cost.
+    pub(crate) fn new(weight: Weight, noted: Noted) -> Self
+        ensures value { result ≡ record { over = weight.times * noted.bound; bound = noted.bound; note = noted.note } }
         ensures most { result.over ≤ 25500 }
     {
         Opening {
-            over: u16::from(weight.times()) * u16::from(bound),
-            bound,
+            over: u16::from(weight.times()) * u16::from(noted.bound),
+            bound: noted.bound,
+            note: noted.note,
+        }
+    }
+
+    // What is noted in it.
+    pub(crate) fn noted(self) -> Noted
+        ensures value { result ≡ record { bound = self.bound; note = self.note } }
+    {
+        Noted {
+            bound: self.bound,
+            note: self.note,
         }
     }
 }
@@ -60,8 +73,61 @@ fn most_within(weight: Weight, cost: u32, taken: u32) -> u8
     room.min(255) as u8
 }
 
-// Stores a key that was reached and isn't stored, where it is open at no more than was taken; else it is put off, at no more
-// than its own f. Neither is done where its cost plus bound reaches the limit. Its bound is counted no further than that takes.
+// What becomes of the child that a walk stands at, with this mark, by a number that is plain to see: it is put off where it is open at
+// more than was taken by that alone, but where its cost plus that reaches the limit. `None` where it is to be looked up.
+fn put_off<K: ExactKey, S: Space<K>>(
+    space: &S,
+    walk: &S::Walk,
+    strategy: &Strategy,
+    taken: &Taken,
+    mark: Mark,
+) -> Option<Offered<K>>
+    requires owned { S.owns space.now walk.now }
+    requires partial { strategy.now.expansion ≡ Expansion.Partial }
+    requires low { taken.now.origin.cost ≤ MOST_GREAT_BUDGET + MOST_SPARE }
+    requires near { mark.cost ≤ taken.now.origin.cost + 255 }
+    ensures offers { IfSome result (λ offered. (y : K) (opening : Opening) (store : Store K) → S.at walk.now y
+        → Offers (record { graph = S.graph space.now; strategy = strategy.now; limit = taken.now.limit }) taken.now.f store store (record { key = y; mark = mark; opening = opening }) offered) }
+    ensures near { IfSome result (IsPutOffNear (weighed strategy.now taken.now.origin)) }
+{
+    let opening = Opening::new(
+        strategy.weight,
+        Noted {
+            bound: space.least(walk),
+            note: 0,
+        },
+    );
+    let f = mark.opens_at(strategy.weight, opening);
+    if f <= taken.f {
+        return None;
+    }
+    if taken.reaches_limit(mark.cost, opening.bound) {
+        return Some(Offered::Past);
+    }
+    Some(Offered::PutOff(f))
+}
+
+// Until when the children of a key are put off together that its first visit left out: each costs one more at least, and has a bound
+// of no less than what is noted of the key. `None` where that reaches the limit.
+pub(crate) fn later_of_others(strategy: &Strategy, taken: &Taken, noted: Noted) -> Option<u32>
+    requires low { taken.now.origin.cost ≤ MOST_GREAT_BUDGET + MOST_SPARE }
+    requires first { taken.now.f ≡ weigh strategy.now.weight taken.now.origin.cost noted.bound }
+    ensures later { MatchOption result (ReachesLimit taken.now.limit (taken.now.origin.cost + 1 + noted.bound))
+        (λ later. (later ≡ weigh strategy.now.weight (taken.now.origin.cost + 1) noted.bound) × IsWithinLimit taken.now.limit strategy.now.weight.times later) }
+    ensures near { IfSome result (λ later. (taken.now.f < later) × (later ≤ weighed strategy.now taken.now.origin + MOST_OVER)) }
+{
+    let mark = taken.origin.onward(1);
+    let opening = Opening::new(strategy.weight, noted);
+    let later = mark.opens_at(strategy.weight, opening);
+    if taken.reaches_limit(mark.cost, noted.bound) {
+        None
+    } else {
+        Some(later)
+    }
+}
+
+// Stores a key that was reached and isn't stored, with its mark; by partial expansion only where it is open at no more than was
+// taken, else it is put off, at no more than its own f. Neither is done where its cost plus what is shown of it reaches the limit.
 // At `Err` a growth was refused, and nothing is known of the book.
 fn store_or_put_off<K: ExactKey, F: Frontier + Drop, S: Space<K>>(
     space: &S,
@@ -69,37 +135,42 @@ fn store_or_put_off<K: ExactKey, F: Frontier + Drop, S: Space<K>>(
     book: &mut Book<K, F>,
     strategy: &Strategy,
     taken: &Taken,
-    child: Child<K>,
+    met: (K, Mark),
 ) -> Result<Offered<K>, Full>
-    requires reached { (d : ℕ) × Reached (S.graph space.now) child.key d }
+    requires reached { (d : ℕ) × Reached (S.graph space.now) met.0 d }
     requires owned { S.owns space.now walk.old }
-    requires at { S.at walk.old child.key }
-    requires new { IsNew book.old child.key }
+    requires at { S.at walk.old met.0 }
+    requires new { IsNew book.old met.0 }
     requires low { taken.now.origin.cost ≤ MOST_GREAT_BUDGET + MOST_SPARE }
-    requires partial { strategy.now.expansion ≡ Expansion.Partial }
-    ensures offers { IfOk result (Offers (record { graph = S.graph space.now; strategy = strategy.now; limit = taken.now.limit }) taken.now.f book.old book.new (candidate_of (record { graph = S.graph space.now; strategy = strategy.now; limit = taken.now.limit }) taken.now.origin child)) }
+    requires near { met.1.cost ≤ taken.now.origin.cost + 255 }
+    ensures offers { IfOk result (λ offered. (opening : Opening)
+        × Offers (record { graph = S.graph space.now; strategy = strategy.now; limit = taken.now.limit }) taken.now.f book.old book.new (record { key = met.0; mark = met.1; opening = opening }) offered) }
     ensures near { IfOk result (IsPutOffNear (weighed strategy.now taken.now.origin)) }
     ensures owned { S.owns space.now walk.new }
     ensures rest { (children : List (Child K)) → S.rest walk.new children ↔ S.rest walk.old children }
     ensures left { S.left walk.new ≡ S.left walk.old }
 {
-    let mark = taken.origin.onward(child.cost);
-    let key = child.key;
-    let most = most_within(strategy.weight, mark.weighed(strategy.weight), taken.f);
-    let bound = space.bound_within(walk, &key, most);
-    if taken.reaches_limit(mark.cost, bound) {
+    let (key, mark) = met;
+    let most = match strategy.expansion {
+        Expansion::Full => u8::MAX,
+        Expansion::Partial => most_within(strategy.weight, mark.weighed(strategy.weight), taken.f),
+    };
+    let noted = space.noted(walk, &key, most);
+    if taken.reaches_limit(mark.cost, noted.bound) {
         return Ok(Offered::Past);
     }
-    let opening = Opening::new(strategy.weight, bound);
-    let f = mark.opens_at(strategy.weight, opening);
-    if f > taken.f {
-        return Ok(Offered::PutOff(f));
+    let opening = Opening::new(strategy.weight, noted);
+    if let Expansion::Partial = strategy.expansion {
+        let f = mark.opens_at(strategy.weight, opening);
+        if f > taken.f {
+            return Ok(Offered::PutOff(f));
+        }
     }
     book.add(strategy, key, mark, opening)
 }
 
-// Offers the child that a walk stands at, by what was taken. Its bound is asked for only where the key is new: of most keys that
-// are offered it isn't wanted, and a bound may take longer than all else.
+// Offers the child that a walk stands at, at the end of an edge of this cost, by what was taken. What may be noted of it is asked for
+// only where the key is new: of most keys that are offered it isn't wanted, and it may take longer than all else.
 // At `Err` a growth was refused, and nothing is known of the book.
 pub(crate) fn offer<K: ExactKey, F: Frontier + Drop, S: Space<K>>(
     space: &S,
@@ -107,15 +178,16 @@ pub(crate) fn offer<K: ExactKey, F: Frontier + Drop, S: Space<K>>(
     book: &mut Book<K, F>,
     strategy: &Strategy,
     taken: &Taken,
-    child: Child<K>,
+    cost: u8,
 ) -> Result<Offered<K>, Full>
-    requires reached { (d : ℕ) × Reached (S.graph space.now) child.key d }
+    requires reached { (y : K) → S.at walk.old y → (d : ℕ) × Reached (S.graph space.now) y d }
     requires owned { S.owns space.now walk.old }
-    requires at { S.at walk.old child.key }
+    requires there { (y : K) × S.at walk.old y }
     requires room { length book.old.stored ≤ strategy.now.budget }
     requires noted { AreNoted (S.graph space.now) book.old }
     requires low { taken.now.origin.cost ≤ MOST_GREAT_BUDGET + MOST_SPARE }
-    ensures offers { IfOk result (Offers (record { graph = S.graph space.now; strategy = strategy.now; limit = taken.now.limit }) taken.now.f book.old book.new (candidate_of (record { graph = S.graph space.now; strategy = strategy.now; limit = taken.now.limit }) taken.now.origin child)) }
+    ensures offers { IfOk result (λ offered. (y : K) × (opening : Opening) × S.at walk.old y
+        × Offers (record { graph = S.graph space.now; strategy = strategy.now; limit = taken.now.limit }) taken.now.f book.old book.new (candidate_of taken.now.origin (record { key = y; cost = cost }) opening) offered) }
     ensures near { IfOk result (IsPutOffNear (weighed strategy.now taken.now.origin)) }
     ensures owned { S.owns space.now walk.new }
     ensures rest { (children : List (Child K)) → S.rest walk.new children ↔ S.rest walk.old children }
@@ -123,22 +195,20 @@ pub(crate) fn offer<K: ExactKey, F: Frontier + Drop, S: Space<K>>(
 {
     // Its range, by which each key has a number.
     let _ = strategy.budget.get();
-    let mark = taken.origin.onward(child.cost);
-    let Some((number, was)) = book.find(&child.key) else {
-        if let Expansion::Partial = strategy.expansion {
-            return store_or_put_off(space, walk, book, strategy, taken, child);
+    let mark = taken.origin.onward(cost);
+    if let Expansion::Partial = strategy.expansion {
+        if let Some(offered) = put_off(space, walk, strategy, taken, mark) {
+            return Ok(offered);
         }
-        let key = child.key;
-        let bound = space.bound_within(walk, &key, u8::MAX);
-        if taken.reaches_limit(mark.cost, bound) {
-            return Ok(Offered::Past);
-        }
-        return book.add(strategy, key, mark, Opening::new(strategy.weight, bound));
+    }
+    let key = space.key(walk);
+    let Some((number, was)) = book.find(&key) else {
+        return store_or_put_off(space, walk, book, strategy, taken, (key, mark));
     };
     if was.cost <= mark.cost {
         return Ok(Offered::Known);
     }
-    let opening = Opening::new(strategy.weight, book.opening(number).bound);
+    let opening = Opening::new(strategy.weight, book.opening(number).noted());
     book.lower(strategy, number, mark, opening)?;
     Ok(Offered::Lowered)
 }

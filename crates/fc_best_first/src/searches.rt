@@ -4,7 +4,7 @@ ghost use Rattle.fc_best_first.specs.Limits.{IsGreatBudget, IsWeight};
 ghost use Rattle.fc_best_first.specs.Search.{Begins, FloorAfter, Turns, Runs, reply_of, task_of};
 ghost use Rattle.fc_best_first.specs.Kept.{IsSound};
 ghost use Rattle.fc_best_first.specs.Shown.{Holds, IsFloor, IsLeastOpen, Shows, TellsAt};
-ghost use Rattle.fc_best_first.specs.Store.{IsStored};
+ghost use Rattle.fc_best_first.specs.Store.{IsStored, bound_at};
 ghost use Rattle.fc_best_first.specs.Turn.{work_left};
 
 use crate::books::{Book, Mark, Opening};
@@ -115,7 +115,7 @@ impl<K: ExactKey, F: Frontier + Drop, S: Space<K> + Drop> Search<K, F, S> {
         let (_, _) = (weight.parts(), budget.get());
         let (start, mut walk) = space.start(alloc)?;
         let Child { key, cost } = start;
-        let opening = Opening::new(weight, space.bound_within(&mut walk, &key, u8::MAX));
+        let opening = Opening::new(weight, space.noted(&mut walk, &key, u8::MAX));
         let mark = Mark {
             cost: u32::from(cost),
             parent: 0,
@@ -191,6 +191,14 @@ impl<K: ExactKey, F: Frontier + Drop, S: Space<K> + Drop> Search<K, F, S> {
         ensures told { TellsAt (task_of S.graph self.now) self.now.store number result }
     {
         told_by(&self.space, &self.book, &self.strategy, number)
+    }
+
+    /// The number that is noted of the key with this one.
+    pub fn bound_at(&self, number: u32) -> u8
+        requires noted { number < length self.now.store.openings }
+        ensures value { result ≡ bound_at self.now.store number }
+    {
+        self.book.opening(number).bound
     }
 
     /// How many pairs are open. It is counted anew.

@@ -1,4 +1,4 @@
-ghost use Rattle.std.specs.Prelude.{◌≡◌, ◌≤◌, ◌<◌, ◌↔◌, ℕ, List, [], ◌∷◌, IsTrue, IfOk, IfSome, MatchOption};
+ghost use Rattle.std.specs.Prelude.{◌≡◌, ◌≢◌, ◌≤◌, ◌<◌, ◌^◌, ◌↔◌, ℕ, List, [], ◌∷◌, ◌++◌, false, Contains, IsTrue, IfOk, IfSome, MatchOption};
 ghost use Rattle.fc_best_first.specs.Graph.{Graph, IsLawful, Reached};
 ghost use Rattle.fc_best_first.specs.Turn.{AreChildren};
 
@@ -9,6 +9,13 @@ use std::alloc::{AllocError, Global};
 pub struct Child<K> {
     pub key: K,
     pub cost: u8,
+}
+
+/// What a search notes of a key: a number that it goes by, no greater than the key's bound, and the note of seven bytes that shows it.
+#[derive(Clone, Copy, Debug, PartialEq, Eq)]
+pub struct Noted {
+    pub bound: u8,
+    pub note: u64,
 }
 
 /// A question that a search can answer.
@@ -30,7 +37,7 @@ pub trait Space<K> {
     // The walk is one of this space's own: it tells the children of its keys.
     ghost owns: { Self → Self.Walk → Type 0 };
 
-    // The walk stands at this key: the start, or the child that it told last.
+    // The walk stands at this key: the start, or the child that came last.
     ghost at: { Self.Walk → K → Type 0 };
 
     /// The key that starts, with its cost, and a walk to visit keys with, which stands at it.
@@ -48,35 +55,52 @@ pub trait Space<K> {
         requires reached { (d : ℕ) × Reached (graph self.now) key.now d }
         ensures value { IsTrue result ↔ (graph self.now).won key.now };
 
-    /// The lower bound of the key that a walk stands at, counted no further than is asked: where it is greater than `most`, any
-    /// number above that and no greater than the bound. A search asks it of the key that starts, and of each child that is new: most
-    /// are stored already.
-    fn bound_within(&self, walk: &mut Self::Walk, key: &K, most: u8) -> u8
+    /// A number that is plain to see, no greater than the bound of the key that a walk stands at. A search by partial expansion asks
+    /// it of each child before all else: most are put off by it.
+    fn least(&self, walk: &Self::Walk) -> u8
+        requires owned { owns self.now walk.now }
+        ensures least { (y : K) → at walk.now y → result ≤ (graph self.now).bound y };
+
+    /// The key that a walk stands at.
+    fn key(&self, walk: &Self::Walk) -> K
+        requires owned { owns self.now walk.now }
+        requires there { (y : K) × at walk.now y }
+        ensures at { at walk.now result };
+
+    /// What may be noted of the key that a walk stands at. It is looked for no further where the number is greater than `most`
+    /// already. A search asks it of the key that starts, and of each child that is new: most are stored already.
+    fn noted(&self, walk: &mut Self::Walk, key: &K, most: u8) -> Noted
         requires reached { (d : ℕ) × Reached (graph self.now) key.now d }
         requires owned { owns self.now walk.old }
         requires at { at walk.old key.now }
-        ensures under { result ≤ (graph self.now).bound key.now }
-        ensures exact { result ≤ most → result ≡ (graph self.now).bound key.now }
+        ensures shown { (graph self.now).shown key.now result.bound result.note }
+        ensures small { result.note < 2 ^ 56 }
         ensures owned { owns self.now walk.new }
         ensures rest { (children : List (Child K)) → rest walk.new children ↔ rest walk.old children }
         ensures left { left walk.new ≡ left walk.old };
 
-    /// Visits a key that was reached, whose bound is known: its children take the place of those that were left.
-    fn visit(&self, key: &K, bound: u8, walk: &mut Self::Walk)
+    /// Visits a key that was reached, with what is noted of it: its children take the place of those that were left. At a first
+    /// visit children may be left out whose bound is no less than what is noted of the key, and told is whether some are: they
+    /// are put off together.
+    fn visit(&self, key: &K, noted: Noted, is_first: bool, walk: &mut Self::Walk) -> bool
         requires reached { (d : ℕ) × Reached (graph self.now) key.now d }
-        requires bound { bound ≡ (graph self.now).bound key.now }
+        requires shown { (graph self.now).shown key.now noted.bound noted.note }
         requires owned { owns self.now walk.old }
         ensures owned { owns self.now walk.new }
-        ensures children { (children : List (Child K)) → rest walk.new children → AreChildren (graph self.now) key.now children };
+        ensures children { (children : List (Child K)) → rest walk.new children
+            → (others : List (Child K)) × AreChildren (graph self.now) key.now (others ++ children)
+            × ((child : Child K) → Contains others child → noted.bound ≤ (graph self.now).bound child.key) × (IsTrue result ↔ (others ≢ [])) }
+        ensures later { is_first ≡ false → result ≡ false };
 
-    /// The next of the children that are left; whichever may follow it could follow it before.
-    fn next(&self, walk: &mut Self::Walk) -> Option<Child<K>>
+    /// Goes on to the next of the children that are left, and tells what the edge costs; whichever may follow it could follow it before.
+    fn next(&self, walk: &mut Self::Walk) -> Option<u8>
         requires owned { owns self.now walk.old }
         ensures owned { owns self.now walk.new }
         ensures next { MatchOption result (rest walk.old [])
-            (λ child. (children : List (Child K)) → rest walk.new children → rest walk.old (child ∷ children)) }
+            (λ cost. (y : K) (children : List (Child K)) → at walk.new y → rest walk.new children
+            → rest walk.old (record { key = y; cost = cost } ∷ children)) }
         ensures some { (children : List (Child K)) × rest walk.new children }
-        ensures at { IfSome result (λ child. at walk.new child.key) }
+        ensures there { IfSome result (λ cost. (y : K) × at walk.new y) }
         ensures fewer { IfSome result (λ _. left walk.new < left walk.old) };
 
     ghost lawful: { (s : Self) → IsLawful (graph s) };

@@ -1,15 +1,18 @@
-ghost use Rattle.std.specs.Prelude.{◌≡◌, ◌+◌, ◌*◌, ◌<◌, ◌≤◌, List, length, min, Some, IfOk, MatchOption};
-ghost use Rattle.fc_best_first.specs.Graph.{Graph, Task};
+ghost use Rattle.std.specs.Prelude.{◌≡◌, ◌+◌, ◌*◌, ◌<◌, ◌≤◌, List, length, ℕ, Contains, Option, min, None, Some, IfOk, IfSome, IsTrue, MatchOption};
+ghost use Rattle.fc_best_first.specs.Graph.{Graph, Reached, Task};
+ghost use Rattle.fc_best_first.specs.Limits.{weigh};
+ghost use Rattle.fc_best_first.specs.declared.strategies.Expansion.TheVariants.{Partial};
 ghost use Rattle.fc_best_first.specs.Kept.{AreNoted, IsKept};
-ghost use Rattle.fc_best_first.specs.Store.{Offers, weighed};
-ghost use Rattle.fc_best_first.specs.Turn.{Advances, Closes, Expands, TakesFloor};
-ghost use Rattle.fc_best_first.specs.inner.Turn.{AreReached, Becomes, IsLaterNear, IsReady};
+ghost use Rattle.fc_best_first.specs.Store.{Store, Offers, weighed};
+ghost use Rattle.fc_best_first.specs.Turn.{Advances, AreChildren, Closes, Expands, TakesFloor};
+ghost use Rattle.fc_best_first.specs.declared.spaces.Child.{Child};
+ghost use Rattle.fc_best_first.specs.inner.Turn.{AreReached, Becomes, IsLaterNear, IsReady, put_off_first};
 
-use crate::books::{Book, Mark, Offered};
+use crate::books::{Book, Mark, Offered, Opening};
 use crate::limits::MOST_GREAT_BUDGET;
-use crate::offers::{Taken, offer};
-use crate::spaces::{Child, Space};
-use crate::strategies::Strategy;
+use crate::offers::{Taken, later_of_others, offer};
+use crate::spaces::{Noted, Space};
+use crate::strategies::{Expansion, Strategy};
 use fc_frontier::{Frontier, Full};
 use fc_keys::ExactKey;
 
@@ -51,27 +54,32 @@ fn least_of(other: Option<u32>, f: u32) -> u32
     }
 }
 
-// Offers the children of a key by what was taken. At `Err` a growth was refused, and nothing is known of the book.
+// Offers the children of a key by what was taken, where others were put off together, if they were, until this f. At `Err` a growth was
+// refused, and nothing is known of the book.
 fn expand<K: ExactKey, F: Frontier + Drop, S: Space<K>>(
     space: &S,
     walk: &mut S::Walk,
     book: &mut Book<K, F>,
     strategy: &Strategy,
     taken: &Taken,
+    others: Option<u32>,
 ) -> Result<Placing<K>, Full>
     requires room { length book.old.stored ≤ strategy.now.budget }
     requires noted { AreNoted (S.graph space.now) book.old }
     requires low { taken.now.origin.cost ≤ MOST_GREAT_BUDGET + MOST_SPARE }
     requires owned { S.owns space.now walk.old }
     requires reached { (children : List (Child K)) → S.rest walk.old children → AreReached (S.graph space.now) children }
-    ensures expands { IfOk result (λ placing. (children : List (Child K)) × S.rest walk.old children × Expands (record { graph = S.graph space.now; strategy = strategy.now; limit = taken.now.limit }) taken.now.f taken.now.origin children book.old book.new placing) }
+    requires near { IfSome others (λ f. (strategy.now.expansion ≡ Partial) × (taken.now.f < f) × (f ≤ weighed strategy.now taken.now.origin + MOST_OVER)) }
+    ensures expands { IfOk result (λ placing. (children : List (Child K)) × (own : Placing K) × S.rest walk.old children
+        × Expands (record { graph = S.graph space.now; strategy = strategy.now; limit = taken.now.limit }) taken.now.f taken.now.origin children book.old book.new own
+        × (placing ≡ put_off_first others own)) }
     ensures near { IfOk result (IsLaterNear strategy.now.expansion taken.now.f (weighed strategy.now taken.now.origin)) }
     ensures noted { IfOk result (λ placing. AreNoted (S.graph space.now) book.new) }
     ensures owned { S.owns space.now walk.new }
 {
-    let mut later: Option<u32> = None;
-    while let Some(child) = space.next(walk) {
-        match offer(space, walk, book, strategy, taken, child)? {
+    let mut later = others;
+    while let Some(cost) = space.next(walk) {
+        match offer(space, walk, book, strategy, taken, cost)? {
             Offered::Full(key) => return Ok(Placing::NoRoom(key)),
             Offered::PutOff(f) => later = Some(least_of(later, f)),
             _ => {}
@@ -80,6 +88,47 @@ fn expand<K: ExactKey, F: Frontier + Drop, S: Space<K>>(
     match later {
         Some(f) => Ok(Placing::Later(f)),
         None => Ok(Placing::Whole),
+    }
+}
+
+// Whether a key is visited for the first time at its cost: by partial expansion, and taken at its cost plus what is noted of it.
+fn is_first(strategy: &Strategy, taken: &Taken, noted: Noted) -> bool
+    requires low { taken.now.origin.cost ≤ MOST_GREAT_BUDGET + MOST_SPARE }
+    ensures partial { IsTrue result → strategy.now.expansion ≡ Partial }
+    ensures own { IsTrue result → taken.now.f ≡ weigh strategy.now.weight taken.now.origin.cost noted.bound }
+{
+    let opening = Opening::new(strategy.weight, noted);
+    strategy.expansion == Expansion::Partial
+        && taken.f == taken.origin.opens_at(strategy.weight, opening)
+}
+
+// Visits a key by what was taken, with what is noted of it: until when the children are put off together that are left out, if some are
+// and the limit leaves them.
+fn visit<K: ExactKey, S: Space<K>>(
+    space: &S,
+    walk: &mut S::Walk,
+    strategy: &Strategy,
+    taken: &Taken,
+    key: &K,
+    noted: Noted,
+) -> Option<u32>
+    requires reached { (d : ℕ) × Reached (S.graph space.now) key.now d }
+    requires shown { (S.graph space.now).shown key.now noted.bound noted.note }
+    requires low { taken.now.origin.cost ≤ MOST_GREAT_BUDGET + MOST_SPARE }
+    requires owned { S.owns space.now walk.old }
+    ensures owned { S.owns space.now walk.new }
+    ensures children { (children : List (Child K)) → S.rest walk.new children → (all : List (Child K)) × AreChildren (S.graph space.now) key.now all
+        × ((child : Child K) → Contains children child → Contains all child)
+        × ((old new : Store K) (own : Placing K)
+        → Expands (record { graph = S.graph space.now; strategy = strategy.now; limit = taken.now.limit }) taken.now.f taken.now.origin children old new own
+        → Expands (record { graph = S.graph space.now; strategy = strategy.now; limit = taken.now.limit }) taken.now.f taken.now.origin all old new (put_off_first result own)) }
+    ensures near { IfSome result (λ f. (strategy.now.expansion ≡ Partial) × (taken.now.f < f) × (f ≤ weighed strategy.now taken.now.origin + MOST_OVER)) }
+{
+    let is_first = is_first(strategy, taken, noted);
+    if space.visit(key, noted, is_first, walk) {
+        later_of_others(strategy, taken, noted)
+    } else {
+        None
     }
 }
 
@@ -134,12 +183,13 @@ pub(crate) fn advance<K: ExactKey, F: Frontier + Drop, S: Space<K>>(
     if f != mark.opens_at(strategy.weight, opening) {
         return Ok(Status::Running);
     }
-    space.visit(key, opening.bound, walk);
     let cost = mark.weighed(strategy.weight);
     let origin = Mark {
         cost: mark.cost,
         parent: number,
     };
-    let placing = expand(space, walk, book, strategy, &Taken { f, origin, limit })?;
+    let taken = Taken { f, origin, limit };
+    let others = visit(space, walk, strategy, &taken, key, opening.noted());
+    let placing = expand(space, walk, book, strategy, &taken, others)?;
     close(book, number, cost, placing)
 }

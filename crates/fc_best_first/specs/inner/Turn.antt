@@ -1,5 +1,5 @@
 -- One turn of a search, within the crate.
-use Rattle.std.specs.Prelude.{◌≡◌, ℕ, ◌+◌, ◌<◌, ◌≤◌, List, length, Contains, Some, None}
+use Rattle.std.specs.Prelude.{◌≡◌, ℕ, ◌+◌, ◌<◌, ◌≤◌, List, length, Contains, Option, Some, None}
 use Rattle.fc_best_first.specs.declared.books.Offered.{Offered}
 use Rattle.fc_best_first.specs.declared.books.Offered.TheVariants.{PutOff}
 use Rattle.fc_best_first.specs.declared.spaces.Child.{Child}
@@ -12,9 +12,14 @@ use Rattle.fc_best_first.specs.declared.turns.Status.TheVariants.{Running, GaveU
 use Rattle.fc_best_first.specs.declared.turns.TheConstants.{MOST_OVER}
 use Rattle.fc_best_first.specs.Graph.{Graph, Reached}
 use Rattle.fc_best_first.specs.Store.{Store}
-use Rattle.fc_best_first.specs.Turn.{Closes}
+use Rattle.fc_best_first.specs.Turn.{Closes, put_off}
 
 module _ {K : Type 0} where
+  -- so many children were put off before the others
+  abbrev pub put_off_first : Option ℕ → Placing K → Placing K
+  put_off_first None others = others
+  put_off_first (Some f) others = put_off f others
+
   -- each of the children is a key that can be reached
   abbrev pub AreReached : Graph K → List (Child K) → Type 0
   AreReached g children = (child : Child K) → Contains children child → (d : ℕ) × Reached g child.key d

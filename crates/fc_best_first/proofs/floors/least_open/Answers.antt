@@ -1,9 +1,9 @@
 use Rattle.std.proofs.Common.{◌≡◌, ◌*◌, ◌∙◌, ap, arith, refl, subst, sym}
 use Rattle.std.specs.List.Sorted.{IsPermutation}
 use Rattle.fc_best_first.specs.Graph.{Task}
+use Rattle.fc_best_first.specs.Store.{bound_at, bound_in}
 use Rattle.fc_best_first.proofs.FloorLemmas.{at_same, least_begins, least_counts, least_ends, least_stale, next_waits, told_so, waiting_within}
 use Rattle.fc_best_first.proofs.KeptLemmas.{entry_low}
-use Rattle.fc_best_first.proofs.OfferLemmas.{noted_bound}
 use Rattle.fc_best_first.proofs.floors.least_open.Goals as goal
 
 pub loop-f-init : goal.loop-f-init
@@ -60,12 +60,11 @@ loop-f-preserved g c limit =
     let told = c.told-told in
     let yes = c.if-f-opens_at.false in
     let same : c.in-Some.f ≡ c.opens_at.result = omega (arith, yes) in
-    let bound = noted_bound (g.S.Space.graph c.args._space.now) c.args.book.now c.in-Some.number c.at.result.0.now c.at.result.1 c.opening-opening.result
-    c.requires.sound.1.1.noted c.at.ensures.stands c.opening-opening.ensures.value in
+    let bound : c.opening-opening.result.bound ≡ bound_at c.args.book.now c.in-Some.number = sym (ap bound_in c.opening-opening.ensures.value) in
     least_counts own c.args.book.now c.args.most c.loop-f.floor c.in-Some.f c.in-Some.number c.loop-f.f-iterator
     c.next.new.self c.in-Some.ensures.steps (c.loop-f.invariant limit) c.at.result.0.now c.at.result.1 c.at.ensures.stands told.result c.min-floor.result
     (c.opening-opening.result, c.opening-opening.ensures.value, same ∙ c.opens_at.ensures.value)
-    (told_so own c.at.result.0.now c.at.result.1 c.in-Some.f c.from.result c.times.result told.result (c.from.ensures ∙ bound) (ap (λ w. w) c.times.ensures.value)
+    (told_so own c.args.book.now c.in-Some.number c.at.result.1 c.in-Some.f c.from.result c.times.result told.result (c.from.ensures ∙ bound) (ap (λ w. w) c.times.ensures.value)
     told.ensures.own told.ensures.weighed told.ensures.under)
     c.min-floor.ensures
 

@@ -1,13 +1,14 @@
 use Rattle.std.proofs.Common.{◌≡◌, ◌≤◌, Option, Some, ap, inl, length, subst, sym, arith}
 use Rattle.std.specs.Prelude.{IfOk, slice_get}
 use Rattle.std.proofs.lemmas.Result.{IfOk-weaker}
+use Rattle.fc_best_first.specs.declared.spaces.Noted.{Noted}
 use Rattle.fc_best_first.specs.Graph.{Task}
 use Rattle.fc_best_first.specs.Store.{IsTaken, weighed}
-use Rattle.fc_best_first.specs.Turn.{Advances, Closes, ExpandsTaken}
+use Rattle.fc_best_first.specs.Turn.{Advances, Closes, Expands, ExpandsTaken}
 use Rattle.fc_best_first.specs.inner.Turn.{Becomes, IsReady}
 use Rattle.fc_best_first.proofs.KeptLemmas.{entry_low, entry_reached, pair_high, stands_within, taken_floor, taken_within}
 use Rattle.fc_best_first.proofs.ClosedLemmas.{kept_back, noted_same}
-use Rattle.fc_best_first.proofs.OfferLemmas.{noted_bound}
+use Rattle.fc_best_first.proofs.OfferLemmas.{noted_shown}
 use Rattle.fc_best_first.proofs.TurnLemmas.{becomes_advances, children_reached, expands_grow, placing_ready}
 use Rattle.fc_best_first.proofs.turns.advance.Goals as goal
 use Rattle.fc_best_first.proofs.turns.advance.Goals.{After-opens_at}
@@ -46,17 +47,19 @@ weighed-cost-requires g c =
     c.requires.kept.sound c.get.ensures.range.greatest c.in-Some.ensures.kept c.at.ensures.stands in
     record { low = omega (arith, most) }
 
-pub visit-requires-clause-reached : goal.visit-requires-clause-reached
-visit-requires-clause-reached g c =
+pub visit-others-requires-clause-reached : goal.visit-others-requires-clause-reached
+visit-others-requires-clause-reached g c =
     entry_reached (record { graph = g.S.Space.graph c.args.space.now; strategy = c.args.strategy.now; limit = c.args.limit }) c.args.book.now c.take.new.self
     c.in-Some.number _ _ c.requires.kept.sound c.in-Some.ensures.kept c.at.ensures.stands
 
-pub visit-requires-clause-bound : goal.visit-requires-clause-bound
-visit-requires-clause-bound g c =
-    noted_bound (g.S.Space.graph c.args.space.now) c.args.book.now c.in-Some.number c.at.result.0.now c.at.result.1 c.opening-opening.result
+pub visit-others-requires-clause-shown : goal.visit-others-requires-clause-shown
+visit-others-requires-clause-shown g c =
+    let graph = g.S.Space.graph c.args.space.now in
+    let shown = noted_shown graph c.args.book.now c.in-Some.number c.at.result.0.now c.at.result.1 c.opening-opening.result
     c.requires.kept.sound.noted
     (kept_back c.args.book.now c.take.new.self c.in-Some.number c.at.result.0.now c.at.result.1 c.in-Some.ensures.kept c.at.ensures.stands)
-    (subst (λ os. slice_get os c.in-Some.number ≡ Some c.opening-opening.result) c.in-Some.ensures.noted c.opening-opening.ensures.value)
+    (subst (λ os. slice_get os c.in-Some.number ≡ Some c.opening-opening.result) c.in-Some.ensures.noted c.opening-opening.ensures.value) in
+    subst (λ (n : Noted). graph.shown c.at.result.0.now n.bound n.note) (sym c.noted.ensures.value) shown
 
 -- the pair that is taken
 taken : (g : _) (c : After-opens_at g) → IsTaken c.args.book.now c.take.new.self c.in-Some.f c.in-Some.number c.at.result.0.now c.at.result.1
@@ -104,6 +107,11 @@ returns-then-f-opens_at-clause-takes g c =
       ),
     )
 
+pub visit-others-requires-clause-low : goal.visit-others-requires-clause-low
+visit-others-requires-clause-low g c =
+    entry_low (record { graph = g.S.Space.graph c.args.space.now; strategy = c.args.strategy.now; limit = c.args.limit }) c.args.book.now c.take.new.self c.in-Some.number _ _
+    c.requires.kept.sound c.get.ensures.range.greatest c.in-Some.ensures.kept c.at.ensures.stands
+
 pub expand-requires-clause-low : goal.expand-requires-clause-low
 expand-requires-clause-low g c =
     entry_low (record { graph = g.S.Space.graph c.args.space.now; strategy = c.args.strategy.now; limit = c.args.limit }) c.args.book.now c.take.new.self c.in-Some.number _ _
@@ -115,10 +123,11 @@ expand-requires-clause-noted g c = noted_same (g.S.Space.graph c.args.space.now)
 
 pub expand-requires-clause-reached : goal.expand-requires-clause-reached
 expand-requires-clause-reached g c = λ children rest.
-    children_reached (g.S.Space.graph c.args.space.now) c.at.result.0.now children
+    let all = c.visit-others.ensures.children children rest in
+    let reached = children_reached (g.S.Space.graph c.args.space.now) c.at.result.0.now all.0
     (entry_reached (record { graph = g.S.Space.graph c.args.space.now; strategy = c.args.strategy.now; limit = c.args.limit }) c.args.book.now c.take.new.self
-    c.in-Some.number _ _ c.requires.kept.sound c.in-Some.ensures.kept c.at.ensures.stands)
-    (c.visit.ensures.children children rest)
+    c.in-Some.number _ _ c.requires.kept.sound c.in-Some.ensures.kept c.at.ensures.stands) all.1 in
+    λ child there. reached child (all.2 child there)
 
 pub returns-in_err-placing-clause-floor : goal.returns-in_err-placing-clause-floor
 returns-in_err-placing-clause-floor g c = taken_floor c.args.book.now.waiting c.take.new.self.waiting c.in-Some.f c.in-Some.number c.args.floor.now
@@ -129,7 +138,7 @@ close-requires g c =
     let now = goal.at.close-requires g c in
     let expands = c.in_ok-placing.ensures.expands in
     let grow = expands_grow (record { graph = g.S.Space.graph c.args.space.now; strategy = c.args.strategy.now; limit = c.args.limit }) c.in-Some.f _ expands.0
-    c.take.new.self c.expand.new.book c.in_ok-placing.placing expands.2 in
+    c.take.new.self c.expand.new.book expands.1 expands.3 in
     let lt = stands_within c.take.new.self c.in-Some.number c.at.result.0.now c.at.result.1 c.at.ensures.stands in
     record {
       later = subst (λ k. IsReady c.expand.new.book c.in-Some.number k c.in_ok-placing.placing) (sym c.weighed-cost.ensures.value)
@@ -143,6 +152,7 @@ returns-clause-takes g c =
     let now = goal.at.returns-clause-takes g c in
     let task : Task g.row.K.Denot = record { graph = g.S.Space.graph c.args.space.now; strategy = c.args.strategy.now; limit = c.args.limit } in
     let expands = c.in_ok-placing.ensures.expands in
+    let all = c.visit-others.ensures.children expands.0 expands.2 in
     let works : (left_out : Option g.row.K.Denot) → Closes c.expand.new.book c.close.new.book c.in-Some.number (weighed c.args.strategy.now c.at.result.1) c.in_ok-placing.placing left_out
     → ExpandsTaken task c.args.book.now c.close.new.book c.in-Some.number left_out = λ left_out closes. (
       c.in-Some.f,
@@ -157,9 +167,15 @@ returns-clause-takes g c =
         let yes = c.if-f-opens_at.false in omega (arith, c.opens_at.ensures.value, yes),
       ),
       (
-        expands.0,
-        c.visit.ensures.children expands.0 expands.1,
-        (c.expand.new.book, c.in_ok-placing.placing, expands.2, closes),
+        all.0,
+        all.1,
+        (
+          c.expand.new.book,
+          c.in_ok-placing.placing,
+          subst (Expands task c.in-Some.f (record { cost = c.at.result.1.cost; parent = c.in-Some.number }) all.0 c.take.new.self c.expand.new.book) (sym expands.4)
+              (all.3 c.take.new.self c.expand.new.book expands.1 expands.3),
+          closes,
+        ),
       ),
     ) in
     IfOk-weaker c.close.result

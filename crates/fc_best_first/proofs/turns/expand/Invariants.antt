@@ -1,16 +1,15 @@
-use Rattle.std.proofs.Common.{◌≤◌, length, List}
+use Rattle.std.proofs.Common.{◌≡◌, ◌≤◌, length, List}
 use Rattle.fc_best_first.specs.Kept.{AreNoted}
 use Rattle.fc_best_first.specs.Store.{Store, weighed}
 use Rattle.fc_best_first.specs.Turn.{Expands}
-use Rattle.fc_best_first.specs.inner.Turn.{AreReached, IsLaterNear}
+use Rattle.fc_best_first.specs.inner.Turn.{AreReached, IsLaterNear, put_off_first}
 use Rattle.fc_best_first.specs.declared.spaces.Child.{Child}
 use Rattle.fc_best_first.specs.declared.turns.Placing.{Placing}
 use Rattle.fc_best_first.specs.declared.turns.Placing.TheVariants.{Whole}
-use Rattle.fc_best_first.proofs.TurnLemmas.{put_off_first}
 use Rattle.fc_best_first.proofs.turns.expand.Given as goal
 
-abbrev pub invariant-loop-child : goal.invariant-loop-child
-invariant-loop-child g l = record {
+abbrev pub invariant-loop-cost : goal.invariant-loop-cost
+invariant-loop-cost g l = record {
   owned : g.S.Space.owns l.space l.walk;
   room : length l.book.stored ≤ l.strategy.budget;
   noted : AreNoted (g.S.Space.graph l.space) l.book;
@@ -19,10 +18,10 @@ invariant-loop-child g l = record {
   onward : (new : Store g.row.K.Denot) (placing : Placing g.row.K.Denot) (children : List (Child g.row.K.Denot))
       → g.S.Space.rest l.walk children
       → Expands (record { graph = g.S.Space.graph l.space; strategy = l.strategy; limit = l.taken.limit }) l.taken.f l.taken.origin children l.book new placing
-      → (all : List (Child g.row.K.Denot)) × g.S.Space.rest l.fn.walk all
-      × Expands (record { graph = g.S.Space.graph l.space; strategy = l.strategy; limit = l.taken.limit }) l.taken.f l.taken.origin all l.initial.book new
-      (put_off_first l.later placing);
+      → (all : List (Child g.row.K.Denot)) × (own : Placing g.row.K.Denot) × g.S.Space.rest l.fn.walk all
+      × Expands (record { graph = g.S.Space.graph l.space; strategy = l.strategy; limit = l.taken.limit }) l.taken.f l.taken.origin all l.initial.book new own
+      × (put_off_first l.later placing ≡ put_off_first l.fn.others own);
 }
 
-abbrev pub decreases-loop-child : goal.decreases-loop-child
-decreases-loop-child g l = g.S.Space.left l.walk
+abbrev pub decreases-loop-cost : goal.decreases-loop-cost
+decreases-loop-cost g l = g.S.Space.left l.walk

@@ -25,6 +25,7 @@ returns g c =
             ∙ ap (λ es. es ++ (c.args.key, c.args.mark) ∷ []) stored,
         (subst (λ f. Adds c.args.self.now.waiting (g.F.Frontier.pairs c.push_tied.new.self) (f, length c.args.self.now.stored)) c.opens_at.ensures.value
             (adds_along (g.F.Frontier.pairs c.self-2.inside.queue) c.args.self.now.waiting _ c.opens_at.result _ _ waiting number c.in_ok-push_tied.ensures.added)),
-        subst (λ os. c.push.new.self.items ≡ os ++ c.args.opening ∷ []) openings c.in_ok-push.ensures.items,
+        subst (λ o. c.push.new.self.items ≡ c.args.self.now.openings ++ o ∷ []) c.new.ensures.value
+            (subst (λ os. c.push.new.self.items ≡ os ++ c.new.result ∷ []) openings c.in_ok-push.ensures.items),
       );
     }
