@@ -15,6 +15,7 @@ use Rattle.fc_moves.specs.Step.{Step, Takes}
 use Rattle.fc_moves.proofs.StepLemmas.{step_keeps, run_keeps}
 use Rattle.fc_moves.specs.Class.{SameClass}
 use Rattle.fc_moves.proofs.ClassLemmas.{class-sym, class-trans, class_step}
+use Rattle.fc_bound.specs.declared.kinds.BoundKind.{BoundKind}
 use Rattle.fc_home.specs.Settles.{Settles, SettlesBy, sent_home}
 use Rattle.fc_home.proofs.MateLemmas.{class_settle}
 use Rattle.fc_home.proofs.SettleLemmas.{settles_keep, settles_run, settled_stays, sent_position, total, total-most, total-next, turn_total}
@@ -37,15 +38,15 @@ settled_name naming g rule p z count x good pz (q, settles, name) =
     let mate = class_settle g rule q (naming.spelled x) q 0 k.1 (settled_stays g rule z q count settles) in
     (k.0, subst (Settles g rule (naming.spelled x) 0) (settles_none g rule (naming.spelled x) mate.0 mate.1) mate.1)
 
-reached_spells : (edges : ℕ) (naming : Naming) (low : Board → ℕ) (g : GameRules) (rule : ℕ) (p : Board) (x : List ℕ) (cost : ℕ)
-    → IsNaming naming g p → IsPositionOf g p → ReachedBy edges (classes naming low g rule p) x cost
+reached_spells : (edges : ℕ) (naming : Naming) (kind : BoundKind) (g : GameRules) (rule : ℕ) (p : Board) (x : List ℕ) (cost : ℕ)
+    → IsNaming naming g p → IsPositionOf g p → ReachedBy edges (classes naming kind g rule p) x cost
     → naming.valid g x × Settles g rule (naming.spelled x) 0 (naming.spelled x)
-reached_spells zero naming low g rule p x cost good pp h = settled_name naming g rule p p cost x good pp h
-reached_spells (suc edges) naming low g rule p x cost good pp (w, d, c, h, (kw, (m, z, count, step, to, paid)), e) =
+reached_spells zero naming kind g rule p x cost good pp h = settled_name naming g rule p p cost x good pp h
+reached_spells (suc edges) naming kind g rule p x cost good pp (w, d, c, h, (kw, (m, z, count, step, to, paid)), e) =
     settled_name naming g rule p z count x good (step_keeps g (naming.spelled w) z m (good.valid w kw).position step) to
 
 pub reached_of_positions : (naming : Naming) → ReachedNamesAreOfPositions naming
-reached_of_positions naming low g rule p x cost good pp h = reached_spells h.0 naming low g rule p x cost good pp h.1
+reached_of_positions naming kind g rule p x cost good pp h = reached_spells h.0 naming kind g rule p x cost good pp h.1
 
 -- runs are joined
 pub run_on : (g : GameRules) (b c d : Board) (ms ns : List Move) → Run g b ms c → Run g c ns d → Run g b (ms ++ ns) d
@@ -62,16 +63,16 @@ run_mate g b c x (m ∷ ms) p q s (mid, step, rest) =
     let long : length (n.0 ∷ later.0) ≡ length (m ∷ ms) = omega (arith, later.2) in
     (n.0 ∷ later.0, later.1, long, (n.1, n.2, later.3), later.4)
 
-reached_run : (edges : ℕ) (naming : Naming) (low : Board → ℕ) (g : GameRules) (rule : ℕ) (p : Board) (x : List ℕ) (cost : ℕ)
-    → IsNaming naming g p → IsPositionOf g p → ReachedBy edges (classes naming low g rule p) x cost
+reached_run : (edges : ℕ) (naming : Naming) (kind : BoundKind) (g : GameRules) (rule : ℕ) (p : Board) (x : List ℕ) (cost : ℕ)
+    → IsNaming naming g p → IsPositionOf g p → ReachedBy edges (classes naming kind g rule p) x cost
     → (ms : List Move) × (b : Board) × (length ms ≡ cost) × Run g p ms b × SameClass b (naming.spelled x)
-reached_run zero naming low g rule p x cost good pp (q, (ms, long, by), name) =
+reached_run zero naming kind g rule p x cost good pp (q, (ms, long, by), name) =
     (ms, q, long, settles_run g rule p q ms by, (good.spells q x (settles_keep g rule p q cost pp (ms, long, by)) name).1)
-reached_run (suc edges) naming low g rule p x cost good pp
+reached_run (suc edges) naming kind g rule p x cost good pp
     (w, d, c, h, (kw, (m, z, count, step, (q, (ns, long, by), name), paid)), e) =
     let at = naming.spelled w in
     let pw = (good.valid w kw).position in
-    let before = reached_run edges naming low g rule p w d good pp h in
+    let before = reached_run edges naming kind g rule p w d good pp h in
     let pz = step_keeps g at z m pw step in
     let pb = run_keeps g p before.1 before.0 pp before.3 in
     let run : Run g at (m ∷ ns) q = (z, step, settles_run g rule z q ns by) in
@@ -87,14 +88,14 @@ reached_run (suc edges) naming low g rule p x cost good pp
     )
 
 pub reached_run_to : (naming : Naming) → ReachedNamesAreRunTo naming
-reached_run_to naming low g rule p x cost good pp h = reached_run h.0 naming low g rule p x cost good pp h.1
+reached_run_to naming kind g rule p x cost good pp h = reached_run h.0 naming kind g rule p x cost good pp h.1
 
 -- so a list of as many moves as a won name is reached at wins
-pub reached_wins : (naming : Naming) (low : Board → ℕ) (g : GameRules) (rule : ℕ) (p : Board) (x : List ℕ) (cost : ℕ)
-    → IsNaming naming g p → IsPositionOf g p → Reached (classes naming low g rule p) x cost → IsWon (naming.spelled x)
+pub reached_wins : (naming : Naming) (kind : BoundKind) (g : GameRules) (rule : ℕ) (p : Board) (x : List ℕ) (cost : ℕ)
+    → IsNaming naming g p → IsPositionOf g p → Reached (classes naming kind g rule p) x cost → IsWon (naming.spelled x)
     → WinsIn g p cost
-reached_wins naming low g rule p x cost good pp h won =
-    let run = reached_run_to naming low g rule p x cost good pp h in
+reached_wins naming kind g rule p x cost good pp h won =
+    let run = reached_run_to naming kind g rule p x cost good pp h in
     (run.0, run.2, (run.1, run.3, run.4.homes ∙ won))
 
 -- each move of settling takes a card home

@@ -14,7 +14,11 @@ use Rattle.fc_tables.specs.Table as boards
 use Rattle.fc_tables.proofs.LookLemmas.{one_enough}
 use Rattle.fc_tables.proofs.TableLemmas.{inside_long}
 use Rattle.fc_best_first.specs.Graph.{IsClosedInside, Covers}
+use Rattle.fc_bound.specs.declared.kinds.BoundKind.{BoundKind}
+use Rattle.fc_bound.specs.Kinds.{low_of}
 use Rattle.fc_bound.specs.LowerBound.{IsLowerBound}
+use Rattle.fc_bound.proofs.KindLemmas.{bounds_lower}
+use Rattle.fc_bound.proofs.RingHeld.{shown_under}
 use Rattle.fc_classes.specs.Namings.{Naming, IsNaming}
 use Rattle.fc_classes.specs.inner.Boards.{boards_by}
 use Rattle.fc_classes.specs.Classes.{classes}
@@ -40,30 +44,30 @@ name_listed naming (f ∷ table) e (suc k, lt, same) =
     (rest.0, rest.1, Contains-append_right (f ∷ []) table (rest.0, rest.1) rest.2, rest.3)
 
 -- what the table of names covers by a name of the position, the table of boards covers
-covers_board : (naming : Naming) (low : Board → ℕ) (g : GameRules) (rule : ℕ) (p : Board) (n : ℕ) (table : List (List ℕ × ℕ))
-    (q : Board) (y : List ℕ) (cost : ℕ) → IsLowerBound low → SameClass q (naming.spelled y)
-    → Covers (classes naming low g rule p) n table y cost → boards.Covered low n (boards_by naming table) q cost
-covers_board naming low g rule p n table q y cost lower same covers =
+covers_board : (naming : Naming) (kind : BoundKind) (g : GameRules) (rule : ℕ) (p : Board) (n : ℕ) (table : List (List ℕ × ℕ))
+    (q : Board) (y : List ℕ) (cost : ℕ) → IsLowerBound (low_of kind) → SameClass q (naming.spelled y)
+    → Covers (classes naming kind g rule p) n table y cost → boards.Covered (low_of kind) n (boards_by naming table) q cost
+covers_board naming kind g rule p n table q y cost lower same covers =
     ⊎_elim (λ far. let equal = lower.alike q (naming.spelled y) same in inl (omega (arith, far, equal)))
     (λ (d, listed, le). inr ((naming.spelled y, d), board_listed naming table y d listed, same, le)) covers
 
 -- so does what starts
-starts_board : (naming : Naming) (low : Board → ℕ) (g : GameRules) (rule : ℕ) (p : Board) (n : ℕ) (table : List (List ℕ × ℕ))
-    → IsNaming naming g p → IsLowerBound low → IsPositionOf g p → IsClosedInside (classes naming low g rule p) n table
-    → (q : Board) (k : ℕ) → Settles g rule p k q → boards.Covered low n (boards_by naming table) q k
-starts_board naming low g rule p n table good lower pp closed q k settles =
+starts_board : (naming : Naming) (kind : BoundKind) (g : GameRules) (rule : ℕ) (p : Board) (n : ℕ) (table : List (List ℕ × ℕ))
+    → IsNaming naming g p → IsLowerBound (low_of kind) → IsPositionOf g p → IsClosedInside (classes naming kind g rule p) n table
+    → (q : Board) (k : ℕ) → Settles g rule p k q → boards.Covered (low_of kind) n (boards_by naming table) q k
+starts_board naming kind g rule p n table good lower pp closed q k settles =
     let name = named_settled naming g rule p p q k good pp good.start settles in
     let same = (good.spells q name.0 (settles_keep g rule p q k pp settles) name.1).1 in
-    covers_board naming low g rule p n table q name.0 k lower same (closed.starts name.0 k (q, settles, name.1))
+    covers_board naming kind g rule p n table q name.0 k lower same (closed.starts name.0 k (q, settles, name.1))
 
 -- and what the steps of a listed position lead to
-steps_board : (naming : Naming) (low : Board → ℕ) (g : GameRules) (rule : ℕ) (p : Board) (n : ℕ) (table : List (List ℕ × ℕ))
-    → IsNaming naming g p → IsLowerBound low → IsPositionOf g p → IsClosedInside (classes naming low g rule p) n table
-    → (x : List ℕ) (d : ℕ) → Contains table (x, d) → d + low (naming.spelled x) < n
-    → boards.ClassesCovered (boards.Covered low n (boards_by naming table)) g rule (naming.spelled x) d
-steps_board naming low g rule p n table good lower pp closed x d listed inside m y step =
+steps_board : (naming : Naming) (kind : BoundKind) (g : GameRules) (rule : ℕ) (p : Board) (n : ℕ) (table : List (List ℕ × ℕ))
+    → IsNaming naming g p → IsLowerBound (low_of kind) → IsPositionOf g p → IsClosedInside (classes naming kind g rule p) n table
+    → (x : List ℕ) (d : ℕ) → Contains table (x, d) → d + low_of kind (naming.spelled x) < n
+    → boards.ClassesCovered (boards.Covered (low_of kind) n (boards_by naming table)) g rule (naming.spelled x) d
+steps_board naming kind g rule p n table good lower pp closed x d listed inside m y step =
     let at = naming.spelled x in
-    let valid = (reached_of_positions naming low g rule p x d good pp (closed.reached x d listed)).0 in
+    let valid = (reached_of_positions naming kind g rule p x d good pp (closed.reached x d listed)).0 in
     let is = good.valid x valid in
     let py = step_keeps g at y m is.position step in
     let way = every_settles g rule y in
@@ -73,43 +77,44 @@ steps_board naming low g rule p n table good lower pp closed x d listed inside m
     let same = (good.spells z name.0 (settles_keep g rule y z k py way.2) name.1).1 in
     let covers = closed.edges x d (1 + k) name.0 listed inside (valid, (m, y, k, step, (z, way.2, name.1), refl)) in
     let cost : d + (1 + k) ≡ d + 1 + k = omega arith in
-    let covered = covers_board naming low g rule p n table z name.0 (d + (1 + k)) lower same covers in
-    (m, y, z, k, step, class-refl y, way.2, subst (boards.Covered low n (boards_by naming table) z) cost covered)
+    let covered = covers_board naming kind g rule p n table z name.0 (d + (1 + k)) lower same covers in
+    (m, y, z, k, step, class-refl y, way.2, subst (boards.Covered (low_of kind) n (boards_by naming table) z) cost covered)
 
 -- of the listed boards
-pub closed_board : (naming : Naming) (low : Board → ℕ) (g : GameRules) (rule : ℕ) (p : Board) (n : ℕ) (table : List (List ℕ × ℕ))
-    → IsNaming naming g p → IsLowerBound low → IsPositionOf g p → IsClosedInside (classes naming low g rule p) n table
-    → boards.IsClosedInside low g rule p n (boards_by naming table)
-closed_board naming low g rule p n table good lower pp closed = record {
+pub closed_board : (naming : Naming) (kind : BoundKind) (g : GameRules) (rule : ℕ) (p : Board) (n : ℕ) (table : List (List ℕ × ℕ))
+    → IsNaming naming g p → IsLowerBound (low_of kind) → IsPositionOf g p → IsClosedInside (classes naming kind g rule p) n table
+    → boards.IsClosedInside (low_of kind) g rule p n (boards_by naming table)
+closed_board naming kind g rule p n table good lower pp closed = record {
   not_won = λ e listed inside won.
       let name = name_listed naming table e listed in
       let board : e.0 ≡ naming.spelled name.0 = ap (λ f. f.0) name.3 in
       let cost : e.1 ≡ name.1 = ap (λ f. f.1) name.3 in
-      let bounds : low e.0 ≡ low (naming.spelled name.0) = ap low board in
+      let bounds : low_of kind e.0 ≡ low_of kind (naming.spelled name.0) = ap (low_of kind) board in
       closed.not_won name.0 name.1 name.2 (omega (arith, inside, cost, bounds)) (sym (ap (λ b. b.homes) board) ∙ won);
-  start = starts_board naming low g rule p n table good lower pp closed;
+  start = starts_board naming kind g rule p n table good lower pp closed;
   steps = λ e x listed px same inside.
       let name = name_listed naming table e listed in
       let at = naming.spelled name.0 in
       let board : e.0 ≡ at = ap (λ f. f.0) name.3 in
       let cost : e.1 ≡ name.1 = ap (λ f. f.1) name.3 in
-      let valid = (reached_of_positions naming low g rule p name.0 name.1 good pp (closed.reached name.0 name.1 name.2)).0 in
+      let valid = (reached_of_positions naming kind g rule p name.0 name.1 good pp (closed.reached name.0 name.1 name.2)).0 in
       let mates : SameClass x at = subst (SameClass x) board same in
       let equal = lower.alike x at mates in
-      let all = (one_enough low g rule n (boards_by naming table) at x name.1 lower (good.valid name.0 valid).position px
+      let all = (one_enough (low_of kind) g rule n (boards_by naming table) at x name.1 lower (good.valid name.0 valid).position px
       (class-sym x at mates)).0
-      (steps_board naming low g rule p n table good lower pp closed name.0 name.1 name.2 (omega (arith, inside, cost, equal))) in
-      subst (boards.StepsCovered (boards.Covered low n (boards_by naming table)) g rule x) (sym cost) all;
+      (steps_board naming kind g rule p n table good lower pp closed name.0 name.1 name.2 (omega (arith, inside, cost, equal))) in
+      subst (boards.StepsCovered (boards.Covered (low_of kind) n (boards_by naming table)) g rule x) (sym cost) all;
 }
 
 -- so the classes of a game's positions are a lawful question
 pub lawful : (naming : Naming) → ClassesAreLawful naming
-lawful naming low g rule p good lower pp = record {
-  answers = λ x d reached won. reached_wins naming low g rule p x d good pp reached won;
+lawful naming kind g rule p good pp = let lower = (bounds_lower kind).1 in record {
+  answers = λ x d reached won. reached_wins naming kind g rule p x d good pp reached won;
   closed = λ n table closed m (ms, long, wins).
-      let far = inside_long low g rule p n (boards_by naming table) ms lower pp
-      (closed_board naming low g rule p n table good lower pp closed) wins in
+      let far = inside_long (low_of kind) g rule p n (boards_by naming table) ms lower pp
+      (closed_board naming kind g rule p n table good lower pp closed) wins in
       omega (arith, far, long);
+  shown = λ x number note is. shown_under kind (naming.spelled x) number note is;
   edges = edge_costs naming g rule p good;
   starts = λ x d to. let all = settling_away naming g rule p p d x good pp to in omega (arith, all);
 }

@@ -7,6 +7,8 @@ use Rattle.fc_moves.specs.GameRules.{GameRules}
 use Rattle.fc_moves.specs.Step.{Step}
 use Rattle.fc_moves.specs.Run.{WinsIn}
 use Rattle.fc_home.specs.Settles.{Settles}
+use Rattle.fc_bound.specs.declared.kinds.BoundKind.{BoundKind}
+use Rattle.fc_bound.specs.Kinds.{low_of, IsShown}
 use Rattle.fc_best_first.specs.Graph.{Graph}
 use Rattle.fc_classes.specs.Namings.{Naming}
 
@@ -23,13 +25,14 @@ LeadsTo naming g rule x cost y = naming.valid g x × ((m : Move) × (z : Board) 
 abbrev pub away : Board → ℕ
 away b = 52 - sum_by (λ n. n) b.homes
 
--- the question how few moves win from the position, as a graph, with a lower bound of the moves from a position; a step may take
--- along each card that isn't home
-abbrev pub classes : Naming → (Board → ℕ) → GameRules → ℕ → Board → Graph (List ℕ)
-classes naming low g rule p = record {
+-- the question how few moves win from the position, as a graph, with the lower bound of a kind, and what a search may go by; a step
+-- may take along each card that isn't home
+abbrev pub classes : Naming → BoundKind → GameRules → ℕ → Board → Graph (List ℕ)
+classes naming kind g rule p = record {
   starts = λ x cost. SettlesTo naming g rule p cost x;
   edge = LeadsTo naming g rule;
-  bound = λ x. low (naming.spelled x);
+  bound = λ x. low_of kind (naming.spelled x);
+  shown = λ x. IsShown kind (naming.spelled x);
   spare = λ x. away (naming.spelled x);
   won = λ x. IsWon (naming.spelled x);
   wins = WinsIn g p;

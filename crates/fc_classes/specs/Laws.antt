@@ -10,7 +10,7 @@ use Rattle.fc_canonical.specs.Key.{IsKeyOf}
 use Rattle.fc_canonical.specs.Spelled.{IsKeyIn, spelled}
 use Rattle.fc_codes.specs.Spelled.{board_of_code}
 use Rattle.fc_home.specs.Settles.{Settles}
-use Rattle.fc_bound.specs.LowerBound.{IsLowerBound}
+use Rattle.fc_bound.specs.declared.kinds.BoundKind.{BoundKind}
 use Rattle.fc_best_first.specs.Graph.{IsLawful, Reached}
 use Rattle.fc_classes.specs.Namings.{Naming, IsNaming, IsCodeIn, by_keys, by_codes}
 use Rattle.fc_classes.specs.Classes.{classes}
@@ -30,17 +30,17 @@ KeysSpellWhatCodesDo = (g : GameRules) (s : Board) (code key : List ℕ) → IsP
 
 -- a name that is reached spells a canonical position of the game, which is settled
 abbrev pub ReachedNamesAreOfPositions : Naming → Type 0
-ReachedNamesAreOfPositions naming = (low : Board → ℕ) (g : GameRules) (rule : ℕ) (p : Board) (x : List ℕ) (cost : ℕ)
-    → IsNaming naming g p → IsPositionOf g p → Reached (classes naming low g rule p) x cost
+ReachedNamesAreOfPositions naming = (kind : BoundKind) (g : GameRules) (rule : ℕ) (p : Board) (x : List ℕ) (cost : ℕ)
+    → IsNaming naming g p → IsPositionOf g p → Reached (classes naming kind g rule p) x cost
     → naming.valid g x × Settles g rule (naming.spelled x) 0 (naming.spelled x)
 
 -- to a position of a class that is reached at a cost, a list of so many moves leads
 abbrev pub ReachedNamesAreRunTo : Naming → Type 0
-ReachedNamesAreRunTo naming = (low : Board → ℕ) (g : GameRules) (rule : ℕ) (p : Board) (x : List ℕ) (cost : ℕ)
-    → IsNaming naming g p → IsPositionOf g p → Reached (classes naming low g rule p) x cost
+ReachedNamesAreRunTo naming = (kind : BoundKind) (g : GameRules) (rule : ℕ) (p : Board) (x : List ℕ) (cost : ℕ)
+    → IsNaming naming g p → IsPositionOf g p → Reached (classes naming kind g rule p) x cost
     → (ms : List Move) × (b : Board) × (length ms ≡ cost) × Run g p ms b × SameClass b (naming.spelled x)
 
 -- a search of the classes of a game answers what lists of moves from a position of the game can do
 abbrev pub ClassesAreLawful : Naming → Type 0
-ClassesAreLawful naming = (low : Board → ℕ) (g : GameRules) (rule : ℕ) (p : Board) → IsNaming naming g p → IsLowerBound low
-    → IsPositionOf g p → IsLawful (classes naming low g rule p)
+ClassesAreLawful naming = (kind : BoundKind) (g : GameRules) (rule : ℕ) (p : Board) → IsNaming naming g p → IsPositionOf g p
+    → IsLawful (classes naming kind g rule p)

@@ -1,26 +1,25 @@
 -- The children of a class are the ends of its edges.
 use Rattle.std.proofs.Common.{◌≡◌, ℕ, zero, suc, ◌+◌, ◌≤◌, List, [], ◌∷◌, ◌++◌, reverse, refl, sym, ◌∙◌, ap, subst, arith}
-use Rattle.std.specs.Prelude.{Contains, Some}
+use Rattle.std.specs.Prelude.{Contains, Option, Some, None}
 use Rattle.std.proofs.lemmas.List.{reverse-append}
 use Rattle.std.proofs.lemmas.List.Elements.{Contains-append_right}
-use Rattle.std.proofs.lemmas.List.Sorted.{Contains-permutation, IsPermutation-reverse}
 use Rattle.fc_position.specs.Board.{Board}
 use Rattle.fc_moves.specs.declared.steps.Move.{Move}
 use Rattle.fc_moves.specs.GameRules.{GameRules, IsGame, IsPositionOf}
 use Rattle.fc_moves.proofs.StepLemmas.{step_keeps}
-use Rattle.fc_moves.specs.Step.{Allows}
+use Rattle.fc_moves.specs.Step.{Allows, Step}
 use Rattle.fc_moves.specs.Class.{SameClass}
-use Rattle.fc_canonical.specs.Distinct.{ListsClasses}
 use Rattle.fc_moves.proofs.ClassLemmas.{class-refl, class-sym}
 use Rattle.fc_moves.proofs.StepLemmas.{step_once}
 use Rattle.fc_home.proofs.MateLemmas.{class_settle}
 use Rattle.fc_home.specs.Settles.{Settles}
 use Rattle.fc_home.proofs.SettleLemmas.{settles_keep}
 use Rattle.fc_home.proofs.WayLemmas.{settles_once}
-use Rattle.fc_bound.specs.declared.kinds.BoundKind.{BoundKind}
-use Rattle.fc_bound.specs.Kinds.{guide_of}
+use Rattle.fc_bound.specs.Kinds.{low_of, IsShown}
 use Rattle.fc_home.proofs.EveryLemmas.{every_settles}
 use Rattle.fc_bound.proofs.KindLemmas.{bounds_lower}
+use Rattle.fc_bound.proofs.RingHeld.{shown_under}
+use Rattle.fc_bound.proofs.RingLaws.{mates_show}
 use Rattle.fc_best_first.specs.declared.spaces.Child.{Child}
 use Rattle.fc_best_first.specs.Graph.{Reached}
 use Rattle.fc_best_first.specs.Turn.{AreChildren}
@@ -45,20 +44,46 @@ naming_of w f = codes_name w.game w.start f.sound f.fits
 pub reached_code : (w : Frame) (x : List ℕ) (d : ℕ) → IsFrame w → Reached (classes_in w) x d
     → IsCodeIn w.start w.game x × Settles w.game w.rule (board_of_code w.start x) 0 (board_of_code w.start x)
 reached_code w x d f reached =
-    reached_of_positions (by_codes w.start) (guide_of w.kind) w.game w.rule w.start x d (naming_of w f) f.fits reached
+    reached_of_positions (by_codes w.start) w.kind w.game w.rule w.start x d (naming_of w f) f.fits reached
 
 -- the code of a position of the game spells a class-mate
 class_spelled : (w : Frame) (q : Board) (x : List ℕ) → IsFrame w → IsPositionOf w.game q → IsCodeOf w.start q x
     → SameClass q (board_of_code w.start x)
 class_spelled w q x f pq code = ((naming_of w f).spells q x pq code).1
 
--- the bound of where the move led at which a walk of these classes stands is that of the code
-pub stands_guide : (v w : Frame) (kind : BoundKind) (b : Board) (m : Move) (code : List ℕ) → v ≡ w → IsFrame w
-    → IsPositionOf v.game b → (at : StandsAt v b (Some m) code) → guide_of kind at.0 ≡ guide_of kind (board_of_code w.start code)
-stands_guide v w kind b m code same f p (z, step, is, away) =
-    let there = subst (λ (u : Frame). IsPositionOf u.game z) same (step_keeps v.game b z m p step) in
-    let coded = subst (λ (u : Frame). IsCodeOf u.start z code) same is in
-    (bounds_lower kind).0.alike z (board_of_code w.start code) (class_spelled w z code f there coded)
+-- what is shown of where a walk stands is shown of the code
+pub shown_at : (w : Frame) (b : Board) (last : Option Move) (code : List ℕ) (number note : ℕ) → IsFrame w → IsPositionOf w.game b
+    → StandsAt w b last code
+    → ((m : Move) (z q : Board) (count : ℕ) → last ≡ Some m → Step w.game b m z → Settles w.game w.rule z count q → IsShown w.kind q number note)
+    → (last ≡ None → IsShown w.kind b number note) → IsShown w.kind (board_of_code w.start code) number note
+shown_at w b None code number note f p at moved here =
+    mates_show w.kind b (board_of_code w.start code) number note (class_spelled w b code f p at) (here refl)
+shown_at w b (Some m) code number note f p (cost, (z, step, (q, count, settles, coded, paid))) moved here =
+    mates_show w.kind q (board_of_code w.start code) number note
+    (class_spelled w q code f (settles_keep w.game w.rule z q count (step_keeps w.game b z m p step) settles) coded)
+    (moved m z q count refl step settles)
+
+-- and what is no more than something that is shown is no greater than the bound of the code
+pub least_at : (w : Frame) (b : Board) (last : Option Move) (code : List ℕ) (least : ℕ) → IsFrame w → IsPositionOf w.game b
+    → StandsAt w b last code
+    → ((m : Move) (z q : Board) (count : ℕ) → last ≡ Some m → Step w.game b m z → Settles w.game w.rule z count q
+    → (number : ℕ) × (note : ℕ) × IsShown w.kind q number note × (least ≤ number))
+    → (last ≡ None → least ≡ 0) → least ≤ low_of w.kind (board_of_code w.start code)
+least_at w b None code least f p at moved none = let no = none refl in omega (arith, no)
+least_at w b (Some m) code least f p (cost, (z, step, (q, count, settles, coded, paid))) moved none =
+    let s = moved m z q count refl step settles in
+    let under = shown_under w.kind q s.0 s.1 s.2 in
+    let same = (bounds_lower w.kind).1.alike q (board_of_code w.start code)
+    (class_spelled w q code f (settles_keep w.game w.rule z q count (step_keeps w.game b z m p step) settles) coded) in
+    omega (arith, under, same, s.3)
+
+-- a walk stands at a child of the move that came last
+pub child_at : (w : Frame) (b : Board) (last : Option Move) (m : Move) (y : List ℕ) (cost : ℕ) → last ≡ Some m → StandsAt w b last y
+    → ((z q : Board) (count : ℕ) → Step w.game b m z → Settles w.game w.rule z count q → cost ≡ 1 + count)
+    → IsChildOf w b m (record { key = y; cost = cost })
+child_at w b last m y cost is at costs =
+    let (paid, (z, step, (q, count, settles, coded, e))) = subst (λ l. StandsAt w b l y) is at in
+    (z, step, (q, count, settles, coded, costs z q count step settles))
 
 -- of class-mates that settle, the one child has the code of what the other settles to, at as many moves
 pub child_once : (w : Frame) (x z : Board) (moves count : ℕ) (child : Child (List ℕ)) (y : List ℕ) → IsFrame w
@@ -74,7 +99,7 @@ child_once w x z moves count child y f px pz same (r, number, there, code, cost)
     (tell.1 mates, omega (arith, cost, once.0))
 
 -- every allowed move from a position with a code has a child
-child_exists : (w : Frame) (b : Board) (code : List ℕ) (m : Move) → IsFrame w → IsPositionOf w.game b → IsCodeOf w.start b code
+pub child_exists : (w : Frame) (b : Board) (code : List ℕ) (m : Move) → IsFrame w → IsPositionOf w.game b → IsCodeOf w.start b code
     → Allows w.game b m → (child : Child (List ℕ)) × IsChildOf w b m child
 child_exists w b code m f pb is (z, step) =
     let settling = every_settles w.game w.rule z in
@@ -95,7 +120,7 @@ children_exist w b code (m ∷ moves) f pb is allowed =
     (first.0 ∷ rest.0, (first.1, rest.1))
 
 -- each child is by one of the moves
-child_of : (w : Frame) (b : Board) (moves : List Move) (children : List (Child (List ℕ))) (child : Child (List ℕ))
+pub child_of : (w : Frame) (b : Board) (moves : List Move) (children : List (Child (List ℕ))) (child : Child (List ℕ))
     → AreChildrenBy w b moves children → Contains children child → (m : Move) × Contains moves m × IsChildOf w b m child
 child_of w b [] [] child are (k, lt, e) = absurd (omega (arith, lt))
 child_of w b [] (other ∷ children) child are there = absurd are
@@ -118,14 +143,15 @@ move_of w b (n ∷ moves) (child ∷ children) m (is, are) (suc k, lt, e) =
     let rest = move_of w b moves children m are (k, omega (arith, lt), e) in
     (rest.0, Contains-append_right (child ∷ []) children rest.0 rest.1, rest.2)
 
--- the children by moves of which one leads to each class are the ends of the edges
+-- the children by moves that lead to each class to which a move leads are the ends of the edges
 pub children_all : (w : Frame) (x : List ℕ) (moves : List Move) (children : List (Child (List ℕ))) → IsFrame w
-    → IsCodeIn w.start w.game x → ListsClasses w.game (board_of_code w.start x) moves
-    → AreChildrenBy w (board_of_code w.start x) (reverse moves) children → AreChildren (classes_in w) x children
-children_all w x moves children f valid lists are = record {
+    → IsCodeIn w.start w.game x
+    → ((m : Move) (z : Board) → Step w.game (board_of_code w.start x) m z
+    → (n : Move) × (v : Board) × Contains moves n × Step w.game (board_of_code w.start x) n v × SameClass z v)
+    → AreChildrenBy w (board_of_code w.start x) moves children → AreChildren (classes_in w) x children
+children_all w x moves children f valid complete are = record {
   edges = λ child there.
-      let at = board_of_code w.start x in
-      let is = child_of w at (reverse moves) children child are there in
+      let is = child_of w (board_of_code w.start x) moves children child are there in
       let m = is.0 in
       let z = is.2.0 in
       let step = is.2.1 in
@@ -134,13 +160,12 @@ children_all w x moves children f valid lists are = record {
   whole = λ c y edge.
       let at = board_of_code w.start x in
       let e = edge.1 in
-      let other = lists.complete e.0 e.1 e.3 in
+      let other = complete e.0 e.1 e.3 in
       let n = other.0 in
       let v = other.1 in
-      let there = Contains-permutation moves (reverse moves) n (IsPermutation-reverse moves) other.2 in
       let px = step_keeps w.game at e.1 e.0 valid.position e.3 in
       let pv = step_keeps w.game at v n valid.position other.3 in
-      let has = move_of w at (reverse moves) children n are there in
+      let has = move_of w at moves children n are other.2 in
       let child = has.0 in
       let is = has.2 in
       let same = step_once w.game at n is.0 v is.1 other.3 in
@@ -170,7 +195,20 @@ start_alone w child f settled x d starts =
     let once = child_once w w.start w.start 0 d child x f f.fits f.fits (class-refl w.start) settled starts in
     (sym once.0, omega (arith, once.1))
 
--- what is left of the children stays where the walk differs by the move alone that it told last
+-- a walk stands at the same codes where it differs by the moves alone that are left
+pub stands_same : {G : Type 0} (rules : G → GameRules) (old new : Left G) (last : Option Move) (y : List ℕ)
+    → (new.game ≡ old.game) × (new.rule ≡ old.rule) × (new.kind ≡ old.kind) × (new.start ≡ old.start)
+    × (new.position ≡ old.position)
+    → StandsAt (frame_of (rules new.game) new.rule new.kind new.start) new.position last y
+    → StandsAt (frame_of (rules old.game) old.rule old.kind old.start) old.position last y
+stands_same rules old new last y (game, rule, kind, start, position) at =
+    subst (λ v. StandsAt (frame_of (rules v) old.rule old.kind old.start) old.position last y) game
+    (subst (λ v. StandsAt (frame_of (rules new.game) v old.kind old.start) old.position last y) rule
+    (subst (λ v. StandsAt (frame_of (rules new.game) new.rule v old.start) old.position last y) kind
+    (subst (λ v. StandsAt (frame_of (rules new.game) new.rule new.kind v) old.position last y) start
+    (subst (λ v. StandsAt (frame_of (rules new.game) new.rule new.kind new.start) v last y) position at))))
+
+-- what is left of the children stays where the walk differs by the move alone that came last
 pub children_same : {G : Type 0} (rules : G → GameRules) (old new : Left G)
     → (new.game ≡ old.game) × (new.rule ≡ old.rule) × (new.kind ≡ old.kind) × (new.start ≡ old.start)
     × (new.position ≡ old.position) × (new.moves ≡ old.moves)

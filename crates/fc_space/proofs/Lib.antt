@@ -1,7 +1,8 @@
 mod ChildLemmas
+mod IdleLemmas
 mod SentLemmas
-mod ShiftLemmas
 mod StayLemmas
 mod TableLemmas
 mod WonLemmas
+mod WalkLemmas
 mod WayLemmas

@@ -1,6 +1,6 @@
 -- After a move to a column or a cell from a settled position, only the card that lay below the one that moved can go home.
-use Rattle.std.proofs.Common.{◌≡◌, ◌≢◌, ℕ, zero, suc, Bool, false, ◌⊎◌, Some, None, List, [], ◌∷◌, ◌++◌, refl, sym, ◌∙◌, ap, subst, inl, inr, ⊎_elim, arith}
-use Rattle.std.specs.Prelude.{IsTrue}
+use Rattle.std.proofs.Common.{◌≡◌, ◌≢◌, ℕ, zero, suc, Bool, true, false, ◌⊎◌, Some, None, List, [], ◌∷◌, ◌++◌, refl, sym, ◌∙◌, ap, subst, inl, inr, ⊎_elim, arith}
+use Rattle.std.specs.Prelude.{not, IsTrue}
 use Rattle.std.proofs.lemmas.Bool.{cases_eq}
 use Rattle.std.proofs.lemmas.List.{get_or-set_other}
 use Rattle.fc_cards.specs.declared.places.Place.{Place}
@@ -15,6 +15,11 @@ use Rattle.fc_home.proofs.RuleLemmas.{free_next}
 use Rattle.fc_home.specs.Settles.{NoneGoesHome, Settles}
 use Rattle.fc_space.specs.inner.Children.{OthersStay}
 use Rattle.fc_moves.proofs.BackLemmas.{taken_back}
+
+-- what is not so is so no more
+pub flips : (t : Bool) → not t ≡ true → t ≡ false
+flips true told = absurd (cc told)
+flips false told = refl
 
 -- two places are one or two
 places : (p q : Place) → (p ≡ q) ⊎ (p ≢ q)

@@ -1,6 +1,5 @@
 -- The children of a class: where the steps of its position lead, once settled.
-use Rattle.std.specs.Prelude.{◌≡◌, ◌≢◌, ℕ, ◌+◌, List, [], ◌∷◌, Option, None, Some}
-use Rattle.fc_cards.specs.declared.places.Place.TheVariants.{Home}
+use Rattle.std.specs.Prelude.{◌≡◌, ℕ, ◌+◌, List, [], ◌∷◌, Option, None, Some}
 use Rattle.fc_position.specs.Board.{Board}
 use Rattle.fc_moves.specs.declared.steps.Move.{Move}
 use Rattle.fc_moves.specs.GameRules.{GameRules}
@@ -9,6 +8,8 @@ use Rattle.fc_codes.specs.State.{IsCodeOf}
 use Rattle.fc_home.specs.Settles.{Settles}
 use Rattle.fc_bound.specs.declared.kinds.BoundKind.{BoundKind}
 use Rattle.fc_best_first.specs.declared.spaces.Child.{Child}
+use Rattle.fc_space.specs.declared.walks.Standing.{Standing}
+use Rattle.fc_space.specs.declared.walks.Standing.TheVariants.{Here, Shifted, Settled}
 
 -- what makes the classes of a search: the game, the home rule, the kind of bound, and the position at the start, as seen
 -- from which codes name the classes
@@ -31,13 +32,19 @@ IsSettledChild w z moves child = (q : Board) × (count : ℕ) × Settles w.game 
 abbrev pub IsChildOf : Frame → Board → Move → Child (List ℕ) → Type 0
 IsChildOf w b m child = (z : Board) × Step w.game b m z × IsSettledChild w z 1 child
 
--- a walk stands at the code: by a move that was told last it is that of where the move leads, by none it is any
+-- a walk stands at the code: it is that of the board itself, or of where the move leads that came last, once settled
 abbrev pub StandsAt : Frame → Board → Option Move → List ℕ → Type 0
-StandsAt w b None code = Unit {0}
-StandsAt w b (Some m) code = (z : Board) × Step w.game b m z × IsCodeOf w.start z code × (m.to ≢ Home)
+StandsAt w b None code = IsCodeOf w.start b code
+StandsAt w b (Some m) code = (cost : ℕ) × IsChildOf w b m (record { key = code; cost = cost })
+
+-- the move that led to where a walk stands, if one did
+abbrev pub last_move : Standing → Option Move
+last_move Here = None
+last_move (Shifted m) = Some m
+last_move (Settled m code count) = Some m
 
 -- what is left of the children of a position of a game, seen from the position at the start: the moves that lead to them, the
--- next one last; and the move that led to the child that was told last, where no card went home
+-- next one last; and the move that led to the child that came last, if one did
 pub record Left (G : Type 0) : Type 0 where
   pub game : G
   pub rule : ℕ

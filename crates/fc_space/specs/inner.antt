@@ -1,5 +1,6 @@
 -- What this crate's own functions and proofs speak of, and no public promise.
 pub mod Children
 pub mod Codes
-pub mod Remembered
+pub mod Idle
+pub mod Standing
 pub mod Ways

@@ -1,77 +1,215 @@
-//! A walk over the children of a class: where it steps next, and the bound of where it stands.
+//! A walk over the children of a class: where it steps next, and what is shown of where it stands.
 
-ghost use Rattle.std.specs.Prelude.{◌≡◌, ◌≢◌, true};
-ghost use Rattle.fc_position.specs.Board.{Board};
+ghost use Rattle.std.specs.Prelude.{◌≡◌, ◌≢◌, ◌+◌, ◌≤◌, ℕ, true, List, Some, None, IfSome};
+ghost use Rattle.fc_position.specs.Board.{Board, lifted};
+ghost use Rattle.fc_position.specs.Position.{IsPosition};
 ghost use Rattle.fc_cards.specs.declared.places.Place.TheVariants.{Home};
+ghost use Rattle.fc_moves.specs.declared.steps.Move.{Move};
+ghost use Rattle.fc_moves.specs.GameRules.{GameRules, IsPositionOf};
 ghost use Rattle.fc_moves.specs.Step.{Allows, Step};
-ghost use Rattle.fc_bound.specs.Kinds.{guide_of};
+ghost use Rattle.fc_home.specs.Settles.{Settles};
+ghost use Rattle.fc_bound.specs.Kinds.{IsShown};
 ghost use Rattle.fc_bound.specs.Rows.{IsTableOf};
-ghost use Rattle.fc_space.specs.Children.{frame_of, IsChildOf, StandsAt};
-ghost use Rattle.fc_space.specs.inner.Remembered.{IsWhole};
+ghost use Rattle.fc_space.specs.Children.{frame_of, StandsAt};
 
-use crate::positions::{Children, child_by_copy, child_by_shift};
-use fc_best_first::Child;
-use fc_bound::{BoundKind, ColumnTable, WholeCount};
-use fc_codes::Code;
+use crate::positions::{ClassRules, child_by_copy};
+use crate::stays::stays;
+use arrayvec::ArrayVec;
+use fc_bound::{BoundKind, ColumnTable, Shown};
+use fc_cards::Place;
+use fc_codes::{Code, Layout};
 use fc_moves::{Game, Move, apply};
 use fc_position::Position;
+use std::marker::Model;
+
+// Where a walk stands: at the class that it visits; where this move leads, after which no card goes home; or at the class with this
+// code, to which the result of this move settles in so many moves.
+#[derive(Clone, Copy)]
+pub(crate) enum Standing {
+    Here,
+    Shifted(Move),
+    Settled { m: Move, code: Code, count: u8 },
+}
+
+/// The children of a class that are left: its position, with its code and what is shown of it, and the moves that lead to them, the
+/// next one last.
+#[derive(Drop)]
+pub struct Children<G: Game + Drop> {
+    pub(crate) rules: ClassRules<G>,
+    pub(crate) layout: Layout,
+    pub(crate) position: Position,
+    pub(crate) code: Code,
+    pub(crate) shown: Shown,
+    pub(crate) left: ArrayVec<Move, 132>,
+    pub(crate) standing: Standing,
+    // What is looked up of the position's columns, once it was asked for.
+    pub(crate) table: ColumnTable,
+    pub(crate) is_laid: bool,
+    // What is shown of the position without the card of a place, once that was asked for.
+    pub(crate) kept: Option<(Place, Shown)>,
+}
+
+impl<G: Game + Drop> Model for Children<G> {
+    ghost use Rattle.std.specs.Prelude.{◌≡◌, true};
+    ghost use Rattle.fc_moves.specs.GameRules.{IsPositionOf};
+    ghost use Rattle.fc_home.specs.Settles.{NoneGoesHome};
+    ghost use Rattle.fc_bound.specs.Kinds.{IsShown};
+    ghost use Rattle.fc_bound.specs.Rows.{IsTableOf};
+    ghost use Rattle.fc_codes.specs.State.{IsCodeOf};
+    ghost use Rattle.fc_space.specs.Children.{Left, frame_of, last_move};
+    ghost use Rattle.fc_space.specs.inner.Children.{AreAllowed};
+    ghost use Rattle.fc_space.specs.inner.Standing.{IsKept, IsStanding};
+
+    ghost Value = { Left G };
+
+    ghost view = { λ s. record { game = s.rules.game; rule = s.rules.rule; kind = s.rules.kind; start = s.layout; position = s.position; moves = s.left.items; last = last_move s.standing } };
+
+    ghost invariant = { λ s. IsPositionOf (G.game s.rules.game) s.position × AreAllowed (G.game s.rules.game) s.position s.left.items
+        × IsShown s.rules.kind s.position s.shown.number s.shown.note × NoneGoesHome s.rules.rule (G.game s.rules.game) s.position
+        × IsCodeOf s.layout s.position s.code × IsStanding (frame_of (G.game s.rules.game) s.rules.rule s.rules.kind s.layout) s.position s.standing
+        × (s.is_laid ≡ true → IsTableOf s.position.columns s.table) × IsKept s.rules.kind s.position s.kept };
+}
 
 impl<G: Game + Drop> Children<G> {
-    // The child to which a move leads, at which the walk stands from then on.
+    // Goes on to the child to which a move leads, and tells how many moves that takes.
     #[inline(always)]
-    pub(crate) fn step(&mut self, m: Move) -> Child<Code>
+    pub(crate) fn step(&mut self, m: Move) -> u8
         requires allowed { Allows (G.game self.old.game) self.old.position m }
-        ensures child { IsChildOf (frame_of (G.game self.old.game) self.old.rule self.old.kind self.old.start) self.old.position m result }
-        ensures at { StandsAt (frame_of (G.game self.old.game) self.old.rule self.old.kind self.old.start) self.old.position self.new.last result.key }
+        ensures cost { (z q : Board) (count : ℕ) → Step (G.game self.old.game) self.old.position m z
+            → Settles (G.game self.old.game) self.old.rule z count q → result ≡ 1 + count }
+        ensures last { self.new.last ≡ Some m }
         ensures same { (self.new.game ≡ self.old.game) × (self.new.rule ≡ self.old.rule) × (self.new.kind ≡ self.old.kind)
             × (self.new.start ≡ self.old.start) × (self.new.position ≡ self.old.position) × (self.new.moves ≡ self.old.moves) }
     {
+        if stays(&self.rules, &mut self.position, m) {
+            self.standing = Standing::Shifted(m);
+            return 1;
+        }
         let code = self.layout.moved(&self.code, &self.position, m);
-        match child_by_shift(&self.rules, &mut self.position, m, code) {
-            Some(child) => {
-                self.last = Some(m);
-                child
-            }
-            None => {
-                self.last = None;
-                child_by_copy(&self.rules, &self.position, m, code)
-            }
+        let (code, count) = child_by_copy(&self.rules, &self.position, m, code);
+        self.standing = Standing::Settled { m, code, count };
+        1 + count
+    }
+
+    // The code of the class at which the walk stands.
+    #[inline(always)]
+    pub(crate) fn key(&self) -> Code
+        ensures at { StandsAt (frame_of (G.game self.now.game) self.now.rule self.now.kind self.now.start) self.now.position self.now.last result }
+    {
+        match self.standing {
+            Standing::Here => self.code,
+            Standing::Shifted(m) => self.layout.moved(&self.code, &self.position, m),
+            Standing::Settled { code, .. } => code,
         }
     }
 
-    // The bound of this kind, the walk's, of where a move leads that takes no card home, and what is to be remembered of it: nothing
-    // more where what the card adds is plain to see. The walk is as it was.
-    pub(crate) fn count_after(
-        &mut self,
-        kind: BoundKind,
-        m: Move,
-        known: Option<WholeCount>,
-    ) -> (WholeCount, Option<WholeCount>)
-        requires kind { kind ≡ self.old.kind }
-        requires allowed { Allows (G.game self.old.game) self.old.position m }
-        requires away { m.to ≢ Home }
-        requires known { (z : Board) → Step (G.game self.old.game) self.old.position m z → IsWhole (guide_of kind z) known }
-        ensures count { (z : Board) → Step (G.game self.old.game) self.old.position m z → result.0.bound ≡ guide_of kind z }
-        ensures whole { (z : Board) → Step (G.game self.old.game) self.old.position m z → IsWhole (guide_of kind z) result.1 }
+    // A number that is plain to see: of where the walk stands something is shown that is no less.
+    #[inline(always)]
+    pub(crate) fn least(&self) -> u8
+        ensures least { (m : Move) (z q : Board) (count : ℕ) → self.now.last ≡ Some m → Step (G.game self.now.game) self.now.position m z
+            → Settles (G.game self.now.game) self.now.rule z count q
+            → (number : ℕ) × (note : ℕ) × IsShown self.now.kind q number note × (result ≤ number) }
+        ensures none { self.now.last ≡ None → result ≡ 0 }
+        ensures fits { IsPositionOf (G.game self.now.game) self.now.position }
+    {
+        match self.standing {
+            Standing::Here => 0,
+            Standing::Shifted(m) => least_after(
+                self.rules.kind,
+                &self.position,
+                &self.table,
+                self.is_laid,
+                m,
+                self.shown,
+            ),
+            Standing::Settled { m, count, .. } => least_after(
+                self.rules.kind,
+                &self.position,
+                &self.table,
+                self.is_laid,
+                m,
+                self.shown,
+            )
+            .saturating_sub(count),
+        }
+    }
+
+    // What is shown of where the walk stands, looked for no further where it is more than this already. The walk is as it was.
+    pub(crate) fn shown_there(&mut self, most: u8) -> Shown
+        ensures shown { (m : Move) (z q : Board) (count : ℕ) → self.old.last ≡ Some m → Step (G.game self.old.game) self.old.position m z
+            → Settles (G.game self.old.game) self.old.rule z count q → IsShown self.old.kind q result.number result.note }
+        ensures here { self.old.last ≡ None → IsShown self.old.kind self.old.position result.number result.note }
+        ensures fits { IsPositionOf (G.game self.old.game) self.old.position }
         ensures same { self.new ≡ self.old }
     {
-        if let Some(bound) = kind.guide_after(&self.position, m, self.bound) {
-            return (WholeCount::by_ones(bound), known);
-        }
-        match known {
-            Some(whole) => (whole, known),
-            None => {
-                let whole = self.count_whole(kind, m);
-                (whole, Some(whole))
+        match self.standing {
+            Standing::Here => self.shown,
+            Standing::Shifted(m) => self.shown_after(m, most),
+            Standing::Settled { m, count, .. } => {
+                let shown = self.shown_after(m, most.saturating_add(count));
+                Shown {
+                    number: shown.number - count,
+                    note: shown.note,
+                }
             }
         }
     }
 
-    // The bound of this kind of where a move leads that takes no card home, counted to its end. The walk is as it was.
-    fn count_whole(&mut self, kind: BoundKind, m: Move) -> WholeCount
+    // What is shown of where a move leads, before cards go home. The walk is as it was.
+    fn shown_after(&mut self, m: Move, most: u8) -> Shown
+        requires allowed { Allows (G.game self.old.game) self.old.position m }
+        ensures shown { (z : Board) → Step (G.game self.old.game) self.old.position m z → IsShown self.old.kind z result.number result.note }
+        ensures same { self.new ≡ self.old }
+    {
+        if let Some(shown) = self.rules.kind.known_after(&self.position, m, self.shown) {
+            return shown;
+        }
+        let kept = self.kept(m.from);
+        match m.to {
+            Place::Home => Shown {
+                number: kept.number - 1,
+                note: kept.note,
+            },
+            _ => self.landed(m, kept, most),
+        }
+    }
+
+    // What is shown of the position without the playable card of a place, where that was asked for last.
+    #[inline(always)]
+    fn known_kept(&self, from: Place) -> Option<Shown>
+        ensures kept { IfSome result (λ kept. IsShown self.now.kind (lifted self.now.position from) kept.number kept.note) }
+    {
+        match &self.kept {
+            Some((place, kept)) if *place == from => Some(*kept),
+            _ => None,
+        }
+    }
+
+    // What is shown of the position without the playable card of a place. Looking for it once a place is enough. The walk is as it was.
+    fn kept(&mut self, from: Place) -> Shown
+        ensures kept { IsShown self.old.kind (lifted self.old.position from) result.number result.note }
+        ensures same { self.new ≡ self.old }
+    {
+        if let Some(kept) = self.known_kept(from) {
+            return kept;
+        }
+        lay(&mut self.table, self.is_laid, &self.position);
+        self.is_laid = true;
+        let kept = self
+            .rules
+            .kind
+            .lifted(&self.position, &self.table, from, self.shown);
+        self.kept = Some((from, kept));
+        kept
+    }
+
+    // What is shown of where a move leads that takes no card home, by what is shown without its card: where a ring was lost with it,
+    // more may be shown anew, which is looked for where this isn't more than asked already. The walk is as it was.
+    fn landed(&mut self, m: Move, kept: Shown, most: u8) -> Shown
         requires allowed { Allows (G.game self.old.game) self.old.position m }
         requires away { m.to ≢ Home }
-        ensures count { (z : Board) → Step (G.game self.old.game) self.old.position m z → result.bound ≡ guide_of kind z }
+        requires kept { IsShown self.old.kind (lifted self.old.position m.from) kept.number kept.note }
+        ensures shown { (z : Board) → Step (G.game self.old.game) self.old.position m z → IsShown self.old.kind z result.number result.note }
         ensures same { self.new ≡ self.old }
     {
         lay(&mut self.table, self.is_laid, &self.position);
@@ -79,11 +217,33 @@ impl<G: Game + Drop> Children<G> {
         self.table.lift(&self.position, m.from);
         apply(&self.rules.game, &mut self.position, m);
         self.table.put(&self.position, m.to);
-        let whole = kind.guide_by(&self.position, &self.table);
+        let kind = self.rules.kind;
+        let landed = kind.landed(&self.position, &self.table, m.to, kept, most);
+        let has_lost_a_ring = kept.number < self.shown.number && kept.note != self.shown.note;
+        let shown = if has_lost_a_ring && landed.number <= most {
+            or_anew(kind, &self.position, &self.table, landed)
+        } else {
+            landed
+        };
         self.table.lift(&self.position, m.to);
         self.position.shift(m.to, m.from);
         self.table.put(&self.position, m.from);
-        whole
+        shown
+    }
+}
+
+// What is shown of a position, or what is shown of it anew, where that is more.
+fn or_anew(kind: BoundKind, position: &Position, table: &ColumnTable, shown: Shown) -> Shown
+    requires table { IsTableOf position.now.columns table.now }
+    requires shown { IsShown kind position.now shown.number shown.note }
+    ensures shown { IsShown kind position.now result.number result.note }
+    ensures whole { IsPosition position.now }
+{
+    let anew = kind.shown(position, table);
+    if shown.number < anew.number {
+        anew
+    } else {
+        shown
     }
 }
 
@@ -95,5 +255,36 @@ fn lay(table: &mut ColumnTable, is_laid: bool, position: &Position)
 {
     if !is_laid {
         table.lay(position);
+    }
+}
+
+// Makes it the table of the position's columns, where that is asked.
+#[inline(always)]
+pub(crate) fn lay_if(is_asked: bool, table: &mut ColumnTable, position: &Position)
+    ensures table { is_asked ≡ true → IsTableOf position.now.columns table.new }
+{
+    if is_asked {
+        table.lay(position);
+    }
+}
+
+// A number that is plain to see of where a move leads, before cards go home, by the table of the columns where it was laid.
+#[inline(always)]
+fn least_after(
+    kind: BoundKind,
+    position: &Position,
+    table: &ColumnTable,
+    is_laid: bool,
+    m: Move,
+    shown: Shown,
+) -> u8
+    requires laid { is_laid ≡ true → IsTableOf position.now.columns table.now }
+    requires shown { IsShown kind position.now shown.number shown.note }
+    ensures least { (g : GameRules) (z : Board) → Step g position.now m z → (number : ℕ) × (note : ℕ) × IsShown kind z number note × (result ≤ number) }
+{
+    if is_laid {
+        kind.least_by(position, table, m, shown)
+    } else {
+        kind.least_after(position, m, shown)
     }
 }

@@ -6,7 +6,6 @@ use Rattle.fc_moves.specs.declared.steps.Move.{Move}
 use Rattle.fc_moves.specs.GameRules.{GameRules}
 use Rattle.fc_moves.specs.Step.{Allows}
 use Rattle.fc_home.specs.HomeRule.{GoesHome}
-use Rattle.fc_bound.specs.Kinds.{guide_of}
 use Rattle.fc_best_first.specs.Graph.{Graph}
 use Rattle.fc_classes.specs.Namings.{by_codes}
 use Rattle.fc_classes.specs.Classes.{classes}
@@ -22,4 +21,4 @@ AreAllowed g b moves = (m : Move) → Contains moves m → Allows g b m
 
 -- the classes of a search as a graph
 abbrev pub classes_in : Frame → Graph (List ℕ)
-classes_in w = classes (by_codes w.start) (guide_of w.kind) w.game w.rule w.start
+classes_in w = classes (by_codes w.start) w.kind w.game w.rule w.start

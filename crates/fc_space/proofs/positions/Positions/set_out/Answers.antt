@@ -1,22 +1,37 @@
 use Rattle.std.proofs.Common.{◌≡◌, reverse, sym, subst, ap, ◌∙◌}
+use Rattle.std.proofs.lemmas.List.Elements.{Contains-append_right}
+use Rattle.fc_position.specs.Board.{Board}
+use Rattle.fc_position.specs.Position.{IsPosition}
 use Rattle.fc_moves.specs.GameRules.{IsPositionOf}
-use Rattle.fc_canonical.specs.Distinct.{ListsClasses}
 use Rattle.fc_codes.specs.Spelled.{board_of_code}
 use Rattle.fc_codes.specs.State.{IsCodeOf}
 use Rattle.fc_home.specs.Settles.{NoneGoesHome}
-use Rattle.fc_bound.specs.Kinds.{guide_of}
+use Rattle.fc_bound.specs.Kinds.{IsShown}
 use Rattle.fc_space.specs.Children.{Frame, frame_of, AreChildrenBy}
 use Rattle.fc_space.specs.inner.Children.{AreAllowed}
-use Rattle.fc_space.proofs.ChildLemmas.{IsFrame, reached_code, children_all}
+use Rattle.fc_space.specs.inner.Idle.{LeavesIdle}
+use Rattle.fc_space.proofs.ChildLemmas.{IsFrame, reached_code}
+use Rattle.fc_space.proofs.IdleLemmas.{children_but}
 use Rattle.fc_space.proofs.StayLemmas.{none_goes}
 use Rattle.fc_space.proofs.positions.Positions.set_out.Goals as goal
 
-pub position-walk-inside-requires : goal.position-walk-inside-requires
-position-walk-inside-requires g c =
+pub read-requires : goal.read-requires
+read-requires g c =
     let own = c.args.self.now in
     let w = frame_of (g.G.Game.game own.rules.game) own.rules.rule own.rules.kind own.start in
     let f : IsFrame w = record { sound = g.met.G.Game.sound own.rules.game; fits = own.fits } in
     record { code = (reached_code w c.args.code.now c.requires.reached.0 f c.requires.reached.1).0 }
+
+pub list_moves-requires : goal.list_moves-requires
+list_moves-requires g c =
+    let own = c.args.self.now in
+    let w = frame_of (g.G.Game.game own.rules.game) own.rules.rule own.rules.kind own.start in
+    let f : IsFrame w = record { sound = g.met.G.Game.sound own.rules.game; fits = own.fits } in
+    let valid = (reached_code w c.args.code.now c.requires.reached.0 f c.requires.reached.1).0 in
+    record {
+      whole = subst (λ (b : Board). IsPosition b) (sym c.read.ensures.value) valid.position.position;
+      table = c.lay_if.ensures.table;
+    }
 
 pub invariant_of-walk : goal.invariant_of-walk
 invariant_of-walk g c =
@@ -27,21 +42,22 @@ invariant_of-walk g c =
     let v = frame_of (g.G.Game.game inner.rules.game) inner.rules.rule inner.rules.kind inner.layout in
     let here : v ≡ w = ap (λ u. frame_of (g.G.Game.game u.game) u.rule u.kind u.start) c.walk.view_is ∙ c.requires.owned in
     let x = c.args.code.now in
-    let p = c.position-walk-inside.result in
-    let moves = c.list_distinct_moves.new.list.items in
+    let p = c.read.new.position in
+    let moves = c.list_moves.new.list.items in
+    let lists = c.list_moves.ensures.lists in
     let reached = reached_code w x c.requires.reached.0 f c.requires.reached.1 in
     let valid = reached.0 in
-    let same = sym c.position-walk-inside.ensures.value in
+    let same = sym c.read.ensures.value in
     let kept =
-    subst (λ (u : Frame). IsPositionOf u.game p × AreAllowed u.game p moves × (c.args.bound ≡ guide_of u.kind p) × NoneGoesHome u.rule u.game p
+    subst (λ (u : Frame). IsPositionOf u.game p × AreAllowed u.game p moves × IsShown u.kind p c.args.shown.number c.args.shown.note × NoneGoesHome u.rule u.game p
     × IsCodeOf u.start p x) (sym here) (
       subst (IsPositionOf w.game) same valid.position,
-      c.list_distinct_moves.ensures.classes.allowed,
-      c.requires.bound ∙ ap (guide_of w.kind) same,
+      λ m there. lists.1.allowed m (Contains-append_right lists.0 moves m there),
+      subst (λ b. IsShown w.kind b c.args.shown.number c.args.shown.note) same c.requires.shown,
       subst (NoneGoesHome w.rule w.game) same (none_goes w.rule w.game (board_of_code w.start x) reached.1),
       subst (λ b. IsCodeOf w.start b x) same valid.coded,
     ) in
-    (kept.0, kept.1, kept.2, kept.3, kept.4, c.walk.invariant.5, λ laid. absurd (cc laid))
+    (kept.0, kept.1, kept.2, kept.3, kept.4, tt, c.lay_if.ensures.table, tt)
 
 pub returns : goal.returns
 returns g c =
@@ -52,14 +68,19 @@ returns g c =
     let v = frame_of (g.G.Game.game inner.rules.game) inner.rules.rule inner.rules.kind inner.layout in
     let here : v ≡ w = ap (λ u. frame_of (g.G.Game.game u.game) u.rule u.kind u.start) c.walk.view_is ∙ c.requires.owned in
     let x = c.args.code.now in
-    let p = c.position-walk-inside.result in
-    let moves = c.list_distinct_moves.new.list.items in
+    let p = c.read.new.position in
+    let moves = c.list_moves.new.list.items in
+    let lists = c.list_moves.ensures.lists in
     let reached = reached_code w x c.requires.reached.0 f c.requires.reached.1 in
     let valid = reached.0 in
-    let lists = subst (λ b. ListsClasses w.game b moves) c.position-walk-inside.ensures.value c.list_distinct_moves.ensures.classes in
+    let same = c.read.ensures.value in
+    let all = children_but w x c.args.shown.number c.args.shown.note lists.0 moves c.list_moves.result in
     record {
       owned = here;
-      children = λ children are. children_all w x moves children f valid lists
-          (subst (λ b. AreChildrenBy w b (reverse moves) children) c.position-walk-inside.ensures.value
+      children = λ children are.
+          all children f valid (none_goes w.rule w.game (board_of_code w.start x) reached.1) c.requires.shown
+          (subst (λ b. LeavesIdle w.game b c.args.shown.note lists.0 moves) same lists.1) lists.2
+          (subst (λ b. AreChildrenBy w b (reverse moves) children) same
           (subst (λ (u : Frame). AreChildrenBy u p (reverse moves) children) here are));
+      later = c.list_moves.ensures.later;
     }
