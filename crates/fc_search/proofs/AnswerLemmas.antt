@@ -7,7 +7,7 @@ use Rattle.std.proofs.lemmas.List.Sorted.{IsPermutation-sym, Contains-permutatio
 use Rattle.std.proofs.lemmas.List.Sums.{length-filter, count_by-le-length}
 use Rattle.std.proofs.Math.Nat.{le_of_mul-le-mul_left, mul-le-mul_left}
 use Rattle.fc_position.specs.Board.{Board}
-use Rattle.fc_position.specs.Position.{IsWon}
+use Rattle.fc_position.specs.Position.{IsPosition, IsWon}
 use Rattle.fc_moves.specs.declared.steps.Move.{Move}
 use Rattle.fc_moves.specs.GameRules.{GameRules, IsPositionOf}
 use Rattle.fc_moves.specs.MoveText.{HasText}
@@ -15,17 +15,17 @@ use Rattle.fc_moves.specs.Run.{Run, Wins}
 use Rattle.fc_moves.proofs.StepLemmas.{step_keeps, allowed_has_text}
 use Rattle.fc_bound.specs.Kinds.{guide_of, low_of}
 use Rattle.fc_tables.specs.Table as boards
-use Rattle.fc_tables.proofs.RowLemmas.{rows_inside, inside_all, costs_free}
+use Rattle.fc_tables.proofs.RowLemmas.{inside_all, costs_free}
 use Rattle.fc_best_first.specs.declared.books.Mark.{Mark}
 use Rattle.fc_best_first.specs.declared.turns.Status.TheVariants as status
 use Rattle.fc_best_first.specs.Kept.{IsCoveredBelow, IsDone, IsSound, f_of}
 use Rattle.fc_best_first.specs.Limits.{IsEven, IsUpTo, Ratio, ReachesLimit, weigh}
 use Rattle.fc_best_first.specs.Shown.{AreSettledBut, IsFound, IsExhausted, IsLeastOpen, IsUnder, Shows}
-use Rattle.fc_best_first.specs.Store.{Store, IsStored}
+use Rattle.fc_best_first.specs.Store.{Store, IsStored, bound_at}
 use Rattle.fc_best_first.proofs.KeptLemmas.{same_entry, stands_within}
 use Rattle.fc_best_first.proofs.FloorLemmas.{open_floors}
-use Rattle.fc_best_first.specs.Graph.{IsClosedInside}
-use Rattle.fc_best_first.proofs.ClosedLemmas.{closed_inside, expanded_covered, light_covered, rows as codes_of}
+use Rattle.fc_best_first.specs.Graph.{IsClosedInside, IsLawful}
+use Rattle.fc_best_first.proofs.ClosedLemmas.{closed_inside, expanded_covered, light_covered, noted_under, rows as codes_of}
 use Rattle.fc_tables.specs.Table.{as_boards}
 use Rattle.fc_canonical.specs.Spelled.{IsKeyIn, spelled}
 use Rattle.fc_codes.specs.Spelled.{board_of_code}
@@ -45,10 +45,10 @@ use Rattle.fc_answers.proofs.RowLemmas.{free_listed, freely_listed, inside_liste
 use Rattle.fc_search.specs.Shown.{capped}
 use Rattle.fc_search.specs.inner.Stored.{costs_of}
 use Rattle.fc_search.specs.inner.Walk.{IsAtClass}
+use Rattle.fc_search.proofs.BetweenLemmas.{rows_between}
 use Rattle.fc_search.proofs.NeedLemmas.{needs_more, needs_reach}
 use Rattle.fc_search.proofs.RowLemmas.{boards_same, costs_in, key_in, stored_name, stored_once, stored_long}
 use Rattle.fc_bound.proofs.KindLemmas.{bounds_lower, guides_under}
-use Rattle.fc_tables.proofs.GreaterLemmas.{greater_close}
 
 -- where there is no limit, no number is past it
 up_to : {limit : Option ℕ} → limit ≡ None → (n : ℕ) → IsUpTo limit n
@@ -88,10 +88,22 @@ even_below weight cost bound n some even lt =
 module _ (pr : Problem) (s : Store (List ℕ)) (names : IsNaming (by_codes pr.start) pr.game pr.start) (pp : IsPositionOf pr.game pr.start) where
   -- a table of the stored codes that is closed inside n closes the boards of their keys
   keys_closed : (n : ℕ) → IsSound (task_of_problem pr) s → IsClosedInside (classes_of pr) n (codes_of s)
-      → boards.IsClosedInside (guide_of pr.method.bound) pr.game pr.method.rule pr.start n (as_boards (costs_of pr.start s))
+      → boards.IsClosedInside (low_of pr.method.bound) pr.game pr.method.rule pr.start n (as_boards (costs_of pr.start s))
   keys_closed n sound closed =
-      subst (boards.IsClosedInside (guide_of pr.method.bound) pr.game pr.method.rule pr.start n) (sym (boards_same pr s names pp sound))
-      (closed_board (by_codes pr.start) (guide_of pr.method.bound) pr.game pr.method.rule pr.start n (codes_of s) names (bounds_lower pr.method.bound).0 pp closed)
+      subst (boards.IsClosedInside (low_of pr.method.bound) pr.game pr.method.rule pr.start n) (sym (boards_same pr s names pp sound))
+      (closed_board (by_codes pr.start) pr.method.bound pr.game pr.method.rule pr.start n (codes_of s) names (bounds_lower pr.method.bound).1 pp closed)
+
+  -- a search of the problem answers what lists of moves can do
+  lawful_here : IsLawful (classes_of pr)
+  lawful_here = lawful (by_codes pr.start) pr.method.bound pr.game pr.method.rule pr.start names pp
+
+  -- each stored class below n by its bound is below it by what is noted of it
+  pub covered_low : (n : ℕ) → IsSound (task_of_problem pr) s
+      → ((i : ℕ) (y : List ℕ) (m : Mark) → IsStored s i y m → m.cost + bound_at s i < n → IsCoveredBelow (classes_of pr) s y m.cost n)
+      → (i : ℕ) (y : List ℕ) (m : Mark) → IsStored s i y m → m.cost + low_of pr.method.bound (board_of_code pr.start y) < n
+      → IsCoveredBelow (classes_of pr) s y m.cost n
+  covered_low n sound covered i y m there lt =
+      covered i y m there (omega (arith, lt, noted_under (classes_of pr) lawful_here s i y m sound.noted there))
 
   -- a listed key is one of the game
   listed_key : IsSound (task_of_problem pr) s → (k : List ℕ) (d : ℕ) → Contains (costs_of pr.start s) (k, d) → IsKeyIn pr.game k
@@ -107,7 +119,7 @@ module _ (pr : Problem) (s : Store (List ℕ)) (names : IsNaming (by_codes pr.st
   backed_whole whole table (sound, done) ruled known few rising moved =
       let closed = λ (n : ℕ). closed_inside (task_of_problem pr) s n sound (λ i x m at lt. expanded_covered (task_of_problem pr) s x m.cost n (up_to whole n) (done i x m at)) in
       let back = IsPermutation-sym (at_no_cost (costs_of pr.start s)) table.rows moved in
-      let all = inside_all (guide_of pr.method.bound) pr.game pr.method.rule pr.start (as_boards (costs_of pr.start s)) (λ n. keys_closed n sound (closed n)) in
+      let all = inside_all (low_of pr.method.bound) pr.game pr.method.rule pr.start (as_boards (costs_of pr.start s)) (λ n. keys_closed n sound (closed n)) in
       let free = λ (e : List ℕ × ℕ) (there : Contains table.rows e).
       free_listed (costs_of pr.start s) e (Contains-permutation table.rows (at_no_cost (costs_of pr.start s)) e back there) in
       let own = costs_free pr.game pr.method.rule pr.start (as_boards table.rows) (as_boards (costs_of pr.start s)) all
@@ -173,34 +185,36 @@ module _ (pr : Problem) (s : Store (List ℕ)) (names : IsNaming (by_codes pr.st
 
   -- the table of a search whose stored classes below n are covered shows that no list of fewer moves wins
   pub backed_below : (n : ℕ) (table : Listing) → IsSound (task_of_problem pr) s
-      → ((i : ℕ) (y : List ℕ) (m : Mark) → IsStored s i y m → m.cost + guide_of pr.method.bound (board_of_code pr.start y) < n
-      → IsCoveredBelow (classes_of pr) s y m.cost n)
+      → ((i : ℕ) (y : List ℕ) (m : Mark) → IsStored s i y m → m.cost + bound_at s i < n → IsCoveredBelow (classes_of pr) s y m.cost n)
       → table.rule ≡ pr.method.rule → table.bound ≡ pr.method.bound → table.rule ≤ 2
       → length table.rows ≤ 16000000 → IsRising table.rows → IsPermutation (inside (guide_of pr.method.bound) n (costs_of pr.start s)) table.rows
       → IsBackedBelow pr.game pr.start n table
   backed_below n table sound done ruled bounded known few rising moved =
-      let low = guide_of pr.method.bound in
-      let lower = (bounds_lower pr.method.bound).0 in
-      let closed = closed_inside (task_of_problem pr) s n sound done in
-      let back = IsPermutation-sym (inside low n (costs_of pr.start s)) table.rows moved in
+      let guide = guide_of pr.method.bound in
+      let low = low_of pr.method.bound in
+      let lower = (bounds_lower pr.method.bound).1 in
+      let closed = closed_inside (task_of_problem pr) s n sound (covered_low n sound done) in
+      let back = IsPermutation-sym (inside guide n (costs_of pr.start s)) table.rows moved in
       let within = λ (e : List ℕ × ℕ) (there : Contains table.rows e).
-      inside_listed low n (costs_of pr.start s) e (Contains-permutation table.rows (inside low n (costs_of pr.start s)) e back there) in
-      let own = rows_inside low pr.game pr.method.rule pr.start n (as_boards table.rows) (as_boards (costs_of pr.start s)) lower (keys_closed n sound closed)
-      (λ e. (
-        λ there. let key = name_listed by_keys table.rows e there in
-            let at = within (key.0, key.1) key.2 in
-            let same : e ≡ (spelled key.0, key.1) = key.3 in (
-              subst (Contains (as_boards (costs_of pr.start s))) (sym same) (board_listed by_keys (costs_of pr.start s) key.0 key.1 at.0),
-              subst (λ f. f.1 + low f.0 < n) (sym same) at.1,
-            ),
-        λ (there, below). let key = name_listed by_keys (costs_of pr.start s) e there in
-            let same : e ≡ (spelled key.0, key.1) = key.3 in
-            subst (Contains (as_boards table.rows)) (sym same)
-            (board_listed by_keys table.rows key.0 key.1 (Contains-permutation (inside low n (costs_of pr.start s)) table.rows (key.0, key.1) moved
-            (listed_inside low n (costs_of pr.start s) (key.0, key.1) key.2 (subst (λ f. f.1 + low f.0 < n) same below)))),
-      )) in
-      let greater = greater_close low (low_of pr.method.bound) pr.game pr.method.rule pr.start n (as_boards table.rows) pp (guides_under pr.method.bound) own in
-      let ruled_so = subst (λ r. boards.IsClosedBelow (low_of pr.method.bound) pr.game r pr.start n (as_boards table.rows)) (sym ruled) greater in record {
+      inside_listed guide n (costs_of pr.start s) e (Contains-permutation table.rows (inside guide n (costs_of pr.start s)) e back there) in
+      let own = rows_between low pr.game pr.method.rule pr.start n (as_boards table.rows) (as_boards (costs_of pr.start s)) lower (keys_closed n sound closed)
+      (λ e there.
+      let key = name_listed by_keys table.rows e there in
+      let at = within (key.0, key.1) key.2 in
+      let same : e ≡ (spelled key.0, key.1) = key.3 in (
+        subst (Contains (as_boards (costs_of pr.start s))) (sym same) (board_listed by_keys (costs_of pr.start s) key.0 key.1 at.0),
+        subst (λ f. IsPosition f.0) (sym same) (listed_key sound key.0 key.1 at.0).position.position,
+        subst (λ f. f.1 < n) (sym same) (omega (arith, at.1)),
+      ))
+      (λ e there below.
+      let key = name_listed by_keys (costs_of pr.start s) e there in
+      let same : e ≡ (spelled key.0, key.1) = key.3 in
+      let less = guides_under pr.method.bound (spelled key.0) (listed_key sound key.0 key.1 key.2).position.position in
+      let near = subst (λ f. f.1 + low f.0 < n) same below in
+      subst (Contains (as_boards table.rows)) (sym same)
+      (board_listed by_keys table.rows key.0 key.1 (Contains-permutation (inside guide n (costs_of pr.start s)) table.rows (key.0, key.1) moved
+      (listed_inside guide n (costs_of pr.start s) (key.0, key.1) key.2 (omega (arith, near, less)))))) in
+      let ruled_so = subst (λ r. boards.IsClosedBelow (low_of pr.method.bound) pr.game r pr.start n (as_boards table.rows)) (sym ruled) own in record {
         listed = record {
           known = known;
           few = few;
@@ -225,10 +239,10 @@ module _ (pr : Problem) (s : Store (List ℕ)) (names : IsNaming (by_codes pr.st
       let cost : n ≡ wmark.cost = long ∙ ap (λ m. m.cost) one.1 in
       backed_below n table found.0
       (λ i y m there lt. found_covered i y m there
-      (even_below pr.method.strategy.weight m.cost (guide_of pr.method.bound (board_of_code pr.start y)) wmark.cost positive light (omega (arith, lt, cost))))
+      (even_below pr.method.strategy.weight m.cost (bound_at s i) wmark.cost positive light (omega (arith, lt, cost))))
       ruled bounded known few rising moved
     where
-      found_covered : (i : ℕ) (y : List ℕ) (m : Mark) → IsStored s i y m → weigh pr.method.strategy.weight m.cost (guide_of pr.method.bound (board_of_code pr.start y)) < pr.method.strategy.weight.parts * found.1.1.cost
+      found_covered : (i : ℕ) (y : List ℕ) (m : Mark) → IsStored s i y m → weigh pr.method.strategy.weight m.cost (bound_at s i) < pr.method.strategy.weight.parts * found.1.1.cost
           → IsCoveredBelow (classes_of pr) s y m.cost (length ms)
       found_covered i y m there lt =
           let one = same_entry s number x found.1.0 mark found.1.1 at found.1.2 in
@@ -240,31 +254,31 @@ module _ (pr : Problem) (s : Store (List ℕ)) (names : IsNaming (by_codes pr.st
   -- stored classes below the least that is told are covered, and no list has fewer moves
   pub floor_at_holds : pr.method.strategy.weight.parts ≤ pr.method.strategy.weight.times → (number : ℕ) (x : List ℕ) (mark : Mark) (f most floor : ℕ)
       → IsSound (task_of_problem pr) s → AreSettledBut (task_of_problem pr) s number → IsStored s number x mark
-      → IsUnder (task_of_problem pr) x mark f most
-      → (f_of (task_of_problem pr) x mark < f → IsDone pr.method.strategy.expansion (task_of_problem pr) s x mark.cost f)
+      → IsUnder (task_of_problem pr) s number mark f most
+      → (f_of (task_of_problem pr) s number mark < f → IsDone pr.method.strategy.expansion (task_of_problem pr) s x mark.cost f)
       → IsLeastOpen (task_of_problem pr) s most floor → IsUpTo pr.limit floor
-      → ((i : ℕ) (y : List ℕ) (m : Mark) → IsStored s i y m → m.cost + guide_of pr.method.bound (board_of_code pr.start y) < floor
+      → ((i : ℕ) (y : List ℕ) (m : Mark) → IsStored s i y m → m.cost + bound_at s i < floor
       → IsCoveredBelow (classes_of pr) s y m.cost floor)
       × ((others : List Move) → Wins pr.game pr.start others → floor ≤ length others)
   floor_at_holds heavy number x mark f most floor sound settled at under done least up =
-      let both = open_floors (classes_of pr) (lawful (by_codes pr.start) (guide_of pr.method.bound) pr.game pr.method.rule pr.start names (bounds_lower pr.method.bound).0 pp)
+      let both = open_floors (classes_of pr) lawful_here
       pr.method.strategy pr.limit s number x mark f most floor heavy sound settled at under done least up in
       (both.0, λ others wins. both.1 (length others) (others, refl, wins))
 
   -- the same where that one tells no more than its own cost and bound
   pub floor_but_holds : pr.method.strategy.weight.parts ≤ pr.method.strategy.weight.times → (number : ℕ) (x : List ℕ) (mark : Mark) (most floor : ℕ)
       → IsSound (task_of_problem pr) s → AreSettledBut (task_of_problem pr) s number → IsStored s number x mark
-      → most ≤ mark.cost + guide_of pr.method.bound (board_of_code pr.start x) → IsLeastOpen (task_of_problem pr) s most floor → IsUpTo pr.limit floor
-      → ((i : ℕ) (y : List ℕ) (m : Mark) → IsStored s i y m → m.cost + guide_of pr.method.bound (board_of_code pr.start y) < floor
+      → most ≤ mark.cost + bound_at s number → IsLeastOpen (task_of_problem pr) s most floor → IsUpTo pr.limit floor
+      → ((i : ℕ) (y : List ℕ) (m : Mark) → IsStored s i y m → m.cost + bound_at s i < floor
       → IsCoveredBelow (classes_of pr) s y m.cost floor)
       × ((others : List Move) → Wins pr.game pr.start others → floor ≤ length others)
   floor_but_holds heavy number x mark most floor sound settled at own least up =
-      floor_at_holds heavy number x mark (f_of (task_of_problem pr) x mark) most floor sound settled at (inl own) (λ lt. absurd (omega (arith, lt))) least up
+      floor_at_holds heavy number x mark (f_of (task_of_problem pr) s number mark) most floor sound settled at (inl own) (λ lt. absurd (omega (arith, lt))) least up
 
   -- what a number is that is told as a floor: no list has fewer moves, and the stored classes below it are covered
   pub floor_holds : pr.method.strategy.weight.parts ≤ pr.method.strategy.weight.times → pr.limit ≡ None → (number : ℕ) (x : List ℕ) (mark : Mark) (floor : ℕ)
       → IsFound (task_of_problem pr) s number → IsStored s number x mark → IsLeastOpen (task_of_problem pr) s mark.cost floor
-      → ((i : ℕ) (y : List ℕ) (m : Mark) → IsStored s i y m → m.cost + guide_of pr.method.bound (board_of_code pr.start y) < floor
+      → ((i : ℕ) (y : List ℕ) (m : Mark) → IsStored s i y m → m.cost + bound_at s i < floor
       → IsCoveredBelow (classes_of pr) s y m.cost floor)
       × ((others : List Move) → Wins pr.game pr.start others → floor ≤ length others)
   floor_holds heavy whole number x mark floor found at least =

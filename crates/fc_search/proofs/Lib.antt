@@ -1,4 +1,5 @@
 pub mod AnswerLemmas
+mod BetweenLemmas
 pub mod EndLemmas
 pub mod FarLemmas
 mod FloorLemmas

@@ -13,7 +13,7 @@ use Rattle.fc_moves.proofs.ClassLemmas.{class-refl, class-sym, class_step}
 use Rattle.fc_home.specs.Settles.{Settles}
 use Rattle.fc_home.proofs.MateLemmas.{class_settle}
 use Rattle.fc_home.proofs.SettleLemmas.{settles_keep, settles_run}
-use Rattle.fc_bound.proofs.KindLemmas.{bounds_lower}
+use Rattle.fc_bound.proofs.RingLaws.{mates_show}
 use Rattle.fc_best_first.specs.declared.strategies.Expansion.{Expansion}
 use Rattle.fc_best_first.specs.declared.strategies.Expansion.TheVariants.{Full, Partial}
 use Rattle.fc_best_first.specs.Kept as kept
@@ -25,7 +25,6 @@ use Rattle.fc_classes.proofs.NamingLemmas.{spelled_name}
 use Rattle.fc_classes.proofs.PathLemmas.{reached_of_positions, reached_run_to, settles_none, run_on}
 use Rattle.fc_search.specs.Problem.{Problem, classes_of, task_of_problem}
 use Rattle.fc_search.specs.Need.{IsNeeded, IsNeededBy, NeedsMore}
-use Rattle.fc_bound.specs.Kinds.{guide_of}
 
 -- a position of the game whose code had to be stored
 record Needed (expansion : Expansion) (pr : Problem) (x : List ℕ) : Type 0 where
@@ -43,18 +42,18 @@ board_of_full pr y names pp (inl (d, (q, settles, code))) = record {
   code = code;
   position = settles_keep pr.game pr.method.rule pr.start q d pp settles;
 }
-board_of_full pr y names pp (inr (x, d, c, reached, (kw, (m, z, count, step, (q, settles, code), paid)), least)) =
+board_of_full pr y names pp (inr (x, d, c, reached, (kw, (m, z, count, step, (q, settles, code), paid)), (bound, note, shown, least))) =
     let naming = by_codes pr.start in
-    let before = reached_run_to naming (guide_of pr.method.bound) pr.game pr.method.rule pr.start x d names pp reached in
+    let before = reached_run_to naming pr.method.bound pr.game pr.method.rule pr.start x d names pp reached in
     let b = before.1 in
     let same = before.4 in
     let back = class-sym b (board_of_code pr.start x) same in
     let pb = run_keeps pr.game pr.start b before.0 pp before.3 in
     let there = class_step pr.game (board_of_code pr.start x) b z m kw.position pb back step in
     let settled = class_settle pr.game pr.method.rule z there.1 q count there.3 settles in
-    let still = class_settle pr.game pr.method.rule (board_of_code pr.start x) b (board_of_code pr.start x) 0 back (reached_of_positions naming (guide_of pr.method.bound) pr.game pr.method.rule pr.start x d names pp reached).1 in
+    let still = class_settle pr.game pr.method.rule (board_of_code pr.start x) b (board_of_code pr.start x) 0 back (reached_of_positions naming pr.method.bound pr.game pr.method.rule pr.start x d names pp reached).1 in
     let stays = subst (Settles pr.game pr.method.rule b 0) (settles_none pr.game pr.method.rule b still.0 still.1) still.1 in
-    let alike : pr.method.strategy.weight.times * guide_of pr.method.bound b ≡ pr.method.strategy.weight.times * guide_of pr.method.bound (board_of_code pr.start x) = ap (λ n. pr.method.strategy.weight.times * n) ((bounds_lower pr.method.bound).0.alike b (board_of_code pr.start x) same) in record {
+    record {
       board = settled.0;
       needed = inr (record {
         moves = before.0;
@@ -66,7 +65,10 @@ board_of_full pr y names pp (inr (x, d, c, reached, (kw, (m, z, count, step, (q,
         stepped = there.2;
         count = count;
         settles = settled.1;
-        least = λ wins w. let most = least (length wins) (wins, refl, w) in let long = ap (λ n. pr.method.strategy.weight.parts * n) before.2 in omega (arith, most, long, alike);
+        bound = bound;
+        note = note;
+        shown = mates_show pr.method.bound (board_of_code pr.start x) b bound note back shown;
+        least = λ wins w. let most = least (length wins) (wins, refl, w) in let long = ap (λ n. pr.method.strategy.weight.parts * n) before.2 in omega (arith, most, long);
       });
       code = names.alike q settled.0 y (settles_keep pr.game pr.method.rule z q count (step_keeps pr.game (board_of_code pr.start x) z m kw.position step) settles).position
           settled.2 code;
@@ -75,23 +77,23 @@ board_of_full pr y names pp (inr (x, d, c, reached, (kw, (m, z, count, step, (q,
 
 board_of_partial : (pr : Problem) (y : List ℕ) → IsNaming (by_codes pr.start) pr.game pr.start → IsPositionOf pr.game pr.start
     → kept.IsNeeded Partial (classes_of pr) pr.method.strategy.weight y → Needed Partial pr y
-board_of_partial pr y names pp (d, reached, least) =
+board_of_partial pr y names pp (d, reached, (bound, note, shown, least)) =
     let naming = by_codes pr.start in
-    let low = guide_of pr.method.bound in
-    let before = reached_run_to naming low pr.game pr.method.rule pr.start y d names pp reached in
+    let before = reached_run_to naming pr.method.bound pr.game pr.method.rule pr.start y d names pp reached in
     let b = before.1 in
     let same = before.4 in
-    let key = reached_of_positions naming low pr.game pr.method.rule pr.start y d names pp reached in
+    let key = reached_of_positions naming pr.method.bound pr.game pr.method.rule pr.start y d names pp reached in
     let still = class_settle pr.game pr.method.rule (board_of_code pr.start y) b (board_of_code pr.start y) 0 (class-sym b (board_of_code pr.start y) same) key.1 in
-    let stays = subst (Settles pr.game pr.method.rule b 0) (settles_none pr.game pr.method.rule b still.0 still.1) still.1 in
-    let alike : pr.method.strategy.weight.times * low b ≡ pr.method.strategy.weight.times * low (board_of_code pr.start y) =
-    ap (λ n. pr.method.strategy.weight.times * n) ((bounds_lower pr.method.bound).0.alike b (board_of_code pr.start y) same) in record {
+    let stays = subst (Settles pr.game pr.method.rule b 0) (settles_none pr.game pr.method.rule b still.0 still.1) still.1 in record {
       board = b;
       needed = record {
         moves = before.0;
         led = before.3;
         settled = stays;
-        least = λ wins w. let most = least (length wins) (wins, refl, w) in let long = ap (λ n. pr.method.strategy.weight.parts * n) before.2 in omega (arith, most, long, alike);
+        bound = bound;
+        note = note;
+        shown = mates_show pr.method.bound (board_of_code pr.start y) b bound note (class-sym b (board_of_code pr.start y) same) shown;
+        least = λ wins w. let most = least (length wins) (wins, refl, w) in let long = ap (λ n. pr.method.strategy.weight.parts * n) before.2 in omega (arith, most, long);
       };
       code = spelled_name naming pr.game pr.start b y names key.0 (class-sym b (board_of_code pr.start y) same);
       position = run_keeps pr.game pr.start b before.0 pp before.3;

@@ -21,7 +21,7 @@ use Rattle.fc_best_first.proofs.FloorLemmas.{at_same, under_less}
 use Rattle.fc_codes.specs.Spelled.{board_of_code}
 use Rattle.fc_best_first.specs.Search.{reply_of}
 use Rattle.fc_best_first.specs.Shown.{AreSettledBut, Holds, IsGivenUp, Shows}
-use Rattle.fc_best_first.specs.Store.{Store, IsStored}
+use Rattle.fc_best_first.specs.Store.{Store, IsStored, bound_at}
 use Rattle.fc_best_first.proofs.ClosedLemmas.{IsAt, expanded_covered}
 use Rattle.fc_best_first.proofs.KeptLemmas.{same_entry, stands_within}
 use Rattle.fc_bound.specs.Kinds.{guide_of}
@@ -83,7 +83,7 @@ module _ (s : State) (names : IsNaming (by_codes s.problem.start) s.problem.game
   -- what is shown by a number below which the stored classes are covered: no list has fewer moves
   abbrev Holding : ℕ → Type 0
   Holding floor = ((i : ℕ) (y : List ℕ) (m : Mark) → IsStored s.store i y m
-      → m.cost + guide_of s.problem.method.bound (board_of_code s.problem.start y) < floor
+      → m.cost + bound_at s.store i < floor
       → IsCoveredBelow (classes_of s.problem) s.store y m.cost floor)
       × ((others : List Move) → Wins s.problem.game s.problem.start others → floor ≤ length others)
 
@@ -91,7 +91,7 @@ module _ (s : State) (names : IsNaming (by_codes s.problem.start) s.problem.game
   but_holding : (number floor : ℕ) → IsSound (task_of_problem s.problem) s.store → AreSettledBut (task_of_problem s.problem) s.store number
       → IsFloorBut s number floor → Holding floor
   but_holding number floor sound settled (x, mark, at, least) =
-      let most = mark.cost + guide_of s.problem.method.bound (board_of_code s.problem.start x) in
+      let most = mark.cost + bound_at s.store number in
       floor_but_holds s.problem s.store names fits heavy number x mark (capped s.problem.limit most) floor sound settled at
       (capped_most s.problem.limit most) least (capped_up s.problem.limit most floor least.within)
 
@@ -104,10 +104,10 @@ module _ (s : State) (names : IsNaming (by_codes s.problem.start) s.problem.game
       subst (λ m. IsAt (task_of_problem s.problem) s.store number m held.4.3) (sym both.1) taken.at in
       let same : f ≡ held.4.3 = at_same s.store number (s.problem.method.strategy.weight.parts * mark.cost) f held.4.3 is_at here in
       floor_at_holds s.problem s.store names fits heavy number x mark f (capped s.problem.limit most) floor held.0 held.5 at
-      (under_less (task_of_problem s.problem) x mark f most (capped s.problem.limit most) (capped_most s.problem.limit most) told.under)
-      (subst (λ h. f_of (task_of_problem s.problem) x mark < h → IsDone s.problem.method.strategy.expansion (task_of_problem s.problem) s.store x mark.cost h) (sym same)
-      (subst (λ v. f_of (task_of_problem s.problem) v mark < held.4.3 → IsDone s.problem.method.strategy.expansion (task_of_problem s.problem) s.store v mark.cost held.4.3) (sym both.0)
-      (subst (λ m. f_of (task_of_problem s.problem) held.4.0 m < held.4.3 → IsDone s.problem.method.strategy.expansion (task_of_problem s.problem) s.store held.4.0 m.cost held.4.3) (sym both.1) taken.done)))
+      (under_less (task_of_problem s.problem) s.store number mark f most (capped s.problem.limit most) (capped_most s.problem.limit most) told.under)
+      (subst (λ h. f_of (task_of_problem s.problem) s.store number mark < h → IsDone s.problem.method.strategy.expansion (task_of_problem s.problem) s.store x mark.cost h) (sym same)
+      (subst (λ v. f_of (task_of_problem s.problem) s.store number mark < held.4.3 → IsDone s.problem.method.strategy.expansion (task_of_problem s.problem) s.store v mark.cost held.4.3) (sym both.0)
+      (subst (λ m. f_of (task_of_problem s.problem) s.store number m < held.4.3 → IsDone s.problem.method.strategy.expansion (task_of_problem s.problem) s.store held.4.0 m.cost held.4.3) (sym both.1) taken.done)))
       least (capped_up s.problem.limit most floor least.within)
 
   -- no list has fewer moves than what is told

@@ -104,7 +104,7 @@ first_rises new opening one =
 module _ {K : Type 0} (task : Task K) where
   pub begun_work : (s : Store K) → IsLawful task.graph → Begins task s → task.strategy.budget ≤ MOST_GREAT_BUDGET
       → work_left task.strategy.budget s ≤ 3 * 2 ^ 62
-  begun_work s lawful (x, cost, starts, stored, waiting, noted) few =
+  begun_work s lawful (x, cost, opening, starts, opens, stored, waiting, noted) few =
       let budget = task.strategy.budget in
       let low : cost ≤ 1000 = (let spared = lawful.starts x cost starts in omega (arith, spared)) in
       let one : length s.waiting ≡ 1 = length_permutation _ s.waiting waiting in

@@ -6,7 +6,7 @@ use Rattle.fc_moves.specs.Run.{Run, Wins}
 use Rattle.fc_moves.specs.Step.{Step}
 use Rattle.fc_moves.specs.Class.{SameClass}
 use Rattle.fc_home.specs.Settles.{Settles}
-use Rattle.fc_bound.specs.Kinds.{guide_of}
+use Rattle.fc_bound.specs.Kinds.{IsShown}
 use Rattle.fc_best_first.specs.declared.strategies.Expansion.{Expansion}
 use Rattle.fc_best_first.specs.declared.strategies.Expansion.TheVariants.{Full, Partial}
 use Rattle.fc_best_first.specs.Limits.{weigh}
@@ -20,7 +20,7 @@ pub record IsSettledStart (p : Problem) (z : Board) : Type 0 where
   pub settles : Settles p.game p.method.rule p.start count z
 
 -- the moves lead from the start to a settled board, a step leads on, and the board is what its result settles to; and no
--- list that wins, weighed as a bound is, is shorter than those moves and the bound of the settled board, both weighed, by
+-- list that wins, weighed as a bound is, is shorter than those moves and a number that is shown of the settled board, both weighed, by
 -- which a search of this kind goes
 pub record IsNextChild (p : Problem) (z : Board) : Type 0 where
   pub moves : List Move
@@ -32,17 +32,23 @@ pub record IsNextChild (p : Problem) (z : Board) : Type 0 where
   pub stepped : Step p.game parent step child
   pub count : ℕ
   pub settles : Settles p.game p.method.rule child count z
+  pub bound : ℕ
+  pub note : ℕ
+  pub shown : IsShown p.method.bound parent bound note
   pub least : (wins : List Move) → Wins p.game p.start wins
-      → weigh p.method.strategy.weight (length moves) (guide_of p.method.bound parent) ≤ p.method.strategy.weight.times * length wins
+      → weigh p.method.strategy.weight (length moves) bound ≤ p.method.strategy.weight.times * length wins
 
 -- the moves lead from the start to the settled board, and no list that wins, weighed as a bound is, is shorter than those
--- moves and its bound, both weighed
+-- moves and a number that is shown of it, both weighed
 pub record IsMetWithin (p : Problem) (z : Board) : Type 0 where
   pub moves : List Move
   pub led : Run p.game p.start moves z
   pub settled : Settles p.game p.method.rule z 0 z
+  pub bound : ℕ
+  pub note : ℕ
+  pub shown : IsShown p.method.bound z bound note
   pub least : (wins : List Move) → Wins p.game p.start wins
-      → weigh p.method.strategy.weight (length moves) (guide_of p.method.bound z) ≤ p.method.strategy.weight.times * length wins
+      → weigh p.method.strategy.weight (length moves) bound ≤ p.method.strategy.weight.times * length wins
 
 -- the board is needed. By full expansion it is what the start settles to, or such a child; by partial expansion it is met
 -- within each list that wins

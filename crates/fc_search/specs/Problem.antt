@@ -3,7 +3,6 @@ use Rattle.std.specs.Prelude.{ℕ, List, Option, None}
 use Rattle.fc_position.specs.Board.{Board}
 use Rattle.fc_moves.specs.GameRules.{GameRules}
 use Rattle.fc_best_first.specs.Graph.{Graph, Task}
-use Rattle.fc_bound.specs.Kinds.{guide_of}
 use Rattle.fc_classes.specs.Classes.{classes}
 use Rattle.fc_classes.specs.Namings.{by_codes}
 use Rattle.fc_methods.specs.declared.methods.Method.{Method}
@@ -31,7 +30,7 @@ shortest_from g rule b budget = record { game = g; method = as_written rule budg
 
 -- the graph of classes in which it is searched, known by their codes, whatever the strategy
 abbrev pub classes_of : Problem → Graph (List ℕ)
-classes_of p = classes (by_codes p.start) (guide_of p.method.bound) p.game p.method.rule p.start
+classes_of p = classes (by_codes p.start) p.method.bound p.game p.method.rule p.start
 
 -- what a search of it is asked
 abbrev pub task_of_problem : Problem → Task (List ℕ)

@@ -10,8 +10,8 @@ use Rattle.fc_best_first.specs.declared.books.Mark.{Mark}
 use Rattle.fc_best_first.specs.declared.turns.Status.{Status}
 use Rattle.fc_best_first.specs.declared.turns.Status.TheVariants.{Won, CannotWin, GaveUp}
 use Rattle.fc_best_first.specs.Shown.{IsLeastOpen, TellsAt}
-use Rattle.fc_best_first.specs.Store.{IsStored}
-use Rattle.fc_search.specs.Problem.{Problem, classes_of, task_of_problem}
+use Rattle.fc_best_first.specs.Store.{IsStored, bound_at}
+use Rattle.fc_search.specs.Problem.{Problem, task_of_problem}
 use Rattle.fc_search.specs.Search.{State}
 
 -- the list wins, has no more moves than the class with this number costs, and is within the weight: so many parts of its moves
@@ -43,11 +43,11 @@ abbrev pub capped : Option ℕ → ℕ → ℕ
 capped None n = n
 capped (Some limit) n = min n limit
 
--- the number is the least that what is open tells, and no more than the cost and bound of the class with this number, nor than the
--- limit
+-- the number is the least that what is open tells, and no more than the class with this number costs and what is noted of it, nor than
+-- the limit
 abbrev pub IsFloorBut : State → ℕ → ℕ → Type 0
 IsFloorBut s number floor = (class : List ℕ) × (mark : Mark) × IsStored s.store number class mark
-    × IsLeastOpen (task_of_problem s.problem) s.store (capped s.problem.limit (mark.cost + (classes_of s.problem).bound class)) floor
+    × IsLeastOpen (task_of_problem s.problem) s.store (capped s.problem.limit (mark.cost + bound_at s.store number)) floor
 
 -- the number is the least that what is open tells, and no more than what the class with this number tells, nor than the limit
 abbrev pub IsFloorAt : State → ℕ → ℕ → Type 0

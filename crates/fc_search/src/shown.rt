@@ -113,9 +113,8 @@ impl<F: Frontier + Drop, G: Game + Drop> Search<F, G> {
         ensures value { IsFloorBut self.now number result }
     {
         self.known();
-        let (position, _code, mark) = self.position_at(number);
-        let bound = self.search.space().rules.kind.guide(&position);
-        let most = mark.cost + u32::from(bound);
+        let (_code, mark) = self.at(number);
+        let most = mark.cost + u32::from(self.search.bound_at(number));
         self.search.least_open(self.capped(most))
     }
 

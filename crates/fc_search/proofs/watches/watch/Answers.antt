@@ -30,7 +30,7 @@ overflow_add-turns g c =
     let first = c.args.search.now in
     let q = first.problem in
     let work = begun_work (task_of_problem q) first.store
-    (lawful (by_codes q.start) (guide_of q.method.bound) q.game q.method.rule q.start c.known.ensures.names (bounds_lower q.method.bound).0 c.known.ensures.fits) c.requires.begins c.known.ensures.budget.greatest in
+    (lawful (by_codes q.start) q.method.bound q.game q.method.rule q.start c.known.ensures.names c.known.ensures.fits) c.requires.begins c.known.ensures.budget.greatest in
     let falls = c.loop-step.invariant.falls in
     let few = c.run_on-made.ensures.few in
     omega (arith, work, falls, few)
