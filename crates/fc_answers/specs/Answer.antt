@@ -12,7 +12,7 @@ use Rattle.fc_answers.specs.declared.answers.Verdict.TheVariants.{Shortest, Won,
 use Rattle.fc_answers.specs.Table.{Listing, IsTable}
 
 -- the table shows that no list of fewer than n moves wins from the board: it is one of the game, closed below n under its
--- own rule by a bound of its own kind, and each cost and bound that a search goes by is below n
+-- own rule by a bound of its own kind, and each cost and guide is below n
 pub record IsBackedBelow (g : GameRules) (b : Board) (n : ℕ) (table : Listing) : Type 0 where
   pub listed : IsTable g table
   pub closed : IsClosedBelow (low_of table.bound) g table.rule b n (as_boards table.rows)

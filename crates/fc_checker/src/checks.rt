@@ -200,7 +200,7 @@ fn record_steps_hold<G: Game>(
     }
 }
 
-// Whether they hold below this level. The bound by which a search goes is asked first, since what a step leads to is told by it.
+// Whether they hold below this level. The guide is asked first, since what a step leads to is told by it.
 fn steps_hold_below<G: Game>(
     game: &G,
     certificate: &Certificate,

@@ -30,7 +30,7 @@ pub(crate) struct Parent<'a> {
     pub near: Option<Near>,
 }
 
-// The level below which no list is to win, and the bound that a search goes by of a record's position, which leaves it below.
+// The level below which no list is to win, and the guide of a record's position, which leaves it below.
 #[derive(Clone, Copy)]
 pub(crate) struct Near {
     pub level: u32,
@@ -60,7 +60,7 @@ pub(crate) fn is_far(certificate: &Certificate, level: u32, position: &Position,
         || u64::from(level) <= moves + u64::from(certificate.head().bound.low(position))
 }
 
-// The same by the bound that a search goes by, which is counted quickly and nowhere greater: where that is enough, they do.
+// The same by the guide, which is counted quickly and nowhere greater: where that is enough, they do.
 // It is counted no further than asked.
 fn is_seen_far(certificate: &Certificate, level: u32, position: &Position, moves: u64) -> bool
     requires few { moves < 2 ^ 33 }
@@ -155,7 +155,7 @@ pub(crate) fn settled_holds<G: Game>(
 }
 
 // What the bound of where a step leads that takes no card home is no less than, where that is plain to see of its card, by the
-// bound that a search goes by of the position: a card in a cell holds nothing back, so without it no less is to be cleared.
+// guide of the position: a card in a cell holds nothing back, so without it no less is to be cleared.
 fn plain_after(kind: BoundKind, position: &Position, m: Move, guide: u8) -> Option<u8>
     requires guide { guide ≡ guide_of kind position.now }
     ensures lower { IfSome result (λ after. (g : GameRules) (y : Board) → Step g position.now m y → m.to ≢ Home → after ≤ low_of kind y) }

@@ -24,7 +24,7 @@ SettledHolds g c y d = (z : Board) (k : ℕ) → Settles g c.head.rule y k z →
 abbrev pub StepHolds : GameRules → Content → Board → ℕ → Move → Type 0
 StepHolds g c x d m = (y : Board) → Step g x m y → SettledHolds g c y (d + 1)
 
--- what is known of a board that is near, if anything is: the level, and the bound that a search goes by
+-- what is known of a board that is near, if anything is: the level, and the guide
 abbrev pub IsKnownNear : Content → Board → Option Near → Type 0
 IsKnownNear c x known = IfSome known (λ near. (level c ≡ Some near.level) × (near.guide ≡ guide_of c.head.bound x))
 
