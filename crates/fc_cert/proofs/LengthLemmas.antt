@@ -159,31 +159,6 @@ short_by g b told None c backed small few same = absurd same
 pub written_short : WrittenCertificatesAreShort
 written_short g b answered c backed small few same = short_by g b answered.verdict answered.table c backed small few same
 
--- how many bytes the form of a head has before its floor
-abbrev pub form_long : Form → ℕ
-form_long First = 6
-form_long Second = 8
-form_long Third = 9
-
--- and how many its floor
-abbrev pub floor_long : Kind → ℕ
-floor_long kind.Shortest = 0
-floor_long kind.CannotWin = 0
-floor_long kind.Between = 4
-
-pub head_long : (form : Form) (claimed : Kind) (game cells rule : ℕ) (bound : BoundKind) (floor : ℕ)
-    → length (head_bytes (record { form = form; game = game; cells = cells; rule = rule; bound = bound; kind = claimed; floor = floor }))
-    ≡ form_long form + floor_long claimed
-head_long First kind.Shortest game cells rule bound floor = refl
-head_long First kind.CannotWin game cells rule bound floor = refl
-head_long First kind.Between game cells rule bound floor = refl
-head_long Second kind.Shortest game cells rule bound floor = refl
-head_long Second kind.CannotWin game cells rule bound floor = refl
-head_long Second kind.Between game cells rule bound floor = refl
-head_long Third kind.Shortest game cells rule bound floor = refl
-head_long Third kind.CannotWin game cells rule bound floor = refl
-head_long Third kind.Between game cells rule bound floor = refl
-
 -- all of a content
 content_long : (head : Head) (moves : List Move) (rows : List (List ℕ × ℕ))
     → length (bytes_of (record { head = head; moves = moves; rows = rows }))
