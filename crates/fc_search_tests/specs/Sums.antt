@@ -1,5 +1,5 @@
 -- A question of the tests' own: to reach a sum by adding 2 at a cost of 3, 4 at a cost of 4 and 6 at a cost of 9.
-use Rattle.std.specs.Prelude.{◌≡◌, ℕ, ◌+◌, ◌-◌, ◌*◌, ◌<◌, ◌≤◌, ◌⊎◌, suc, zero, List, Option, Some, None, true, nat_eq}
+use Rattle.std.specs.Prelude.{◌≡◌, ℕ, ◌+◌, ◌-◌, ◌*◌, ◌<◌, ◌≤◌, ◌⊎◌, suc, zero, List, ◌++◌, option_to_list, Option, Some, None, true, nat_eq}
 use Rattle.std.proofs.Common.{refl, subst, inl, inr, ⊎_elim, arith}
 use Rattle.std.proofs.lemmas.Bool.{cases_lt}
 use Rattle.std.proofs.lemmas.Bool.Decides.{nat_tests}
@@ -17,13 +17,14 @@ IsSum goal zero y cost = (y ≡ 0) × (cost ≡ 0)
 IsSum goal (suc addends) y cost =
     (x : ℕ) × (d : ℕ) × (c : ℕ) × IsSum goal addends x d × IsAddend goal x c y × (cost ≡ d + c)
 
--- the question as a graph: no addend costs less than itself, so what is missing is a lower bound; nor more than one and twice
--- itself
+-- the question as a graph: no addend costs less than itself, so what is missing is a lower bound, which the sum itself shows; nor
+-- more than one and twice itself
 abbrev pub sums : ℕ → Graph ℕ
 sums goal = record {
   starts = λ x d. (x ≡ 0) × (d ≡ 0);
   edge = IsAddend goal;
   bound = λ x. goal - x;
+  shown = λ x bound note. (bound ≡ goal - x) × (note ≡ x);
   spare = λ x. 2 * (255 - x);
   won = λ x. x ≡ goal;
   wins = λ n. (addends : ℕ) × IsSum goal addends goal n;
@@ -76,6 +77,7 @@ pub sums_lawful : (goal : ℕ) → IsLawful (sums goal)
 sums_lawful goal = record {
   answers = λ x d reached won. (reached.0, subst (λ y. IsSum goal reached.0 y d) won (sum_reached goal reached.0 x d reached.1));
   closed = sum_closed goal;
+  shown = λ x bound note h. omega (arith, h.0);
   edges = λ x c y edge. let b = addend_bounds goal x c y edge in (b.0, b.1);
   starts = λ x d start. omega (arith, start.1);
 }
@@ -85,3 +87,7 @@ abbrev pub IsChildOf : ℕ → ℕ → ℕ → ℕ → Option (Child ℕ) → Ty
 IsChildOf goal x size cost None = goal < x + size
 IsChildOf goal x size cost (Some child) =
     (child.key ≡ x + size) × (child.cost ≡ cost) × (x + size ≤ goal)
+
+-- the children that three addends lead to, in their order
+abbrev pub in_turn : Option (Child ℕ) → Option (Child ℕ) → Option (Child ℕ) → List (Child ℕ)
+in_turn two four six = option_to_list two ++ (option_to_list four ++ option_to_list six)

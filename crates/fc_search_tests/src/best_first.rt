@@ -1,14 +1,14 @@
 //! The search over a question of the tests' own: to reach a sum by adding 2, 4 and 6.
 
-ghost use Rattle.std.specs.Prelude.{◌≡◌, ℕ, [], length, ◌+◌, ◌-◌, ◌≤◌, ◌++◌, option_to_list};
+ghost use Rattle.std.specs.Prelude.{◌≡◌, ℕ, [], ◌∷◌, length, ◌+◌, ◌-◌, ◌≤◌, IfNone, MatchOption};
 ghost use Rattle.fc_best_first.specs.Store.{Stores};
 ghost use Rattle.fc_best_first.specs.Turn.{AreChildren};
-ghost use Rattle.fc_search_tests.specs.Sums.{IsChildOf, number_exact, sums, sums_lawful};
+ghost use Rattle.fc_search_tests.specs.Sums.{IsChildOf, in_turn, number_exact, sums, sums_lawful};
 
 use crate::given::{great_budget, must, sure};
 use fc_best_first::{
-    Book, Budget, Child, Expansion, GreatBudget, Mark, Offered, Opening, Search, Space, Status,
-    Step, Strategy, Weight,
+    Book, Budget, Child, Expansion, GreatBudget, Mark, Noted, Offered, Opening, Search, Space,
+    Status, Step, Strategy, Weight,
 };
 use fc_frontier::{BucketFrontier, EitherFrontier, Frontier, ListFrontier};
 use fc_keys::ExactKey;
@@ -40,8 +40,10 @@ struct Sums {
     goal: u8,
 }
 
+// The addends of a sum that are left, and the sum at which a walk over them stands.
 #[derive(Drop)]
 struct Addends {
+    at: Sum,
     two: Option<Child<Sum>>,
     four: Option<Child<Sum>>,
     six: Option<Child<Sum>>,
@@ -64,14 +66,38 @@ impl Sums {
         })
     }
 
+    // What is missing of a sum to the goal.
+    fn missing(&self, sum: Sum) -> u8
+        ensures value { result ≡ self.now.goal - sum }
+    {
+        u32::from(self.goal).saturating_sub(sum.value) as u8
+    }
+
     fn addends(&self, key: Sum) -> Addends
-        ensures children { AreChildren (sums self.now.goal) key (option_to_list result.two ++ (option_to_list result.four ++ option_to_list result.six)) }
+        ensures children { AreChildren (sums self.now.goal) key (in_turn result.two result.four result.six) }
     {
         Addends {
+            at: key,
             two: self.child(key, 2, 3),
             four: self.child(key, 4, 4),
             six: self.child(key, 6, 9),
         }
+    }
+}
+
+impl Addends {
+    // Takes out the first addend that is left.
+    fn next(&mut self) -> Option<Child<Sum>>
+        ensures next { MatchOption result (in_turn self.old.two self.old.four self.old.six ≡ []) (λ child. in_turn self.old.two self.old.four self.old.six ≡ child ∷ in_turn self.new.two self.new.four self.new.six) }
+        ensures none { IfNone result (self.new ≡ self.old) }
+    {
+        if let Some(child) = self.two.take() {
+            return Some(child);
+        }
+        if let Some(child) = self.four.take() {
+            return Some(child);
+        }
+        self.six.take()
     }
 }
 
@@ -80,47 +106,53 @@ impl Space<Sum> for Sums {
 
     type Walk = Addends;
 
-    ghost rest = { λ w children. children ≡ option_to_list w.two ++ (option_to_list w.four ++ option_to_list w.six) };
+    ghost rest = { λ w children. children ≡ in_turn w.two w.four w.six };
 
     ghost owns = { λ s w. Unit {0} };
 
-    ghost at = { λ w key. Unit {0} };
+    ghost at = { λ w key. key ≡ w.at };
 
-    ghost left = { λ w. length (option_to_list w.two ++ (option_to_list w.four ++ option_to_list w.six)) };
+    ghost left = { λ w. length (in_turn w.two w.four w.six) };
 
     fn start(&self, _alloc: Global) -> Result<(Child<Sum>, Addends), AllocError> {
-        let child = Child {
-            key: Sum { value: 0 },
-            cost: 0,
-        };
+        let key = Sum { value: 0 };
         let walk = Addends {
+            at: key,
             two: None,
             four: None,
             six: None,
         };
-        Ok((child, walk))
+        Ok((Child { key, cost: 0 }, walk))
     }
 
     fn is_won(&self, key: &Sum) -> bool {
         key.value == u32::from(self.goal)
     }
 
-    fn bound_within(&self, _walk: &mut Addends, key: &Sum, _most: u8) -> u8 {
-        u32::from(self.goal).saturating_sub(key.value) as u8
+    fn least(&self, walk: &Addends) -> u8 {
+        self.missing(walk.at)
     }
 
-    fn visit(&self, key: &Sum, _bound: u8, walk: &mut Addends) {
+    fn key(&self, walk: &Addends) -> Sum {
+        walk.at
+    }
+
+    fn noted(&self, _walk: &mut Addends, key: &Sum, _most: u8) -> Noted {
+        Noted {
+            bound: self.missing(*key),
+            note: u64::from(key.value),
+        }
+    }
+
+    fn visit(&self, key: &Sum, _noted: Noted, _is_first: bool, walk: &mut Addends) -> bool {
         *walk = self.addends(*key);
+        false
     }
 
-    fn next(&self, walk: &mut Addends) -> Option<Child<Sum>> {
-        if let Some(child) = walk.two.take() {
-            return Some(child);
-        }
-        if let Some(child) = walk.four.take() {
-            return Some(child);
-        }
-        walk.six.take()
+    fn next(&self, walk: &mut Addends) -> Option<u8> {
+        let child = walk.next()?;
+        walk.at = child.key;
+        Some(child.cost)
     }
 
     ghost lawful = { λ s. sums_lawful s.goal };
@@ -415,6 +447,7 @@ fn added<F: Frontier + Drop>(
     opening: Opening,
 ) -> Offered<Sum>
     requires low { mark.cost ≤ 1000 }
+    requires small { opening.note ≤ 1000 }
     requires room { length book.old.stored ≤ strategy.now.budget }
     ensures stores { Stores strategy.now book.old book.new (record { key = value; mark = mark; opening = opening }) result }
 {
@@ -431,7 +464,11 @@ fn offer_two<F: Frontier + Drop>(rt: &impl Abort, book: &mut Book<Sum, F>)
     requires empty { book.old.stored ≡ [] }
 {
     let one = Strategy::full(Weight::ONE, great_budget(rt, 1));
-    let above = Opening { over: 2, bound: 2 };
+    let above = Opening {
+        over: 2,
+        bound: 2,
+        note: 7,
+    };
     let dear = Mark { cost: 9, parent: 3 };
     let cheap = Mark { cost: 7, parent: 5 };
     must(

@@ -3,9 +3,9 @@
 
 use crate::boards::{DEAL_ONE, THIRTY_MOVES};
 use crate::given::{bakers_game, board, free_cell, make, must};
-use fc_bound::{BoundKind, bound, clearing_bound, is_held_back, knot_bound};
+use fc_bound::{BoundKind, ColumnTable, Shown, bound, clearing_bound, is_held_back, knot_bound};
 use fc_cards::Place;
-use fc_moves::{Game, Kings, moves};
+use fc_moves::{Game, Kings, Move, moves};
 use fc_position::Position;
 use std::process::Abort;
 
@@ -52,6 +52,35 @@ fn check_bounds(rt: &impl Abort, position: &Position) {
     check_within(rt, BoundKind::Clearing, knots, position);
 }
 
+// What is shown of a board lies between the plain bound and the bound of its kind.
+fn lies(rt: &impl Abort, kind: BoundKind, position: &Position, shown: Shown) {
+    must(rt, bound(position) <= shown.number);
+    must(rt, shown.number <= kind.low(position));
+}
+
+// What is shown of a board, and what is plain to see of where a move leads.
+fn check_shown(rt: &impl Abort, kind: BoundKind, position: &Position, m: Move, next: &Position) {
+    let table = ColumnTable::new(position);
+    let most = kind.low(next);
+    let shown = kind.shown(position, &table);
+    lies(rt, kind, position, shown);
+    must(rt, kind.least_after(position, m, shown) <= most);
+    must(rt, kind.least_by(position, &table, m, shown) <= most);
+    if let Some(known) = kind.known_after(position, m, shown) {
+        lies(rt, kind, next, known);
+    }
+}
+
+// What is shown by either kind where a move is made, and the cards that are held back.
+fn check_move(rt: &impl Abort, position: &Position, m: Move, next: &Position) {
+    let table = ColumnTable::new(position);
+    let card = position.playable(m.from).expect(rt, "a card");
+    let is_held = table.held() >> card.index() & 1 != 0;
+    must(rt, is_held == is_held_back(position, m.from));
+    check_shown(rt, BoundKind::Plain, position, m, next);
+    check_shown(rt, BoundKind::Clearing, position, m, next);
+}
+
 // The bounds of so many boards, each reached from the one before by a move that is drawn: by the numbers of the generator of C's
 // older libraries.
 fn check_on_the_way<G: Game>(rt: &impl Abort, game: &G, text: &str, seed: u32) {
@@ -63,7 +92,9 @@ fn check_on_the_way<G: Game>(rt: &impl Abort, game: &G, text: &str, seed: u32) {
         state = state.wrapping_mul(1_103_515_245).wrapping_add(12_345);
         let count = list.len().max(1);
         if let Some(m) = list.get((state >> 16) as usize % count) {
+            let before = position.copy();
             make(rt, game, &mut position, *m);
+            check_move(rt, &before, *m, &position);
         }
     }
 }
