@@ -1,7 +1,7 @@
 """The gallery's table of fewest moves: its files agree, its lists win, and rows drawn by a seed are found again.
 
 usage:  gallery.py SEED        Each row is looked at, each list replayed by the built program, which the environment names as
-                               fc_solve, each kept certificate checked; and rows drawn by the seed are answered anew, byte for byte
+                               fc_solve, each kept certificate checked; and rows drawn by the seed are answered anew, and their certificates checked
 """
 import concurrent.futures
 import hashlib
@@ -75,17 +75,24 @@ def wrong_certificate(deal):
     return None if said == f"accepted: {gallery.line_of(rows[deal])}\n" else said
 
 
-def wrong_answer(deal):
-    """How the answer of a deal, found anew, differs from its row."""
+def wrong_within(deal, budget):
+    """How the answer of a deal within a budget differs from its row's claim, or what `check` says against its certificate."""
     path = os.path.join(room, f"{deal}.cert")
-    said = says(["best", "--budget", rows[deal].budget, "--cert", path, str(deal)])[0]
-    moves = lists.get(deal, f"{deal}\t").rstrip("\n").split("\t")[1]
-    with open(path, "rb") as it:
-        content = it.read()
+    said = says(["best", "--budget", budget, "--cert", path, str(deal)])[0]
+    accepted = says(["check", str(deal), path])[0]
     os.remove(path)
-    is_same = said == "".join(f"{line}\n" for line in (gallery.line_of(rows[deal]), moves) if line)
-    is_same = is_same and (len(content), hashlib.sha256(content).hexdigest()) == (rows[deal].size, rows[deal].digest)
-    return None if is_same else f"{said!r}, certificate of {len(content)} bytes, {hashlib.sha256(content).hexdigest()}"
+    claim = gallery.line_of(rows[deal])
+    is_same = said.partition("\n")[0] == claim and accepted == f"accepted: {claim}\n"
+    return None if is_same else f"{said!r} within {budget}, {accepted!r}"
+
+
+def wrong_answer(deal):
+    """How the answer of a deal, found anew within its row's budget or the next one, differs from its row."""
+    at = gallery.STEPS.index(rows[deal].budget)
+    wrong = [wrong_within(deal, gallery.STEPS[at])]
+    if wrong[0]:
+        wrong.append(wrong_within(deal, gallery.STEPS[at + 1]))
+    return wrong[0] if wrong[-1] else None
 
 
 def report(what, wrong):
