@@ -1,10 +1,9 @@
 -- Listing the moves of the cards that are wanted.
-use Rattle.std.proofs.Common.{◌≡◌, ℕ, ◌+◌, ◌*◌, ◌/◌, ◌^◌, ◌<◌, ◌⊎◌, ◌↔◌, Bool, true, false, cond, bit_and, is_some, Option, Some, None, List, [], ◌∷◌, ◌++◌, length, refl, sym, ◌∙◌, ap, subst, inl, inr, ⊎_elim, arith}
-use Rattle.std.specs.Prelude.{All, IsTrue, filter, ◌==◌}
+use Rattle.std.proofs.Common.{◌≡◌, ℕ, ◌+◌, ◌*◌, ◌<◌, ◌⊎◌, ◌↔◌, Bool, true, false, cond, is_some, Option, Some, None, List, [], ◌∷◌, ◌++◌, length, refl, sym, ◌∙◌, ap, subst, inl, inr, ⊎_elim, arith}
+use Rattle.std.specs.Prelude.{All, IsTrue, filter}
 use Rattle.std.specs.Int.{bit_at}
 use Rattle.std.proofs.lemmas.List.{append-nil}
 use Rattle.std.proofs.lemmas.List.Elements.{All-contains, All-head, All-tail, Contains-append_cases, Contains-append_left, filter-append}
-use Rattle.std.proofs.lemmas.Nat.Bits.{bit_at-lt, shr_and_one}
 use Rattle.fc_cards.specs.declared.places.Place.{Place}
 use Rattle.fc_cards.specs.declared.places.Place.TheVariants.{Column, Cell, Home}
 use Rattle.fc_position.specs.Board.{Board, column, playable, last_of, IsNext}
@@ -21,18 +20,10 @@ use Rattle.fc_canonical.proofs.DecideLemmas.{moves_of}
 use Rattle.fc_canonical.proofs.ListedLemmas.{lists_all, lists_first}
 use Rattle.fc_canonical.proofs.ListingLemmas.{home_listed, source_passes, stands_listed}
 
--- by its bit a place's card is wanted, or isn't
-pub card_wanted : (b : Board) (cards : ℕ) (from : Place) (u i : ℕ) → playable b from ≡ Some u → i ≡ u
-    → (bit_and (cards / 2 ^ i) 1 ≡ 0 → ⊥) → is_wanted cards (playable b from) ≡ true
-card_wanted b cards from u i there same set =
-    let bit : bit_at cards i ≡ 1 = omega (arith, set, shr_and_one cards i, bit_at-lt cards i) in
-    ap (is_wanted cards) there ∙ ap (λ n. bit_at cards n == 1) (sym same) ∙ ap (λ n. n == 1) bit
-
-pub card_unwanted : (b : Board) (cards : ℕ) (from : Place) (u i : ℕ) → playable b from ≡ Some u → i ≡ u
-    → bit_and (cards / 2 ^ i) 1 ≡ 0 → is_wanted cards (playable b from) ≡ false
-card_unwanted b cards from u i there same clear =
-    let bit : bit_at cards i ≡ 0 = sym (shr_and_one cards i) ∙ clear in
-    ap (is_wanted cards) there ∙ ap (λ n. bit_at cards n == 1) (sym same) ∙ ap (λ n. n == 1) bit
+-- what a test tells of a card, it tells of the place that has the card
+pub card_told : (b : Board) (cards : ℕ) (from : Place) (u : ℕ) (told is : Bool) → playable b from ≡ Some u
+    → told ≡ is_wanted cards (Some u) → told ≡ is → is_wanted cards (playable b from) ≡ is
+card_told b cards from u told is there same holds = ap (is_wanted cards) there ∙ sym same ∙ holds
 
 -- a test keeps a list whose elements all pass, and drops one whose elements all fail
 pub filter_kept : (test : Move → Bool) (ms : List Move) → All (λ m. test m ≡ true) ms → filter test ms ≡ ms
@@ -97,7 +88,7 @@ wanted_adds g b cards from low high old new others wanted adds before =
     }
 
 -- the moves of a card that isn't wanted are passed over, and then there are others where it has one
-pub wanted_passes : (g : GameRules) (b : Board) (cards : ℕ) (from : Place) (ms : List Move) (others more : Bool) → IsPosition b
+wanted_passes : (g : GameRules) (b : Board) (cards : ℕ) (from : Place) (ms : List Move) (others more : Bool) → IsPosition b
     → IsSource from → is_wanted cards (playable b from) ≡ false → (IsTrue more ↔ (IsTrue others ⊎ HasListed g b from))
     → ListsWantedBelow g b cards (place_number from * 13) ms others
     → ListsWantedBelow g b cards (place_number from * 13 + 13) ms more
@@ -129,6 +120,25 @@ wanted_passes g b cards from ms others more p source unwanted told before =
             (Contains-append_cases before.all own.added m found)),
       );
     }
+
+-- until there are others, a card that isn't wanted is asked for a move, and from then on none is
+pub wanted_asks : (g : GameRules) (b : Board) (cards : ℕ) (from : Place) (ms : List Move) (others more : Bool) → IsPosition b
+    → IsSource from → is_wanted cards (playable b from) ≡ false → others ≡ false → (IsTrue more ↔ HasListed g b from)
+    → ListsWantedBelow g b cards (place_number from * 13) ms others
+    → ListsWantedBelow g b cards (place_number from * 13 + 13) ms more
+wanted_asks g b cards from ms others more p source unwanted none told before =
+    wanted_passes g b cards from ms others more p source unwanted (
+      λ holds. inr (told.0 holds),
+      λ either. ⊎_elim (λ old. absurd (cc (sym none ∙ old))) (λ has. told.1 has) either,
+    )
+    before
+
+pub wanted_asks_no_more : (g : GameRules) (b : Board) (cards : ℕ) (from : Place) (ms : List Move) (others : Bool)
+    → IsPosition b → IsSource from → is_wanted cards (playable b from) ≡ false → others ≡ true
+    → ListsWantedBelow g b cards (place_number from * 13) ms others
+    → ListsWantedBelow g b cards (place_number from * 13 + 13) ms others
+wanted_asks_no_more g b cards from ms others p source unwanted some before =
+    wanted_passes g b cards from ms others others p source unwanted (λ holds. inl holds, λ _. some) before
 
 -- a place with no card has no move
 pub wanted_no_card : (g : GameRules) (b : Board) (cards : ℕ) (from : Place) (ms : List Move) (others : Bool) → IsPosition b

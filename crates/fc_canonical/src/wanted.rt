@@ -1,10 +1,10 @@
-ghost use Rattle.std.specs.Prelude.{◌≡◌, ℕ, ◌+◌, ◌*◌, ◌≤◌, ◌↔◌, IsTrue, length};
+ghost use Rattle.std.specs.Prelude.{◌≡◌, ℕ, ◌+◌, ◌*◌, ◌≤◌, ◌↔◌, IsTrue, Some, length};
 ghost use Rattle.arrayvec.specs.ArrayVec.{array_vec_len};
-ghost use Rattle.fc_position.specs.Board.{playable};
+ghost use Rattle.fc_position.specs.Board.{Board, playable};
 ghost use Rattle.fc_position.specs.Position.{IsPosition};
 ghost use Rattle.fc_moves.specs.Step.{place_number};
-ghost use Rattle.fc_canonical.specs.Distinct.{ListsWanted};
-ghost use Rattle.fc_canonical.specs.inner.Distinct.{TellLasts, HaveHosts, IsCellOf, IsFirstCell, IsFirstColumn};
+ghost use Rattle.fc_canonical.specs.Distinct.{ListsWanted, is_wanted};
+ghost use Rattle.fc_canonical.specs.inner.Distinct.{TellLasts, HaveHosts, IsCellOf, AddsDistinct, IsFirstCell, IsFirstColumn};
 ghost use Rattle.fc_canonical.specs.inner.Wanted.{HasHost, HasListed, ListsWantedBelow};
 
 use crate::distinct::{
@@ -12,7 +12,7 @@ use crate::distinct::{
     opening_of,
 };
 use arrayvec::ArrayVec;
-use fc_cards::Place;
+use fc_cards::{Card, Place};
 use fc_moves::{Game, Move};
 use fc_position::Position;
 
@@ -57,7 +57,8 @@ struct Sought {
     others: bool,
 }
 
-// Lists the moves of the last card of each column that is wanted, and tells whether another has one.
+// Lists the moves of the last card of each column that is wanted, and tells whether another has one. That is asked only
+// until one has: from then on a card that isn't wanted costs no more than its test.
 fn list_from_columns<G: Game>(
     game: &G,
     position: &Position,
@@ -77,16 +78,13 @@ fn list_from_columns<G: Game>(
     let mut others = false;
     for i in 0..8 {
         if let Some(card) = position.column(i).last() {
-            let source = Source {
-                from: Place::Column(i),
-                card: *card,
-                hosts: hosts_of(lasts, *card),
-            };
-            let sought = Sought {
-                cards: wanted,
-                others,
-            };
-            others = list_if_wanted(game, position, &source, spaces, sought, list);
+            if is_wanted(wanted, *card) {
+                let source = source_of(lasts, Place::Column(i), *card);
+                list_card(game, position, &source, spaces, list);
+            } else if !others {
+                let source = source_of(lasts, Place::Column(i), *card);
+                others = has_move(game, position, &source, spaces);
+            }
         }
     }
     others
@@ -98,7 +96,7 @@ fn list_from_cells<G: Game>(
     position: &Position,
     lasts: &Lasts,
     spaces: Spaces,
-    sought: Sought,
+    mut sought: Sought,
     list: &mut ArrayVec<Move, 132>,
 ) -> bool
     requires whole { IsPosition position.now }
@@ -112,55 +110,63 @@ fn list_from_cells<G: Game>(
         cell: None,
         ..spaces
     };
-    let mut others = sought.others;
     for i in 0..4 {
         if let Some(card) = position.cell(i) {
-            let source = Source {
-                from: Place::Cell(i),
-                card,
-                hosts: hosts_of(lasts, card),
-            };
-            let sought = Sought { others, ..sought };
-            others = list_if_wanted(game, position, &source, spaces, sought, list);
+            if is_wanted(sought.cards, card) {
+                let source = source_of(lasts, Place::Cell(i), card);
+                list_card(game, position, &source, spaces, list);
+            } else if !sought.others {
+                let source = source_of(lasts, Place::Cell(i), card);
+                sought.others = has_move(game, position, &source, spaces);
+            }
         }
     }
-    others
+    sought.others
 }
 
-// Lists the moves of the card where it is wanted, and tells whether there are others so far. Whether a card that isn't
-// wanted has a move is asked only until one has.
+// Whether the card is one of those that are wanted.
 #[inline(always)]
-fn list_if_wanted<G: Game>(
+fn is_wanted(wanted: u64, card: Card) -> bool
+    ensures value { result ≡ is_wanted wanted (Some card) }
+{
+    wanted >> card.index() & 1 != 0
+}
+
+// The card at its place, with the columns that may take it.
+#[inline(always)]
+fn source_of(lasts: &Lasts, from: Place, card: Card) -> Source
+    requires count { length lasts.now ≡ 15 }
+    ensures from { result.from ≡ from }
+    ensures card { result.card ≡ card }
+    ensures hosts { (b : Board) → TellLasts b 8 lasts.now → HaveHosts b card result.hosts }
+{
+    Source {
+        from,
+        card,
+        hosts: hosts_of(lasts, card),
+    }
+}
+
+// Lists the moves of the card, behind what is in the list.
+#[inline]
+fn list_card<G: Game>(
     game: &G,
     position: &Position,
     source: &Source,
     spaces: Spaces,
-    sought: Sought,
     list: &mut ArrayVec<Move, 132>,
-) -> bool
+)
     requires whole { IsPosition position.now }
     requires card { playable position.now source.now.from ≡ Some source.now.card }
     requires hosts { HaveHosts position.now source.now.card source.now.hosts }
     requires column { IsFirstColumn position.now spaces.column }
     requires cell { IsCellOf (G.game game.now) position.now source.now.from spaces.cell }
-    requires before { ListsWantedBelow (G.game game.now) position.now sought.cards (place_number source.now.from * 13) list.old.items sought.others }
     requires room { array_vec_len list.old + 10 ≤ 132 }
-    ensures after { ListsWantedBelow (G.game game.now) position.now sought.cards (place_number source.now.from * 13 + 13) list.new.items result }
+    ensures adds { AddsDistinct (G.game game.now) position.now source.now.from (place_number source.now.from * 13) (place_number source.now.from * 13 + 13) list.old.items list.new.items }
     ensures count { array_vec_len list.new ≤ array_vec_len list.old + 10 }
 {
-    let Sought {
-        cards: wanted,
-        others,
-    } = sought;
-    if wanted >> source.card.index() & 1 != 0 {
-        let opening = opening_of(game, position, source.from, source.card, spaces.column);
-        list_from(game, position, source, opening, spaces.cell, list);
-        return others;
-    }
-    if others {
-        return true;
-    }
-    has_move(game, position, source, spaces)
+    let opening = opening_of(game, position, source.from, source.card, spaces.column);
+    list_from(game, position, source, opening, spaces.cell, list);
 }
 
 // Whether a move of the card is to be listed, asked in the order of what it costs.
