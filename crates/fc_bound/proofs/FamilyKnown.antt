@@ -1,7 +1,7 @@
 -- What is shown of where a move leads, where that is plain to see.
-use Rattle.std.proofs.Common.{◌≡◌, ◌⊎◌, ℕ, ◌-◌, bit_and, Bool, true, false, Some, get_or, refl, sym, ◌∙◌, ap, inl, inr, subst, true≢false, arith}
+use Rattle.std.proofs.Common.{◌≡◌, ◌⊎◌, ℕ, ◌-◌, bit_and, Bool, true, false, Some, get_or, sym, ◌∙◌, ap, inl, inr, subst, true≢false, arith}
 use mir.Val.{bool_byte}
-use Rattle.std.specs.Prelude.{◌↔◌, IsTrue, min}
+use Rattle.std.specs.Prelude.{min}
 use Rattle.std.specs.Int.{bit_at}
 use Rattle.std.proofs.lemmas.Nat.Bits.{bit_at_and, bit_at_mask_inside}
 use Rattle.fc_cards.specs.declared.places.Place.{Place}
@@ -10,36 +10,27 @@ use Rattle.fc_position.specs.Board.{Board, playable, lifted}
 use Rattle.fc_position.specs.Position.{IsPosition}
 use Rattle.fc_bound.specs.declared.kinds.BoundKind.{BoundKind}
 use Rattle.fc_bound.specs.declared.kinds.BoundKind.TheVariants.{Plain, Clearing}
-use Rattle.fc_bound.specs.Bound.{is_held_back, PlayableIsHeldBack}
+use Rattle.fc_bound.specs.Bound.{is_held_back}
 use Rattle.fc_bound.specs.Kinds.{IsShown}
 use Rattle.fc_bound.proofs.FamilyLemmas.{same_rings}
 use Rattle.fc_bound.proofs.FamilyRows.{ring_stands, stands_below}
 use Rattle.fc_bound.proofs.FamilyMoved.{lift_free, lift_held, shown_cell}
 use Rattle.fc_bound.proofs.MovedLemmas.{held-cell}
 
--- the card of a place that is told to be held back is
-held_card : (b : Board) (from : Place) (u : ℕ) → playable b from ≡ Some u → PlayableIsHeldBack b from → is_held_back b u ≡ true
-held_card b from u there (c, here, held) =
-    let same : c ≡ u = let x = sym here ∙ there in cc in subst (λ v. is_held_back b v ≡ true) same held
-
--- once a card is lifted that is held back, or that isn't needed, what is shown is plain to see
-pub lift_known : (kind : BoundKind) (b : Board) (from : Place) (u number note kept : ℕ) (held needed : Bool) → IsPosition b → playable b from ≡ Some u
-    → (IsTrue held ↔ PlayableIsHeldBack b from) → (needed ≡ false → is_held_back b u ≡ false)
-    → (needed ≡ false → kind ≡ Clearing → bit_at note u ≡ 0) → ((needed ≡ true) × (held ≡ true)) ⊎ (needed ≡ false)
+-- once a card is lifted that is held back, or that isn't noted, what is shown is plain to see
+pub lift_known : (kind : BoundKind) (b : Board) (from : Place) (u number note kept : ℕ) (held noted : Bool) → IsPosition b → playable b from ≡ Some u
+    → held ≡ is_held_back b u → (noted ≡ false → kind ≡ Clearing → bit_at note u ≡ 0) → ((noted ≡ true) × (held ≡ true)) ⊎ (noted ≡ false)
     → kept ≡ number - bool_byte held → IsShown kind b number note → IsShown kind (lifted b from) kept note
-lift_known kind b (Column i) u number note kept true needed p there tells free noted either is shown =
-    subst (λ n. IsShown kind (lifted b (Column i)) n note) (sym is)
-    (lift_held kind b i u number note p there (held_card b (Column i) u there (tells.0 refl)) shown)
-lift_known kind b (Cell i) u number note kept true needed p there tells free noted either is shown =
-    absurd (true≢false (sym (held_card b (Cell i) u there (tells.0 refl)) ∙ held-cell b i u p there))
-lift_known kind b Home u number note kept true needed p there tells free noted either is shown = absurd (cc there)
-lift_known kind b from u number note kept false needed p there tells free noted (inl both) is shown = absurd (true≢false (sym both.1))
-lift_known kind b (Column i) u number note kept false needed p there tells free noted (inr none) is shown =
+lift_known kind b (Column i) u number note kept true noted p there tells out either is shown =
+    subst (λ n. IsShown kind (lifted b (Column i)) n note) (sym is) (lift_held kind b i u number note p there (sym tells) shown)
+lift_known kind b (Column i) u number note kept false noted p there tells out (inl both) is shown = absurd (true≢false (sym both.1))
+lift_known kind b (Column i) u number note kept false noted p there tells out (inr none) is shown =
     subst (λ n. IsShown kind (lifted b (Column i)) n note) (omega (arith, is))
-    (lift_free kind b i u number note p there (free none) (noted none) shown)
-lift_known kind b (Cell i) u number note kept false needed p there tells free noted (inr none) is shown =
-    subst (λ n. IsShown kind (lifted b (Cell i)) n note) (omega (arith, is)) (shown_cell kind b i number note shown)
-lift_known kind b Home u number note kept false needed p there tells free noted (inr none) is shown = absurd (cc there)
+    (lift_free kind b i u number note p there (sym tells) (out none) shown)
+lift_known kind b (Cell i) u number note kept held noted p there tells out either is shown =
+    let none : ◌≡◌ {A = ℕ} (bool_byte held) 0 = ap bool_byte (tells ∙ held-cell b i u p there) in
+    subst (λ n. IsShown kind (lifted b (Cell i)) n note) (omega (arith, is, none)) (shown_cell kind b i number note shown)
+lift_known kind b Home u number note kept held noted p there tells out either is shown = absurd (cc there)
 
 -- of a note the bits of cards alone count
 pub of_cards : (kind : BoundKind) (b : Board) (number note : ℕ) → IsPosition b → IsShown kind b number note

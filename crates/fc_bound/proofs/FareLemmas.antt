@@ -152,7 +152,7 @@ other_held g b z m u step p is away other = go m.to refl
         takes.1))
     go Home at = absurd (away at)
 
-byte_is : (t : Bool) → bool_byte t ≡ cond t 1 0
+pub byte_is : (t : Bool) → bool_byte t ≡ cond t 1 0
 byte_is true = refl
 byte_is false = refl
 

@@ -17,7 +17,7 @@ ghost use Rattle.fc_bound.specs.Rows.{IsTableOf};
 use crate::bounds::{GREATEST_BOUND, is_held_back};
 use crate::fares::is_held_there;
 use crate::kinds::BoundKind;
-use crate::rings::{Shown, counted, plain, with, without};
+use crate::rings::{Shown, counted, has_lower, plain, with, without};
 use crate::rows::ColumnTable;
 use fc_cards::Place;
 use fc_moves::Move;
@@ -172,21 +172,55 @@ impl BoundKind {
         ensures whole { IsPosition position.now }
     {
         let card = position.playable(m.from)?;
+        let there = is_held_there(position, card, m.to);
+        if !there && self.is_onto(position, m.to) {
+            return None;
+        }
         let held = is_held_back(position, m.from);
-        let needed = self.is_needed(position, m.from, shown.note);
-        if needed && !held {
+        self.known(m, card.index(), held, there, shown)
+    }
+
+    /// The same by the table of the position's columns, of more moves: also where the card goes onto another one, but none of its suit
+    /// in the columns is lower.
+    #[inline]
+    pub fn known_by(
+        self,
+        position: &Position,
+        table: &ColumnTable,
+        m: Move,
+        shown: Shown,
+    ) -> Option<Shown>
+        requires table { IsTableOf position.now.columns table.now }
+        requires shown { IsShown self position.now shown.number shown.note }
+        ensures known { IfSome result (λ known. (g : GameRules) (z : Board) → Step g position.now m z → IsShown self z known.number known.note) }
+        ensures whole { IsPosition position.now }
+    {
+        let card = position.playable(m.from)?.index();
+        let there = is_held_on(position, table, card, m.to);
+        if !there && self.is_onto(position, m.to) && has_lower(table, card) {
+            return None;
+        }
+        let held = is_held(position, table, card);
+        self.known(m, card, held, there, shown)
+    }
+
+    // What is shown of where a move leads, by whether its card is held back where it is and where it goes: `None` where the card is
+    // noted and isn't held back where it is.
+    #[inline]
+    fn known(self, m: Move, card: u8, held: bool, there: bool, shown: Shown) -> Option<Shown>
+        requires card { card < 52 }
+        requires most { shown.number ≤ GREATEST_BOUND }
+        ensures known { IfSome result (λ known. (g : GameRules) (b z : Board) (step : Step g b m z) → IsPosition b → step.card ≡ card
+            → held ≡ is_held_back b card → (m.to ≢ Home → there ≡ is_held_back z card) → IsShown self b shown.number shown.note
+            → IsShown self z known.number known.note) }
+    {
+        if self.is_noted(card, shown.note) && !held {
             return None;
         }
         let kept = shown.number.saturating_sub(held as u8);
         let number = match m.to {
             Place::Home => kept.saturating_sub(1),
-            to => {
-                let there = is_held_there(position, card, to);
-                if !there && self.is_onto(position, to) {
-                    return None;
-                }
-                kept + there as u8
-            }
+            _ => kept + there as u8,
         };
         Some(Shown {
             number,

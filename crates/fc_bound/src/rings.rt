@@ -57,6 +57,14 @@ fn able(position: &Position, table: &ColumnTable, note: u64) -> u64
     table.marks.all & !(table.marks.held | note)
 }
 
+// Whether a lower card of this one's suit stands in the columns: else the card is on no ring.
+#[inline]
+pub(crate) fn has_lower(table: &ColumnTable, card: u8) -> bool
+    requires card { card < 52 }
+{
+    table.marks.all & suit_cards(card) & ((1 << card) - 1) != 0
+}
+
 impl Shown {
     /// The same with a note of cards alone, one bit for each by its number.
     #[inline]
@@ -207,12 +215,11 @@ pub(crate) fn with(
     ensures shown { IsShown Clearing position.now result.number result.note }
     ensures cards { kept.note < 2 ^ 52 → result.note < 2 ^ 52 }
 {
-    let bit = 1 << card;
-    if most < kept.number || table.marks.all & suit_cards(card) & (bit - 1) == 0 {
+    if most < kept.number || !has_lower(table, card) {
         return kept;
     }
     let able = able(position, table, kept.note);
-    let more = kept.one_more(position, table, able, bit);
+    let more = kept.one_more(position, table, able, 1 << card);
     if kept.number < more.number {
         return more;
     }

@@ -69,6 +69,9 @@ fn check_shown(rt: &impl Abort, kind: BoundKind, position: &Position, m: Move, n
     if let Some(known) = kind.known_after(position, m, shown) {
         lies(rt, kind, next, known);
     }
+    if let Some(known) = kind.known_by(position, &table, m, shown) {
+        lies(rt, kind, next, known);
+    }
 }
 
 // What is shown by either kind where a move is made, and the cards that are held back.

@@ -1,15 +1,10 @@
-use mir.Val.{bool_byte}
-use Rattle.std.proofs.Common.{◌≡◌, ℕ, ◌+◌, ◌-◌, Bool, true, false, cond, Some, refl, sym, ◌∙◌, ap, arith}
+use Rattle.std.proofs.Common.{◌≡◌, ℕ, ◌+◌, ◌-◌, cond, Some, refl, sym, ◌∙◌, ap, arith}
 use Rattle.fc_position.specs.Board.{playable}
 use Rattle.fc_bound.specs.Bound.{is_held_back}
 use Rattle.fc_bound.proofs.FamilyAfter.{after_lift, after_put, after_home}
 use Rattle.fc_bound.proofs.FamilyMoved.{small}
-use Rattle.fc_bound.proofs.FareLemmas.{byte_most}
+use Rattle.fc_bound.proofs.FareLemmas.{byte_is, byte_most}
 use Rattle.fc_bound.proofs.kinds.BoundKind.least_after.Goals as goal
-
-byte : (t : Bool) → bool_byte t ≡ cond t 1 0
-byte true = refl
-byte false = refl
 
 pub overflow_add-shown : goal.overflow_add-shown
 overflow_add-shown c =
@@ -31,7 +26,7 @@ returns-in-Home-clause-least c g z step =
       lift.0 - 1,
       shown.note,
       after_home kind g b z c.args.m step.card lift.0 shown.note step p refl c.in-Home.is lift.1,
-      omega (arith, c.saturating_sub.ensures, lift.2, byte needed.result),
+      omega (arith, c.saturating_sub.ensures, lift.2, byte_is needed.result),
     )
 
 pub returns-in_default-to : goal.returns-in_default-to
@@ -53,6 +48,6 @@ returns-in_default-to c = record {
         lift.0 + cond (is_held_back z step.card) 1 0,
         shown.note,
         after_put kind g b z c.args.m step.card lift.0 shown.note step p refl c.in_default-to.not-Home lift.1,
-        omega (arith, c.saturating_sub-in_default-to.ensures, lift.2, byte needed.result, byte c.is_held_there.result, counted),
+        omega (arith, c.saturating_sub-in_default-to.ensures, lift.2, byte_is needed.result, byte_is c.is_held_there.result, counted),
       );
 }
