@@ -12,7 +12,7 @@ use Rattle.fc_bound.specs.declared.rows.ColumnTable.{ColumnTable}
 use Rattle.fc_bound.specs.Bound.{is_lower, stands_in}
 use Rattle.fc_bound.specs.Rings.{is_at_or_beneath, waits_beneath, IsRing}
 use Rattle.fc_bound.specs.Rows.{IsTableOf, no_row, stands_among}
-use Rattle.fc_bound.specs.inner.Tied.{WaitsBy, IsTied, AreTiedBy}
+use Rattle.fc_bound.specs.inner.Tied.{WaitsBy, AreTiedBy, AreTiedIn}
 use Rattle.fc_bound.proofs.AboveLemmas.{or-false, or-true, contains-stands, stands-contains, stands-counted, next_seen}
 use Rattle.fc_bound.proofs.BitLemmas.{is_one, last_of-push}
 use Rattle.fc_bound.proofs.HeldLemmas.{found}
@@ -160,7 +160,7 @@ cards_in bits n c below set = stands-contains (cards_of bits n) c (stand n below
 
 -- cards that stand in the columns, each of which is tied, are a ring
 pub tied_ring : (b : Board) (t : ColumnTable) (bits some : ℕ) → IsPosition b → IsTableOf b.columns t → bit_at bits some ≡ 1
-    → ((c : ℕ) → bit_at bits c ≡ 1 → stands_among b.columns c ≡ true) → ((c : ℕ) → bit_at bits c ≡ 1 → IsTied t.rows bits c)
+    → ((c : ℕ) → bit_at bits c ≡ 1 → stands_among b.columns c ≡ true) → AreTiedIn t.rows bits
     → IsRing b.columns (cards_of bits 52)
 tied_ring b t bits some p table set stand ties = record {
   some_card = λ none. let (k, inside, card) = cards_in bits 52 some (below some set) set in absurd (omega (arith, inside, ap length none));

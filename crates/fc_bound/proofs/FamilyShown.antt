@@ -16,7 +16,7 @@ use Rattle.fc_bound.specs.Bound.{bound, is_above_lower, is_away, is_held_back, s
 use Rattle.fc_bound.specs.Kinds.{IsShown}
 use Rattle.fc_bound.specs.Rings.{IsAmong, IsFamily}
 use Rattle.fc_bound.specs.Rows.{IsTableOf, stands_among}
-use Rattle.fc_bound.specs.inner.Tied.{AreTiedBy, IsTied, IsWithin}
+use Rattle.fc_bound.specs.inner.Tied.{AreTiedBy, AreTiedIn, IsWithin}
 use Rattle.fc_bound.proofs.AboveLemmas.{above-one, not_true}
 use Rattle.fc_bound.proofs.BitLemmas.{is_one, no_bits, some_bit}
 use Rattle.fc_bound.proofs.CountLemmas.{count-most, count-same}
@@ -97,7 +97,7 @@ pub record IsNewRing (b : Board) (t : ColumnTable) (note ring : ℕ) : Type 0 wh
   pub stand : IsWithin ring t.marks.all
   pub free : (c : ℕ) → bit_at ring c ≡ 1 → bit_at t.marks.held c ≡ 0
   pub apart : (c : ℕ) → bit_at ring c ≡ 1 → bit_at note c ≡ 0
-  pub tied : (c : ℕ) → bit_at ring c ≡ 1 → IsTied t.rows ring c
+  pub tied : AreTiedIn t.rows ring
 
 pub shown_more : (b : Board) (t : ColumnTable) (number note ring : ℕ) → IsPosition b → IsTableOf b.columns t → IsNewRing b t note ring
     → IsShown Clearing b number note → IsShown Clearing b (number + 1) (bit_or note ring)

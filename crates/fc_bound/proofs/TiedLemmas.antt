@@ -9,7 +9,7 @@ use Rattle.std.proofs.lemmas.Nat.Bits.{bit_at_and, bit_at_or, bit_at_above, bit_
 use Rattle.fc_bound.specs.declared.rows.Row.{Row}
 use Rattle.fc_bound.specs.Rings.{IsAmong}
 use Rattle.fc_bound.specs.Rows.{no_row}
-use Rattle.fc_bound.specs.inner.Tied.{WaitsBy, IsTied, AreTiedBy, IsWithin}
+use Rattle.fc_bound.specs.inner.Tied.{WaitsBy, IsTied, AreTiedBy, AreTiedIn, IsWithin}
 use Rattle.fc_bound.proofs.BitLemmas.{some_bit, one_bit_is, is_one}
 
 -- a card of a set beneath which one of it waits
@@ -101,6 +101,41 @@ tied_by rows cards c host guest = record {
   awaited = host.awaited;
 }
 
+-- two cards, each of which waits beneath the other
+pub two_tied : (rows : List Row) (c e : ℕ) → c < 64 → e < 64 → WaitsBy rows c e → WaitsBy rows e c
+    → AreTiedIn rows (bit_or (1 * 2 ^ c % 2 ^ 64) (1 * 2 ^ e % 2 ^ 64))
+two_tied rows c e below under waits awaited d set =
+    let one : ℕ = 1 * 2 ^ c % 2 ^ 64 in
+    let two : ℕ = 1 * 2 ^ e % 2 ^ 64 in
+    let first_own = or_first one two c (own_bit c below) in
+    let second_own = or_second one two e (own_bit e under) in
+    or_either (IsTied rows (bit_or one two) d) one two d set
+    (λ here. subst (IsTied rows (bit_or one two)) (only_bit c d below here) (record {
+      own = first_own;
+      host = e;
+      host_own = second_own;
+      waits = waits;
+      guest = e;
+      guest_own = second_own;
+      awaited = awaited;
+    }))
+    (λ here. subst (IsTied rows (bit_or one two)) (only_bit e d under here) (record {
+      own = second_own;
+      host = c;
+      host_own = first_own;
+      waits = awaited;
+      guest = c;
+      guest_own = first_own;
+      awaited = waits;
+    }))
+
+pub two_within : (others c e : ℕ) → c < 64 → e < 64 → bit_at others e ≡ 1 → (d : ℕ)
+    → bit_at (bit_or (1 * 2 ^ c % 2 ^ 64) (1 * 2 ^ e % 2 ^ 64)) d ≡ 1 → d ≢ c → bit_at others d ≡ 1
+two_within others c e below under own d set ne =
+    or_either (bit_at others d ≡ 1) (1 * 2 ^ c % 2 ^ 64) (1 * 2 ^ e % 2 ^ 64) d set
+    (λ here. absurd (ne (sym (only_bit c d below here))))
+    (λ here. ap (bit_at others) (sym (only_bit e d under here)) ∙ own)
+
 -- a card of a set of cards is below 52, and so is a bit below 64
 pub card_below : (bits c : ℕ) → bits < 2 ^ 52 → bit_at bits c ≡ 1 → c < 52
 card_below bits c small set =
@@ -167,6 +202,3 @@ or_none_first a b c none = omega (arith, bit_at_or a b c, none)
 
 pub or_none_second : (a b c : ℕ) → bit_at (bit_or a b) c ≡ 0 → bit_at b c ≡ 0
 or_none_second a b c none = omega (arith, bit_at_or a b c, none)
-
-pub and_none : (a b c : ℕ) → bit_at b c ≡ 0 → bit_at (bit_and a b) c ≡ 0
-and_none a b c none = omega (arith, bit_at_and a b c, none)

@@ -1,7 +1,8 @@
-//! Rings that are met while the cards of columns are taken out, as bits of cards. Of these, too, nothing is promised.
+//! Rings that are met while the cards of columns are taken out, as bits of cards. Here, too, that one is found isn't promised.
 
 ghost use Rattle.std.specs.Prelude.{◌≡◌, ◌<◌, ◌^◌, bit_and};
 ghost use Rattle.std.specs.Int.{bit_at};
+ghost use Rattle.fc_bound.specs.inner.Tied.{AreTiedIn};
 
 use crate::bits::{above, remove, suit_cards};
 use crate::ring_search::{CARDS, least_card, long_ring_through, pair};
@@ -73,7 +74,9 @@ impl Emptying {
 
     // Where no last card is free, a ring of last cards: two, if two are one.
     #[inline]
-    pub(crate) fn knot(&self, rows: &Rows) -> u64 {
+    pub(crate) fn knot(&self, rows: &Rows) -> u64
+        ensures { AreTiedIn rows.now result }
+    {
         let mut rest = self.lasts;
         while rest != 0 {
             let card = least_card(rest);
@@ -88,7 +91,9 @@ impl Emptying {
 
     // The same where no two are one: a shortest ring through the least card that is on any.
     #[cold]
-    fn long_ring(&self, rows: &Rows) -> u64 {
+    fn long_ring(&self, rows: &Rows) -> u64
+        ensures { AreTiedIn rows.now result }
+    {
         let mut rest = self.lasts;
         while rest != 0 {
             let card = least_card(rest);

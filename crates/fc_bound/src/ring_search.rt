@@ -1,9 +1,9 @@
-//! How rings are looked for, as bits of cards. What is found is tried before it counts, so that nothing is promised of it.
+//! How rings are looked for, as bits of cards. What is found is a ring; that one is found isn't promised.
 
-ghost use Rattle.std.specs.Prelude.{◌≡◌, ℕ, ◌<◌, ◌≤◌, ◌^◌, ◌↔◌, List};
+ghost use Rattle.std.specs.Prelude.{◌≡◌, ◌≢◌, ℕ, ◌<◌, ◌≤◌, ◌^◌, ◌↔◌, List};
 ghost use Rattle.std.specs.Int.{bit_at};
 ghost use Rattle.fc_bound.specs.Rings.{IsAmong};
-ghost use Rattle.fc_bound.specs.inner.Tied.{IsTied, AreTiedBy, IsCard, IsWithin};
+ghost use Rattle.fc_bound.specs.inner.Tied.{IsTied, AreTiedBy, AreTiedIn, IsCard, IsWithin};
 
 use crate::bits::{least, remove};
 use crate::rows::Rows;
@@ -68,6 +68,8 @@ pub(crate) fn pruned(rows: &Rows, cards: u64) -> u64
 pub(crate) fn pair(rows: &Rows, others: u64, card: u8) -> u64
     requires others { others < 2 ^ 52 }
     requires card { card < 52 }
+    ensures tied { AreTiedIn rows.now result }
+    ensures within { (c : ℕ) → bit_at result c ≡ 1 → c ≢ card → bit_at others c ≡ 1 }
 {
     let mut rest = others & rows[card as usize].waiting;
     while rest != 0 {
@@ -84,6 +86,9 @@ pub(crate) fn pair(rows: &Rows, others: u64, card: u8) -> u64
 pub(crate) fn ring_through(rows: &Rows, able: u64, card: u8) -> u64
     requires able { able < 2 ^ 52 }
     requires card { card < 52 }
+    requires own { bit_at able card ≡ 1 }
+    ensures tied { AreTiedIn rows.now result }
+    ensures within { IsWithin result able }
 {
     let others = able & rows[card as usize].waiting;
     if others == 0 {
@@ -105,8 +110,19 @@ enum Reached {
     Others(u64),
 }
 
-// The same where no ring of two is.
+// The same where no ring of two is: what is found is tried before it counts, so that of the search for it nothing is promised.
 pub(crate) fn long_ring_through(rows: &Rows, able: u64, card: u8) -> u64
+    requires able { able < 2 ^ 52 }
+    requires card { card < 52 }
+    ensures tied { AreTiedIn rows.now result }
+    ensures within { IsWithin result able }
+{
+    let ring = way_around(rows, able, card) & able;
+    if tied(rows, ring) == ring { ring } else { 0 }
+}
+
+// A card and those of a shortest way from it back to it, each of which waits beneath the one before; no cards where none is found.
+fn way_around(rows: &Rows, able: u64, card: u8) -> u64
     requires able { able < 2 ^ 52 }
     requires card { card < 52 }
 {

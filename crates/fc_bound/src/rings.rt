@@ -9,12 +9,12 @@ ghost use Rattle.fc_bound.specs.declared.kinds.BoundKind.TheVariants.{Clearing};
 ghost use Rattle.fc_bound.specs.Bound.{bound};
 ghost use Rattle.fc_bound.specs.Kinds.{IsShown};
 ghost use Rattle.fc_bound.specs.Rows.{IsTableOf};
-ghost use Rattle.fc_bound.specs.inner.Tied.{IsWithin};
+ghost use Rattle.fc_bound.specs.inner.Tied.{AreTiedIn, IsWithin};
 
 use crate::bits::{remove, suit_cards};
 use crate::bounds::away;
 use crate::emptying::Emptying;
-use crate::ring_search::{CARDS, least_card, pruned, ring_through, tied};
+use crate::ring_search::{CARDS, least_card, pruned, ring_through};
 use crate::rows::ColumnTable;
 use fc_position::Position;
 
@@ -84,14 +84,12 @@ impl Shown {
     fn with_ring(self, position: &Position, table: &ColumnTable, ring: u64) -> Shown
         requires table { IsTableOf position.now.columns table.now }
         requires shown { IsShown Clearing position.now self.number self.note }
+        requires tied { AreTiedIn table.now.rows ring }
         ensures shown { IsShown Clearing position.now result.number result.note }
         ensures apart { (c : ℕ) → bit_at self.note c ≡ 0 → bit_at ring c ≡ 0 → bit_at result.note c ≡ 0 }
         ensures cards { self.note < 2 ^ 52 → result.note < 2 ^ 52 }
     {
         if ring == 0 || ring & !able(position, table, self.note) != 0 {
-            return self;
-        }
-        if tied(&table.rows, ring) != ring {
             return self;
         }
         Shown {
@@ -113,7 +111,7 @@ impl Shown {
         while rest != 0 {
             let card = least_card(rest);
             rest = remove(rest, card);
-            let ring = ring_through(&table.rows, able, card) & able;
+            let ring = ring_through(&table.rows, able, card);
             if ring != 0 {
                 return self.with_ring(position, table, ring);
             }
@@ -155,7 +153,7 @@ fn counted_among(position: &Position, table: &ColumnTable, cards: u64) -> Shown
     let mut left = cards;
     while left != 0 {
         let card = least_card(left);
-        let ring = ring_through(&table.rows, left, card) & left;
+        let ring = ring_through(&table.rows, left, card);
         shown = shown.with_ring(position, table, ring);
         left = remove(left, card) & !ring;
     }

@@ -24,6 +24,10 @@ pub record IsTied (rows : List Row) (cards c : ℕ) : Type 0 where
   pub guest_own : bit_at cards guest ≡ 1
   pub awaited : WaitsBy rows guest c
 
+-- each card of a set is tied in it: the set is a ring, or has no card
+abbrev pub AreTiedIn : List Row → ℕ → Type 0
+AreTiedIn rows cards = (c : ℕ) → bit_at cards c ≡ 1 → IsTied rows cards c
+
 -- the same of each card of a list, among these cards
 pub record AreTiedBy (rows : List Row) (ring : List ℕ) : Type 0 where
   pub waits : (c : ℕ) → Contains ring c → (e : ℕ) × Contains ring e × WaitsBy rows c e

@@ -1,4 +1,4 @@
-use Rattle.std.proofs.Common.{◌≡◌, ℕ, max, ◌∙◌, ap, arith}
+use Rattle.std.proofs.Common.{◌≡◌, ℕ, max, arith}
 use Rattle.std.specs.Int.{bit_at}
 use Rattle.std.proofs.lemmas.Nat.{or_lt}
 use Rattle.std.proofs.lemmas.Nat.Bits.{bit_at_or}
@@ -8,11 +8,6 @@ use Rattle.fc_bound.proofs.FamilyRows.{stands_below}
 use Rattle.fc_bound.proofs.FamilyShown.{IsNewRing, none_outside, shown_more, shown_small}
 use Rattle.fc_bound.proofs.TiedLemmas.{within_least}
 use Rattle.fc_bound.proofs.rings.Shown.with_ring.Goals as goal
-
-pub tied-requires : goal.tied-requires
-tied-requires c =
-    let within : IsWithin c.args.ring c.able.result = λ d set. none_outside c.args.ring c.able.result d c.ranges.ring.fits c.able.type_inv c.if-ring-able-ne0.false set in
-    record { below = omega (arith, within_least c.args.ring c.able.result within, c.able.ensures.below) }
 
 pub overflow_add-result : goal.overflow_add-result
 overflow_add-result c =
@@ -33,7 +28,7 @@ returns-clause-shown c =
       stand = λ d set. c.able.ensures.stand d (within d set);
       free = λ d set. c.able.ensures.free d (within d set);
       apart = λ d set. c.able.ensures.apart d (within d set);
-      tied = λ d set. (c.tied.ensures.value d).0 (ap (λ n. bit_at n d) c.if-tied-ring.false ∙ set);
+      tied = c.requires.tied;
     } in
     shown_more b c.args.table.now c.args.self.number c.args.self.note ring c.able.ensures.whole c.requires.table new c.requires.shown
 

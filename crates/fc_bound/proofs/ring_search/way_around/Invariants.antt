@@ -1,5 +1,5 @@
 use Rattle.std.proofs.Common.{◌<◌, ◌^◌}
-use Rattle.fc_bound.proofs.ring_search.long_ring_through.Given as goal
+use Rattle.fc_bound.proofs.ring_search.way_around.Given as goal
 
 abbrev pub invariant-loop-steps : goal.invariant-loop-steps
 invariant-loop-steps l = record {
