@@ -8,10 +8,10 @@ use Rattle.std.proofs.lemmas.Bool.Decides.{nat_tests}
 use Rattle.fc_position.specs.Board.{Board, column}
 use Rattle.fc_position.specs.Position.{IsPosition}
 use Rattle.fc_position.proofs.BoardLemmas.{column_most}
-use Rattle.fc_codes.specs.State.{StandsOn, IsUnmoved, IsCodeOf}
+use Rattle.fc_codes.specs.State.{AreMoved, StandsOn, IsUnmoved, IsCodeOf}
 use Rattle.fc_codes.specs.Spelled.{beneath, seat, lying_on, grown, filled, deepest_cards, board_of_code}
 use Rattle.fc_codes.specs.inner.Beneath.{AreHeadsOf}
-use Rattle.fc_codes.specs.inner.Seats.{IsBare, AreMoved, AreOver, AreStacksOf}
+use Rattle.fc_codes.specs.inner.Seats.{IsBare, AreOver, AreStacksOf}
 use Rattle.fc_codes.specs.inner.Stacks.{HasBegun}
 use Rattle.fc_codes.proofs.StandLemmas.{stands_once, standing_below, column_inside}
 use Rattle.fc_codes.proofs.BeneathLemmas.{beneath-stands}

@@ -1,5 +1,6 @@
 -- Where the cards of a board stand, seen from the board that a search starts from, and the numbers that say so.
-use Rattle.std.specs.Prelude.{◌≡◌, ℕ, ◌+◌, ◌<◌, length, Some, List, [], ◌∷◌, ◌++◌, slice_index}
+use Rattle.std.specs.Prelude.{◌≡◌, ℕ, ◌+◌, ◌<◌, nat_lt, if◌then◌else◌, length, Some, List, [], ◌∷◌, ◌++◌, slice_index}
+use Rattle.std.specs.Int.{bit_at}
 use Rattle.fc_cards.specs.Card.{rank, suit}
 use Rattle.fc_position.specs.Board.{Board, column, cell, IsHome}
 
@@ -40,3 +41,7 @@ pub data IsStateOf (s b : Board) (c n : ℕ) : Type 0 where
 pub record IsCodeOf (s b : Board) (code : List ℕ) : Type 0 where
   pub count : length code ≡ 52
   pub states : (c : ℕ) → c < 52 → IsStateOf s b c (slice_index code c)
+
+-- the bits are of the cards that have moved, by the code
+abbrev pub AreMoved : List ℕ → ℕ → Type 0
+AreMoved code bits = (c : ℕ) → c < 52 → bit_at bits c ≡ (if nat_lt 0 (slice_index code c) then 1 else 0)

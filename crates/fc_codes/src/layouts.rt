@@ -4,7 +4,7 @@ ghost use Rattle.fc_position.specs.Board.{Board, column, last_of};
 ghost use Rattle.fc_position.specs.Position.{IsPosition};
 ghost use Rattle.fc_codes.specs.Moved.{Moves};
 ghost use Rattle.fc_codes.specs.Spelled.{under, board_of_code};
-ghost use Rattle.fc_codes.specs.State.{IsStateOf, IsCodeOf};
+ghost use Rattle.fc_codes.specs.State.{AreMoved, IsStateOf, IsCodeOf};
 ghost use Rattle.fc_codes.specs.inner.Landed.{table_state, card_state, IsCellState, IsHomeState, IsOver, TellsCards};
 ghost use Rattle.fc_codes.specs.inner.Seats.{AreSeatsOf, AreSeatsUntil};
 
@@ -220,16 +220,18 @@ impl Layout {
         ensures whole { IsPosition result }
     {
         let mut position = self.start.copy();
-        self.read(code, &mut position);
+        let _moved = self.read(code, &mut position);
         position
     }
 
-    /// Makes a position the canonical one of the class with this code, which is the code of some position.
+    /// Makes a position the canonical one of the class with this code, which is the code of some position. The cards that have moved,
+    /// one bit for each.
     #[inline(never)]
-    pub fn read(&self, code: &Code, position: &mut Position)
+    pub fn read(&self, code: &Code, position: &mut Position) -> u64
         requires code { (b : Board) × IsPosition b × IsCodeOf self.now b code.now }
         ensures value { position.new ≡ board_of_code self.now code.now }
         ensures whole { IsPosition position.new }
+        ensures moved { AreMoved code.now result }
     {
         let _start = &self.start;
         let mut seats = Seats::unmoved(self.deepest);
@@ -243,6 +245,7 @@ impl Layout {
             moved: seats.moved,
         };
         position.refill(&stacks, cells, seats.homes);
+        seats.moved
     }
 
     // Moves the cards that a code moves, where none has yet.

@@ -7,8 +7,8 @@ ghost use Rattle.fc_position.specs.Board.{Board};
 ghost use Rattle.fc_position.specs.Columns.{cards_at};
 ghost use Rattle.fc_position.specs.Position.{IsPosition};
 ghost use Rattle.fc_codes.specs.Spelled.{board_of_code, deepest_cards, grown, lying_on, seat};
-ghost use Rattle.fc_codes.specs.State.{IsCodeOf};
-ghost use Rattle.fc_codes.specs.inner.Seats.{AreMoved, AreOver, AreStacksOf, IsBare};
+ghost use Rattle.fc_codes.specs.State.{AreMoved, IsCodeOf};
+ghost use Rattle.fc_codes.specs.inner.Seats.{AreOver, AreStacksOf, IsBare};
 ghost use Rattle.fc_codes.specs.inner.Stacks.{HasBegun};
 
 use crate::codes::Code;

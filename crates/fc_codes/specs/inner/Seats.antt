@@ -5,6 +5,7 @@ use Rattle.std.specs.Int.{bit_at}
 use Rattle.fc_cards.specs.Card.{suit, all_cards}
 use Rattle.fc_position.specs.Board.{Board}
 use Rattle.fc_codes.specs.Spelled.{beneath, filled, seat, lying_on}
+use Rattle.fc_codes.specs.State.{AreMoved}
 use Rattle.fc_codes.specs.inner.Beneath.{card_at}
 use Rattle.fc_codes.specs.inner.Bits.{cards_of}
 use Rattle.fc_codes.specs.declared.seats.Seats.{Seats}
@@ -21,10 +22,6 @@ home_among code cards u = count_by (λ c. (suit c == u) && (slice_index code c =
 abbrev pub AreMovedUntil : List ℕ → ℕ → ℕ → Type 0
 AreMovedUntil code k bits =
     (c : ℕ) → c < 52 → bit_at bits c ≡ (if (nat_lt c k) && (nat_lt 0 (slice_index code c)) then 1 else 0)
-
--- the bits are of the cards that have moved
-abbrev pub AreMoved : List ℕ → ℕ → Type 0
-AreMoved code bits = (c : ℕ) → c < 52 → bit_at bits c ≡ (if nat_lt 0 (slice_index code c) then 1 else 0)
 
 -- no card that hasn't moved lies on x
 abbrev pub IsBare : Board → List ℕ → ℕ → Type 0
