@@ -29,6 +29,8 @@ pub mod KnotSteps
 pub mod KnotTaken
 pub mod MovedLemmas
 pub mod OnesLemmas
+pub mod OverLemmas
+pub mod OverTable
 pub mod PairLemmas
 pub mod RingCode
 pub mod RingCosts

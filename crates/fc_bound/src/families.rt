@@ -1,6 +1,6 @@
 //! What is shown of a position, a number and a note, carried from position to position.
 
-ghost use Rattle.std.specs.Prelude.{◌≡◌, ◌≢◌, ℕ, ◌<◌, ◌≤◌, ◌^◌, false, true, Some, IfSome};
+ghost use Rattle.std.specs.Prelude.{◌≡◌, ◌≢◌, ℕ, ◌<◌, ◌≤◌, ◌^◌, false, true, Some, IfSome, IsSome};
 ghost use Rattle.std.specs.Int.{bit_at};
 ghost use Rattle.fc_cards.specs.declared.places.Place.TheVariants.{Column, Home};
 ghost use Rattle.fc_position.specs.Board.{Board, column, last_of, lifted, playable};
@@ -8,7 +8,7 @@ ghost use Rattle.fc_position.specs.Position.{IsPosition};
 ghost use Rattle.fc_moves.specs.declared.steps.Move.{Move};
 ghost use Rattle.fc_moves.specs.GameRules.{GameRules};
 ghost use Rattle.fc_moves.specs.Step.{Step};
-ghost use Rattle.fc_bound.specs.declared.kinds.BoundKind.TheVariants.{Clearing};
+ghost use Rattle.fc_bound.specs.declared.kinds.BoundKind.TheVariants.{Clearing, Plain};
 ghost use Rattle.fc_bound.specs.Bound.{is_held_back};
 ghost use Rattle.fc_bound.specs.Kinds.{IsShown};
 ghost use Rattle.fc_bound.specs.Knots.{ends_among};
@@ -169,6 +169,7 @@ impl BoundKind {
     pub fn known_after(self, position: &Position, m: Move, shown: Shown) -> Option<Shown>
         requires shown { IsShown self position.now shown.number shown.note }
         ensures known { IfSome result (λ known. (g : GameRules) (z : Board) → Step g position.now m z → IsShown self z known.number known.note) }
+        ensures plain { self ≡ Plain → (u : ℕ) → playable position.now m.from ≡ Some u → IsSome result }
         ensures whole { IsPosition position.now }
     {
         let card = position.playable(m.from)?;
@@ -213,6 +214,7 @@ impl BoundKind {
         ensures known { IfSome result (λ known. (g : GameRules) (b z : Board) (step : Step g b m z) → IsPosition b → step.card ≡ card
             → held ≡ is_held_back b card → (m.to ≢ Home → there ≡ is_held_back z card) → IsShown self b shown.number shown.note
             → IsShown self z known.number known.note) }
+        ensures plain { self ≡ Plain → IsSome result }
     {
         if self.is_noted(card, shown.note) && !held {
             return None;
@@ -230,7 +232,9 @@ impl BoundKind {
 
     // Whether a card that goes there may be on a ring more.
     #[inline]
-    fn is_onto(self, position: &Position, to: Place) -> bool {
+    fn is_onto(self, position: &Position, to: Place) -> bool
+        ensures plain { self ≡ Plain → result ≡ false }
+    {
         match (self, to) {
             (BoundKind::Clearing, Place::Column(i)) if i < 8 => !position.column(i).is_empty(),
             _ => false,
@@ -285,6 +289,7 @@ impl BoundKind {
     fn is_noted(self, card: u8, note: u64) -> bool
         requires card { card < 52 }
         ensures value { result ≡ false → self ≡ Clearing → bit_at note card ≡ 0 }
+        ensures plain { self ≡ Plain → result ≡ false }
     {
         match self {
             BoundKind::Plain => false,

@@ -1,14 +1,16 @@
 //! What is looked up of a position's columns, kept while a card is taken from one place to another.
 
-ghost use Rattle.std.specs.Prelude.{◌≡◌, ◌<◌, ℕ, Some, IfSome, length};
+ghost use Rattle.std.specs.Prelude.{◌≡◌, ◌<◌, ◌↔◌, ℕ, Some, IfSome, length};
+ghost use Rattle.std.specs.Int.{bit_at};
 ghost use Rattle.fc_position.specs.Board.{Board, column, last_of, front_of, lifted};
 ghost use Rattle.fc_position.specs.Position.{IsPosition};
 ghost use Rattle.fc_cards.specs.declared.places.Place.TheVariants.{Column};
 ghost use Rattle.fc_bound.specs.Bound.{is_held_back};
-ghost use Rattle.fc_bound.specs.Rows.{AreBits, IsTableOf};
+ghost use Rattle.fc_bound.specs.Rows.{AreBits, HaveMoved, IsTableBut, IsTableOf, LiesOnOne};
 
 use crate::bits::{higher_cards, remove};
-use crate::rows::{ColumnTable, Row, blank, fill};
+use crate::ring_search::{CARDS, least_card};
+use crate::rows::{ColumnTable, Marks, Row, blank, fill, fill_moved, restore};
 use fc_cards::{Card, Place};
 use fc_position::Position;
 
@@ -25,14 +27,22 @@ impl ColumnTable {
         ColumnTable { rows, marks }
     }
 
-    /// Makes it the table of a position's columns, in its place.
+    /// Makes it the table of a position's columns, in its place, by that of a start: of the cards that moved since then, one bit for
+    /// each, the rows are looked up anew, and of those that had moved before, but haven't now, they are the start's again.
     #[inline]
-    pub fn lay(&mut self, position: &Position)
+    pub fn lay_over(&mut self, start: &ColumnTable, before: u64, position: &Position, moved: u64)
+        requires start { (s : Board) × IsPosition s × IsTableOf s.columns start.now × IsTableBut before s.columns self.old × HaveMoved s.columns position.now.columns moved }
         ensures table { IsTableOf position.now.columns self.new }
         ensures whole { IsPosition position.now }
     {
         let _cell = position.cell(0);
-        self.marks = fill(&mut self.rows, position);
+        restore(&mut self.rows, &start.rows, before & !moved & CARDS);
+        let marks = fill_moved(&mut self.rows, position, moved);
+        self.marks = Marks {
+            all: marks.all | start.marks.all & !moved,
+            lasts: marks.lasts,
+            held: marks.held | start.marks.held & !moved,
+        };
     }
 
     /// The cards that stand above a lower card of their own suit, one bit for each.
@@ -41,6 +51,23 @@ impl ColumnTable {
         ensures value { (b : Board) → IsTableOf b.columns self.now → AreBits result (is_held_back b) }
     {
         self.marks.held
+    }
+
+    /// The last cards of the columns that lie on one of these, one bit for each.
+    #[inline]
+    pub fn covers(&self, cards: u64) -> u64
+        ensures value { (b : Board) → IsPosition b → IsTableOf b.columns self.now → (u : ℕ) → (bit_at result u ≡ 1) ↔ LiesOnOne b.columns cards u }
+    {
+        let mut covers = 0;
+        let mut rest = self.marks.lasts & CARDS;
+        while rest != 0 {
+            let card = least_card(rest);
+            rest = remove(rest, card);
+            if self.rows[card as usize].beneath & cards != 0 {
+                covers |= 1 << card;
+            }
+        }
+        covers
     }
 
     /// Takes the playable card of a place out of the table of the position's columns.

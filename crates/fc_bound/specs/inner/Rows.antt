@@ -5,7 +5,7 @@ use Rattle.std.specs.List.{list_any}
 use Rattle.fc_position.specs.Board.{Board, last_of}
 use Rattle.fc_position.specs.Position.{IsPosition}
 use Rattle.fc_bound.specs.declared.rows.Row.{Row}
-use Rattle.fc_bound.specs.Bound.{is_above_lower}
+use Rattle.fc_bound.specs.Bound.{is_above_lower, stands_in}
 use Rattle.fc_bound.specs.Clearing.{waits}
 use Rattle.fc_bound.specs.Knots.{has_last, waits_above, are_knotted, ends_among}
 use Rattle.fc_bound.specs.Rows.{AreBits, AreRows, stands_among}
@@ -68,3 +68,7 @@ waiting_of (suc high) column = cond (waits_above (take (suc high) column)) 1 0 +
 -- how many cards in the columns wait for a card beneath them
 abbrev pub waiting_in : List (List ℕ) → ℕ
 waiting_in columns = sum_by (λ column. waiting_of (length column) column) columns
+
+-- the card stands above the lowest ones, so many
+abbrev pub stands_above : ℕ → List ℕ → ℕ → Bool
+stands_above front cards c = stands_in cards c && not (stands_in (take front cards) c)

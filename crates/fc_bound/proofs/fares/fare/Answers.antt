@@ -1,4 +1,4 @@
-use Rattle.std.proofs.Common.{ap, subst, ◌∙◌, arith}
+use Rattle.std.proofs.Common.{ap, subst, arith}
 use Rattle.fc_position.specs.Board.{lifted}
 use Rattle.fc_bound.specs.Bound.{PlayableIsHeldBack}
 use Rattle.fc_bound.specs.Knots.{knot_bound}

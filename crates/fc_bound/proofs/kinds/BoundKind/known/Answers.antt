@@ -1,5 +1,5 @@
 use mir.Val.{bool_byte}
-use Rattle.std.proofs.Common.{◌≡◌, ℕ, ◌+◌, cond, Some, sym, ◌∙◌, ap, subst}
+use Rattle.std.proofs.Common.{◌≡◌, ℕ, ◌+◌, cond, Some, refl, sym, ◌∙◌, ap, subst}
 use Rattle.fc_bound.specs.Bound.{is_held_back}
 use Rattle.fc_bound.specs.Kinds.{IsShown}
 use Rattle.fc_bound.proofs.FamilyAfter.{after_put, after_home}
@@ -16,6 +16,7 @@ returns-in-Home c = record {
       (step.playable ∙ ap (λ (n : ℕ). Some n) is) held c.is_noted.ensures.value c.else-is_noted.either kept.ensures shown in
       subst (λ n. IsShown a.self z n a.shown.note) (sym c.saturating_sub-number.ensures)
       (after_home a.self g b z a.m a.card kept.result a.shown.note step p is c.in-Home.is lift);
+  plain = λ _. refl;
 }
 
 pub returns-in_default : goal.returns-in_default
@@ -29,4 +30,5 @@ returns-in_default c = record {
       sym (byte_is a.there ∙ ap (λ t. cond t 1 0) (there c.in_default.not-Home)) in
       subst (λ n. IsShown a.self z (kept.result + n) a.shown.note) counted
       (after_put a.self g b z a.m a.card kept.result a.shown.note step p is c.in_default.not-Home lift);
+  plain = λ _. refl;
 }
