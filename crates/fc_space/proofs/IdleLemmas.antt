@@ -1,18 +1,17 @@
 -- After a move of an idle card no card goes home, and no less is shown.
-use Rattle.std.proofs.Common.{◌≡◌, ◌≢◌, ℕ, zero, suc, ◌+◌, ◌-◌, ◌<◌, ◌≤◌, Bool, true, false, cond, bit_or, max, Some, List, [], ◌∷◌, ◌++◌, reverse, refl, sym, ◌∙◌, ap, subst, ⊎_elim, arith}
+use Rattle.std.proofs.Common.{◌≡◌, ◌≢◌, ℕ, zero, suc, ◌+◌, ◌<◌, ◌≤◌, Bool, true, false, cond, Some, List, [], ◌∷◌, ◌++◌, reverse, refl, sym, ◌∙◌, ap, subst, ⊎_elim, arith}
 use Rattle.std.specs.Prelude.{◌==◌, ◌↔◌, not, IsTrue, Contains, filter}
 use Rattle.std.specs.Int.{bit_at}
 use Rattle.std.proofs.lemmas.List.Elements.{Contains-append_cases, Contains-append_left, Contains-append_right}
 use Rattle.std.proofs.lemmas.List.Sorted.{Contains-permutation, IsPermutation-reverse}
-use Rattle.std.proofs.lemmas.Nat.Bits.{bit_at-lt, bit_at_or}
+use Rattle.std.proofs.lemmas.Nat.Bits.{bit_at-lt}
 use Rattle.fc_cards.specs.declared.places.Place.{Place}
-use Rattle.fc_cards.specs.declared.places.Place.TheVariants.{Column, Cell, Home}
+use Rattle.fc_cards.specs.declared.places.Place.TheVariants.{Home}
 use Rattle.fc_position.specs.Board.{Board, playable}
 use Rattle.fc_moves.specs.declared.steps.Move.{Move}
 use Rattle.fc_moves.specs.GameRules.{GameRules, IsPositionOf}
 use Rattle.fc_moves.specs.inner.GameLaws.{Contains-filter, Contains-from_filter}
-use Rattle.fc_moves.specs.MoveText.{IsSource}
-use Rattle.fc_moves.specs.Step.{Step, Takes, place_number}
+use Rattle.fc_moves.specs.Step.{Step, Takes}
 use Rattle.fc_moves.proofs.StepLemmas.{step_keeps}
 use Rattle.fc_canonical.specs.Distinct.{ListsWanted, is_wanted, takes_wanted}
 use Rattle.fc_canonical.proofs.PickedLemmas.{picked_in_all, wanted_picked}
@@ -31,44 +30,6 @@ use Rattle.fc_space.specs.inner.Children.{classes_in}
 use Rattle.fc_space.specs.inner.Idle.{IsIdle, LeavesIdle}
 use Rattle.fc_space.proofs.ChildLemmas.{IsFrame, child_of, children_all, children_exist, least_at}
 use Rattle.fc_space.proofs.StayLemmas.{beneath_stays, flips, others_stay, settled_here}
-
--- a source is the column or the cell of its number
-pub source_is : (from p : Place) (i : ℕ) → IsSource from → place_number from ≡ i → (i < 8 → p ≡ Column i) → (8 ≤ i → p ≡ Cell (i - 8))
-    → from ≡ p
-source_is (Column k) p i there is column cell = ap (λ (n : ℕ). Column n) is ∙ sym (column (omega (arith, there, is)))
-source_is (Cell k) p i there is column cell =
-    let e : k ≡ i - 8 = omega (arith, is) in ap (λ (n : ℕ). Cell n) e ∙ sym (cell (omega (arith, is)))
-source_is Home p i there is column cell = absurd there
-
--- the number of a source is below twelve
-pub source_few : (from : Place) → IsSource from → place_number from < 12
-source_few (Column k) there = omega (arith, there)
-source_few (Cell k) there = omega (arith, there)
-source_few Home there = absurd there
-
--- a bit that isn't set where others were added wasn't before
-pub unset_before : (n m u : ℕ) → bit_at (bit_or n m) u ≡ 0 → bit_at n u ≡ 0
-unset_before n m u none =
-    let both : bit_at (bit_or n m) u ≡ max (bit_at n u) (bit_at m u) = bit_at_or n m u in omega (arith, both, none)
-
-pub unset_after : (n m u : ℕ) → bit_at (bit_or n m) u ≡ 0 → bit_at m u ≡ 0
-unset_after n m u none =
-    let both : bit_at (bit_or n m) u ≡ max (bit_at n u) (bit_at m u) = bit_at_or n m u in omega (arith, both, none)
-
--- a test whose bit isn't set fails
-pub unheld : (t : Bool) → ◌≡◌ {A = ℕ} (cond t 1 0) 0 → t ≡ false
-unheld true none = absurd (omega (arith, none))
-unheld false none = refl
-
--- a card is idle whatever fewer cards are noted
-pub idle_under : (b : Board) (note more : ℕ) (from : Place) (u : ℕ) → (bit_at more u ≡ 0 → bit_at note u ≡ 0) → IsIdle b more from u
-    → IsIdle b note from u
-idle_under b note more from u under is = record {
-  next = is.next;
-  held = is.held;
-  noted = under is.noted;
-  beneath = is.beneath;
-}
 
 -- once a move of an idle card has settled no less is shown than before
 pub idle_shows : (kind : BoundKind) (g : GameRules) (rule : ℕ) (b : Board) (m : Move) (number note : ℕ) → IsPositionOf g b

@@ -1,8 +1,10 @@
 mod ChildLemmas
 mod IdleLemmas
+mod LookupLemmas
 mod SentLemmas
 mod StayLemmas
 mod TableLemmas
+mod WantedLemmas
 mod WonLemmas
 mod WalkLemmas
 mod WayLemmas

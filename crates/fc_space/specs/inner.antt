@@ -2,5 +2,6 @@
 pub mod Children
 pub mod Codes
 pub mod Idle
+pub mod Lookups
 pub mod Standing
 pub mod Ways

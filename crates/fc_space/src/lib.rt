@@ -7,6 +7,7 @@ pub use walks::Children;
 pub use ways::follow;
 
 mod coded;
+mod lookups;
 mod positions;
 mod stays;
 mod visits;

@@ -1,10 +1,11 @@
-ghost use Rattle.std.specs.Prelude.{◌≡◌, ◌≢◌, ◌↔◌, ◌+◌, ◌++◌, ◌≤◌, ℕ, false, Contains, IfOk, IfSome, IsTrue, List, [], None, length, reverse};
+ghost use Rattle.std.specs.Prelude.{◌≡◌, ◌≢◌, ◌↔◌, ◌+◌, ◌++◌, ◌≤◌, ℕ, false, true, Contains, IfOk, IfSome, IsTrue, List, [], None, length, reverse};
 ghost use Rattle.fc_position.specs.Board.{Board};
 ghost use Rattle.fc_position.specs.Position.{Fits, IsPosition};
 ghost use Rattle.fc_moves.specs.GameRules.{IsPositionOf};
 ghost use Rattle.fc_moves.specs.Step.{Allows, Step};
-ghost use Rattle.fc_codes.specs.State.{IsCodeOf};
+ghost use Rattle.fc_codes.specs.State.{AreMoved, IsCodeOf};
 ghost use Rattle.fc_codes.specs.Spelled.{board_of_code};
+ghost use Rattle.fc_bound.specs.declared.kinds.BoundKind.TheVariants.{Clearing};
 ghost use Rattle.fc_bound.specs.Kinds.{IsShown, low_of};
 ghost use Rattle.fc_best_first.specs.Graph.{Reached};
 ghost use Rattle.fc_best_first.specs.Turn.{AreChildren};
@@ -18,11 +19,12 @@ ghost use Rattle.fc_space.specs.inner.Children.{classes_in};
 ghost use Rattle.fc_space.specs.inner.Codes.{IsCodeAfter};
 
 use crate::coded::settle_coded;
+use crate::lookups::Lookup;
 use crate::visits::list_moves;
-use crate::walks::{Children, Standing, lay_if};
+use crate::walks::{Children, Standing};
 use arrayvec::ArrayVec;
 use fc_best_first::{Child, Noted, Space};
-use fc_bound::{BoundKind, ColumnTable, Shown};
+use fc_bound::{BoundKind, Shown};
 use fc_codes::{Code, Layout};
 use fc_home::HomeRule;
 use fc_methods::Method;
@@ -82,13 +84,16 @@ impl<G: Game + Drop> Positions<G> {
         self.layout.position_of(code)
     }
 
-    // Makes a position the canonical one of the class with this code, which is that of a position of the game.
+    // Makes a position the canonical one of the class with this code, which is that of a position of the game. The cards that have
+    // moved since the start, one bit for each.
     #[inline(always)]
-    fn read(&self, code: &Code, position: &mut Position)
+    fn read(&self, code: &Code, position: &mut Position) -> u64
         requires code { IsCodeIn self.now.start (G.game self.now.rules.game) code.now }
         ensures value { position.new ≡ board_of_code self.now.start code.now }
+        ensures whole { IsPosition position.new }
+        ensures moved { AreMoved code.now result }
     {
-        self.layout.read(code, position);
+        self.layout.read(code, position)
     }
 
     // A walk with no child left, which stands at a class that was reached.
@@ -99,8 +104,8 @@ impl<G: Game + Drop> Positions<G> {
         ensures code { IsCodeOf result.start result.position code.now }
     {
         let position = self.position(code);
-        let table = ColumnTable::new(&position);
-        let shown = self.rules.kind.shown(&position, &table);
+        let lookup = Lookup::new(&self.start, &position);
+        let shown = self.rules.kind.shown(&position, &lookup.table);
         Children {
             rules: ClassRules {
                 game: self.rules.game.copy(),
@@ -113,8 +118,7 @@ impl<G: Game + Drop> Positions<G> {
             shown,
             left: ArrayVec::new(),
             standing: Standing::Here,
-            table,
-            is_laid: true,
+            lookup,
             kept: None,
         }
     }
@@ -132,21 +136,33 @@ impl<G: Game + Drop> Positions<G> {
             × (IsTrue result ↔ (others ≢ [])) }
         ensures later { is_first ≡ false → result ≡ false }
     {
-        self.read(code, &mut walk.position);
+        let moved = self.read(code, &mut walk.position);
         walk.code = *code;
         walk.shown = shown;
-        walk.is_laid = is_first;
         walk.kept = None;
         walk.standing = Standing::Here;
-        lay_if(is_first, &mut walk.table, &walk.position);
+        let is_asked = looks_up(walk.rules.kind, is_first);
+        walk.lookup.lay(is_asked, &walk.position, moved);
         list_moves(
             &self.rules.game,
             &walk.position,
-            &walk.table,
+            &walk.lookup.table,
             shown.note,
             is_first,
             &mut walk.left,
         )
+    }
+}
+
+// Whether a visit looks anything up of columns: by the plain bound only a first one does.
+#[inline(always)]
+fn looks_up(kind: BoundKind, is_first: bool) -> bool
+    ensures first { is_first ≡ true → result ≡ true }
+    ensures clearing { kind ≡ Clearing → result ≡ true }
+{
+    match kind {
+        BoundKind::Plain => is_first,
+        BoundKind::Clearing => true,
     }
 }
 

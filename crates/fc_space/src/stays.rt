@@ -16,7 +16,7 @@ use fc_position::Position;
 
 // Whether the card beneath the playable one of a place is the next of its suit: no other one can go home once that is gone.
 #[inline(always)]
-pub(crate) fn frees_next(position: &Position, from: Place) -> bool
+fn frees_next(position: &Position, from: Place) -> bool
     requires whole { IsPosition position.now }
     requires card { (u : ℕ) × (playable position.now from ≡ Some u) }
     ensures next { (c : ℕ) → playable (lifted position.now from) from ≡ Some c → IsNext position.now.homes c → IsTrue result }

@@ -1,21 +1,19 @@
 //! Which moves a visit lists: at a first one only those that may lead on at no greater number than is asked.
 
-ghost use Rattle.std.specs.Prelude.{◌≡◌, ◌≢◌, ◌↔◌, ◌<◌, ◌≤◌, ◌-◌, ℕ, false, true, IsTrue, List, [], Some};
+ghost use Rattle.std.specs.Prelude.{◌≡◌, ◌≢◌, ◌↔◌, ℕ, false, true, IsTrue, List, [], Some};
 ghost use Rattle.std.specs.Int.{bit_at};
 ghost use Rattle.fc_cards.specs.declared.places.Place.{Place};
-ghost use Rattle.fc_cards.specs.declared.places.Place.TheVariants.{Cell, Column};
-ghost use Rattle.fc_position.specs.Board.{playable};
+ghost use Rattle.fc_cards.specs.Suit.{suit_index};
+ghost use Rattle.fc_position.specs.Board.{IsNext, playable};
 ghost use Rattle.fc_position.specs.Position.{IsPosition};
 ghost use Rattle.fc_moves.specs.declared.steps.Move.{Move};
-ghost use Rattle.fc_bound.specs.Bound.{is_held_back};
 ghost use Rattle.fc_bound.specs.Rows.{IsTableOf};
-ghost use Rattle.fc_space.specs.inner.Idle.{IsIdle, LeavesIdle};
+ghost use Rattle.fc_space.specs.inner.Idle.{IsIdle, IsNextIn, LeavesIdle};
 
-use crate::stays::frees_next;
 use arrayvec::ArrayVec;
 use fc_bound::ColumnTable;
 use fc_canonical::{list_distinct_moves, list_wanted_moves};
-use fc_cards::Place;
+use fc_cards::Suit;
 use fc_moves::{Game, Move};
 use fc_position::Position;
 
@@ -48,40 +46,24 @@ fn wanted_cards(position: &Position, table: &ColumnTable, note: u64) -> u64
     requires table { IsTableOf position.now.columns table.now }
     ensures idle { (from : Place) (u : ℕ) → playable position.now from ≡ Some u → bit_at result u ≡ 0 → IsIdle position.now note from u }
 {
-    let mut wanted = note | table.held();
-    for i in 0..12 {
-        wanted = with_wanted(position, source(i), wanted);
-    }
-    wanted
+    let next = next_cards(position);
+    note | table.held() | next | table.covers(next)
 }
 
-// The columns and then the cells, as places, by number.
-#[inline(always)]
-fn source(i: u8) -> Place
-    requires few { i < 12 }
-    ensures column { i < 8 → result ≡ Column i }
-    ensures cell { 8 ≤ i → result ≡ Cell (i - 8) }
+// The cards that are next in their suits, one bit for each.
+fn next_cards(position: &Position) -> u64
+    ensures value { (c : ℕ) → (bit_at result c ≡ 1) ↔ IsNext position.now.homes c }
 {
-    if i < 8 {
-        Place::Column(i)
-    } else {
-        Place::Cell(i - 8)
-    }
+    next_of(position, Suit::C)
+        | next_of(position, Suit::D)
+        | next_of(position, Suit::H)
+        | next_of(position, Suit::S)
 }
 
-// Adds the playable card of a place to the wanted ones, which have those that are held back, where it isn't idle.
+// The bit of the card of a suit that is next, and one past all cards where the suit is home.
 #[inline(always)]
-fn with_wanted(position: &Position, from: Place, wanted: u64) -> u64
-    requires whole { IsPosition position.now }
-    requires held { (u : ℕ) → bit_at wanted u ≡ 0 → is_held_back position.now u ≡ false }
-    ensures kept { (u : ℕ) → bit_at result u ≡ 0 → bit_at wanted u ≡ 0 }
-    ensures idle { (u : ℕ) → playable position.now from ≡ Some u → bit_at result u ≡ 0 → IsIdle position.now wanted from u }
+fn next_of(position: &Position, suit: Suit) -> u64
+    ensures value { (c : ℕ) → (bit_at result c ≡ 1) ↔ IsNextIn position.now.homes (suit_index suit) c }
 {
-    let Some(card) = position.playable(from) else {
-        return wanted;
-    };
-    if position.is_next(card) || frees_next(position, from) {
-        return wanted | 1 << card.index();
-    }
-    wanted
+    1 << (4 * position.home(suit) + suit.index())
 }

@@ -8,10 +8,13 @@ ghost use Rattle.fc_moves.specs.declared.steps.Move.{Move};
 ghost use Rattle.fc_moves.specs.GameRules.{GameRules, IsPositionOf};
 ghost use Rattle.fc_moves.specs.Step.{Allows, Step};
 ghost use Rattle.fc_home.specs.Settles.{Settles};
+ghost use Rattle.fc_bound.specs.declared.kinds.BoundKind.TheVariants.{Clearing, Plain};
 ghost use Rattle.fc_bound.specs.Kinds.{IsShown};
 ghost use Rattle.fc_bound.specs.Rows.{IsTableOf};
 ghost use Rattle.fc_space.specs.Children.{frame_of, StandsAt};
+ghost use Rattle.fc_space.specs.inner.Lookups.{IsLookupOf};
 
+use crate::lookups::Lookup;
 use crate::positions::{ClassRules, child_by_copy};
 use crate::stays::stays;
 use arrayvec::ArrayVec;
@@ -42,9 +45,8 @@ pub struct Children<G: Game + Drop> {
     pub(crate) shown: Shown,
     pub(crate) left: ArrayVec<Move, 132>,
     pub(crate) standing: Standing,
-    // What is looked up of the position's columns, once it was asked for.
-    pub(crate) table: ColumnTable,
-    pub(crate) is_laid: bool,
+    // What is looked up of the position's columns: by the clearing bound always, by the plain one at a first visit.
+    pub(crate) lookup: Lookup,
     // What is shown of the position without the card of a place, once that was asked for.
     pub(crate) kept: Option<(Place, Shown)>,
 }
@@ -53,11 +55,12 @@ impl<G: Game + Drop> Model for Children<G> {
     ghost use Rattle.std.specs.Prelude.{◌≡◌, true};
     ghost use Rattle.fc_moves.specs.GameRules.{IsPositionOf};
     ghost use Rattle.fc_home.specs.Settles.{NoneGoesHome};
+    ghost use Rattle.fc_bound.specs.declared.kinds.BoundKind.TheVariants.{Clearing};
     ghost use Rattle.fc_bound.specs.Kinds.{IsShown};
-    ghost use Rattle.fc_bound.specs.Rows.{IsTableOf};
     ghost use Rattle.fc_codes.specs.State.{IsCodeOf};
     ghost use Rattle.fc_space.specs.Children.{Left, frame_of, last_move};
     ghost use Rattle.fc_space.specs.inner.Children.{AreAllowed};
+    ghost use Rattle.fc_space.specs.inner.Lookups.{IsLookupOf};
     ghost use Rattle.fc_space.specs.inner.Standing.{IsKept, IsStanding};
 
     ghost Value = { Left G };
@@ -67,7 +70,7 @@ impl<G: Game + Drop> Model for Children<G> {
     ghost invariant = { λ s. IsPositionOf (G.game s.rules.game) s.position × AreAllowed (G.game s.rules.game) s.position s.left.items
         × IsShown s.rules.kind s.position s.shown.number s.shown.note × NoneGoesHome s.rules.rule (G.game s.rules.game) s.position
         × IsCodeOf s.layout s.position s.code × IsStanding (frame_of (G.game s.rules.game) s.rules.rule s.rules.kind s.layout) s.position s.standing
-        × (s.is_laid ≡ true → IsTableOf s.position.columns s.table) × IsKept s.rules.kind s.position s.kept };
+        × (IsLookupOf s.layout s.position s.lookup × (s.rules.kind ≡ Clearing → s.lookup.is_laid ≡ true)) × IsKept s.rules.kind s.position s.kept };
 }
 
 impl<G: Game + Drop> Children<G> {
@@ -117,20 +120,17 @@ impl<G: Game + Drop> Children<G> {
             Standing::Shifted(m) => least_after(
                 self.rules.kind,
                 &self.position,
-                &self.table,
-                self.is_laid,
+                &self.lookup,
                 m,
                 self.shown,
             ),
             Standing::Settled { m, count, .. } => least_after(
                 self.rules.kind,
                 &self.position,
-                &self.table,
-                self.is_laid,
+                &self.lookup,
                 m,
                 self.shown,
-            )
-            .saturating_sub(count),
+            ).saturating_sub(count),
         }
     }
 
@@ -161,7 +161,33 @@ impl<G: Game + Drop> Children<G> {
         ensures shown { (z : Board) → Step (G.game self.old.game) self.old.position m z → IsShown self.old.kind z result.number result.note }
         ensures same { self.new ≡ self.old }
     {
-        if let Some(shown) = self.rules.kind.known_after(&self.position, m, self.shown) {
+        match self.rules.kind {
+            BoundKind::Plain => self.shown_plainly(m),
+            BoundKind::Clearing => self.shown_by_rings(m, most),
+        }
+    }
+
+    // The same by the plain bound, which is always known.
+    fn shown_plainly(&self, m: Move) -> Shown
+        requires allowed { Allows (G.game self.now.game) self.now.position m }
+        requires kind { self.now.kind ≡ Plain }
+        ensures shown { (z : Board) → Step (G.game self.now.game) self.now.position m z → IsShown self.now.kind z result.number result.note }
+    {
+        self.rules
+            .kind
+            .known_after(&self.position, m, self.shown)
+            .unwrap()
+    }
+
+    // The same by the clearing bound.
+    fn shown_by_rings(&mut self, m: Move, most: u8) -> Shown
+        requires allowed { Allows (G.game self.old.game) self.old.position m }
+        requires kind { self.old.kind ≡ Clearing }
+        ensures shown { (z : Board) → Step (G.game self.old.game) self.old.position m z → IsShown self.old.kind z result.number result.note }
+        ensures same { self.new ≡ self.old }
+    {
+        let kind = self.rules.kind;
+        if let Some(shown) = kind.known_by(&self.position, &self.lookup.table, m, self.shown) {
             return shown;
         }
         let kept = self.kept(m.from);
@@ -187,18 +213,17 @@ impl<G: Game + Drop> Children<G> {
 
     // What is shown of the position without the playable card of a place. Looking for it once a place is enough. The walk is as it was.
     fn kept(&mut self, from: Place) -> Shown
+        requires kind { self.old.kind ≡ Clearing }
         ensures kept { IsShown self.old.kind (lifted self.old.position from) result.number result.note }
         ensures same { self.new ≡ self.old }
     {
         if let Some(kept) = self.known_kept(from) {
             return kept;
         }
-        lay(&mut self.table, self.is_laid, &self.position);
-        self.is_laid = true;
         let kept = self
             .rules
             .kind
-            .lifted(&self.position, &self.table, from, self.shown);
+            .lifted(&self.position, &self.lookup.table, from, self.shown);
         self.kept = Some((from, kept));
         kept
     }
@@ -208,26 +233,25 @@ impl<G: Game + Drop> Children<G> {
     fn landed(&mut self, m: Move, kept: Shown, most: u8) -> Shown
         requires allowed { Allows (G.game self.old.game) self.old.position m }
         requires away { m.to ≢ Home }
+        requires kind { self.old.kind ≡ Clearing }
         requires kept { IsShown self.old.kind (lifted self.old.position m.from) kept.number kept.note }
         ensures shown { (z : Board) → Step (G.game self.old.game) self.old.position m z → IsShown self.old.kind z result.number result.note }
         ensures same { self.new ≡ self.old }
     {
-        lay(&mut self.table, self.is_laid, &self.position);
-        self.is_laid = true;
-        self.table.lift(&self.position, m.from);
+        self.lookup.table.lift(&self.position, m.from);
         apply(&self.rules.game, &mut self.position, m);
-        self.table.put(&self.position, m.to);
+        self.lookup.table.put(&self.position, m.to);
         let kind = self.rules.kind;
-        let landed = kind.landed(&self.position, &self.table, m.to, kept, most);
+        let landed = kind.landed(&self.position, &self.lookup.table, m.to, kept, most);
         let has_lost_a_ring = kept.number < self.shown.number && kept.note != self.shown.note;
         let shown = if has_lost_a_ring && landed.number <= most {
-            or_anew(kind, &self.position, &self.table, landed)
+            or_anew(kind, &self.position, &self.lookup.table, landed)
         } else {
             landed
         };
-        self.table.lift(&self.position, m.to);
+        self.lookup.table.lift(&self.position, m.to);
         self.position.shift(m.to, m.from);
-        self.table.put(&self.position, m.from);
+        self.lookup.table.put(&self.position, m.from);
         shown
     }
 }
@@ -247,43 +271,15 @@ fn or_anew(kind: BoundKind, position: &Position, table: &ColumnTable, shown: Sho
     }
 }
 
-// Makes it the table of the position's columns, where it isn't yet.
-#[inline(always)]
-fn lay(table: &mut ColumnTable, is_laid: bool, position: &Position)
-    requires laid { is_laid ≡ true → IsTableOf position.now.columns table.old }
-    ensures table { IsTableOf position.now.columns table.new }
-{
-    if !is_laid {
-        table.lay(position);
-    }
-}
-
-// Makes it the table of the position's columns, where that is asked.
-#[inline(always)]
-pub(crate) fn lay_if(is_asked: bool, table: &mut ColumnTable, position: &Position)
-    ensures table { is_asked ≡ true → IsTableOf position.now.columns table.new }
-{
-    if is_asked {
-        table.lay(position);
-    }
-}
-
 // A number that is plain to see of where a move leads, before cards go home, by the table of the columns where it was laid.
 #[inline(always)]
-fn least_after(
-    kind: BoundKind,
-    position: &Position,
-    table: &ColumnTable,
-    is_laid: bool,
-    m: Move,
-    shown: Shown,
-) -> u8
-    requires laid { is_laid ≡ true → IsTableOf position.now.columns table.now }
+fn least_after(kind: BoundKind, position: &Position, lookup: &Lookup, m: Move, shown: Shown) -> u8
+    requires lookup { (s : Board) × IsLookupOf s position.now lookup.now }
     requires shown { IsShown kind position.now shown.number shown.note }
     ensures least { (g : GameRules) (z : Board) → Step g position.now m z → (number : ℕ) × (note : ℕ) × IsShown kind z number note × (result ≤ number) }
 {
-    if is_laid {
-        kind.least_by(position, table, m, shown)
+    if lookup.is_laid {
+        kind.least_by(position, &lookup.table, m, shown)
     } else {
         kind.least_after(position, m, shown)
     }

@@ -1,6 +1,7 @@
 -- The cards of which a first visit leaves the moves out, within the crate.
 use Rattle.std.specs.Prelude.{◌≡◌, ℕ, false, Some, List, ◌++◌, Contains}
 use Rattle.std.specs.Int.{bit_at}
+use Rattle.fc_cards.specs.Card.{suit}
 use Rattle.fc_cards.specs.declared.places.Place.{Place}
 use Rattle.fc_position.specs.Board.{Board, IsNext, lifted, playable}
 use Rattle.fc_moves.specs.declared.steps.Move.{Move}
@@ -8,6 +9,10 @@ use Rattle.fc_moves.specs.GameRules.{GameRules}
 use Rattle.fc_moves.specs.Class.{SameClass}
 use Rattle.fc_moves.specs.Step.{Allows, Step}
 use Rattle.fc_bound.specs.Bound.{is_held_back}
+
+-- the card is of this suit, and next in it
+abbrev pub IsNextIn : List ℕ → ℕ → ℕ → Type 0
+IsNextIn homes s c = IsNext homes c × (suit c ≡ s)
 
 -- a playable card is idle: it isn't next in its suit, lies above no lower card of its suit, isn't noted, and lies on no card that is
 -- next in its suit

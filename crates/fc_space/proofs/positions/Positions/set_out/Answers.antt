@@ -1,7 +1,5 @@
 use Rattle.std.proofs.Common.{◌≡◌, reverse, sym, subst, ap, ◌∙◌}
 use Rattle.std.proofs.lemmas.List.Elements.{Contains-append_right}
-use Rattle.fc_position.specs.Board.{Board}
-use Rattle.fc_position.specs.Position.{IsPosition}
 use Rattle.fc_moves.specs.GameRules.{IsPositionOf}
 use Rattle.fc_codes.specs.Spelled.{board_of_code}
 use Rattle.fc_codes.specs.State.{IsCodeOf}
@@ -12,25 +10,49 @@ use Rattle.fc_space.specs.inner.Children.{AreAllowed}
 use Rattle.fc_space.specs.inner.Idle.{LeavesIdle}
 use Rattle.fc_space.proofs.ChildLemmas.{IsFrame, reached_code}
 use Rattle.fc_space.proofs.IdleLemmas.{children_but}
+use Rattle.fc_space.proofs.LookupLemmas.{moved_now}
 use Rattle.fc_space.proofs.StayLemmas.{none_goes}
 use Rattle.fc_space.proofs.positions.Positions.set_out.Goals as goal
 
-pub read-requires : goal.read-requires
-read-requires g c =
+pub read-moved-requires : goal.read-moved-requires
+read-moved-requires g c =
     let own = c.args.self.now in
     let w = frame_of (g.G.Game.game own.rules.game) own.rules.rule own.rules.kind own.start in
     let f : IsFrame w = record { sound = g.met.G.Game.sound own.rules.game; fits = own.fits } in
     record { code = (reached_code w c.args.code.now c.requires.reached.0 f c.requires.reached.1).0 }
+
+pub lay-requires : goal.lay-requires
+lay-requires g c =
+    let own = c.args.self.now in
+    let w = frame_of (g.G.Game.game own.rules.game) own.rules.rule own.rules.kind own.start in
+    let f : IsFrame w = record { sound = g.met.G.Game.sound own.rules.game; fits = own.fits } in
+    let inner = c.walk.inside in
+    let start : inner.layout ≡ own.start = ap (λ u. u.start) (c.walk.view_is) ∙ ap (λ (u : Frame). u.start) c.requires.owned in
+    let valid = (reached_code w c.args.code.now c.requires.reached.0 f c.requires.reached.1).0 in
+    record {
+      next = (
+        inner.layout,
+        inner.position,
+        c.walk.invariant.6.0,
+        moved_now inner.layout own.start c.read-moved.new.position (board_of_code own.start c.args.code.now) c.args.code.now c.read-moved.result start
+            c.read-moved.ensures.value c.walk.invariant.6.0.whole c.read-moved.ensures.whole valid.coded c.read-moved.ensures.moved,
+      );
+    }
 
 pub list_moves-requires : goal.list_moves-requires
 list_moves-requires g c =
     let own = c.args.self.now in
     let w = frame_of (g.G.Game.game own.rules.game) own.rules.rule own.rules.kind own.start in
     let f : IsFrame w = record { sound = g.met.G.Game.sound own.rules.game; fits = own.fits } in
+    let inner = c.walk.inside in
+    let start : inner.layout ≡ own.start = ap (λ u. u.start) (c.walk.view_is) ∙ ap (λ (u : Frame). u.start) c.requires.owned in
     let valid = (reached_code w c.args.code.now c.requires.reached.0 f c.requires.reached.1).0 in
+    let moved = moved_now inner.layout own.start c.read-moved.new.position (board_of_code own.start c.args.code.now) c.args.code.now c.read-moved.result start
+    c.read-moved.ensures.value c.walk.invariant.6.0.whole c.read-moved.ensures.whole valid.coded c.read-moved.ensures.moved in
     record {
-      whole = subst (λ (b : Board). IsPosition b) (sym c.read.ensures.value) valid.position.position;
-      table = c.lay_if.ensures.table;
+      whole = c.read-moved.ensures.whole;
+      table = λ first. (c.lay.ensures.lookup inner.layout inner.position c.walk.invariant.6.0 moved).table
+          (c.lay.ensures.laid ∙ c.looks_up-is_asked.ensures.first first);
     }
 
 pub invariant_of-walk : goal.invariant_of-walk
@@ -42,12 +64,12 @@ invariant_of-walk g c =
     let v = frame_of (g.G.Game.game inner.rules.game) inner.rules.rule inner.rules.kind inner.layout in
     let here : v ≡ w = ap (λ u. frame_of (g.G.Game.game u.game) u.rule u.kind u.start) c.walk.view_is ∙ c.requires.owned in
     let x = c.args.code.now in
-    let p = c.read.new.position in
+    let p = c.read-moved.new.position in
     let moves = c.list_moves.new.list.items in
     let lists = c.list_moves.ensures.lists in
     let reached = reached_code w x c.requires.reached.0 f c.requires.reached.1 in
     let valid = reached.0 in
-    let same = sym c.read.ensures.value in
+    let same = sym c.read-moved.ensures.value in
     let kept =
     subst (λ (u : Frame). IsPositionOf u.game p × AreAllowed u.game p moves × IsShown u.kind p c.args.shown.number c.args.shown.note × NoneGoesHome u.rule u.game p
     × IsCodeOf u.start p x) (sym here) (
@@ -57,7 +79,18 @@ invariant_of-walk g c =
       subst (NoneGoesHome w.rule w.game) same (none_goes w.rule w.game (board_of_code w.start x) reached.1),
       subst (λ b. IsCodeOf w.start b x) same valid.coded,
     ) in
-    (kept.0, kept.1, kept.2, kept.3, kept.4, tt, c.lay_if.ensures.table, tt)
+    let start : inner.layout ≡ own.start = ap (λ (u : Frame). u.start) here in
+    let moved = moved_now inner.layout own.start p (board_of_code own.start x) x c.read-moved.result start
+    c.read-moved.ensures.value c.walk.invariant.6.0.whole c.read-moved.ensures.whole valid.coded c.read-moved.ensures.moved in (
+      kept.0,
+      kept.1,
+      kept.2,
+      kept.3,
+      kept.4,
+      tt,
+      (c.lay.ensures.lookup inner.layout inner.position c.walk.invariant.6.0 moved, λ kind. c.lay.ensures.laid ∙ c.looks_up-is_asked.ensures.clearing kind),
+      tt,
+    )
 
 pub returns : goal.returns
 returns g c =
@@ -68,12 +101,12 @@ returns g c =
     let v = frame_of (g.G.Game.game inner.rules.game) inner.rules.rule inner.rules.kind inner.layout in
     let here : v ≡ w = ap (λ u. frame_of (g.G.Game.game u.game) u.rule u.kind u.start) c.walk.view_is ∙ c.requires.owned in
     let x = c.args.code.now in
-    let p = c.read.new.position in
+    let p = c.read-moved.new.position in
     let moves = c.list_moves.new.list.items in
     let lists = c.list_moves.ensures.lists in
     let reached = reached_code w x c.requires.reached.0 f c.requires.reached.1 in
     let valid = reached.0 in
-    let same = c.read.ensures.value in
+    let same = c.read-moved.ensures.value in
     let all = children_but w x c.args.shown.number c.args.shown.note lists.0 moves c.list_moves.result in
     record {
       owned = here;

@@ -5,6 +5,7 @@ use Rattle.fc_codes.specs.Spelled.{board_of_code}
 use Rattle.fc_codes.specs.State.{IsCodeOf}
 use Rattle.fc_home.specs.Settles.{NoneGoesHome}
 use Rattle.fc_space.specs.Children.{frame_of}
+use Rattle.fc_space.specs.inner.Lookups.{IsLookupOf}
 use Rattle.fc_space.proofs.ChildLemmas.{IsFrame, reached_code}
 use Rattle.fc_space.proofs.StayLemmas.{none_goes}
 use Rattle.fc_space.proofs.positions.Positions.walk.Goals as goal
@@ -35,7 +36,7 @@ invariant_of-result g c =
       subst (λ r. NoneGoesHome own.rules.rule r c.position-position.result) (sym c.copy.ensures.value) settled,
       subst (λ s. IsCodeOf s c.position-position.result x) start coded,
       tt,
-      λ _. c.new-table.ensures.table,
+      (subst (λ s. IsLookupOf s c.position-position.result c.new-lookup.result) start c.new-lookup.ensures.lookup, λ _. c.new-lookup.ensures.laid),
       tt,
     )
 

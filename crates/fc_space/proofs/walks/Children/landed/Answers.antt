@@ -10,6 +10,7 @@ use Rattle.fc_bound.proofs.FamilyAfter.{lifted_there}
 use Rattle.fc_codes.specs.State.{IsCodeOf}
 use Rattle.fc_space.specs.Children.{Left, frame_of, last_move}
 use Rattle.fc_space.specs.inner.Standing.{IsKept, IsStanding}
+use Rattle.fc_space.proofs.LookupLemmas.{still_laid}
 use Rattle.fc_space.proofs.TableLemmas.{columns_lifted}
 use Rattle.fc_space.proofs.walks.Children.landed.Goals as goal
 
@@ -59,7 +60,11 @@ invariant_of-self g c =
       subst (NoneGoesHome inner.rules.rule rules) same c.self.invariant.3,
       subst (λ b. IsCodeOf inner.layout b inner.code) same c.self.invariant.4,
       subst (λ b. IsStanding (frame_of rules inner.rules.rule inner.rules.kind inner.layout) b inner.standing) same c.self.invariant.5,
-      λ _. c.put-2.ensures.table,
+      (
+        still_laid inner.layout inner.position c.shift.new.self inner.lookup c.put-2.new.self same c.self.invariant.6.0
+            (c.self.invariant.6.1 (ap (λ v. v.kind) c.self.view_is ∙ c.requires.kind)) c.put-2.ensures.table,
+        c.self.invariant.6.1,
+      ),
       subst (λ b. IsKept inner.rules.kind b inner.kept) same c.self.invariant.7,
     )
 

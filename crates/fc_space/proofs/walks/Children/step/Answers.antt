@@ -1,13 +1,13 @@
-use Rattle.std.proofs.Common.{◌≡◌, ◌+◌, ℕ, true, arith, sym, subst}
+use Rattle.std.proofs.Common.{◌≡◌, ◌+◌, ℕ, arith, sym, subst}
 use Rattle.fc_position.specs.Board.{Board}
 use Rattle.fc_moves.specs.GameRules.{IsPositionOf}
 use Rattle.fc_moves.specs.Step.{Allows, Step}
 use Rattle.fc_home.specs.Settles.{NoneGoesHome, Settles}
 use Rattle.fc_bound.specs.Kinds.{IsShown}
-use Rattle.fc_bound.specs.Rows.{IsTableOf}
 use Rattle.fc_codes.specs.State.{IsCodeOf}
 use Rattle.fc_space.specs.Children.{frame_of, IsChildOf}
 use Rattle.fc_space.specs.inner.Codes.{IsCodeAfter}
+use Rattle.fc_space.specs.inner.Lookups.{IsLookupOf}
 use Rattle.fc_space.specs.inner.Standing.{IsKept, StaysSettled}
 use Rattle.fc_space.proofs.WalkLemmas.{child_count, shift_count}
 use Rattle.fc_space.proofs.WayLemmas.{code_moved}
@@ -26,7 +26,7 @@ invariant_of-self g c =
       subst (NoneGoesHome inner.rules.rule rules) same c.self.invariant.3,
       subst (λ b. IsCodeOf inner.layout b inner.code) same c.self.invariant.4,
       (subst (λ b. Allows rules b c.args.m) same allowed, subst (λ b. StaysSettled inner.rules.rule rules b c.args.m) same (c.stays.ensures.stays c.if-stays.true)),
-      subst (λ b. inner.is_laid ≡ true → IsTableOf b.columns inner.table) same c.self.invariant.6,
+      (subst (λ b. IsLookupOf inner.layout b inner.lookup) same c.self.invariant.6.0, c.self.invariant.6.1),
       subst (λ b. IsKept inner.rules.kind b inner.kept) same c.self.invariant.7,
     )
 
@@ -65,7 +65,7 @@ invariant_of-self-2 g c =
       subst (NoneGoesHome inner.rules.rule rules) same c.self.invariant.3,
       subst (λ b. IsCodeOf inner.layout b inner.code) same c.self.invariant.4,
       after_move g now.After-child_by_copy-code,
-      subst (λ b. inner.is_laid ≡ true → IsTableOf b.columns inner.table) same c.self.invariant.6,
+      (subst (λ b. IsLookupOf inner.layout b inner.lookup) same c.self.invariant.6.0, c.self.invariant.6.1),
       subst (λ b. IsKept inner.rules.kind b inner.kept) same c.self.invariant.7,
     )
 

@@ -4,7 +4,7 @@ use Rattle.fc_moves.specs.GameRules.{IsPositionOf}
 use Rattle.fc_moves.specs.Step.{Step}
 use Rattle.fc_bound.specs.Kinds.{IsShown}
 use Rattle.fc_bound.proofs.RingLaws.{home_shows}
-use Rattle.fc_space.proofs.walks.Children.shown_after.Goals as goal
+use Rattle.fc_space.proofs.walks.Children.shown_by_rings.Goals as goal
 
 pub returns-in-Some-clause-shown : goal.returns-in-Some-clause-shown
 returns-in-Some-clause-shown g c =
