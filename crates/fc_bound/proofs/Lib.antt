@@ -7,6 +7,7 @@ pub mod ClearingSteps
 pub mod ClearingTied
 pub mod CountLemmas
 pub mod LeftLemmas
+pub mod LiftedLemmas
 pub mod LooseLemmas
 pub mod LowKept
 pub mod LowLemmas

@@ -5,11 +5,13 @@ ghost use Rattle.fc_position.specs.Position.{IsPosition};
 ghost use Rattle.fc_moves.specs.GameRules.{GameRules};
 ghost use Rattle.fc_moves.specs.Step.{Step};
 ghost use Rattle.fc_bound.specs.Kinds.{guide_of, low_of};
+ghost use Rattle.fc_bound.specs.Rows.{IsTableOf};
 
 use crate::bounds::{GREATEST_BOUND, bound};
 use crate::clearing::clearing_bound;
 use crate::fares::{bound_after, knots_after};
-use crate::knots::{knot_bound, knot_bound_within};
+use crate::knots::{knot_bound, knot_bound_by, knot_bound_within};
+use crate::rows::ColumnTable;
 use fc_moves::Move;
 use fc_position::Position;
 
@@ -50,6 +52,21 @@ impl BoundKind {
         match self {
             BoundKind::Plain => bound(position),
             BoundKind::Clearing => knot_bound_within(position, most),
+        }
+    }
+
+    /// The same by the table of the position's columns.
+    #[inline]
+    pub fn guide_by(self, position: &Position, table: &ColumnTable, most: u8) -> u8
+        requires table { IsTableOf position.now.columns table.now }
+        ensures lower { result ≤ guide_of self position.now }
+        ensures exact { result ≤ most → result ≡ guide_of self position.now }
+        ensures greatest { result ≤ GREATEST_BOUND }
+        ensures whole { IsPosition position.now }
+    {
+        match self {
+            BoundKind::Plain => bound(position),
+            BoundKind::Clearing => knot_bound_by(position, table, most),
         }
     }
 

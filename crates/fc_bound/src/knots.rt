@@ -1,13 +1,16 @@
-ghost use Rattle.std.specs.Prelude.{◌≡◌, ◌+◌, ◌≤◌, false};
+ghost use Rattle.std.specs.Prelude.{◌≡◌, ◌+◌, ◌≤◌, false, count_by};
 ghost use Rattle.std.specs.List.{list_any};
+ghost use Rattle.fc_cards.specs.Card.{all_cards};
 ghost use Rattle.fc_position.specs.Position.{IsPosition};
+ghost use Rattle.fc_bound.specs.Bound.{is_away};
 ghost use Rattle.fc_bound.specs.Clearing.{cards_in};
 ghost use Rattle.fc_bound.specs.Knots.{is_loose, knot_count, knot_bound};
+ghost use Rattle.fc_bound.specs.Rows.{IsTableOf};
 ghost use Rattle.fc_bound.specs.inner.Rows.{AreLow, waiting_in};
 
 use crate::bounds::{GREATEST_BOUND, away};
 use crate::columns::Left;
-use crate::rows::{blank, fill};
+use crate::rows::ColumnTable;
 use fc_position::Position;
 
 // Takes out loose cards, one at a time, until no card is loose: the bits of the cards that wait for none afterwards, by those before.
@@ -84,8 +87,35 @@ pub(crate) fn knot_bound_within(position: &Position, most: u8) -> u8
     if most < away {
         return away;
     }
-    let mut rows = blank();
-    let marks = fill(&mut rows, position);
-    let mut left = Left::new(position, &rows, marks);
+    with_knots(position, &ColumnTable::new(position), away, most)
+}
+
+// The same by the table of the position's columns.
+pub(crate) fn knot_bound_by(position: &Position, table: &ColumnTable, most: u8) -> u8
+    requires table { IsTableOf position.now.columns table.now }
+    ensures lower { result ≤ knot_bound position.now }
+    ensures exact { result ≤ most → result ≡ knot_bound position.now }
+    ensures greatest { result ≤ GREATEST_BOUND }
+    ensures whole { IsPosition position.now }
+{
+    let away = away(position);
+    if most < away {
+        return away;
+    }
+    with_knots(position, table, away, most)
+}
+
+// The same where the cards that are not home are counted already, and no more than are asked about.
+#[inline(always)]
+fn with_knots(position: &Position, table: &ColumnTable, away: u8, most: u8) -> u8
+    requires table { IsTableOf position.now.columns table.now }
+    requires whole { IsPosition position.now }
+    requires away { away ≡ count_by (is_away position.now) all_cards }
+    requires within { away ≤ most }
+    ensures lower { result ≤ knot_bound position.now }
+    ensures exact { result ≤ most → result ≡ knot_bound position.now }
+    ensures greatest { result ≤ GREATEST_BOUND }
+{
+    let mut left = Left::new(position, &table.rows, table.marks);
     away + knots_within(&mut left, most - away)
 }

@@ -3,7 +3,6 @@ mod IdleLemmas
 mod LookupLemmas
 mod SentLemmas
 mod StayLemmas
-mod TableLemmas
 mod WantedLemmas
 mod WonLemmas
 mod WalkLemmas

@@ -7,11 +7,11 @@ use Rattle.fc_home.specs.Settles.{NoneGoesHome}
 use Rattle.fc_bound.specs.Kinds.{IsShown}
 use Rattle.fc_bound.specs.Rows.{IsTableOf}
 use Rattle.fc_bound.proofs.FamilyAfter.{lifted_there}
+use Rattle.fc_bound.proofs.LiftedLemmas.{columns_lifted}
 use Rattle.fc_codes.specs.State.{IsCodeOf}
 use Rattle.fc_space.specs.Children.{Left, frame_of, last_move}
 use Rattle.fc_space.specs.inner.Standing.{IsKept, IsStanding}
 use Rattle.fc_space.proofs.LookupLemmas.{still_laid}
-use Rattle.fc_space.proofs.TableLemmas.{columns_lifted}
 use Rattle.fc_space.proofs.walks.Children.landed.Goals as goal
 
 pub put-requires : goal.put-requires
