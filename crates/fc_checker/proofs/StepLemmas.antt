@@ -58,6 +58,11 @@ module _ (g : GameRules) (c : Content) where
     λ all. test.1 (all y step),
   )
 
+  -- so it is enough to look at where that board settles to
+  pub step_told : (x y z : Board) (m : Move) (d k : ℕ) (t : Bool) → IsPosition y → Step g x m y → Settles g c.head.rule y k z
+      → IsTrue t ↔ Holds c (level c) z (d + 1 + k) → IsTrue t ↔ StepHolds g c x d m
+  step_told x y z m d k t position step settles test = led_once x y m d t step (settled_once y z k (d + 1) t position settles test)
+
   -- of the moves to one class one is enough
   pub one_each : (x : Board) (d : ℕ) (moves : List Move) → ListsClasses g x moves
       → ((m : Move) → Contains moves m → StepHolds g c x d m) → (m : Move) → StepHolds g c x d m

@@ -14,7 +14,9 @@ ghost use Rattle.fc_checker.specs.Check.{IsCheckFault, IsOfGame, MovesHold, Reco
 ghost use Rattle.fc_checker.specs.inner.Steps.{IsFaultOf, IsFaultOfMoves, IsFaultOfRecords, IsProof, claim_of};
 
 use crate::faults::CheckFault;
-use crate::steps::{Near, Parent, is_far, level, settled_holds, steps_hold};
+use crate::lookups::Lookup;
+use crate::steps::{Near, Parent, is_far, level, start_holds, steps_hold};
+use fc_bound::GREATEST_BOUND;
 use fc_canonical::position_of;
 use fc_cert::{CertFault, Certificate, Claim, Kind, LONGEST_CERTIFICATE};
 use fc_moves::{Game, allows, apply};
@@ -65,8 +67,7 @@ fn check_content<G: Game>(
         return Err(CheckFault::OtherGame);
     }
     check_moves(game, certificate, position)?;
-    let (holds, _sent) = settled_holds(game, certificate, &mut start, 0, false);
-    if !holds {
+    if !start_holds(game, certificate, &mut start) {
         return Err(CheckFault::StartOpen);
     }
     check_records(game, certificate)
@@ -194,8 +195,12 @@ fn record_steps_hold<G: Game>(
     match level(certificate) {
         Some(level) => steps_hold_below(game, certificate, level, position, key, cost),
         None => {
-            let near = None;
-            steps_hold(game, certificate, position, &Parent { key, cost, near })
+            let parent = Parent {
+                key,
+                cost,
+                near: None,
+            };
+            steps_hold(game, certificate, position, &mut Lookup::Nothing, &parent)
         }
     }
 }
@@ -216,13 +221,16 @@ fn steps_hold_below<G: Game>(
     ensures value { position.old ≡ spelled key.now
         → (IsTrue result ↔ StepsHold (G.game game.now) certificate.now (level_of certificate.now) (key.now, cost)) }
 {
-    let guide = certificate.head().bound.guide(position);
+    let kind = certificate.head().bound;
+    let mut lookup = Lookup::new(kind, position);
+    let guide = lookup.guide_within(kind, position, GREATEST_BOUND);
     if u64::from(level) <= u64::from(cost) + u64::from(guide) {
         return true;
     }
     let near = Some(Near { level, guide });
-    if steps_hold(game, certificate, position, &Parent { key, cost, near }) {
+    let parent = Parent { key, cost, near };
+    if steps_hold(game, certificate, position, &mut lookup, &parent) {
         return true;
     }
-    is_far(certificate, level, position, u64::from(cost))
+    is_far(certificate, level, position, &lookup, u64::from(cost))
 }

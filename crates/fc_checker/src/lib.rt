@@ -8,4 +8,5 @@ pub use fc_cert::Claim;
 mod checks;
 mod faults;
 pub mod laws;
+mod lookups;
 mod steps;

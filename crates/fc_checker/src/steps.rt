@@ -11,8 +11,10 @@ ghost use Rattle.fc_bound.specs.Kinds.{guide_of, low_of};
 ghost use Rattle.fc_tables.specs.Table.{Covered, Lists, ListsClass, as_boards};
 ghost use Rattle.fc_cert.specs.Content.{IsContent};
 ghost use Rattle.fc_checker.specs.Check.{Holds, level as level_of};
+ghost use Rattle.fc_checker.specs.inner.Lookups.{IsLookupOf};
 ghost use Rattle.fc_checker.specs.inner.Steps.{IsKnownNear, SettledHolds, StepHolds};
 
+use crate::lookups::Lookup;
 use arrayvec::ArrayVec;
 use fc_bound::{BoundKind, GREATEST_BOUND, is_held_back};
 use fc_canonical::{key, list_distinct_moves, position_of};
@@ -52,17 +54,31 @@ pub(crate) fn level(certificate: &Certificate) -> Option<u32>
 
 // Whether so many moves and the bound of the position to which they lead reach the level. The bound itself, which may take
 // long to count, is asked last.
-pub(crate) fn is_far(certificate: &Certificate, level: u32, position: &Position, moves: u64) -> bool
+pub(crate) fn is_far(
+    certificate: &Certificate,
+    level: u32,
+    position: &Position,
+    lookup: &Lookup,
+    moves: u64,
+) -> bool
+    requires lookup { IsLookupOf position.now lookup.now }
     requires few { moves < 2 ^ 33 }
     ensures value { IsTrue result ↔ level ≤ moves + low_of certificate.now.head.bound position.now }
 {
-    is_seen_far(certificate, level, position, moves)
+    is_seen_far(certificate, level, position, lookup, moves)
         || u64::from(level) <= moves + u64::from(certificate.head().bound.low(position))
 }
 
 // The same by the guide, which is counted quickly and nowhere greater: where that is enough, they do.
 // It is counted no further than asked.
-fn is_seen_far(certificate: &Certificate, level: u32, position: &Position, moves: u64) -> bool
+fn is_seen_far(
+    certificate: &Certificate,
+    level: u32,
+    position: &Position,
+    lookup: &Lookup,
+    moves: u64,
+) -> bool
+    requires lookup { IsLookupOf position.now lookup.now }
     requires few { moves < 2 ^ 33 }
     ensures seen { IsTrue result → level ≤ moves + low_of certificate.now.head.bound position.now }
     ensures value { IsTrue result ↔ level ≤ moves + guide_of certificate.now.head.bound position.now }
@@ -71,7 +87,7 @@ fn is_seen_far(certificate: &Certificate, level: u32, position: &Position, moves
         return true;
     };
     let most = most.min(u64::from(GREATEST_BOUND)) as u8;
-    most < certificate.head().bound.guide_within(position, most)
+    most < lookup.guide_within(certificate.head().bound, position, most)
 }
 
 // The cost at which the position's class is listed, `None` where it isn't.
@@ -108,50 +124,51 @@ fn is_covered(
     certificate: &Certificate,
     level: u32,
     position: &Position,
+    lookup: &Lookup,
     moves: u64,
     looks_far: bool,
 ) -> bool
     requires content { IsContent certificate.now }
+    requires lookup { IsLookupOf position.now lookup.now }
     requires few { moves < 2 ^ 33 }
     ensures value { IsTrue result ↔ Covered (low_of certificate.now.head.bound) level (as_boards certificate.now.rows) position.now moves }
 {
-    (looks_far && is_seen_far(certificate, level, position, moves))
+    (looks_far && is_seen_far(certificate, level, position, lookup, moves))
         || is_listed_within(certificate, position, moves)
-        || is_far(certificate, level, position, moves)
+        || is_far(certificate, level, position, lookup, moves)
 }
 
 // Whether the position, to which so many moves lead, is covered, or where no list is to win, listed.
-fn holds(certificate: &Certificate, position: &Position, moves: u64, looks_far: bool) -> bool
+fn holds(
+    certificate: &Certificate,
+    position: &Position,
+    lookup: &Lookup,
+    moves: u64,
+    looks_far: bool,
+) -> bool
     requires content { IsContent certificate.now }
+    requires lookup { IsLookupOf position.now lookup.now }
     requires few { moves < 2 ^ 33 }
     ensures value { IsTrue result ↔ Holds certificate.now (level_of certificate.now) position.now moves }
 {
     match level(certificate) {
-        Some(level) => is_covered(certificate, level, position, moves, looks_far),
+        Some(level) => is_covered(certificate, level, position, lookup, moves, looks_far),
         None => is_listed(certificate, position),
     }
 }
 
-// Settles the position, to which so many moves lead: whether it holds then, and how many cards went home. It may look far
-// before, which says no more than in what order that is asked.
-pub(crate) fn settled_holds<G: Game>(
+// Whether the start holds, once settled: the position is.
+pub(crate) fn start_holds<G: Game>(
     game: &G,
     certificate: &Certificate,
     position: &mut Position,
-    moves: u64,
-    looks_far: bool,
-) -> (bool, usize)
+) -> bool
     requires content { IsContent certificate.now }
     requires whole { IsPosition position.old }
-    requires few { moves ≤ 2 ^ 32 }
-    ensures value { IsTrue result.0 ↔ SettledHolds (G.game game.now) certificate.now position.old moves }
-    ensures still { result.1 ≡ 0 → position.new ≡ position.old }
-    ensures whole { IsPosition position.new }
+    ensures value { IsTrue result ↔ SettledHolds (G.game game.now) certificate.now position.old 0 }
 {
-    let settling = settle(game, position, certificate.rule());
-    let count = settling.len();
-    let holds = holds(certificate, position, moves + count as u64, looks_far);
-    (holds, count)
+    let count = settle(game, position, certificate.rule()).len();
+    holds(certificate, position, &Lookup::Nothing, count as u64, false)
 }
 
 // What the bound of where a step leads that takes no card home is no less than, where that is plain to see of its card, by the
@@ -199,35 +216,46 @@ fn looks_far(position: &Position, parent: &Parent<'_>, m: Move) -> bool {
     }
 }
 
-// Whether where the move leads holds, once settled. The position is made as it was: the card is moved back, or where cards
-// went home, the position read again from the key that spells it.
+// Whether where the move leads holds, once settled. The position is made as it was, and what is looked up of it: the card is moved
+// back, or where cards went home, the position read again from the key that spells it.
 fn step_holds<G: Game>(
     game: &G,
     certificate: &Certificate,
     position: &mut Position,
+    lookup: &mut Lookup,
     parent: &Parent<'_>,
     m: Move,
 ) -> bool
     requires content { IsContent certificate.now }
     requires whole { IsPosition position.old }
+    requires lookup { IsLookupOf position.old lookup.old }
     requires key { BeginsWithBoard parent.now.key.now position.old }
     requires near { IsKnownNear certificate.now position.old parent.now.near }
     requires allowed { Allows (G.game game.now) position.old m }
     ensures value { IsTrue result ↔ StepHolds (G.game game.now) certificate.now position.old parent.now.cost m }
     ensures same { position.new ≡ position.old }
+    ensures lookup { IsLookupOf position.new lookup.new }
 {
     if is_step_far(certificate, position, parent, m) {
         return true;
     }
     let looks_far = looks_far(position, parent, m);
-    apply(game, position, m);
     let moves = u64::from(parent.cost) + 1;
-    let (holds, sent) = settled_holds(game, certificate, position, moves, looks_far);
+    lookup.lift(position, m.from);
+    apply(game, position, m);
+    let sent = settle(game, position, certificate.rule()).len();
     if sent == 0 && m.to != Place::Home {
+        lookup.put(position, m.to);
+        let holds = holds(certificate, position, lookup, moves, looks_far);
+        lookup.lift(position, m.to);
         position.shift(m.to, m.from);
-    } else {
-        *position = position_of(parent.key);
+        lookup.put(position, m.from);
+        return holds;
     }
+    let moves = moves + sent as u64;
+    let holds = holds(certificate, position, &Lookup::Nothing, moves, looks_far);
+    *position = position_of(parent.key);
+    lookup.put(position, m.from);
     holds
 }
 
@@ -236,19 +264,22 @@ pub(crate) fn steps_hold<G: Game>(
     game: &G,
     certificate: &Certificate,
     position: &mut Position,
+    lookup: &mut Lookup,
     parent: &Parent<'_>,
 ) -> bool
     requires content { IsContent certificate.now }
     requires whole { IsPosition position.old }
+    requires lookup { IsLookupOf position.old lookup.old }
     requires key { BeginsWithBoard parent.now.key.now position.old }
     requires near { IsKnownNear certificate.now position.old parent.now.near }
     ensures value { IsTrue result ↔ ((m : Move) → StepHolds (G.game game.now) certificate.now position.old parent.now.cost m) }
     ensures same { position.new ≡ position.old }
+    ensures lookup { IsLookupOf position.new lookup.new }
 {
     let mut moves = ArrayVec::new();
     list_distinct_moves(game, position, &mut moves);
     for m in moves.as_slice() {
-        if !step_holds(game, certificate, position, parent, *m) {
+        if !step_holds(game, certificate, position, lookup, parent, *m) {
             return false;
         }
     }

@@ -15,13 +15,13 @@ returns-in_err-check_moves-clause-fault g c =
       λ bytes spells. c.in_err-check_moves.ensures.fault.1 bytes (record { spelled = spells; game = of }),
     )
 
-pub returns-then-not-holds-clause-fault : goal.returns-then-not-holds-clause-fault
-returns-then-not-holds-clause-fault g c =
+pub returns-then-not-start_holds-clause-fault : goal.returns-then-not-start_holds-clause-fault
+returns-then-not-start_holds-clause-fault g c =
     let rules = g.G.Game.game c.args.game.now in
     let content = c.args.certificate.now in
     let of = c.is_of_game.ensures.value.0 c.if-not-is_of_game.false in
     let wrong = subst (λ b. SettledHolds rules content b 0 → ⊥) c.copy-start.ensures.value
-    (refuted c.settled_holds-holds.result.0 c.settled_holds-holds.ensures.value c.if-not-holds.true) in (
+    (refuted c.start_holds.result c.start_holds.ensures.value c.if-not-start_holds.true) in (
       λ e. cc,
       λ bytes spells. (
         content,
@@ -36,7 +36,7 @@ returns-clause-proof g c =
     let rules = g.G.Game.game c.args.game.now in
     let content = c.args.certificate.now in
     let holds = subst (λ b. SettledHolds rules content b 0) c.copy-start.ensures.value
-    (c.settled_holds-holds.ensures.value.0 c.if-not-holds.false) in
+    (c.start_holds.ensures.value.0 c.if-not-start_holds.false) in
     on_ok_weaker c.check_records.result
     (λ records. record {
       game = c.is_of_game.ensures.value.0 c.if-not-is_of_game.false;
@@ -51,7 +51,7 @@ returns-clause-fault g c =
     let content = c.args.certificate.now in
     let of = c.is_of_game.ensures.value.0 c.if-not-is_of_game.false in
     let holds = subst (λ b. SettledHolds rules content b 0) c.copy-start.ensures.value
-    (c.settled_holds-holds.ensures.value.0 c.if-not-holds.false) in
+    (c.start_holds.ensures.value.0 c.if-not-start_holds.false) in
     IfErr-weaker c.check_records.result (IsFaultOfRecords rules content) (IsFaultOf rules c.args.position.now content)
     (λ fault is. (
       is.0,

@@ -9,8 +9,9 @@ pub returns-then-from : goal.returns-then-from
 returns-then-from g c =
     let content = c.args.certificate.now in
     let x = c.args.position.now in
-    let guide : c.guide-guide.result ≡ guide_of content.head.bound x = c.guide-guide.ensures.value ∙ ap (λ h. guide_of h.bound x) c.head.ensures.value in
-    let under = guides_under content.head.bound x c.guide-guide.ensures.whole in
+    let guide : c.guide_within-guide.result ≡ guide_of content.head.bound x =
+    c.guide_within-guide.ensures.exact c.guide_within-guide.ensures.greatest ∙ ap (λ h. guide_of h.bound x) c.head-kind.ensures.value in
+    let under = guides_under content.head.bound x c.guide_within-guide.ensures.whole in
     let far : c.args.level ≤ c.args.cost + low_of content.head.bound x = omega (arith, guide, under) in
     record {
       value = λ same. (

@@ -42,6 +42,7 @@ loop-m-preserved g c =
     c.loop-m.invariant.same c.step_holds.ensures.value in
     record {
       same = c.step_holds.ensures.same ∙ c.loop-m.invariant.same;
+      looked = c.step_holds.ensures.lookup;
       held = one_more c.as_slice-m-items.result.now c.loop-m.m-index d
           (StepHolds (g.G.Game.game c.args.game.now) c.args.certificate.now c.args.position.now c.args.parent.now.cost) c.loop-m-test.true
           c.loop-m.invariant.held (test.0 c.if-not-step_holds.false);
