@@ -162,3 +162,24 @@ held_on_none g b z m j u step p is at none = sym ((column_held g b z m j u step 
     empty [] none = refl
     empty (c ∷ x) none = absurd (
         let some = slice_get-get_or (c ∷ x) (length (c ∷ x) - 1) 0 (omega arith) in cc)
+
+-- a card is held back where it lands, by the row of the last card there
+pub held_at : (g : GameRules) (b z : Board) (t : ColumnTable) (m : Move) (u host : ℕ) (step : Step g b m z) → IsPosition b → IsTableOf b.columns t
+    → u < 52 → step.card ≡ u → m.to ≢ Home → playable b m.to ≡ Some host
+    → bit_at (get_or t.rows host no_row).waiting u ≡ cond (is_held_back z u) 1 0
+held_at g b z t m u host step p table below is away there = go m.to refl step.takes there
+  where
+    go : (to : Place) → m.to ≡ to → Takes g b step.card to → playable b to ≡ Some host
+        → bit_at (get_or t.rows host no_row).waiting u ≡ cond (is_held_back z u) 1 0
+    go (Column j) at takes last = held_on g b z t m j u host step p table below is at last
+    go (Cell j) at takes full = absurd (cc)
+    go Home at takes full = absurd (away at)
+
+pub held_at_none : (g : GameRules) (b z : Board) (m : Move) (u : ℕ) (step : Step g b m z) → IsPosition b → step.card ≡ u → m.to ≢ Home
+    → playable b m.to ≡ None → false ≡ is_held_back z u
+held_at_none g b z m u step p is away there = go m.to refl there
+  where
+    go : (to : Place) → m.to ≡ to → playable b to ≡ None → false ≡ is_held_back z u
+    go (Column j) at none = held_on_none g b z m j u step p is at none
+    go (Cell j) at none = other_held g b z m u step p is away (λ k e. absurd (cc (sym at ∙ e)))
+    go Home at none = absurd (away at)

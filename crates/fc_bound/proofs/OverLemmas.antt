@@ -1,10 +1,10 @@
 -- The rows of cards that moved, over those of the others.
-use Rattle.std.proofs.Common.{◌≡◌, ℕ, ◌+◌, ◌-◌, ◌<◌, ◌≤◌, Bool, true, false, Some, List, [], length, get_or, take, refl, sym, ◌∙◌, ap, subst, ⊎_elim, true≢false, arith}
+use Rattle.std.proofs.Common.{◌≡◌, ℕ, ◌+◌, ◌-◌, ◌<◌, ◌≤◌, Bool, true, false, cond, Some, List, [], length, get_or, take, refl, sym, ◌∙◌, ap, subst, ⊎_elim, true≢false, arith}
 use Rattle.std.specs.Prelude.{◌==◌, ◌&&◌, ◌||◌, not}
 use Rattle.std.specs.Int.{bit_at}
 use Rattle.std.specs.List.{list_any}
 use Rattle.std.proofs.lemmas.Bool.{cases_lt, cases_Bool, eq-eqb}
-use Rattle.std.proofs.lemmas.List.{get_or-take, length-take-le, take-take, take_more}
+use Rattle.std.proofs.lemmas.List.{get_or-take, length-take-le, take-take, take_all, take_more}
 use Rattle.std.proofs.lemmas.List.Folds.{list_any_at}
 use Rattle.std.proofs.lemmas.Nat.Bits.{bit_at_ones}
 use Rattle.std.proofs.lemmas.Option.{slice_get-get_or}
@@ -156,3 +156,14 @@ all_held b c p =
     set_by : (p q : Bool) → p ≡ true → (p && q) ≡ p → q ≡ true
     set_by true q _ is = is
     set_by false q never _ = absurd (true≢false (sym never))
+
+-- where no card of a column moved, none stands among those that did
+pub none_moved : (bits front : ℕ) (cards : List ℕ) → front ≡ length cards → (0 < front → bit_at bits (get_or cards (front - 1) 0) ≡ 0)
+    → MoveAbove bits cards → (c : ℕ) → stands_in cards c ≡ true → bit_at bits c ≡ 0
+none_moved bits front cards is last above c stands =
+    let whole : take front cards ≡ cards = take_all front cards (omega (arith, is)) in
+    first_still bits front cards (omega (arith, is)) last above c (ap (λ x. stands_in x c) whole ∙ stands)
+
+pub none_set : (bits c : ℕ) (test : Bool) → (test ≡ true → bit_at bits c ≡ 0) → ◌≡◌ {A = ℕ} 0 (cond (test && is_set bits c) 1 0)
+none_set bits c true still = ap (λ n. cond (n == 1) 1 0) (sym (still refl))
+none_set bits c false still = refl

@@ -2,6 +2,7 @@ pub mod Bound
 pub mod Clearing
 pub mod Kinds
 pub mod Knots
+pub mod Landings
 pub mod Laws
 pub mod LowerBound
 pub mod Rings

@@ -17,7 +17,7 @@ ghost use Rattle.fc_bound.specs.Rows.{IsTableOf};
 use crate::bounds::{GREATEST_BOUND, is_held_back};
 use crate::fares::is_held_there;
 use crate::kinds::BoundKind;
-use crate::rings::{Shown, counted, has_lower, plain, with, without};
+use crate::rings::{Shown, counted, plain, with, without};
 use crate::rows::ColumnTable;
 use fc_cards::Place;
 use fc_moves::Move;
@@ -181,34 +181,17 @@ impl BoundKind {
         self.known(m, card.index(), held, there, shown)
     }
 
-    /// The same by the table of the position's columns, of more moves: also where the card goes onto another one, but none of its suit
-    /// in the columns is lower.
-    #[inline]
-    pub fn known_by(
-        self,
-        position: &Position,
-        table: &ColumnTable,
-        m: Move,
-        shown: Shown,
-    ) -> Option<Shown>
-        requires table { IsTableOf position.now.columns table.now }
-        requires shown { IsShown self position.now shown.number shown.note }
-        ensures known { IfSome result (λ known. (g : GameRules) (z : Board) → Step g position.now m z → IsShown self z known.number known.note) }
-        ensures whole { IsPosition position.now }
-    {
-        let card = position.playable(m.from)?.index();
-        let there = is_held_on(position, table, card, m.to);
-        if !there && self.is_onto(position, m.to) && has_lower(table, card) {
-            return None;
-        }
-        let held = is_held(position, table, card);
-        self.known(m, card, held, there, shown)
-    }
-
     // What is shown of where a move leads, by whether its card is held back where it is and where it goes: `None` where the card is
     // noted and isn't held back where it is.
     #[inline]
-    fn known(self, m: Move, card: u8, held: bool, there: bool, shown: Shown) -> Option<Shown>
+    pub(crate) fn known(
+        self,
+        m: Move,
+        card: u8,
+        held: bool,
+        there: bool,
+        shown: Shown,
+    ) -> Option<Shown>
         requires card { card < 52 }
         requires most { shown.number ≤ GREATEST_BOUND }
         ensures known { IfSome result (λ known. (g : GameRules) (b z : Board) (step : Step g b m z) → IsPosition b → step.card ≡ card
@@ -241,24 +224,6 @@ impl BoundKind {
         }
     }
 
-    /// The same by the table of the position's columns.
-    pub fn least_by(self, position: &Position, table: &ColumnTable, m: Move, shown: Shown) -> u8
-        requires table { IsTableOf position.now.columns table.now }
-        requires shown { IsShown self position.now shown.number shown.note }
-        ensures least { (g : GameRules) (z : Board) → Step g position.now m z → (number : ℕ) × (note : ℕ) × IsShown self z number note × (result ≤ number) }
-        ensures whole { IsPosition position.now }
-    {
-        let Some(card) = position.playable(m.from) else {
-            return 0;
-        };
-        let card = card.index();
-        let less = self.is_needed_by(position, table, card, shown.note) as u8;
-        match m.to {
-            Place::Home => shown.number.saturating_sub(less + 1),
-            to => (shown.number + is_held_on(position, table, card, to) as u8).saturating_sub(less),
-        }
-    }
-
     // Whether what is shown may be less without the playable card of a place: it is held there, or noted.
     #[inline]
     fn is_needed(self, position: &Position, from: Place, note: u64) -> bool
@@ -275,7 +240,13 @@ impl BoundKind {
 
     // The same of a card of the position, by the table of its columns.
     #[inline]
-    fn is_needed_by(self, position: &Position, table: &ColumnTable, card: u8, note: u64) -> bool
+    pub(crate) fn is_needed_by(
+        self,
+        position: &Position,
+        table: &ColumnTable,
+        card: u8,
+        note: u64,
+    ) -> bool
         requires table { IsTableOf position.now.columns table.now }
         requires card { card < 52 }
         ensures held { result ≡ false → is_held_back position.now card ≡ false }
@@ -300,7 +271,7 @@ impl BoundKind {
 
 // Whether this card of a column stands above a lower card of its own suit.
 #[inline]
-fn is_held(position: &Position, table: &ColumnTable, card: u8) -> bool
+pub(crate) fn is_held(position: &Position, table: &ColumnTable, card: u8) -> bool
     requires table { IsTableOf position.now.columns table.now }
     requires card { card < 52 }
     ensures value { result ≡ is_held_back position.now card }
@@ -308,21 +279,4 @@ fn is_held(position: &Position, table: &ColumnTable, card: u8) -> bool
 {
     let _cell = position.cell(0);
     table.marks.held >> card & 1 != 0
-}
-
-// Whether a card is held back where it is put, by the table of the columns without it there.
-#[inline]
-fn is_held_on(position: &Position, table: &ColumnTable, card: u8, to: Place) -> bool
-    requires table { IsTableOf position.now.columns table.now }
-    requires card { card < 52 }
-    ensures value { (g : GameRules) (z : Board) (m : Move) (step : Step g position.now m z) → step.card ≡ card → m.to ≡ to → to ≢ Home
-        → result ≡ is_held_back z card }
-{
-    match (to, position.playable(to)) {
-        (Place::Column(_), Some(host)) => table.rows[host.index() as usize].waiting >> card & 1
-            != 0,
-        (Place::Column(_), None) => false,
-        (Place::Cell(_), _) => false,
-        (Place::Home, _) => false,
-    }
 }

@@ -11,6 +11,7 @@ pub use bounds::{GREATEST_BOUND, bound, is_held_back};
 pub use clearing::clearing_bound;
 pub use kinds::BoundKind;
 pub use knots::knot_bound;
+pub use landings::Landing;
 pub use rings::Shown;
 pub use rows::ColumnTable;
 
@@ -23,6 +24,7 @@ mod families;
 mod fares;
 mod kinds;
 mod knots;
+mod landings;
 pub mod laws;
 mod ring_search;
 mod rings;

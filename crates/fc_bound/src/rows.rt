@@ -124,7 +124,26 @@ fn fill_column(rows: &mut Rows, cards: &[Card], moved: u64) -> Marks
     ensures held { AreBits result.held (λ c. is_above_lower c cards.now && is_set moved c) }
 {
     let front = unmoved(cards, moved);
+    // Of most columns no card has moved.
+    if front == cards.len() {
+        return Marks {
+            all: 0,
+            lasts: last_bit(cards),
+            held: 0,
+        };
+    }
     fill_above(rows, cards, front)
+}
+
+// The bit of the last card, if there is one.
+#[inline]
+fn last_bit(cards: &[Card]) -> u64
+    ensures value { AreBits result (λ c. ends_with c (last_of cards.now)) }
+{
+    match cards.last() {
+        Some(card) => 1 << card.index(),
+        None => 0,
+    }
 }
 
 // How many cards of a column lie beneath those on top that moved.
@@ -163,7 +182,7 @@ fn front_row(rows: &Rows, cards: &[Card], front: usize) -> Row
 }
 
 // Fills the rows of the cards of a column above the first ones, so many.
-#[inline]
+#[inline(never)]
 fn fill_above(rows: &mut Rows, cards: &[Card], front: usize) -> Marks
     requires once { (c : ℕ) → count_in_column c cards.now ≤ 1 }
     requires inside { front ≤ length cards.now }

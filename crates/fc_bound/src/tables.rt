@@ -29,7 +29,7 @@ impl ColumnTable {
 
     /// Makes it the table of a position's columns, in its place, by that of a start: of the cards that moved since then, one bit for
     /// each, the rows are looked up anew, and of those that had moved before, but haven't now, they are the start's again.
-    #[inline]
+    #[inline(never)]
     pub fn lay_over(&mut self, start: &ColumnTable, before: u64, position: &Position, moved: u64)
         requires start { (s : Board) × IsPosition s × IsTableOf s.columns start.now × IsTableBut before s.columns self.old × HaveMoved s.columns position.now.columns moved }
         ensures table { IsTableOf position.now.columns self.new }

@@ -3,7 +3,9 @@
 
 use crate::boards::{DEAL_ONE, THIRTY_MOVES};
 use crate::given::{bakers_game, board, free_cell, make, must};
-use fc_bound::{BoundKind, ColumnTable, Shown, bound, clearing_bound, is_held_back, knot_bound};
+use fc_bound::{
+    BoundKind, ColumnTable, Landing, Shown, bound, clearing_bound, is_held_back, knot_bound,
+};
 use fc_cards::Place;
 use fc_moves::{Game, Kings, Move, moves};
 use fc_position::Position;
@@ -65,12 +67,14 @@ fn check_shown(rt: &impl Abort, kind: BoundKind, position: &Position, m: Move, n
     let shown = kind.shown(position, &table);
     lies(rt, kind, position, shown);
     must(rt, kind.least_after(position, m, shown) <= most);
-    must(rt, kind.least_by(position, &table, m, shown) <= most);
     if let Some(known) = kind.known_after(position, m, shown) {
         lies(rt, kind, next, known);
     }
-    if let Some(known) = kind.known_by(position, &table, m, shown) {
-        lies(rt, kind, next, known);
+    if let Some(landing) = Landing::of(position, m) {
+        must(rt, kind.least_by(position, &table, &landing, shown) <= most);
+        if let Some(known) = kind.known_by(position, &table, &landing, shown) {
+            lies(rt, kind, next, known);
+        }
     }
 }
 

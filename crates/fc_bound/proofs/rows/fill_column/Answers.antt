@@ -1,6 +1,11 @@
-use Rattle.std.proofs.Common.{◌∙◌, cond, ap}
+use Rattle.std.proofs.Common.{◌∙◌, cond, take, ap}
+use Rattle.std.proofs.lemmas.Nat.Bits.{bit_at-zero}
+use Rattle.fc_bound.specs.Bound.{is_above_lower, stands_in}
 use Rattle.fc_bound.specs.inner.Rows.{is_set, stands_above}
-use Rattle.fc_bound.proofs.OverLemmas.{above_moved, held_moved, rows_moved}
+use Rattle.fc_bound.proofs.OverLemmas.{above_moved, first_still, held_moved, none_moved, none_set, rows_moved}
+use Rattle.fc_bound.proofs.AboveLemmas.{above-one}
+use Rattle.fc_bound.proofs.FillLemmas.{stands_take}
+use Rattle.fc_bound.proofs.LeftLemmas.{last_stands}
 use Rattle.fc_bound.proofs.rows.fill_column.Goals as goal
 
 pub returns-clause-rows : goal.returns-clause-rows
@@ -22,3 +27,30 @@ returns-clause-held c = λ x.
     c.fill_above.ensures.held x ∙ ap (λ t. cond t 1 0)
     (held_moved cards x (stands_above c.unmoved-front.result cards x) (is_set c.args.moved x)
     (above_moved c.args.moved c.unmoved-front.result cards front.most front.last front.moved c.requires.above x))
+
+pub fill_above-requires-clause-row : goal.fill_above-requires-clause-row
+fill_above-requires-clause-row c = λ u last.
+    let front = c.unmoved-front.ensures in
+    let cards = c.args.cards.now in
+    c.requires.others c.unmoved-front.result u last
+    (first_still c.args.moved c.unmoved-front.result cards front.most front.last c.requires.above u (last_stands (take c.unmoved-front.result cards) u last))
+
+pub returns-then-front-cards-clause-rows : goal.returns-then-front-cards-clause-rows
+returns-then-front-cards-clause-rows c = λ h u last.
+    let cards = c.args.cards.now in
+    c.requires.others h u last
+    (none_moved c.args.moved c.unmoved-front.result cards c.if-front-cards.true c.unmoved-front.ensures.last c.requires.above u
+    (stands_take h cards u (last_stands (take h cards) u last)))
+
+pub returns-then-front-cards-clause-all : goal.returns-then-front-cards-clause-all
+returns-then-front-cards-clause-all c = λ x.
+    let cards = c.args.cards.now in
+    bit_at-zero x ∙ none_set c.args.moved x (stands_in cards x)
+    (none_moved c.args.moved c.unmoved-front.result cards c.if-front-cards.true c.unmoved-front.ensures.last c.requires.above x)
+
+pub returns-then-front-cards-clause-held : goal.returns-then-front-cards-clause-held
+returns-then-front-cards-clause-held c = λ x.
+    let cards = c.args.cards.now in
+    bit_at-zero x ∙ none_set c.args.moved x (is_above_lower x cards) (λ above.
+    none_moved c.args.moved c.unmoved-front.result cards c.if-front-cards.true c.unmoved-front.ensures.last c.requires.above x
+    (above-one x cards above).stands)
