@@ -40,7 +40,7 @@ StandsAt w b (Some m) code = (cost : ℕ) × IsChildOf w b m (record { key = cod
 -- the move that led to where a walk stands, if one did
 abbrev pub last_move : Standing → Option Move
 last_move Here = None
-last_move (Shifted m) = Some m
+last_move (Shifted landing) = Some landing.m
 last_move (Settled m code count) = Some m
 
 -- what is left of the children of a position of a game, seen from the position at the start: the moves that lead to them, the

@@ -4,16 +4,32 @@ ghost use Rattle.std.specs.Prelude.{◌≡◌, ℕ, ◌<◌, ◌≤◌, length, 
 ghost use Rattle.fc_cards.specs.Suit.{suit_index};
 ghost use Rattle.fc_position.specs.Board.{Board};
 ghost use Rattle.fc_position.specs.Position.{IsPosition};
+ghost use Rattle.fc_bound.specs.Landings.{IsLanding};
+ghost use Rattle.fc_codes.specs.Moved.{Moves};
 ghost use Rattle.fc_codes.specs.State.{IsCodeOf};
 ghost use Rattle.fc_home.specs.Settles.{SettlesBy};
 ghost use Rattle.fc_space.specs.inner.Codes.{IsSent, IsBetween, WentHome};
 
 use arrayvec::ArrayVec;
-use fc_cards::{Card, Suit};
-use fc_codes::Code;
+use fc_bound::Landing;
+use fc_cards::{Card, Place, Suit};
+use fc_codes::{Code, Layout};
 use fc_home::{HomeRule, settle};
 use fc_moves::{Game, Move};
 use fc_position::Position;
+
+// The code of where a move lands, from a position with this code.
+#[inline(always)]
+pub(crate) fn code_after(layout: &Layout, code: &Code, landing: &Landing) -> Code
+    ensures value { (b c : Board) (card : ℕ) → IsLanding b landing.now → Moves layout.now code.now card b landing.now.m c → IsCodeOf layout.now c result }
+{
+    match (landing.m.to, landing.host) {
+        (Place::Column(_), Some(host)) => layout.on_card(code, landing.card, host),
+        (Place::Column(_), None) => layout.on_table(code, landing.card),
+        (Place::Cell(_), _) => code.in_cell(landing.card),
+        (Place::Home, _) => *code,
+    }
+}
 
 // Settles a position with this code. The moves that it made, and the code of where they led.
 pub(crate) fn settle_coded<G: Game>(

@@ -1,14 +1,16 @@
 //! Whether a card goes home once another was moved.
 
-ghost use Rattle.std.specs.Prelude.{◌≡◌, ◌≢◌, ℕ, IsTrue, Some};
+ghost use Rattle.std.specs.Prelude.{◌≡◌, ◌≢◌, ℕ, IfSome, IsTrue, Some};
 ghost use Rattle.fc_cards.specs.declared.places.Place.TheVariants.{Home};
 ghost use Rattle.fc_position.specs.Board.{IsNext, front_of, last_of, lifted, playable};
 ghost use Rattle.fc_position.specs.Position.{IsPosition};
 ghost use Rattle.fc_moves.specs.Step.{Allows};
 ghost use Rattle.fc_home.specs.Settles.{NoneGoesHome};
+ghost use Rattle.fc_bound.specs.Landings.{IsLanding};
 ghost use Rattle.fc_space.specs.inner.Standing.{StaysSettled};
 
 use crate::positions::ClassRules;
+use fc_bound::Landing;
 use fc_cards::{Card, Place};
 use fc_home::goes_home_from;
 use fc_moves::{Game, Move, apply};
@@ -58,7 +60,7 @@ fn stays_moved<G: Game + Drop>(rules: &ClassRules<G>, position: &mut Position, m
 
 // Whether a move from a settled position takes no card home, and none goes home after it. The position is as it was.
 #[inline(always)]
-pub(crate) fn stays<G: Game + Drop>(rules: &ClassRules<G>, position: &mut Position, m: Move) -> bool
+fn stays<G: Game + Drop>(rules: &ClassRules<G>, position: &mut Position, m: Move) -> bool
     requires settled { NoneGoesHome rules.now.rule (G.game rules.now.game) position.old }
     requires whole { IsPosition position.old }
     requires allowed { Allows (G.game rules.now.game) position.old m }
@@ -70,4 +72,25 @@ pub(crate) fn stays<G: Game + Drop>(rules: &ClassRules<G>, position: &mut Positi
     }
     // Of most moves nothing is asked but whether the card beneath is next.
     !frees_next(position, m.from) || stays_moved(rules, position, m)
+}
+
+// How a move from a settled position lands, if it takes no card home, and none goes home after it. The position is as it was.
+#[inline(always)]
+pub(crate) fn lands<G: Game + Drop>(
+    rules: &ClassRules<G>,
+    position: &mut Position,
+    m: Move,
+) -> Option<Landing>
+    requires settled { NoneGoesHome rules.now.rule (G.game rules.now.game) position.old }
+    requires whole { IsPosition position.old }
+    requires allowed { Allows (G.game rules.now.game) position.old m }
+    ensures lands { IfSome result (λ landing. IsLanding position.old landing × (landing.m ≡ m) × StaysSettled rules.now.rule (G.game rules.now.game) position.old m) }
+    ensures same { position.new ≡ position.old }
+{
+    let landing = Landing::of(position, m)?;
+    if stays(rules, position, m) {
+        Some(landing)
+    } else {
+        None
+    }
 }

@@ -1,6 +1,6 @@
 //! A walk over the children of a class: where it steps next, and what is shown of where it stands.
 
-ghost use Rattle.std.specs.Prelude.{◌≡◌, ◌≢◌, ◌+◌, ◌≤◌, ℕ, true, List, Some, None, IfSome};
+ghost use Rattle.std.specs.Prelude.{◌≡◌, ◌≢◌, ◌+◌, ◌≤◌, ℕ, true, List, Some, None, IfSome, IsSome};
 ghost use Rattle.fc_position.specs.Board.{Board, lifted};
 ghost use Rattle.fc_position.specs.Position.{IsPosition};
 ghost use Rattle.fc_cards.specs.declared.places.Place.TheVariants.{Home};
@@ -10,27 +10,29 @@ ghost use Rattle.fc_moves.specs.Step.{Allows, Step};
 ghost use Rattle.fc_home.specs.Settles.{Settles};
 ghost use Rattle.fc_bound.specs.declared.kinds.BoundKind.TheVariants.{Clearing, Plain};
 ghost use Rattle.fc_bound.specs.Kinds.{IsShown};
+ghost use Rattle.fc_bound.specs.Landings.{IsLanding};
 ghost use Rattle.fc_bound.specs.Rows.{IsTableOf};
 ghost use Rattle.fc_space.specs.Children.{frame_of, StandsAt};
 ghost use Rattle.fc_space.specs.inner.Lookups.{IsLookupOf};
 
+use crate::coded::code_after;
 use crate::lookups::Lookup;
 use crate::positions::{ClassRules, child_by_copy};
-use crate::stays::stays;
+use crate::stays::lands;
 use arrayvec::ArrayVec;
-use fc_bound::{BoundKind, ColumnTable, Shown};
+use fc_bound::{BoundKind, ColumnTable, Landing, Shown};
 use fc_cards::Place;
 use fc_codes::{Code, Layout};
 use fc_moves::{Game, Move, apply};
 use fc_position::Position;
 use std::marker::Model;
 
-// Where a walk stands: at the class that it visits; where this move leads, after which no card goes home; or at the class with this
+// Where a walk stands: at the class that it visits; where this move lands, after which no card goes home; or at the class with this
 // code, to which the result of this move settles in so many moves.
 #[derive(Clone, Copy)]
 pub(crate) enum Standing {
     Here,
-    Shifted(Move),
+    Shifted(Landing),
     Settled { m: Move, code: Code, count: u8 },
 }
 
@@ -84,8 +86,8 @@ impl<G: Game + Drop> Children<G> {
         ensures same { (self.new.game ≡ self.old.game) × (self.new.rule ≡ self.old.rule) × (self.new.kind ≡ self.old.kind)
             × (self.new.start ≡ self.old.start) × (self.new.position ≡ self.old.position) × (self.new.moves ≡ self.old.moves) }
     {
-        if stays(&self.rules, &mut self.position, m) {
-            self.standing = Standing::Shifted(m);
+        if let Some(landing) = lands(&self.rules, &mut self.position, m) {
+            self.standing = Standing::Shifted(landing);
             return 1;
         }
         let code = self.layout.moved(&self.code, &self.position, m);
@@ -101,7 +103,7 @@ impl<G: Game + Drop> Children<G> {
     {
         match self.standing {
             Standing::Here => self.code,
-            Standing::Shifted(m) => self.layout.moved(&self.code, &self.position, m),
+            Standing::Shifted(landing) => code_after(&self.layout, &self.code, &landing),
             Standing::Settled { code, .. } => code,
         }
     }
@@ -117,20 +119,18 @@ impl<G: Game + Drop> Children<G> {
     {
         match self.standing {
             Standing::Here => 0,
-            Standing::Shifted(m) => least_after(
+            Standing::Shifted(landing) => least_where(
                 self.rules.kind,
                 &self.position,
                 &self.lookup,
-                m,
+                &landing,
                 self.shown,
             ),
-            Standing::Settled { m, count, .. } => least_after(
-                self.rules.kind,
-                &self.position,
-                &self.lookup,
-                m,
-                self.shown,
-            ).saturating_sub(count),
+            Standing::Settled { m, count, .. } => self
+                .rules
+                .kind
+                .least_after(&self.position, m, self.shown)
+                .saturating_sub(count),
         }
     }
 
@@ -144,7 +144,7 @@ impl<G: Game + Drop> Children<G> {
     {
         match self.standing {
             Standing::Here => self.shown,
-            Standing::Shifted(m) => self.shown_after(m, most),
+            Standing::Shifted(landing) => self.shown_where(landing, most),
             Standing::Settled { m, count, .. } => {
                 let shown = self.shown_after(m, most.saturating_add(count));
                 Shown {
@@ -155,6 +155,35 @@ impl<G: Game + Drop> Children<G> {
         }
     }
 
+    // What is shown of where a move lands. The walk is as it was.
+    fn shown_where(&mut self, landing: Landing, most: u8) -> Shown
+        requires landing { IsLanding self.old.position landing }
+        requires allowed { Allows (G.game self.old.game) self.old.position landing.m }
+        ensures shown { (z : Board) → Step (G.game self.old.game) self.old.position landing.m z → IsShown self.old.kind z result.number result.note }
+        ensures same { self.new ≡ self.old }
+    {
+        match self.rules.kind {
+            BoundKind::Plain => self.shown_plainly(landing.m),
+            BoundKind::Clearing => match self.known_where(&landing) {
+                Some(shown) => shown,
+                None => self.sought(landing.m, most),
+            },
+        }
+    }
+
+    // What is shown of where a move lands, where nothing more has to be looked for.
+    #[inline(always)]
+    fn known_where(&self, landing: &Landing) -> Option<Shown>
+        requires landing { IsLanding self.now.position landing.now }
+        requires kind { self.now.kind ≡ Clearing }
+        ensures known { IfSome result (λ known. (z : Board) → Step (G.game self.now.game) self.now.position landing.now.m z
+            → IsShown self.now.kind z known.number known.note) }
+    {
+        self.rules
+            .kind
+            .known_by(&self.position, &self.lookup.table, landing, self.shown)
+    }
+
     // What is shown of where a move leads, before cards go home. The walk is as it was.
     fn shown_after(&mut self, m: Move, most: u8) -> Shown
         requires allowed { Allows (G.game self.old.game) self.old.position m }
@@ -163,33 +192,39 @@ impl<G: Game + Drop> Children<G> {
     {
         match self.rules.kind {
             BoundKind::Plain => self.shown_plainly(m),
-            BoundKind::Clearing => self.shown_by_rings(m, most),
+            BoundKind::Clearing => match self.known_after(m) {
+                Some(shown) => shown,
+                None => self.sought(m, most),
+            },
         }
     }
 
-    // The same by the plain bound, which is always known.
+    // The same where nothing more has to be looked for.
+    #[inline(always)]
+    fn known_after(&self, m: Move) -> Option<Shown>
+        ensures known { IfSome result (λ known. (z : Board) → Step (G.game self.now.game) self.now.position m z
+            → IsShown self.now.kind z known.number known.note) }
+        ensures plain { self.now.kind ≡ Plain → Allows (G.game self.now.game) self.now.position m → IsSome result }
+    {
+        self.rules.kind.known_after(&self.position, m, self.shown)
+    }
+
+    // The same by the plain bound, by which it always is so.
     fn shown_plainly(&self, m: Move) -> Shown
         requires allowed { Allows (G.game self.now.game) self.now.position m }
         requires kind { self.now.kind ≡ Plain }
         ensures shown { (z : Board) → Step (G.game self.now.game) self.now.position m z → IsShown self.now.kind z result.number result.note }
     {
-        self.rules
-            .kind
-            .known_after(&self.position, m, self.shown)
-            .unwrap()
+        self.known_after(m).unwrap()
     }
 
-    // The same by the clearing bound.
-    fn shown_by_rings(&mut self, m: Move, most: u8) -> Shown
+    // What is shown of where a move leads, looked for without its card and with it. The walk is as it was.
+    fn sought(&mut self, m: Move, most: u8) -> Shown
         requires allowed { Allows (G.game self.old.game) self.old.position m }
         requires kind { self.old.kind ≡ Clearing }
         ensures shown { (z : Board) → Step (G.game self.old.game) self.old.position m z → IsShown self.old.kind z result.number result.note }
         ensures same { self.new ≡ self.old }
     {
-        let kind = self.rules.kind;
-        if let Some(shown) = kind.known_by(&self.position, &self.lookup.table, m, self.shown) {
-            return shown;
-        }
         let kept = self.kept(m.from);
         match m.to {
             Place::Home => Shown {
@@ -215,6 +250,7 @@ impl<G: Game + Drop> Children<G> {
     fn kept(&mut self, from: Place) -> Shown
         requires kind { self.old.kind ≡ Clearing }
         ensures kept { IsShown self.old.kind (lifted self.old.position from) result.number result.note }
+        ensures fits { IsPositionOf (G.game self.old.game) self.old.position }
         ensures same { self.new ≡ self.old }
     {
         if let Some(kept) = self.known_kept(from) {
@@ -271,16 +307,24 @@ fn or_anew(kind: BoundKind, position: &Position, table: &ColumnTable, shown: Sho
     }
 }
 
-// A number that is plain to see of where a move leads, before cards go home, by the table of the columns where it was laid.
+// A number that is plain to see of where a move lands, by the table of the columns where it was laid.
 #[inline(always)]
-fn least_after(kind: BoundKind, position: &Position, lookup: &Lookup, m: Move, shown: Shown) -> u8
+fn least_where(
+    kind: BoundKind,
+    position: &Position,
+    lookup: &Lookup,
+    landing: &Landing,
+    shown: Shown,
+) -> u8
     requires lookup { (s : Board) × IsLookupOf s position.now lookup.now }
+    requires landing { IsLanding position.now landing.now }
     requires shown { IsShown kind position.now shown.number shown.note }
-    ensures least { (g : GameRules) (z : Board) → Step g position.now m z → (number : ℕ) × (note : ℕ) × IsShown kind z number note × (result ≤ number) }
+    ensures least { (g : GameRules) (z : Board) → Step g position.now landing.now.m z
+        → (number : ℕ) × (note : ℕ) × IsShown kind z number note × (result ≤ number) }
 {
     if lookup.is_laid {
-        kind.least_by(position, &lookup.table, m, shown)
+        kind.least_by(position, &lookup.table, landing, shown)
     } else {
-        kind.least_after(position, m, shown)
+        kind.least_after(position, landing.m, shown)
     }
 }

@@ -10,6 +10,7 @@ use Rattle.fc_home.specs.Settles.{Settles}
 use Rattle.fc_bound.specs.declared.kinds.BoundKind.{BoundKind}
 use Rattle.fc_bound.specs.declared.rings.Shown.{Shown}
 use Rattle.fc_bound.specs.Kinds.{IsShown}
+use Rattle.fc_bound.specs.Landings.{IsLanding}
 use Rattle.fc_space.specs.declared.walks.Standing.{Standing}
 use Rattle.fc_space.specs.declared.walks.Standing.TheVariants.{Here, Shifted, Settled}
 use Rattle.fc_space.specs.Children.{Frame, IsChildOf}
@@ -21,7 +22,7 @@ StaysSettled rule g b m = (m.to ≢ Home) × ((z : Board) → Step g b m z → S
 -- what is known of where a walk stands, from a board on
 abbrev pub IsStanding : Frame → Board → Standing → Type 0
 IsStanding w b Here = Unit {0}
-IsStanding w b (Shifted m) = Allows w.game b m × StaysSettled w.rule w.game b m
+IsStanding w b (Shifted l) = Allows w.game b l.m × StaysSettled w.rule w.game b l.m × IsLanding b l
 IsStanding w b (Settled m code count) = IsChildOf w b m (record { key = code; cost = 1 + count })
 
 -- what is kept of a card that was lifted from a place is shown of the board without it

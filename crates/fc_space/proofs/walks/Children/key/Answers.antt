@@ -11,12 +11,14 @@ returns-in-Shifted g c =
     let rules = g.G.Game.game inner.rules.game in
     let w = frame_of rules inner.rules.rule inner.rules.kind inner.layout in
     let at = subst (IsStanding w inner.position) c.in-Shifted.is c.self.invariant.5 in
-    let here = shift_stands w inner.position c.in-Shifted.m c.moved.result at.0 at.1 (λ z step.
-    code_moved inner.layout inner.code inner.position z c.in-Shifted.m rules c.moved.result (g.met.G.Game.sound inner.rules.game) c.moved.ensures.whole
-    c.self.invariant.4 step c.moved.ensures.value) in
+    let landing = c.in-Shifted.landing in
+    let code = c.code_after.result in
+    let here = shift_stands w inner.position landing.m code at.0 at.1 (λ z step.
+    code_moved inner.layout inner.code inner.position z landing.m rules code (g.met.G.Game.sound inner.rules.game) c.self.invariant.0.position
+    c.self.invariant.4 step (λ y card moves. c.code_after.ensures.value inner.position y card at.2 moves)) in
     record {
-      at = subst (λ v. StandsAt (frame_of (g.G.Game.game v.game) v.rule v.kind v.start) v.position v.last c.moved.result) c.self.view_is
-          (subst (λ l. StandsAt w inner.position l c.moved.result) (sym (ap last_move c.in-Shifted.is)) here);
+      at = subst (λ v. StandsAt (frame_of (g.G.Game.game v.game) v.rule v.kind v.start) v.position v.last code) c.self.view_is
+          (subst (λ l. StandsAt w inner.position l code) (sym (ap last_move c.in-Shifted.is)) here);
     }
 
 pub returns-in-Settled : goal.returns-in-Settled

@@ -15,15 +15,15 @@ returns-in-Shifted-clause-least g c =
     let rules = g.G.Game.game inner.rules.game in
     let kind = inner.rules.kind in
     let rule = inner.rules.rule in
-    let least = c.least_after.result in
+    let least = c.least_where.result in
     let w = frame_of rules rule kind inner.layout in
     let at = subst (IsStanding w inner.position) c.in-Shifted.is c.self.invariant.5 in
-    let on = least_on kind rules rule inner.position c.in-Shifted.m 0 least c.self.invariant.0 (c.least_after.ensures.least rules)
-    (shift_count rules rule inner.position c.in-Shifted.m c.self.invariant.0 at.1) in
+    let on = least_on kind rules rule inner.position c.in-Shifted.landing.m 0 least c.self.invariant.0 (c.least_where.ensures.least rules)
+    (shift_count rules rule inner.position c.in-Shifted.landing.m c.self.invariant.0 at.1) in
     subst (λ v. (m : Move) (z q : Board) (count : ℕ) → v.last ≡ Some m → Step (g.G.Game.game v.game) v.position m z
     → Settles (g.G.Game.game v.game) v.rule z count q → (number : ℕ) × (note : ℕ) × IsShown v.kind q number note × (least ≤ number)) c.self.view_is
     (λ m z q count is step settles.
-    let same : c.in-Shifted.m ≡ m = (let x = sym (ap last_move c.in-Shifted.is) ∙ is in cc) in
+    let same : c.in-Shifted.landing.m ≡ m = (let x = sym (ap last_move c.in-Shifted.is) ∙ is in cc) in
     let s = on z q count (subst (λ n. Step rules inner.position n z) (sym same) step) settles in
     (s.0, s.1, s.2, omega (arith, s.3)))
 
@@ -33,11 +33,11 @@ returns-in-Settled-clause-least g c =
     let rules = g.G.Game.game inner.rules.game in
     let kind = inner.rules.kind in
     let rule = inner.rules.rule in
-    let least = c.least_after-in-Settled.result in
+    let least = c.least_after.result in
     let w = frame_of rules rule kind inner.layout in
     let n = c.in-Settled.count in
     let at = subst (IsStanding w inner.position) c.in-Settled.is c.self.invariant.5 in
-    let on = least_on kind rules rule inner.position c.in-Settled.m n least c.self.invariant.0 (c.least_after-in-Settled.ensures.least rules)
+    let on = least_on kind rules rule inner.position c.in-Settled.m n least c.self.invariant.0 (c.least_after.ensures.least rules)
     (child_count w inner.position c.in-Settled.m c.in-Settled.code n c.self.invariant.0 at) in
     subst (λ v. (m : Move) (z q : Board) (count : ℕ) → v.last ≡ Some m → Step (g.G.Game.game v.game) v.position m z
     → Settles (g.G.Game.game v.game) v.rule z count q → (number : ℕ) × (note : ℕ) × IsShown v.kind q number note × (c.saturating_sub.result ≤ number)) c.self.view_is

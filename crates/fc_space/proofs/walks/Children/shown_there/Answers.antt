@@ -26,12 +26,12 @@ returns-in-Shifted-clause-shown g c m z q count is step settles =
     let p = subst (λ u. IsPositionOf (g.G.Game.game u.game) u.position) c.self.view_is c.self.invariant.0 in
     let inner = c.self.inside in
     let own = subst (IsStanding (frame_of (g.G.Game.game inner.rules.game) inner.rules.rule inner.rules.kind inner.layout) inner.position) c.in-Shifted.is c.self.invariant.5 in
-    let at = subst (λ u. IsStanding (frame_of (g.G.Game.game u.game) u.rule u.kind u.start) u.position (Shifted c.in-Shifted.m)) c.self.view_is own in
+    let at = subst (λ u. IsStanding (frame_of (g.G.Game.game u.game) u.rule u.kind u.start) u.position (Shifted c.in-Shifted.landing)) c.self.view_is own in
     let last = ap (λ u. u.last) c.self.view_is in
-    let same : c.in-Shifted.m ≡ m = (let x = sym (ap last_move c.in-Shifted.is) ∙ last ∙ is in cc) in
-    let shown = c.shown_after.result in
-    let s = shown_on v.kind rules v.rule v.position c.in-Shifted.m 0 shown.number shown.note p c.shown_after.ensures.shown
-    (shift_count rules v.rule v.position c.in-Shifted.m p at.1) z q count (subst (λ k. Step rules v.position k z) (sym same) step) settles in
+    let same : c.in-Shifted.landing.m ≡ m = (let x = sym (ap last_move c.in-Shifted.is) ∙ last ∙ is in cc) in
+    let shown = c.shown_where.result in
+    let s = shown_on v.kind rules v.rule v.position c.in-Shifted.landing.m 0 shown.number shown.note p c.shown_where.ensures.shown
+    (shift_count rules v.rule v.position c.in-Shifted.landing.m p at.1) z q count (subst (λ k. Step rules v.position k z) (sym same) step) settles in
     subst (λ n. IsShown v.kind q n shown.note) (omega arith) s.1
 
 pub returns-in-Settled-clause-shown : goal.returns-in-Settled-clause-shown
