@@ -1,7 +1,8 @@
-"""The gallery's table of fewest moves: its files agree, its lists win, and rows drawn by a seed are found again.
+"""The gallery's rows: they are well formed and without holes, their lists win, and rows drawn by a seed are told again.
 
 usage:  gallery.py SEED        Each row is looked at, each list replayed by the built program, which the environment names as
-                               fc_solve, each kept certificate checked; and rows drawn by the seed are answered anew, and their certificates checked
+                               fc_solve, each kept certificate checked, and rows drawn by the seed, any word, are asked anew
+        gallery.py --lost      The certificate of each deal that can't be won is made, and accepted by both checkers
 """
 import concurrent.futures
 import hashlib
@@ -10,119 +11,123 @@ import importlib.util
 import os
 import random
 import re
-import subprocess
 import sys
 import tempfile
 
+sys.dont_write_bytecode = True
 TOP = os.path.dirname(os.path.dirname(os.path.abspath(__file__)))
-# How many rows of a budget are answered anew: an answer within 1M takes ten times as long as one within 100k.
-DRAWN = {"100k": 16, "1M": 4}
+sys.path.insert(0, os.path.join(TOP, "gallery"))
+import asking
+import rows as gallery
+
+# How many rows are asked anew: of those by the default budget, and of those with digests, where an answer within 1M takes ten times
+# as long as one within 100k.
+DEFAULT, DRAWN = "500k", 40
+CERTIFIED_DRAWN = {"100k": 16, "1M": 4}
+NUMBER = re.compile("[1-9][0-9]*")
 
 
-def module(path):
-    """A script without an ending, as a module."""
-    loader = importlib.machinery.SourceFileLoader(os.path.basename(path), path)
-    made = importlib.util.module_from_spec(importlib.util.spec_from_loader(loader.name, loader))
+def module(name):
+    """A script of the gallery, as a module."""
+    loader = importlib.machinery.SourceFileLoader(name, os.path.join(TOP, "gallery", name))
+    made = importlib.util.module_from_spec(importlib.util.spec_from_loader(name, loader))
     loader.exec_module(made)
     return made
 
 
-def says(words, text=None):
-    ran = subprocess.run([gallery.PROGRAM, *words], input=text, capture_output=True, text=True, check=False)
-    return ran.stdout, ran.stderr
+def wrong_files():
+    """The deals that have no row, two rows, or one in the wrong place."""
+    wrong, told = [], []
+    for name in sorted(os.listdir(os.path.join(gallery.HERE, "deals")), key=lambda it: int(it.split(".")[0])):
+        with open(os.path.join(gallery.HERE, "deals", name), encoding="ascii") as it:
+            deals = [line.split("\t")[0] for line in it][1:]
+        wrong += [f"deal {it} stands in {name}" for it in deals if gallery.file_of(it) != f"deals/{name}"]
+        told += map(int, deals)
+    wrong += [f"deal {it} has no row" for it in sorted({*range(1, max(told) + 1)} - {*told})]
+    return wrong + [f"deal {then} stands behind {it}" for it, then in zip(told, told[1:]) if it >= then]
 
 
-def in_turns(test, deals):
-    """The deals of which the test says something, with what it says."""
-    with concurrent.futures.ThreadPoolExecutor(os.cpu_count()) as pool:
-        return [f"deal {deal}: {it}" for deal, it in zip(deals, pool.map(test, deals)) if it]
-
-
-def wrong_row(deal):
-    """What is wrong with a row by itself, or with what stands in the other files beside it."""
-    told = rows[deal]
-    number = "[1-9][0-9]*"
-    form = {"shortest": (number, number), "between": (number, number), "lost": ("", ""), "open": ("", "")}.get(told.answer, ("-", "-"))
-    if not re.fullmatch(form[0], told.moves) or not re.fullmatch(form[1], told.floor):
-        return f"it isn't a row: {told}"
-    if told.moves and (int(told.floor) > int(told.moves) or (told.answer == "shortest") != (told.floor == told.moves)):
-        return f"the floor {told.floor} beside {told.moves} moves, {told.answer}"
-    if told.budget not in gallery.STEPS or not told.is_done():
-        return f"it isn't done: {told.answer} within {told.budget}"
-    if (deal in lists) != bool(told.moves):
-        return "it has no list, or one that no row tells of"
-    is_kept = os.path.exists(os.path.join(gallery.CERTIFICATES, f"{deal}.cert"))
-    if is_kept != (told.answer != "open" and told.size <= gallery.GREATEST_KEPT):
+def wrong_row(row):
+    """What is wrong with a row by itself, or with the certificate that is kept."""
+    has_list, has_digest = row.answer in ("shortest", "won"), row.sha256 != ""
+    numbers = [row.moves, row.floor, *[row.classes] * (row.classes != ""), *[row.bytes] * has_digest]
+    if row.answer not in gallery.ANSWERS or not all(map(NUMBER.fullmatch, numbers if has_list else numbers[2:])):
+        return f"it isn't a row: {row}"
+    if [row.moves != "", row.floor != "", len(row.list)] != [has_list, has_list, 2 * int(row.moves) if has_list else 0]:
+        return f"moves, floor and list don't agree: {row}"
+    if has_list and (int(row.floor) > int(row.moves) or (row.answer == "shortest") != (row.floor == row.moves)):
+        return f"the floor {row.floor} beside {row.moves} moves, {row.answer}"
+    if row.budget != gallery.budget_of(row.budget) or (row.classes == "" and not has_digest):
+        return "another budget, or it isn't told how many classes were stored"
+    if has_digest and (not re.fullmatch("[0-9a-f]{64}", row.sha256) or row.answer == "gave up") or (row.bytes != "") != has_digest:
+        return "it has no size and digest, or one of them alone"
+    is_kept = os.path.exists(os.path.join(gallery.HERE, gallery.certificate_of(row.deal, gallery.SMALL)))
+    if is_kept != (has_digest and int(row.bytes) <= gallery.GREATEST_KEPT):
         return "its certificate is kept and isn't to be, or the other way round"
     return None
 
 
-def wrong_list(deal):
-    """What is wrong with a list."""
-    moves = lists[deal].rstrip("\n").split("\t")[1]
-    end = says(["replay", str(deal), "-"], moves)[1]
-    return None if end == f"fc_solve: won in {rows[deal].moves} moves\n" and len(moves.split()) == int(rows[deal].moves) else end
+def wrong_list(row):
+    return asking.wrong_list(row, [row.deal])
 
 
-def wrong_certificate(deal):
+def wrong_kept(row):
     """What is wrong with a kept certificate."""
-    path = os.path.join(gallery.CERTIFICATES, f"{deal}.cert")
+    path = os.path.join(gallery.HERE, gallery.certificate_of(row.deal, gallery.SMALL))
     with open(path, "rb") as it:
         content = it.read()
-    if (len(content), hashlib.sha256(content).hexdigest()) != (rows[deal].size, rows[deal].digest):
+    if (str(len(content)), hashlib.sha256(content).hexdigest()) != (row.bytes, row.sha256):
         return "its certificate isn't the one that its row tells of"
-    said = says(["check", str(deal), path])[0]
-    return None if said == f"accepted: {gallery.line_of(rows[deal])}\n" else said
+    return asking.wrong_certificate(row, path, [row.deal], [], None)
 
 
-def wrong_within(deal, budget):
-    """How the answer of a deal within a budget differs from its row's claim, or what `check` says against its certificate."""
-    path = os.path.join(room, f"{deal}.cert")
-    said = says(["best", "--budget", budget, "--cert", path, str(deal)])[0]
-    accepted = says(["check", str(deal), path])[0]
-    os.remove(path)
-    claim = gallery.line_of(rows[deal])
-    is_same = said.partition("\n")[0] == claim and accepted == f"accepted: {claim}\n"
-    return None if is_same else f"{said!r} within {budget}, {accepted!r}"
+def wrong_loss(row):
+    """What is wrong with the certificate of a deal that can't be won, made anew, which both checkers read."""
+    with tempfile.TemporaryDirectory() as room:
+        told = asking.told_of(row.deal, row.budget, gallery.SMALL, room, asking.second_checker(room)).row
+    return None if told.answer == row.answer and row.sha256 else f"{told.answer}; its row: {row}"
 
 
-def wrong_answer(deal):
-    """How the answer of a deal, found anew within its row's budget or the next one, differs from its row."""
-    at = gallery.STEPS.index(rows[deal].budget)
-    wrong = [wrong_within(deal, gallery.STEPS[at])]
-    if wrong[0]:
-        wrong.append(wrong_within(deal, gallery.STEPS[at + 1]))
-    return wrong[0] if wrong[-1] else None
+def drawn(rows, seed):
+    """Some rows that the seed picks."""
+    numbers = random.Random(seed)
+    sets = [([it for it in rows if not it.sha256 and it.budget == DEFAULT], DRAWN)]
+    sets += [([it for it in rows if it.sha256 and it.budget == budget and it.answer != "can't be won"], count) for budget, count in CERTIFIED_DRAWN.items()]
+    return [it for some, count in sets for it in sorted(numbers.sample(some, min(count, len(some))))]
 
 
-def report(what, wrong):
+def found(test, rows, pool):
+    """The rows of which the test says something, with what it says."""
+    return [f"deal {row.deal}: {it}" for row, it in zip(rows, pool.map(test, rows, chunksize=16)) if it]
+
+
+def report(what, wrong, more=""):
     """Says whether all is well."""
-    print(f"{what}: {'all' if not wrong else 'NOT ALL'}")
-    for line in wrong:
+    print(f"{what}: {'all' if not wrong else 'NOT ALL' + more}", flush=True)
+    for line in wrong[:20]:
         print(line)
     return not wrong
 
 
 def main(seed):
-    least, numbers = sorted([*rows, *files.open]), random.Random(seed)
-    both = [f"deal {deal}" for deal in {*range(1, max(least) + 1)} ^ {*least} | {it for it in least if least.count(it) > 1}]
-    kept = [int(it.removesuffix(".cert")) for it in os.listdir(gallery.CERTIFICATES)]
-    drawn = [numbers.sample([it for it in sorted(rows) if rows[it].budget == budget], count) for budget, count in DRAWN.items()]
-    is_well = [
-        report("each deal up to the last has a row or stands in open.tsv", both),
-        report("each row is one, with its list and its certificate", in_turns(wrong_row, sorted(rows)) + [f"deal {it}" for it in sorted({*lists, *kept} - {*rows})]),
-        report("each list wins in as many moves as its row says", in_turns(wrong_list, sorted(lists))),
-        report("each kept certificate is accepted", in_turns(wrong_certificate, kept)),
-        report(f"seed {seed}: {sum(DRAWN.values())} rows are found again", in_turns(wrong_answer, sorted(sum(drawn, [])))),
-        report("the pages tell the table's figures", figures.differences()),
-    ]
+    rows = [*gallery.Folder().rows.values()]
+    lost = [it for it in rows if it.answer == "can't be won"]
+    with concurrent.futures.ProcessPoolExecutor(os.cpu_count()) as pool:
+        if seed == "--lost":
+            return 0 if report("the certificate of each lost deal is made and accepted by both checkers", found(wrong_loss, lost, pool)) else 1
+        kept = [int(it.removesuffix(".cert")) for it in os.listdir(os.path.join(gallery.HERE, "certificates")) if it.endswith(".cert")]
+        has_kept = [it for it in rows if it.deal.isdigit() and int(it.deal) in kept]
+        told = [*module("check").differences(drawn(rows, seed), os.cpu_count())]
+        is_well = [
+            report("each deal up to the last has a row, and one", wrong_files()),
+            report("each row is one, with its list and its certificate", [f"deal {it.deal}: {wrong_row(it)}" for it in rows if wrong_row(it)]),
+            report("each list wins in as many moves as its row says", found(wrong_list, rows, pool)),
+            report("each kept certificate is accepted", found(wrong_kept, has_kept, pool) + ["one has no row"] * (len(kept) > len(has_kept))),
+            report("rows that the commit draws are told again", [f"deal {row.deal}: {it}" for row, it in told if it], f", seed {seed}"),
+            report("the pages tell the rows' figures", module("figures").differences()),
+        ]
     return 0 if all(is_well) else 1
 
 
 if __name__ == "__main__":
-    sys.dont_write_bytecode = True
-    gallery, figures = (module(os.path.join(TOP, "gallery", name)) for name in ("make", "figures"))
-    files = gallery.Gallery()
-    rows, lists = {deal: gallery.told_in(line) for deal, line in files.rows.items()}, files.lists
-    with tempfile.TemporaryDirectory() as room:
-        sys.exit(main(sys.argv[1]))
+    sys.exit(main(sys.argv[1]))
