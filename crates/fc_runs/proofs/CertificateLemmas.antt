@@ -13,7 +13,8 @@ use Rattle.fc_best.specs.Best.{IsBestAnswer, IsBestVerdict}
 use Rattle.fc_methods.specs.Method.{Asked}
 use Rattle.fc_position.specs.Board.{Board}
 use Rattle.fc_answers.specs.Answer.{IsBacked}
-use Rattle.fc_runs.specs.inner.Certificates.{IsCertifiable, IsLong, TellsWins}
+use Rattle.fc_runs.specs.Certificates.{IsCertifiable, TellsWins}
+use Rattle.fc_runs.specs.inner.Certificates.{IsLong}
 use Rattle.fc_search.specs.Search.{Answers, IsVerdict}
 use Rattle.fc_cert.specs.declared.claims.Claim.{Claim}
 use Rattle.fc_cert.specs.declared.claims.Claim.TheVariants as claim

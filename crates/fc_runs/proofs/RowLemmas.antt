@@ -1,5 +1,5 @@
 -- The floors of rows, and what their certificates rest on.
-use Rattle.std.proofs.Common.{rules, ◌≡◌, ◌≢◌, ℕ, suc, List, [], ◌∷◌, ◌++◌, Bool, true, false, Option, Some, None, refl, sym, subst, arith}
+use Rattle.std.proofs.Common.{rules, ◌≡◌, ◌≢◌, ℕ, suc, List, [], ◌∷◌, ◌++◌, true, false, Option, Some, None, refl, sym, subst, arith}
 use Rattle.std.specs.Prelude.{All, IfOk, IfSome, IsSome, Result, Ok, Err}
 use Rattle.std.specs.Result.{result_ok}
 use Rattle.fc_position.specs.Board.{Board}

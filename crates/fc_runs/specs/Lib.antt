@@ -1,5 +1,6 @@
 pub mod Batches
 pub mod Besting
+pub mod Certificates
 pub mod Checking
 pub mod Laws
 pub mod Rows

@@ -11,7 +11,7 @@ pub use fc_board_runs::{
     read_position, run_deal, run_list, run_replay, run_replay_as, run_replay_sequences, run_show,
 };
 pub use rows::{Far, Row, Sought, answer_row};
-pub use solving::{run_solve, run_solve_by};
+pub use solving::{run_solve, run_solve_by, write_certificate};
 pub use tabling::{run_table, table_deals, table_head};
 
 mod batches;

@@ -16,7 +16,8 @@ ghost use Rattle.fc_search.specs.declared.listeners.Progress.{Progress};
 ghost use Rattle.fc_search.specs.Problem.{Problem, problem_of};
 ghost use Rattle.fc_search.specs.Watch.{HearsAll, IsHeardAtMost};
 ghost use Rattle.fc_board_runs.specs.Devices.{IsHandedBack, change, lent};
-ghost use Rattle.fc_runs.specs.inner.Certificates.{IsCertifiable, IsLong};
+ghost use Rattle.fc_runs.specs.Certificates.{IsCertifiable};
+ghost use Rattle.fc_runs.specs.inner.Certificates.{IsLong};
 ghost use Rattle.fc_runs.specs.Solving.{IsAnswered, IsCertified, IsCutShort, IsHeardAnswered, IsSolved, IsSolveFault, IsUnanswered};
 
 use fc_answer_text::{verdict_status, verdict_text};
@@ -166,8 +167,11 @@ fn certify<G: Game + Drop, K: Sink, C: Sink, L: Listener>(
     }
 }
 
-// Writes the certificate of an answer, if it has one that isn't longer than what is read.
-pub(crate) fn write_certificate<G: Game, C: Sink>(
+/// Writes the certificate of an answer of this game, if it has one that isn't longer than what is read; giving up has none.
+///
+/// # Errors
+/// The sink failed, of which a front of the certificate may be written.
+pub fn write_certificate<G: Game, C: Sink>(
     game: &G,
     answer: &Answer,
     cert: &mut C,

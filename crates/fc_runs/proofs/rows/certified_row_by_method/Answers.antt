@@ -1,4 +1,4 @@
-use Rattle.std.proofs.Common.{◌≡◌, Bool, true, false, Some, None, refl, sym, rules}
+use Rattle.std.proofs.Common.{◌≡◌, true, false, Some, None, refl, sym, rules}
 use Rattle.fc_search.specs.Problem.{problem_of}
 use Rattle.fc_search.proofs.EndLemmas.{at_most_floors, end_at_most}
 use Rattle.fc_board_runs.specs.Devices.{Device, IsUntouched}
