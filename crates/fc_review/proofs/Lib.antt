@@ -1,0 +1,4 @@
+pub mod HandLemmas
+pub mod RatingLemmas
+pub mod ReviewLemmas
+pub mod WeaveLemmas

@@ -1,0 +1,162 @@
+-- Moves home, one by one.
+use Rattle.std.proofs.Common.{◌≡◌, ◌∙◌, ◌⊎◌, inl, inr, ℕ, ◌+◌, ◌<◌, ◌≤◌, Option, Some, None, List, [], ◌∷◌, ◌++◌, length, drop, get_or, refl, sym, subst, ap, arith, length-drop, ⊎_elim}
+use Rattle.std.specs.Prelude.{All, Contains, IfNone, IfSome, IsSome, slice_set, IsSomeAnd}
+use Rattle.std.proofs.lemmas.Bool.{false≢true, cases_lt}
+use Rattle.std.proofs.lemmas.List.{drop_all, get_or_default}
+use Rattle.std.proofs.lemmas.Option.{none-some}
+use Rattle.std.proofs.lemmas.List.Elements.{All-append, All-cons, All-nil}
+use Rattle.fc_cards.specs.Card.{rank, suit}
+use Rattle.fc_cards.specs.declared.places.Place.TheVariants.{Home}
+use Rattle.fc_position.specs.Board.{Board, IsNext, lifted, placed}
+use Rattle.fc_position.proofs.BoardLemmas.{homes-lifted}
+use Rattle.fc_moves.specs.declared.steps.Move.{Move}
+use Rattle.fc_moves.specs.GameRules.{GameRules, IsPositionOf}
+use Rattle.fc_moves.specs.Run.{Run}
+use Rattle.fc_moves.specs.Step.{Allows, ListsMoves, Step, Takes}
+use Rattle.fc_moves.proofs.StepLemmas.{step_keeps}
+use Rattle.fc_moves.specs.MoveText.{HasText}
+use Rattle.fc_classes.proofs.PathLemmas.{run_on}
+use Rattle.fc_search.proofs.AnswerLemmas.{run_texts}
+use Rattle.fc_home.proofs.SettleLemmas.{total, total-most, total-next}
+use Rattle.fc_position.specs.Position.{IsWon}
+use Rattle.fc_review.specs.Weaving.{EndsAtHome, GoesHome, IsRefused, IsWoven, NoneGoesHome, Weaves, begins, goes_on, sends_home, IsWayHome, MakesWay}
+
+-- a move home has one card more home, of 52
+pub home_more : (g : GameRules) (b c : Board) (m : Move) → IsPositionOf g b → GoesHome m → Step g b m c
+    → (total c.homes ≡ total b.homes + 1) × (total b.homes < 52)
+home_more g b c m p home step =
+    let takes : IsNext b.homes step.card = subst (λ to. Takes g b step.card to) home step.takes in
+    let after : c ≡ placed (lifted b m.from) step.card Home = subst (λ to. c ≡ placed (lifted b m.from) step.card to) home step.after in
+    let homes : c.homes ≡ slice_set b.homes (suit step.card) (rank step.card) =
+    ap (λ x. x.homes) after ∙ ap (λ h. slice_set h (suit step.card) (rank step.card)) (homes-lifted b m.from) in
+    let more : total c.homes ≡ total b.homes + 1 = ap total homes ∙ total-next b.homes step.card p.position.homes takes in
+    let most : total c.homes ≤ 52 = total-most c (step_keeps _ _ _ _ p step).position in
+    (more, omega (arith, more, most))
+
+-- moves home behind moves home
+pub homes_on : (g : GameRules) (b c d : Board) (homes : List Move) (m : Move) → All GoesHome homes → Run g b homes c → GoesHome m → Step g c m d
+    → All GoesHome (homes ++ m ∷ []) × Run g b (homes ++ m ∷ []) d
+homes_on g b c d homes m all run home step = (
+  All-append GoesHome homes (m ∷ []) all (All-cons GoesHome m [] home (All-nil GoesHome)),
+  run_on g b c d homes (m ∷ []) run (d, step, refl),
+)
+
+-- nothing is no move
+is_none : (o : Option Move) → o ≡ None → IsSome o → ⊥
+is_none None same some = false≢true some
+is_none (Some m) same some = none-some m (sym same)
+
+-- so far no move home was met, nor is this one
+pub met_none : (list : List Move) (i k : ℕ) (before result : Option Move) (d e : Move) → i < length list
+    → ((result ≡ before) × (GoesHome (get_or list i e) → IsSome before)) ⊎ ((result ≡ Some (get_or list i e)) × GoesHome (get_or list i e))
+    → (before ≡ None → (j : ℕ) (f : Move) → j < i → GoesHome (get_or list j f) → ⊥) → result ≡ None → k < i + 1 → GoesHome (get_or list k d) → ⊥
+met_none list i k before result d e within (inr (some, home)) none same below goes = none-some (get_or list i e) (sym same ∙ some)
+met_none list i k before result d e within (inl (kept, first)) none same below goes =
+    let empty : before ≡ None = sym kept ∙ same in
+    let last : k ≡ i → ⊥ = λ e'. is_none before empty (first (subst (λ n. GoesHome (get_or list n e)) e' (subst GoesHome (get_or_default list k d e (omega (arith, e', within))) goes))) in
+    none empty k d (omega (arith, below, last)) goes
+
+-- no move home was met among all that are allowed
+pub left_none : (g : GameRules) (b : Board) (list : List Move) (i : ℕ) (chosen : Option Move) → ListsMoves g b list → length list ≤ i
+    → (chosen ≡ None → (j : ℕ) (f : Move) → j < i → GoesHome (get_or list j f) → ⊥) → IfNone chosen (NoneGoesHome g b)
+left_none g b list i None lists all none = λ m home allowed.
+    let there = lists.complete m allowed in
+    let low = there.1 in
+    none refl there.0 m (omega (arith, low, all)) (subst GoesHome (sym there.2) home)
+left_none g b list i (Some m) lists all none = tt
+
+-- a move of the list that isn't allowed, and before which no card can go home
+pub refused_at : (g : GameRules) (b : Board) (list : List Move) (i : ℕ) (m : Move) (moves : List Move) (here : Board) → i < length list
+    → Weaves g b list (m ∷ drop (i + 1) list) moves here → (Allows g here m → ⊥) → Allows g here m ⊎ NoneGoesHome g here → IsRefused g b list (i + 1)
+refused_at g b list i m moves here within woven refused (inl allowed) = absurd (refused allowed)
+refused_at g b list i m moves here within woven refused (inr stuck) = record {
+  m = m;
+  rest = drop (i + 1) list;
+  moves = moves;
+  here = here;
+  woven = woven;
+  refused = refused;
+  stuck = stuck;
+  place = let size = length-drop (i + 1) list in omega (arith, size, within);
+}
+
+-- before the first move
+pub begins_at : (g : GameRules) (b : Board) (list moves : List Move) (here : Board) → moves ≡ [] → here ≡ b → Weaves g b list list moves here
+begins_at g b list moves here none same = subst (λ l. Weaves g b list list l here) (sym none) (subst (λ c. Weaves g b list list [] c) (sym same) begins)
+
+-- the chosen move stays one home that is allowed
+pub chosen_on : (g : GameRules) (b : Board) (before result : Option Move) (m : Move) → Allows g b m
+    → ((result ≡ before) × (GoesHome m → IsSome before)) ⊎ ((result ≡ Some m) × GoesHome m) → IfSome before (λ x. GoesHome x × Allows g b x)
+    → IfSome result (λ x. GoesHome x × Allows g b x)
+chosen_on g b before result m allowed (inl (kept, first)) good = subst (λ o. IfSome o (λ x. GoesHome x × Allows g b x)) (sym kept) good
+chosen_on g b before result m allowed (inr (new, home)) good = subst (λ o. IfSome o (λ x. GoesHome x × Allows g b x)) (sym new) (home, allowed)
+
+-- what stands at a place of a list is in it
+pub is_in : (all list : List Move) (i : ℕ) (d : Move) → all ≡ list → i < length all → Contains list (get_or all i d)
+is_in all list i d same below = subst (λ l. Contains l (get_or all i d)) same (i, below, get_or_default all i (get_or all i d) d below)
+
+-- what is woven runs
+weaves_run : (g : GameRules) (b : Board) (list rest moves : List Move) (c : Board) → Weaves g b list rest moves c → Run g b moves c
+weaves_run g b list rest moves c begins = refl
+weaves_run g b list rest moves d (goes_on m rest' before c d' woven step) =
+    run_on g b c d before (m ∷ []) (weaves_run g b list (m ∷ rest) before c woven) (d, step, refl)
+weaves_run g b list rest moves d (sends_home m home rest' before c d' woven refused goes step) =
+    run_on g b c d before (home ∷ []) (weaves_run g b list rest before c woven) (d, step, refl)
+
+-- moves home that are kept run
+kept_run : (g : GameRules) (b : Board) (homes all : List Move) (end : Board) → Run g b all end
+    → (IsWon end × (homes ≡ all)) ⊎ ((IsWon end → ⊥) × (homes ≡ [])) → (c : Board) × Run g b homes c
+kept_run g b homes all end run (inl (won, same)) = (end, subst (λ l. Run g b l end) (sym same) run)
+kept_run g b homes all end run (inr (lost, none)) = (b, subst (λ l. Run g b l b) (sym none) refl)
+
+ended_run : (g : GameRules) (b : Board) (homes : List Move) → EndsAtHome g b homes → (c : Board) × Run g b homes c
+ended_run g b homes ended = kept_run g b homes ended.all ended.end ended.run ended.kept
+
+pub woven_run : (g : GameRules) (b : Board) (list moves : List Move) → IsWoven g b list moves → (c : Board) × Run g b moves c
+woven_run g b list moves woven =
+    let ended = woven.ended in
+    let run = ended_run g woven.here woven.homes ended in
+    (run.0, subst (λ l. Run g b l run.0) (sym woven.parts) (run_on g b woven.here run.0 woven.front woven.homes (weaves_run g b list [] woven.front woven.here woven.woven) run.1))
+
+pub woven_texts : (g : GameRules) (b : Board) (list moves : List Move) → IsPositionOf g b → IsWoven g b list moves → All HasText moves
+woven_texts g b list moves p woven = let run = woven_run g b list moves woven in run_texts g b run.0 moves p run.1
+
+-- all of a list is woven, and what is behind it
+pub woven_at : (g : GameRules) (b : Board) (list front homes part moves : List Move) (here : Board) (i : ℕ) → length list ≤ i
+    → Weaves g b list (drop i list) front here → EndsAtHome g here homes → moves ≡ front ++ part → part ≡ homes → IsWoven g b list moves
+woven_at g b list front homes part moves here i all woven ended parts same = record {
+  front = front;
+  homes = homes;
+  here = here;
+  parts = parts ∙ ap (λ l. front ++ l) same;
+  woven = subst (λ l. Weaves g b list l front here) (drop_all i list all) woven;
+  ended = ended;
+}
+
+-- where a move home among those so far makes way, the chosen one does
+pub way_on : (g : GameRules) (b : Board) (list : List Move) (i k : ℕ) (before result : Option Move) (d e w : Move) → i < length list
+    → (IsSomeAnd before (λ home. MakesWay g b home w) ⊎ (GoesHome (get_or list i e) × MakesWay g b (get_or list i e) w)
+    → IsSomeAnd result (λ home. MakesWay g b home w))
+    → ((j : ℕ) (f : Move) → j < i → GoesHome (get_or list j f) → MakesWay g b (get_or list j f) w → IsSomeAnd before (λ home. MakesWay g b home w))
+    → k < i + 1 → GoesHome (get_or list k d) → MakesWay g b (get_or list k d) w → IsSomeAnd result (λ home. MakesWay g b home w)
+way_on g b list i k before result d e w within next so below goes makes =
+    ⊎_elim (λ less. next (inl (so k d less goes makes)))
+    (λ more.
+    let last : k ≡ i = omega (arith, below, more) in
+    let same : get_or list k d ≡ get_or list i e = get_or_default list k d e (omega (arith, last, within)) ∙ ap (λ n. get_or list n e) last in
+    next (inr (subst GoesHome same goes, subst (λ x. MakesWay g b x w) same makes)))
+    (cases_lt k i)
+
+-- where any move home makes way, the chosen one does
+pub way_left : (g : GameRules) (b : Board) (list : List Move) (i : ℕ) (chosen : Option Move) (w : Move) → ListsMoves g b list → length list ≤ i
+    → IfSome chosen (λ m. GoesHome m × Allows g b m)
+    → ((j : ℕ) (f : Move) → j < i → GoesHome (get_or list j f) → MakesWay g b (get_or list j f) w → IsSomeAnd chosen (λ home. MakesWay g b home w))
+    → IfSome chosen (IsWayHome g b w)
+way_left g b list i None w lists all good so = tt
+way_left g b list i (Some m) w lists all good so = (
+  good.0,
+  λ other goes makes.
+      let there = lists.complete other (makes.0, makes.1) in
+      let low = there.1 in
+      so there.0 other (omega (arith, low, all)) (subst GoesHome (sym there.2) goes) (subst (λ x. MakesWay g b x w) (sym there.2) makes),
+)
