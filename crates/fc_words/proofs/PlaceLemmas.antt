@@ -1,5 +1,5 @@
 -- Names of a table, by their places.
-use Rattle.std.proofs.Common.{rules, arith, ◌≡◌, ◌≢◌, ◌↔◌, ℕ, zero, suc, ap, sym, ◌∙◌, refl, Bool, true, false, List, [], ◌∷◌, Option, Some, None, option_map, is_some, slice_get, get_or, take, drop, take_all, ◌+◌, ◌-◌, ◌<◌, ◌≤◌, ⊎_elim, length, Bor, subst, unwrap_or, IsTrue, IfSome, IfNone}
+use Rattle.std.proofs.Common.{rules, arith, ◌≡◌, ◌≢◌, ◌↔◌, ℕ, zero, suc, ap, sym, ◌∙◌, refl, true, false, List, [], ◌∷◌, Option, Some, None, option_map, is_some, slice_get, get_or, take, drop, take_all, ◌+◌, ◌-◌, ◌<◌, ◌≤◌, ⊎_elim, length, Bor, subst, unwrap_or, IsTrue, IfSome, IfNone}
 use Rattle.std.proofs.lemmas.Bool.{cases_lt}
 use Rattle.std.proofs.lemmas.Option.{slice_get-get_or, slice_get_past}
 

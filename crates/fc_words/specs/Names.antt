@@ -9,7 +9,7 @@ use Rattle.fc_words.specs.declared.forms.Colours.TheVariants.{Auto, Always, Neve
 use Rattle.fc_words.specs.declared.games.GameName.{GameName}
 use Rattle.fc_words.specs.declared.games.GameName.TheVariants.{FreeCell, Bakers}
 use Rattle.fc_words.specs.declared.tasks.Task.{Task}
-use Rattle.fc_words.specs.declared.tasks.Task.TheVariants.{Deal, Show, Best, Solve, Check, Replay, Batch}
+use Rattle.fc_words.specs.declared.tasks.Task.TheVariants.{Deal, Show, Best, Hint, Solve, Check, Replay, Review, Batch}
 
 -- the name of a game
 abbrev pub game_name : GameName → List ℕ
@@ -48,7 +48,9 @@ abbrev pub task_name : Task → List ℕ
 task_name Deal = codes "deal"
 task_name Show = codes "show"
 task_name Best = codes "best"
+task_name Hint = codes "hint"
 task_name Solve = codes "solve"
 task_name Check = codes "check"
 task_name Replay = codes "replay"
+task_name Review = codes "review"
 task_name Batch = codes "batch"

@@ -4,17 +4,18 @@ use Rattle.std.specs.Borrow.{Bor}
 use Rattle.fc_words.specs.Names.{task_name}
 use Rattle.fc_words.specs.declared.tasks.Task.{Task}
 use Rattle.fc_words.specs.declared.commands.Command.{Command}
-use Rattle.fc_words.specs.declared.commands.Command.TheVariants.{Deal, Show, Best, Solve, Check, Replay, Batch}
+use Rattle.fc_words.specs.declared.commands.Command.TheVariants.{Deal, Show, Best, Hint, Solve, Check, Replay, Review, Batch}
 use Rattle.fc_words.specs.declared.commands.BatchBoards.{BatchBoards}
 use Rattle.fc_words.specs.declared.commands.BatchBoards.TheVariants.{Deals, Files}
 use Rattle.fc_words.specs.declared.commands.BoardWord.TheVariants.{Input}
 use Rattle.fc_words.specs.declared.commands.MovesWord.TheVariants as moves
-use Rattle.fc_words.specs.declared.commands.ReplayWords.{ReplayWords}
+use Rattle.fc_words.specs.declared.commands.BoardWord.{BoardWord}
+use Rattle.fc_words.specs.declared.commands.MovesWord.{MovesWord}
 use Rattle.fc_words.specs.declared.options.TheConstants.{MOST_CELLS}
 
--- a replay doesn't read both the board and the moves from standard input
-abbrev pub HasOneInput : ReplayWords → Type 0
-HasOneInput words = words.board.word ≡ Input → words.moves ≡ moves.Input → ⊥
+-- the board and the moves aren't both read from standard input
+abbrev pub HasOneInput : BoardWord → MovesWord → Type 0
+HasOneInput board list = board ≡ Input → list ≡ moves.Input → ⊥
 
 -- of these files at most one is standard input
 abbrev pub HasInputOnce : List (Bor (List ℕ)) → Type 0
@@ -30,9 +31,11 @@ abbrev pub IsSound : Command → Type 0
 IsSound (Deal _) = Unit
 IsSound (Show words) = words.game.cells ≤ MOST_CELLS
 IsSound (Best words) = words.game.cells ≤ MOST_CELLS
+IsSound (Hint words) = words.game.cells ≤ MOST_CELLS
 IsSound (Solve words) = words.game.cells ≤ MOST_CELLS
 IsSound (Check words) = words.game.cells ≤ MOST_CELLS
-IsSound (Replay words) = (words.game.cells ≤ MOST_CELLS) × HasOneInput words
+IsSound (Replay words) = (words.game.cells ≤ MOST_CELLS) × HasOneInput words.board.word words.moves
+IsSound (Review words) = (words.game.cells ≤ MOST_CELLS) × HasOneInput words.board.word words.moves
 IsSound (Batch words) = (words.game.cells ≤ MOST_CELLS) × ReadsInputOnce words.boards
 
 -- the name of a task's subcommand, or of clap's own

@@ -16,12 +16,16 @@ pub enum Command<'a> {
     Show(ShowWords<'a>),
     /// The best answer of a board is asked for.
     Best(BestWords<'a>),
+    /// The next moves of the best answer of a board are asked for.
+    Hint(HintWords<'a>),
     /// A board is solved.
     Solve(SolveWords<'a>),
     /// A certificate is checked.
     Check(CheckWords<'a>),
     /// A list of moves is replayed.
     Replay(ReplayWords<'a>),
+    /// It is asked where a list of moves loses, or how good it is.
+    Review(ReviewWords<'a>),
     /// Several boards are solved.
     Batch(BatchWords<'a>),
 }
@@ -169,8 +173,26 @@ pub struct BestWords<'a> {
     pub colours: Colours,
     /// Whether each better answer is written as it comes, and not only the last one.
     pub is_each: bool,
+    /// Whether a link ends the answer.
+    pub has_link: bool,
     /// Whether a line of numbers ends the searches.
     pub has_stats: bool,
+    /// Whether nothing is said on a terminal but the answer.
+    pub is_quiet: bool,
+}
+
+/// The words of `hint`.
+#[derive(Clone, Copy)]
+pub struct HintWords<'a> {
+    pub game: GameWords,
+    pub board: BoardWords<'a>,
+    pub search: BestSearchWords,
+    /// How many moves are told at most, from 1 on.
+    pub count: u8,
+    /// Whether a link ends the answer.
+    pub has_link: bool,
+    /// When red suits are in red.
+    pub colours: Colours,
     /// Whether nothing is said on a terminal but the answer.
     pub is_quiet: bool,
 }
@@ -187,6 +209,8 @@ pub struct SolveWords<'a> {
     pub form: MovesForm,
     /// When red suits are in red, in words and in drawings.
     pub colours: Colours,
+    /// Whether a link ends the answer.
+    pub has_link: bool,
     /// Whether a line of numbers ends the search.
     pub has_stats: bool,
     /// Whether nothing is said of how far the search is.
@@ -212,6 +236,8 @@ pub struct ReplayWords<'a> {
     pub moves: MovesWord<'a>,
     /// What is printed.
     pub form: ReplayForm,
+    /// Whether a link ends what is printed.
+    pub has_link: bool,
     /// Whether entries of the list may move several cards.
     pub has_sequences: bool,
     /// Whether a list that doesn't win ends with a status of its own.
@@ -226,6 +252,27 @@ pub enum BatchBoards<'a> {
     Deals { from: u32, to: u32 },
     /// The boards of these files, of which `-` is standard input.
     Files(Vec<&'a str>),
+}
+
+/// The words of `review`, of which the board and the moves are not both from standard input.
+#[derive(Clone, Copy)]
+pub struct ReviewWords<'a> {
+    pub game: GameWords,
+    pub board: BoardWords<'a>,
+    pub moves: MovesWord<'a>,
+    pub search: BestSearchWords,
+    /// Whether an entry of the list may move several cards; else each moves one.
+    pub has_sequences: bool,
+    /// Whether each board of the list is answered.
+    pub has_all: bool,
+    /// Whether a link ends what is told.
+    pub has_link: bool,
+    /// The file that takes the certificate of a list that wins, if one is asked for.
+    pub cert: Option<&'a str>,
+    /// The folder that takes the boards before and after the move that loses, with a certificate each, if they are asked for.
+    pub certs: Option<&'a str>,
+    /// Whether nothing is said on a terminal but the answer.
+    pub is_quiet: bool,
 }
 
 /// How what is told of each board of a batch is printed.

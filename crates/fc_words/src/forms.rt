@@ -13,10 +13,21 @@ pub enum MovesForm {
     Words,
     /// In words, with the board drawn after each.
     Boards,
-    /// As entries that may move several cards, in one line.
-    Sequences,
+    /// As entries that may move several cards.
+    Sequences(EntriesForm),
     /// By two letters each, in a JSON object with the answer.
     Json,
+}
+
+/// How entries that may move several cards are told.
+#[derive(Clone, Copy)]
+pub enum EntriesForm {
+    /// By two letters each, and how many cards where that isn't plain, in one line.
+    Letters,
+    /// In words, a line each.
+    Words,
+    /// In words, with the board drawn after each.
+    Boards,
 }
 
 /// What is printed of a replay.
@@ -26,6 +37,8 @@ pub enum ReplayForm {
     Boards,
     /// The same, below a line with the number and the move.
     Numbered,
+    /// The board drawn after each move, or each entry that may move several cards, below a line with its number and it in words.
+    Drawn(Colours),
     /// The one-card moves alone, in one line.
     Expanded,
     /// The board alone after so many entries of the list.

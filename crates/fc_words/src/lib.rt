@@ -6,12 +6,12 @@ pub use alone::{is_number, is_subcommand, mean_board};
 pub use bounds::{bound_name, bound_of_name};
 pub use commands::{
     BatchBoards, BatchForm, BatchSearch, BatchWords, BestSearchWords, BestWords, BoardWord,
-    BoardWords, CheckWords, Command, DealWords, GameWords, MovesWord, ReplayWords, SearchWords,
-    ShowWords, SolveWords,
+    BoardWords, CheckWords, Command, DealWords, GameWords, HintWords, MovesWord, ReplayWords,
+    ReviewWords, SearchWords, ShowWords, SolveWords,
 };
 pub use expansions::{expansion_name, expansion_of_name, usual_expansion};
 pub use faults::WordsFault;
-pub use forms::{Colours, MovesForm, ReplayForm};
+pub use forms::{Colours, EntriesForm, MovesForm, ReplayForm};
 pub use games::GameName;
 pub use reading::read;
 pub use tasks::Task;
@@ -25,11 +25,14 @@ mod expansions;
 mod faults;
 mod forms;
 mod games;
+mod hint_words;
 pub mod laws;
+mod link_words;
 mod options;
 mod places;
 mod reading;
 mod replays;
+mod review_words;
 mod subcommands;
 mod table;
 mod tasks;

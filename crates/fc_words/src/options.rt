@@ -7,7 +7,7 @@ use crate::bounds::{BOUND_NAMES, bound_of_name};
 use crate::commands::{BestSearchWords, BoardWord, BoardWords, GameWords, MovesWord, SearchWords};
 use crate::expansions::{EXPANSION_NAMES, expansion_of_name, usual_expansion};
 use crate::faults::WordsFault;
-use crate::forms::{COLOURS_NAMES, Colours, MovesForm};
+use crate::forms::{COLOURS_NAMES, Colours, EntriesForm, MovesForm};
 use crate::games::GameName;
 use crate::weights::weight_of;
 use clap::ArgMatches;
@@ -300,19 +300,19 @@ fn board_word<'a>(words: &ArgMatches<'a>) -> Option<BoardWord<'a>> {
 
 pub(crate) const BOARDS: Word = Word {
     name: "boards",
-    kind: Kind::FlagInPlaceOf(&["words", "sequences", "json"]),
+    kind: Kind::FlagInPlaceOf(&["words", "json"]),
     help: "Tells the moves in words, and draws the board after each",
 };
 
 pub(crate) const WORDS: Word = Word {
     name: "words",
-    kind: Kind::FlagInPlaceOf(&["boards", "sequences", "json"]),
+    kind: Kind::FlagInPlaceOf(&["boards", "json"]),
     help: "Tells the moves in words, a line each",
 };
 
 pub(crate) const IN_SEQUENCES: Word = Word {
     name: "sequences",
-    kind: Kind::FlagInPlaceOf(&["boards", "words", "json"]),
+    kind: Kind::FlagInPlaceOf(&["json"]),
     help: "Joins moves that carry several cards, as a player's hand does",
 };
 
@@ -324,16 +324,27 @@ pub(crate) const IN_JSON: Word = Word {
 
 /// How the moves of an answer are to be told.
 pub(crate) fn form(words: &ArgMatches<'_>) -> MovesForm {
-    if words.get_flag(BOARDS.name) {
+    if words.get_flag(IN_SEQUENCES.name) {
+        MovesForm::Sequences(entries_form(words))
+    } else if words.get_flag(BOARDS.name) {
         MovesForm::Boards
     } else if words.get_flag(WORDS.name) {
         MovesForm::Words
-    } else if words.get_flag(IN_SEQUENCES.name) {
-        MovesForm::Sequences
     } else if words.get_flag(IN_JSON.name) {
         MovesForm::Json
     } else {
         MovesForm::Letters
+    }
+}
+
+// How entries that may move several cards are to be told.
+fn entries_form(words: &ArgMatches<'_>) -> EntriesForm {
+    if words.get_flag(BOARDS.name) {
+        EntriesForm::Boards
+    } else if words.get_flag(WORDS.name) {
+        EntriesForm::Words
+    } else {
+        EntriesForm::Letters
     }
 }
 
@@ -347,6 +358,18 @@ pub(crate) const COLOR: Word = Word {
 pub(crate) fn colours(words: &ArgMatches<'_>) -> Option<Colours> {
     Colours::of_name(words.get_str(COLOR.name)?)
 }
+
+pub(crate) const QUIET: Word = Word {
+    name: "quiet",
+    kind: Kind::Flag,
+    help: "Doesn't say on a terminal how far the search is",
+};
+
+pub(crate) const SEQUENCES: Word = Word {
+    name: "sequences",
+    kind: Kind::Flag,
+    help: "Expands entries that move several cards, as other solvers print them",
+};
 
 pub(crate) const MOVES: Word = Word {
     name: "MOVES",

@@ -4,7 +4,9 @@ ghost use Rattle.fc_words.specs.Sound.{IsSound};
 use crate::batching::batch;
 use crate::commands::Command;
 use crate::faults::WordsFault;
+use crate::hint_words::hint;
 use crate::replays::replay;
+use crate::review_words::review;
 use crate::subcommands::{best, check, deal, show, solve};
 use crate::table;
 use crate::tasks::Task;
@@ -54,6 +56,10 @@ fn read_task<'a>(
             Ok(words) => Ok(Command::Best(words)),
             Err(fault) => Err(fault),
         },
+        Task::Hint => match hint(words) {
+            Ok(words) => Ok(Command::Hint(words)),
+            Err(fault) => Err(fault),
+        },
         Task::Solve => match solve(words) {
             Ok(words) => Ok(Command::Solve(words)),
             Err(fault) => Err(fault),
@@ -64,6 +70,10 @@ fn read_task<'a>(
         },
         Task::Replay => match replay(words) {
             Ok(words) => Ok(Command::Replay(words)),
+            Err(fault) => Err(fault),
+        },
+        Task::Review => match review(words) {
+            Ok(words) => Ok(Command::Review(words)),
             Err(fault) => Err(fault),
         },
         Task::Batch => match batch(alloc, words) {

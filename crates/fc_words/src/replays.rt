@@ -6,9 +6,11 @@ ghost use Rattle.fc_words.specs.declared.options.TheConstants.{MOST_CELLS};
 
 use crate::commands::{BoardWord, MovesWord, ReplayWords};
 use crate::faults::WordsFault;
-use crate::forms::ReplayForm;
+use crate::forms::{Colours, ReplayForm};
+use crate::link_words::PLAIN_LINK;
 use crate::options::{
-    CELLS, GAME, KINGS, Kind, MOVES, NEEDED_BOARD, ROWS, Word, game, moves, needed_board,
+    CELLS, COLOR, GAME, KINGS, Kind, MOVES, NEEDED_BOARD, ROWS, SEQUENCES, Word, colours, game,
+    moves, needed_board,
 };
 use crate::subcommands::Subcommand;
 use clap::ArgMatches;
@@ -19,10 +21,11 @@ pub(crate) static REPLAYING: Subcommand = Subcommand {
     after_help: "It says on standard error whether the board is won at the end, or which entry of the list is
 refused, on which line it stands, and why.
 
-With --sequences an entry may move several cards, and a list in the words of Freecell Solver is
-read too. Where it isn't told how many cards go to an empty column, it is so many that the whole
-list can be played; before entry N there may then be several boards: --board-at N prints the
-one to which the entries before it lead where they are the whole list.
+With --sequences an entry may move several cards, --drawn draws the board after each entry, and a
+list in the words of Freecell Solver is read too. Where it isn't told how many cards go to an
+empty column, it is so many that the whole list can be played; before entry N there may then be
+several boards: --board-at N prints the one to which the entries before it lead where they are
+the whole list.
 
 Status: 0 the list was replayed, 1 it doesn't win, where it must, 3 something asked or read isn't
 right, 4 want of memory, 5 reading or writing failed.
@@ -30,14 +33,18 @@ right, 4 want of memory, 5 reading or writing failed.
 Examples:
   fc_solve replay boards/three-spades.txt moves.txt
   fc_solve 941 | fc_solve replay 941 -
+  fc_solve 941 | fc_solve replay --drawn 941 -
   fc-solve -m -sn board.txt | fc_solve replay --sequences board.txt -
   fc-solve -m board.txt | fc_solve replay --sequences --expanded board.txt -",
     words: &[
         NUMBERED,
+        DRAWN,
         EXPANDED,
         BOARD_AT,
         SEQUENCES,
         MUST_WIN,
+        PLAIN_LINK,
+        COLOR,
         GAME,
         KINGS,
         CELLS,
@@ -49,26 +56,26 @@ Examples:
 
 const NUMBERED: Word = Word {
     name: "numbered",
-    kind: Kind::FlagInPlaceOf(&["expanded", "board-at"]),
+    kind: Kind::FlagInPlaceOf(&["drawn", "expanded", "board-at"]),
     help: "Prints the number and the move above each board",
+};
+
+const DRAWN: Word = Word {
+    name: "drawn",
+    kind: Kind::FlagInPlaceOf(&["numbered", "expanded", "board-at"]),
+    help: "Draws each board as `show` does, below the move in words",
 };
 
 const EXPANDED: Word = Word {
     name: "expanded",
-    kind: Kind::FlagInPlaceOf(&["numbered", "board-at"]),
+    kind: Kind::FlagInPlaceOf(&["numbered", "drawn", "board-at"]),
     help: "Prints the one-card moves alone, on one line, as `solve` does",
 };
 
 const BOARD_AT: Word = Word {
     name: "board-at",
-    kind: Kind::EntryInPlaceOf(&["numbered", "expanded", "must-win"]),
+    kind: Kind::EntryInPlaceOf(&["numbered", "drawn", "expanded", "must-win"]),
     help: "Prints only the board before entry N of the list, from 1 on",
-};
-
-const SEQUENCES: Word = Word {
-    name: "sequences",
-    kind: Kind::Flag,
-    help: "Expands entries that move several cards, as other solvers print them",
 };
 
 const MUST_WIN: Word = Word {
@@ -84,6 +91,9 @@ fn form(words: &ArgMatches<'_>) -> ReplayForm {
         ReplayForm::BoardAfter(entry.saturating_sub(1))
     } else if words.get_flag(EXPANDED.name) {
         ReplayForm::Expanded
+    } else if words.get_flag(DRAWN.name) {
+        // (the table of words has a choice where none is told)
+        ReplayForm::Drawn(colours(words).unwrap_or(Colours::Auto))
     } else if words.get_flag(NUMBERED.name) {
         ReplayForm::Numbered
     } else {
@@ -94,7 +104,7 @@ fn form(words: &ArgMatches<'_>) -> ReplayForm {
 /// What `replay` asks for.
 pub(crate) fn replay<'a>(words: &ArgMatches<'a>) -> Result<ReplayWords<'a>, WordsFault>
     ensures cells { IfOk result (λ replay. replay.game.cells ≤ MOST_CELLS) }
-    ensures one_input { IfOk result HasOneInput }
+    ensures one_input { IfOk result (λ replay. HasOneInput replay.board.word replay.moves) }
 {
     let (Some(game), Some(board), Some(moves)) = (game(words), needed_board(words), moves(words))
     else {
@@ -108,6 +118,7 @@ pub(crate) fn replay<'a>(words: &ArgMatches<'a>) -> Result<ReplayWords<'a>, Word
         board,
         moves,
         form: form(words),
+        has_link: words.get_flag(PLAIN_LINK.name),
         has_sequences: words.get_flag(SEQUENCES.name),
         must_win: words.get_flag(MUST_WIN.name),
     })

@@ -6,12 +6,15 @@ ghost use Rattle.fc_words.specs.declared.options.TheConstants.{MOST_CELLS};
 use crate::batching::BATCHING;
 use crate::commands::{BestWords, CheckWords, DealWords, ShowWords, SolveWords};
 use crate::faults::WordsFault;
+use crate::hint_words::HINTING;
+use crate::link_words::{LINK, LINK_HELP};
 use crate::options::{
     BEST_BUDGET, BOARDS, BOUND, BUDGET, CELLS, COLOR, DEAL, EXPAND, GAME, IN_JSON, IN_SEQUENCES,
-    KINGS, Kind, NEEDED_BOARD, OPTIONAL_BOARD, ROWS, RULE, WITHIN, WORDS, Word, best_search,
+    KINGS, Kind, NEEDED_BOARD, OPTIONAL_BOARD, QUIET, ROWS, RULE, WITHIN, WORDS, Word, best_search,
     colours, form, game, needed_board, optional_board, search,
 };
 use crate::replays::REPLAYING;
+use crate::review_words::REVIEWING;
 use crate::tasks::Task;
 use clap::ArgMatches;
 
@@ -29,9 +32,11 @@ pub(crate) fn subcommand_of(task: Task) -> &'static Subcommand {
         Task::Deal => &DEALING,
         Task::Show => &SHOWING,
         Task::Best => &BEST_SOLVING,
+        Task::Hint => &HINTING,
         Task::Solve => &SOLVING,
         Task::Check => &CHECKING,
         Task::Replay => &REPLAYING,
+        Task::Review => &REVIEWING,
         Task::Batch => &BATCHING,
     }
 }
@@ -103,6 +108,7 @@ Examples:
     words: &[
         BEST_BUDGET,
         EACH,
+        BEST_LINK,
         CERT_OPTION,
         WORDS,
         BOARDS,
@@ -141,10 +147,17 @@ pub(crate) fn best<'a>(words: &ArgMatches<'a>) -> Result<BestWords<'a>, WordsFau
         form: form(words),
         colours,
         is_each: words.get_flag(EACH.name),
+        has_link: words.get_flag(BEST_LINK.name),
         has_stats: words.get_flag(STATS.name),
         is_quiet: words.get_flag(QUIET.name),
     })
 }
+
+const BEST_LINK: Word = Word {
+    name: "link",
+    kind: Kind::FlagInPlaceOf(&["json", "each"]),
+    help: LINK_HELP,
+};
 
 const EACH: Word = Word {
     name: "each",
@@ -171,6 +184,7 @@ Examples:
         WITHIN,
         BOUND,
         EXPAND,
+        LINK,
         WORDS,
         BOARDS,
         IN_SEQUENCES,
@@ -197,8 +211,8 @@ const CERT_OPTION: Word = Word {
     help: "Writes a proof of the answer to FILE, for `check`",
 };
 
-// The file that takes the certificate, if one is asked for.
-fn cert<'a>(words: &ArgMatches<'a>) -> Result<Option<&'a str>, WordsFault> {
+/// The file that takes the certificate, if one is asked for.
+pub(crate) fn cert<'a>(words: &ArgMatches<'a>) -> Result<Option<&'a str>, WordsFault> {
     match words.get_str(CERT_OPTION.name) {
         Some("-") => Err(WordsFault::CertInAnswer),
         cert => Ok(cert),
@@ -209,12 +223,6 @@ const STATS: Word = Word {
     name: "stats",
     kind: Kind::Flag,
     help: "Ends with a line of numbers of the search, on standard error",
-};
-
-const QUIET: Word = Word {
-    name: "quiet",
-    kind: Kind::Flag,
-    help: "Doesn't say on a terminal how far the search is",
 };
 
 /// What `solve` asks for.
@@ -236,6 +244,7 @@ pub(crate) fn solve<'a>(words: &ArgMatches<'a>) -> Result<SolveWords<'a>, WordsF
         cert,
         form: form(words),
         colours,
+        has_link: words.get_flag(LINK.name),
         has_stats: words.get_flag(STATS.name),
         is_quiet: words.get_flag(QUIET.name),
     })

@@ -13,30 +13,36 @@ pub enum Task {
     Show,
     /// Tells the best that a moment's work gives of a board.
     Best,
+    /// Tells the next moves of the best answer of a board.
+    Hint,
     /// Solves a board.
     Solve,
     /// Checks a certificate.
     Check,
     /// Replays a list of moves.
     Replay,
+    /// Tells where a list of moves loses, or how good it is.
+    Review,
     /// Solves several numbered deals.
     Batch,
 }
 
 impl Task {
     /// Each subcommand's name, in the order of the tasks.
-    pub const NAMES: [&'static str; 7] = [
-        "deal", "show", "best", "solve", "check", "replay", "batch",
+    pub const NAMES: [&'static str; 9] = [
+        "deal", "show", "best", "hint", "solve", "check", "replay", "review", "batch",
     ];
 
     /// The tasks, in the order of help.
-    pub const ALL: [Task; 7] = [
+    pub const ALL: [Task; 9] = [
         Task::Deal,
         Task::Show,
         Task::Best,
+        Task::Hint,
         Task::Solve,
         Task::Check,
         Task::Replay,
+        Task::Review,
         Task::Batch,
     ];
 
