@@ -13,17 +13,19 @@ _fc_solve() {
     --within) words="1 1.1 1.2 1.3 1.5 2 3 4 5 6 7 8 9 10" ;;
     --budget) words="100k 1M max" ;;
     --color) words="auto always never" ;;
-    --cert | --certs | --board-at) ;;
+    --cert | --certs | --board-at | --more) ;;
     *)
       case ${COMP_WORDS[1]} in
-        "$word") words="deal show best solve check replay batch help --help --version" ;;
+        "$word") words="deal show best hint solve check replay review batch help --help --version" ;;
         show) words="--plain --color --rows --deal $game --help" ;;
-        best) words="--each --cert --deal --rows $form --stats --quiet --budget --rule $game --help" ;;
-        solve) words="--cert --deal --rows $form --stats --quiet $search $game --help" ;;
+        best) words="--each --link --cert --deal --rows $form --stats --quiet --budget --rule $game --help" ;;
+        hint) words="--more --link --color --quiet --deal --rows --budget --rule $game --help" ;;
+        review) words="--all --cert --certs --link --sequences --quiet --rows --budget --rule $game --help" ;;
+        solve) words="--link --cert --deal --rows $form --stats --quiet $search $game --help" ;;
         batch) words="--table --json --totals --boards --rows --certs --best $search $game --help" ;;
-        replay) words="--numbered --expanded --board-at --sequences --must-win --rows $game --help" ;;
+        replay) words="--link --numbered --drawn --expanded --board-at --sequences --must-win --color --rows $game --help" ;;
         check) words="--json --rows $game --help" ;;
-        help) words="deal show best solve check replay batch" ;;
+        help) words="deal show best hint solve check replay review batch" ;;
       esac
       ;;
   esac

@@ -2,6 +2,8 @@
 
 usage:  told.py words DEAL..          each line of `best --words` is that of the move in letters, and `replay` reads it back
         told.py boards COUNT SEED     so many random boards, drawn by `show` and typed otherwise in rows, are read back by `--rows`
+        told.py joined DEAL..         each entry of `solve --sequences` in words, and with the board drawn, is that of the entry in
+                                      letters; `replay --sequences` reads both back, and draws the same boards by `--drawn`
         told.py entries FROM TO       the entries of `best --sequences` of these deals win, in no more one-card moves than it tells
 """
 import os
@@ -105,6 +107,56 @@ def check_boards(count, seed):
 # Entries that may move several cards
 
 
+def is_carried(board, source, target, count):
+    """Whether so many cards of a column may be carried to another one, by docs/RULES.md."""
+    column = board.columns[source]
+    cards = column[len(column) - count:]
+    if count > len(column) or not all(rules.stands_on(FREECELL, upper, lower) for lower, upper in zip(cards, cards[1:])):
+        return False
+    spare = sum(not other for place, other in enumerate(board.columns) if place != target)
+    return rules.takes(FREECELL, board, cards[0], target) and count <= (board.cells.count(None) + 1) << spare
+
+
+def carried(board, entry):
+    """The cards that an entry moves, the deepest first, and the board after it."""
+    if not (entry[0] in "12345678" and entry[1] in "12345678"):
+        return [card_at(board, entry[0])], rules.play(FREECELL, board, [entry])
+    source, target = int(entry[0]) - 1, int(entry[1]) - 1
+    counts = [count for count in range(1, 14) if is_carried(board, source, target, count) and entry[2:] in ("", f"v{count:x}")]
+    assert len(counts) == 1, entry
+    column = board.columns[source]
+    left, cards = column[:-counts[0]], column[-counts[0]:]
+    columns = rules.put_at(rules.put_at(board.columns, source, left), target, board.columns[target] + cards)
+    return list(cards), board._replace(columns=columns)
+
+
+# (lists that are found soon carry cards more often than the best)
+JOINED = "solve", "--within", "10", "--bound", "clearing", "--sequences"
+
+
+def check_joined(deal):
+    letters = run(*JOINED, deal)[0]
+    head, entries, _ = letters.split("\n")
+    board = rules.read_plain(run("deal", deal)[0].encode(), 4)
+    lines, pages, most = [], [], 0
+    for number, entry in enumerate(entries.split(), 1):
+        cards, after = carried(board, entry)
+        names = [rules.name_of(card) for card in cards]
+        line = words_of(board, number, *entry[:2])
+        if len(cards) > 1:
+            line = line.replace(f"{number}. {names[-1]} from", f"{number}. {len(cards)} cards, {names[0]} to {names[-1]}, from")
+        lines.append(line + "\n")
+        drawing = run("show", text=rules.printed(after))[0]
+        pages.append(lines[-1] + drawing.replace(" " + names[0], ">" + names[0]) + "\n")
+        board, most = after, max(most, len(cards))
+    told, drawn = (run(*JOINED, form, deal)[0] for form in ("--words", "--boards"))
+    ended = run("replay", "--sequences", deal, "-", text=letters)
+    back = [run("replay", "--sequences", deal, "-", text=text) == ended for text in (told, drawn)]
+    again = run("replay", "--sequences", "--drawn", deal, "-", text=letters)
+    print(deal, rules.is_won(board), most > 1, told == head + "\n" + "".join(lines), drawn == head + "\n" + "".join(pages), *back,
+          again == ("".join(pages), ended[1]))
+
+
 def check_entries(first, last):
     joined = 0
     for deal in map(str, range(first, last + 1)):
@@ -124,6 +176,9 @@ if __name__ == "__main__":
     if sys.argv[1] == "words":
         for number in words:
             check_words(number)
+    elif sys.argv[1] == "joined":
+        for number in words:
+            check_joined(number)
     elif sys.argv[1] == "boards":
         check_boards(int(words[0]), words[1])
     else:

@@ -8,6 +8,7 @@ use crate::each::answer_each;
 use crate::endings::{Ending, tell_of_great_budget, tell_of_long_certificate};
 use crate::forms::{LONGEST_ANSWER, Manner, tell_held};
 use crate::games::InGame;
+use crate::links::{Link, tell_link};
 use crate::objects::{Name, tell_answer};
 use crate::outputs::Out;
 use crate::watching::{BestTeller, Line};
@@ -64,7 +65,7 @@ fn answer_from<G: Game + Drop>(
         return answer_each(rt, words, question, start, cert, teller);
     }
     let line = teller.line();
-    if let MovesForm::Letters = words.form {
+    if let (MovesForm::Letters, false) = (words.form, words.has_link) {
         let mut out = Out::after(rt, line);
         let ran = run_best(rt.alloc(), question, start, &mut out, cert, teller);
         line.clear();
@@ -82,5 +83,10 @@ fn answer_from<G: Game + Drop>(
         tell_held(rt, question.game(), start, ran, answer.held(), manner)
     };
     teller.tell_stats(words.has_stats, answer.held());
-    told
+    let status = told?;
+    if words.has_link {
+        let link = Link::of_answer(words.game, line.deal(), answer.held());
+        tell_link(rt, question.game(), start, &link)?;
+    }
+    Ok(status)
 }

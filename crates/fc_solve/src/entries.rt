@@ -1,15 +1,18 @@
 //! An answer as entries that may move several cards, as a player's hands would do it.
-ghost use Rattle.std.specs.Prelude.{All};
+ghost use Rattle.std.specs.Prelude.{◌≤◌, All, IfOk, length};
 ghost use Rattle.fc_moves.specs.GameRules.{IsPositionOf};
 ghost use Rattle.fc_sequences.specs.Pair.{HasPairText};
 
 use crate::endings::Ending;
-use crate::forms::{split_answer, tell_whole};
+use crate::entry_pages::{EntryPage, write_entries};
+use crate::forms::{UNWRITTEN, split_answer, tell_whole};
+use crate::outputs::Out;
+use fc_io::write_all;
 use fc_moves::{Game, Move, read_move};
 use fc_position::Position;
 use fc_replay::MoveGaps;
 use fc_runs::{LONGEST_MOVES, ProgramFault};
-use fc_sequences::{Pair, gather, print_pair};
+use fc_sequences::{Pair, expand, gather, print_pair};
 use fc_text::Tokens;
 use std::alloc::{AllocError, Global};
 
@@ -23,19 +26,73 @@ pub fn tell_entries<G: Game>(
     requires position { IsPositionOf (G.game game.now) start.now }
 {
     let (told, list) = split_answer(answer);
-    let moves = moves_of(rt.alloc(), list)?;
-    if moves.is_empty() {
+    let pairs = entries_of(rt.alloc(), game, start, list)?;
+    if pairs.is_empty() {
         return tell_whole(rt, answer);
     }
-    if moves.len() > LONGEST_MOVES {
-        return tell_whole(rt, answer);
-    }
-    // (the moves are those of an answer, so each is allowed)
-    let Ok(pairs) = gather(rt.alloc(), game, start, moves.as_slice()) else {
-        return Err(Ending::Fault(ProgramFault::Memory));
-    };
     let text = text_of(rt.alloc(), told, pairs.as_slice())?;
     tell_whole(rt, text.as_slice())
+}
+
+/// Writes the first line of an answer, with how many entries there are, and then a page for each. No memory is asked for behind
+/// that line.
+pub fn tell_entry_pages<G: Game>(
+    rt: &HostRuntime,
+    game: &G,
+    start: &Position,
+    answer: &[u8],
+    page: EntryPage,
+) -> Result<(), Ending>
+    requires position { IsPositionOf (G.game game.now) start.now }
+{
+    let (told, list) = split_answer(answer);
+    let pairs = entries_of(rt.alloc(), game, start, list)?;
+    if pairs.is_empty() {
+        return tell_whole(rt, told);
+    }
+    // (each entry leads to one board alone, so it is the answer's)
+    let Ok(moves) = expand(rt.alloc(), game, start, pairs.as_slice()) else {
+        return Err(Ending::Fault(ProgramFault::Memory));
+    };
+    let mut head = head_of(rt.alloc(), told, pairs.len())?;
+    head.extend_from_slice(b"\n")?;
+    let mut out = Out::new(rt);
+    let Ok(()) = write_all(&mut out, head.as_slice()) else {
+        return Err(out.ending_of(UNWRITTEN));
+    };
+    match write_entries(
+        game,
+        start,
+        pairs.as_slice(),
+        moves.as_slice(),
+        page,
+        &mut out,
+    ) {
+        Ok(_) => Ok(()),
+        Err(_) => Err(out.ending_of(UNWRITTEN)),
+    }
+}
+
+// The entries that the moves of an answer's list are joined to; none where it has no moves.
+fn entries_of<G: Game>(
+    alloc: Global,
+    game: &G,
+    start: &Position,
+    list: &[u8],
+) -> Result<Vec<Pair>, Ending>
+    requires position { IsPositionOf (G.game game.now) start.now }
+    ensures few { IfOk result (λ pairs. length pairs.items ≤ LONGEST_MOVES) }
+    ensures texts { IfOk result (λ pairs. All HasPairText pairs.items) }
+{
+    let moves = moves_of(alloc, list)?;
+    if moves.len() > LONGEST_MOVES {
+        return Ok(Vec::new(alloc));
+    }
+    // (the moves are those of an answer, so each is allowed)
+    match gather(alloc, game, start, moves.as_slice()) {
+        Ok(pairs) if pairs.len() <= LONGEST_MOVES => Ok(pairs),
+        _ => Err(Ending::Fault(ProgramFault::Memory)),
+    }
 }
 
 // The moves of an answer's list.
@@ -53,11 +110,7 @@ fn moves_of(alloc: Global, list: &[u8]) -> Result<Vec<Move>, AllocError> {
 fn text_of(alloc: Global, told: &[u8], pairs: &[Pair]) -> Result<Vec<u8>, AllocError>
     requires texts { All HasPairText pairs.now }
 {
-    let mut text = Vec::new(alloc);
-    let count = pairs.len();
-    text.extend_from_slice(told.strip_suffix(b"\n").unwrap_or(told))?;
-    let counted = format!(in alloc; ", in {count} entries")?;
-    text.extend_from_slice(counted.as_bytes())?;
+    let mut text = head_of(alloc, told, pairs.len())?;
     let mut gap = b'\n';
     for pair in pairs {
         text.push(gap)?;
@@ -66,4 +119,13 @@ fn text_of(alloc: Global, told: &[u8], pairs: &[Pair]) -> Result<Vec<u8>, AllocE
     }
     text.push(b'\n')?;
     Ok(text)
+}
+
+// An answer's first line, with how many entries there are, up to its end.
+fn head_of(alloc: Global, told: &[u8], count: usize) -> Result<Vec<u8>, AllocError> {
+    let mut head = Vec::new(alloc);
+    head.extend_from_slice(told.strip_suffix(b"\n").unwrap_or(told))?;
+    let counted = format!(in alloc; ", in {count} entries")?;
+    head.extend_from_slice(counted.as_bytes())?;
+    Ok(head)
 }

@@ -3,14 +3,15 @@ ghost use Rattle.fc_position.specs.Position.{Fits};
 ghost use Rattle.fc_moves.specs.GameRules.{IsPositionOf};
 
 use crate::endings::Ending;
-use crate::entries::tell_entries;
+use crate::entries::{tell_entries, tell_entry_pages};
+use crate::entry_pages::EntryPage;
 use crate::outputs::Out;
 use fc_io::{Sink, write_all};
 use fc_moves::Game;
 use fc_position::Position;
 use fc_replay::{Page, replay_as};
 use fc_runs::{LONGEST_MOVES, Output, ProgramFault};
-use fc_words::{Colours, MovesForm};
+use fc_words::{Colours, EntriesForm, MovesForm};
 use std::io::IsTerminal;
 
 /// The most bytes of an answer that is held to be told otherwise.
@@ -65,8 +66,31 @@ pub fn tell_in_form<G: Game>(
         MovesForm::Letters | MovesForm::Json => tell_whole(rt, answer),
         MovesForm::Words => tell_in_pages(rt, game, start, answer, Page::Words(is_coloured)),
         MovesForm::Boards => tell_in_pages(rt, game, start, answer, Page::Drawn(is_coloured)),
-        MovesForm::Sequences => tell_entries(rt, game, start, answer),
+        MovesForm::Sequences(form) => tell_joined(rt, game, start, answer, form, is_coloured),
     }
+}
+
+// Writes an answer whose moves are joined to entries.
+fn tell_joined<G: Game>(
+    rt: &HostRuntime,
+    game: &G,
+    start: &Position,
+    answer: &[u8],
+    form: EntriesForm,
+    is_coloured: bool,
+) -> Result<(), Ending>
+    requires position { IsPositionOf (G.game game.now) start.now }
+{
+    let has_board = match form {
+        EntriesForm::Letters => return tell_entries(rt, game, start, answer),
+        EntriesForm::Words => false,
+        EntriesForm::Boards => true,
+    };
+    let page = EntryPage {
+        has_board,
+        is_coloured,
+    };
+    tell_entry_pages(rt, game, start, answer, page)
 }
 
 /// Writes a text.
@@ -78,8 +102,8 @@ pub fn tell_whole(rt: &HostRuntime, text: &[u8]) -> Result<(), Ending> {
     }
 }
 
-// Why an answer isn't told to its end.
-const UNWRITTEN: ProgramFault = ProgramFault::Write(Output::Answer);
+/// Why an answer isn't told to its end.
+pub const UNWRITTEN: ProgramFault = ProgramFault::Write(Output::Answer);
 
 // Writes the first line of an answer, and then a page for each of its moves.
 fn tell_in_pages<G: Game>(

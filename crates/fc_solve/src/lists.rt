@@ -14,8 +14,8 @@ use std::alloc::{AllocError, Global};
 enum Form {
     // In letters, on the lines from a number on, up to another; lines count from 0.
     Letters(usize, usize),
-    // In words, as `solve --words` and `--boards` print them.
-    Words,
+    // In words, as `solve --words` and `--boards` print them; whether an entry may move several cards.
+    Words(bool),
     // As Freecell Solver tells them by lines that begin with `Move`.
     Sayings,
 }
@@ -49,8 +49,8 @@ fn push_entries(
             list.extend_from_slice(line)
         }
         Form::Letters(..) => Ok(()),
-        Form::Words => match letters_of(line) {
-            Some(letters) => list.extend_from_slice(&letters),
+        Form::Words(has_sequences) => match told_entry(line) {
+            Some(entry) => push_told(list, entry, has_sequences),
             None => Ok(()),
         },
         Form::Sayings if line.starts_with(SAYING) => push_saying(list, line),
@@ -60,17 +60,12 @@ fn push_entries(
 
 // How a text tells entries.
 fn form_of(text: &[u8], has_sequences: bool) -> Form {
+    if has_sequences && is_said(text) {
+        return Form::Sayings;
+    }
     let mut lines = text.split(|byte| *byte == b'\n');
-    if has_sequences {
-        let is_said = match lines.find(|line| line.starts_with(SAYING)) {
-            Some(line) => entry_of(line).is_some(),
-            None => false,
-        };
-        if is_said {
-            return Form::Sayings;
-        }
-    } else if lines.any(|line| letters_of(line).is_some()) {
-        return Form::Words;
+    if lines.any(|line| told_entry(line).is_some()) {
+        return Form::Words(has_sequences);
     }
     let (first, end) = letter_lines(text, has_sequences);
     Form::Letters(first, end)
@@ -93,13 +88,36 @@ fn letter_lines(text: &[u8], has_rulers: bool) -> (usize, usize) {
     (first, usize::MAX)
 }
 
-// The two letters of a move that a line tells in words: its number, its card, `from`, a kind of place and its name, and, last,
-// the name of the place where it goes.
-fn letters_of(line: &[u8]) -> Option<[u8; 2]> {
+// Whether Freecell Solver tells the entries of a text, as it does where the first line that begins so tells one.
+fn is_said(text: &[u8]) -> bool {
+    let mut lines = text.split(|byte| *byte == b'\n');
+    match lines.find(|line| line.starts_with(SAYING)) {
+        Some(line) => entry_of(line).is_some(),
+        None => false,
+    }
+}
+
+// An entry that a line tells in words: its two letters, and how many cards it moves.
+#[derive(Clone, Copy)]
+struct ToldEntry {
+    letters: [u8; 2],
+    count: u8,
+}
+
+// The entry that a line tells in words: its number, its card, or how many cards, the deepest and the last, then `from`, a kind
+// of place and its name, and, last, the name of the place where it goes.
+fn told_entry(line: &[u8]) -> Option<ToldEntry> {
     let mut tokens = Tokens::new(line, MoveGaps);
     let number = tokens.next()?;
-    let _card = tokens.next()?;
-    if !number.ends_with(b".") || tokens.next()? != b"from".as_slice() {
+    let card = tokens.next()?;
+    let mut word = tokens.next()?;
+    let mut count = 1;
+    if word == b"cards,".as_slice() {
+        count = count_of(card)?;
+        let (_deepest, _to, _last) = (tokens.next()?, tokens.next()?, tokens.next()?);
+        word = tokens.next()?;
+    }
+    if !number.ends_with(b".") || word != b"from".as_slice() {
         return None;
     }
     let _kind = tokens.next()?;
@@ -108,7 +126,32 @@ fn letters_of(line: &[u8]) -> Option<[u8; 2]> {
     for token in tokens {
         last = token;
     }
-    Some([from, letter_of(last)?])
+    let letters = [from, letter_of(last)?];
+    Some(ToldEntry { letters, count })
+}
+
+// How many cards are carried, from 2 to 13.
+fn count_of(number: &[u8]) -> Option<u8> {
+    match number {
+        [digit @ b'2'..=b'9'] => Some(digit.saturating_sub(b'0')),
+        [b'1', digit @ b'0'..=b'3'] => Some(digit.saturating_sub(b'0').saturating_add(10)),
+        _ => None,
+    }
+}
+
+// Appends an entry that a line tells in words: with how many cards it moves where that isn't plain, as a single card's number
+// isn't where an entry may move several.
+fn push_told(list: &mut Vec<u8>, entry: ToldEntry, has_sequences: bool) -> Result<(), AllocError> {
+    list.extend_from_slice(&entry.letters)?;
+    if entry.count == 1 && !has_sequences {
+        return Ok(());
+    }
+    list.push(b'v')?;
+    list.push(match entry.count {
+        count @ 0..=9 => b'0'.saturating_add(count),
+        count => b'a'.saturating_add(count.saturating_sub(10)),
+    })?;
+    Ok(())
 }
 
 // The letter of a place by its name.

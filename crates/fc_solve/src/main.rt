@@ -12,16 +12,23 @@ mod dealing;
 mod each;
 mod endings;
 mod entries;
+mod entry_pages;
 mod forms;
 mod games;
+mod hinting;
 mod lengths;
+mod links;
 mod lists;
 mod moves;
 mod notes;
 mod objects;
+mod others;
 mod outputs;
+mod pair_lists;
 mod refusals;
 mod replaying;
+mod review_texts;
+mod reviewing;
 mod showing;
 mod shown;
 mod solving;
@@ -29,6 +36,7 @@ mod streams;
 mod tables;
 mod tallies;
 mod watching;
+mod written_lists;
 
 ghost use Rattle.fc_words.specs.Sound.{IsSound};
 
@@ -124,9 +132,11 @@ fn follow(rt: &HostRuntime, command: &Command<'_>) -> Result<u8, Ending>
         Command::Deal(words) => dealing::deal(rt, words),
         Command::Show(words) => in_game(rt, &words.game, words),
         Command::Best(words) => in_game(rt, &words.game, words),
+        Command::Hint(words) => in_game(rt, &words.game, words),
         Command::Solve(words) => in_game(rt, &words.game, words),
         Command::Check(words) => in_game(rt, &words.game, words),
         Command::Replay(words) => in_game(rt, &words.game, words),
+        Command::Review(words) => in_game(rt, &words.game, words),
         Command::Batch(words) => in_game(rt, &words.game, words),
     }
 }

@@ -105,8 +105,8 @@ pub fn fault_line<'a>(
     line_of(alloc, &told)
 }
 
-// What the answer of a first line is called.
-fn answer_of(line: &[u8]) -> &'static str {
+/// What the answer of a first line is called.
+pub fn answer_of(line: &[u8]) -> &'static str {
     if line.starts_with(b"shortest ") {
         "shortest"
     } else if line.starts_with(b"won ") {
@@ -118,8 +118,8 @@ fn answer_of(line: &[u8]) -> &'static str {
     }
 }
 
-// How many moves the list of a first line has, and how many each list has at least.
-fn numbers_of(line: &[u8]) -> (Option<u32>, Option<u32>) {
+/// How many moves the list of a first line has, and how many each list has at least.
+pub fn numbers_of(line: &[u8]) -> (Option<u32>, Option<u32>) {
     let line = line.strip_suffix(b"\n").unwrap_or(line);
     if let Some(number) = line.strip_prefix(b"shortest ") {
         let moves = read_count(number);

@@ -3,36 +3,53 @@ ghost use Rattle.fc_moves.specs.GameRules.{IsPositionOf};
 
 use crate::boards::{find_board, read_start};
 use crate::endings::Ending;
+use crate::entry_pages::{EntryPage, write_entries};
+use crate::forms::LONGEST_ANSWER;
 use crate::games::InGame;
+use crate::links::{Link, tell_link};
 use crate::lists::plain_list;
 use crate::moves::{find_moves, read_moves, tell_end};
+use crate::others::tell_other_game;
 use crate::outputs::Out;
+use crate::pair_lists::expand_list;
 use crate::refusals::{tell_move, tell_sequence};
-use fc_io::FromSlice;
+use fc_io::{FromSlice, ToArray};
 use fc_moves::Game;
 use fc_position::Position;
-use fc_replay::{Ended, Page};
-use fc_runs::{Asked, ListQuestion, ProgramFault, run_list, run_replay_as, run_replay_sequences};
+use fc_replay::{Ended, Page, ReplayFault};
+use fc_runs::{
+    Asked, Input, ListQuestion, Output, ProgramFault, run_list, run_replay_as, run_replay_sequences,
+};
 use fc_words::{ReplayForm, ReplayWords};
 use std::alloc::Global;
+use std::io::IsTerminal;
 
 impl InGame for ReplayWords<'_> {
     fn perform<G: Game + Drop>(&self, rt: &HostRuntime, game: &G) -> Result<u8, Ending> {
         let source = find_board(rt, &self.board)?;
+        let deal = source.deal();
         // (a file that can't be opened is told before the board is read, and one that can't be read after it)
         let moves = find_moves(rt, &self.moves)?;
         let start = read_start(rt, source, game.cells())?;
         let text = read_moves(rt, moves)?;
         let list = plain_list(rt.alloc(), text.as_slice(), self.has_sequences)?;
         let mut out = Out::new(rt);
-        match replay(rt.alloc(), game, &start, list.as_slice(), self, &mut out) {
-            Ok(ended) => Ok(end_of(rt, self, ended)),
+        match replay(rt, game, &start, list.as_slice(), self, &mut out) {
+            Ok(ended) => {
+                if self.has_link {
+                    link_list(rt, game, &start, list.as_slice(), self, deal)?;
+                }
+                Ok(end_of(rt, self, ended))
+            }
             Err(fault) => {
                 let status = out.tell(&fault);
                 if self.has_sequences {
                     tell_sequence(rt, game, &start, list.as_slice(), fault);
                 } else if let ProgramFault::Moves(_) = fault {
                     tell_move(rt, game, &start, list.as_slice());
+                }
+                if let ProgramFault::Moves(ReplayFault::NotAllowed(_)) = fault {
+                    tell_other_game(rt, self, &start, list.as_slice());
                 }
                 Err(Ending::Told(status))
             }
@@ -42,7 +59,7 @@ impl InGame for ReplayWords<'_> {
 
 // Replays a list, and writes what the words ask for.
 fn replay<G: Game>(
-    alloc: Global,
+    rt: &HostRuntime,
     game: &G,
     start: &Position,
     list: &[u8],
@@ -51,25 +68,25 @@ fn replay<G: Game>(
 ) -> Result<Ended, ProgramFault>
     requires position { IsPositionOf (G.game game.now) start.now }
 {
+    let alloc = rt.alloc();
     let has_sequences = words.has_sequences;
     let mut moves = FromSlice::new(list);
     let page = match words.form {
         ReplayForm::Boards => Page::Board,
         ReplayForm::Numbered => Page::Numbered,
+        ReplayForm::Drawn(colours) => {
+            let is_coloured = colours.are_shown(rt.stdout().is_terminal());
+            if has_sequences {
+                return draw_entries(alloc, game, start, list, is_coloured, out);
+            }
+            Page::Drawn(is_coloured)
+        }
         ReplayForm::Expanded => {
-            let asked = Asked::Line;
-            let question = ListQuestion {
-                asked,
-                has_sequences,
-            };
+            let question = question_of(Asked::Line, words);
             return run_list(alloc, game, start, &mut moves, question, out);
         }
         ReplayForm::BoardAfter(entries) => {
-            let asked = Asked::BoardAfter(entries);
-            let question = ListQuestion {
-                asked,
-                has_sequences,
-            };
+            let question = question_of(Asked::BoardAfter(entries), words);
             return run_list(alloc, game, start, &mut moves, question, out);
         }
     };
@@ -77,6 +94,73 @@ fn replay<G: Game>(
         run_replay_sequences(alloc, game, start, &mut moves, page, out)
     } else {
         run_replay_as(alloc, game, start, &mut moves, page, out)
+    }
+}
+
+// Writes a link to the page that plays a list.
+fn link_list<G: Game>(
+    rt: &HostRuntime,
+    game: &G,
+    start: &Position,
+    list: &[u8],
+    words: &ReplayWords<'_>,
+    deal: Option<u32>,
+) -> Result<(), Ending>
+    requires position { IsPositionOf (G.game game.now) start.now }
+{
+    let mut line = ToArray::<LONGEST_ANSWER>::new();
+    let question = question_of(Asked::Line, words);
+    run_list(
+        rt.alloc(),
+        game,
+        start,
+        &mut FromSlice::new(list),
+        question,
+        &mut line,
+    )?;
+    let link = Link {
+        game: words.game,
+        deal,
+        list: line.held(),
+        floor: None,
+        answer: None,
+    };
+    tell_link(rt, game, start, &link)
+}
+
+// What is asked of a list, whose entries may move several cards or not as the words say.
+fn question_of(asked: Asked, words: &ReplayWords<'_>) -> ListQuestion {
+    ListQuestion {
+        asked,
+        has_sequences: words.has_sequences,
+    }
+}
+
+// Replays a list whose entries may move several cards, and draws the board after each of them.
+fn draw_entries<G: Game>(
+    alloc: Global,
+    game: &G,
+    start: &Position,
+    list: &[u8],
+    is_coloured: bool,
+    out: &mut Out<'_>,
+) -> Result<Ended, ProgramFault>
+    requires position { IsPositionOf (G.game game.now) start.now }
+{
+    let (pairs, moves) = expand_list(alloc, game, start, list)?;
+    let Ok(count) = u32::try_from(moves.len()) else {
+        return Err(ProgramFault::TooLong(Input::Moves));
+    };
+    let page = EntryPage {
+        has_board: true,
+        is_coloured,
+    };
+    match write_entries(game, start, pairs.as_slice(), moves.as_slice(), page, out) {
+        Ok(is_won) => Ok(Ended {
+            moves: count,
+            is_won,
+        }),
+        Err(_) => Err(ProgramFault::Write(Output::Answer)),
     }
 }
 

@@ -7,6 +7,7 @@ use crate::certs::CertFile;
 use crate::endings::Ending;
 use crate::forms::{LONGEST_ANSWER, Manner, tell_held};
 use crate::games::InGame;
+use crate::links::{Link, tell_link};
 use crate::objects::{Name, tell_answer};
 use crate::outputs::Out;
 use crate::watching::{Line, Teller};
@@ -56,7 +57,7 @@ fn search_from<G: Game + Drop>(
 {
     let mut cert = cert;
     let mut teller = Teller::new(line, rt.stderr().is_terminal() && !words.is_quiet);
-    if let MovesForm::Letters = words.form {
+    if let (MovesForm::Letters, false) = (words.form, words.has_link) {
         let mut out = Out::after(rt, line);
         let ran = run_solve_by(
             rt.alloc(),
@@ -88,7 +89,12 @@ fn search_from<G: Game + Drop>(
         tell_held(rt, question.game(), start, ran, answer.held(), manner)
     };
     teller.tell_stats(words.has_stats, answer.held());
-    told
+    let status = told?;
+    if words.has_link {
+        let link = Link::of_answer(words.game, line.deal(), answer.held());
+        tell_link(rt, question.game(), start, &link)?;
+    }
+    Ok(status)
 }
 
 // Says on standard error what helps after giving up. Where this can't be written, the answer stands all the same.
