@@ -5,7 +5,8 @@ use Rattle.std.specs.Ordering.{match_ordering}
 use Rattle.serde_json.specs.Data.{Data, Members, no_members, member, members_depth, depth, number, put, string, unsigned}
 use Rattle.serde_json.specs.Written.{has_float, members_have_float}
 use Rattle.fc_json.specs.declared.objects.Told.{Told}
-use Rattle.fc_json.specs.Objects.{members_of, with_number, with_text}
+use Rattle.fc_json.specs.declared.reviews.Reviewed.{Reviewed}
+use Rattle.fc_json.specs.Objects.{members_of, members_of_review, with_number, with_text}
 
 flat_by : (o : Ordering) (a b c : Members) → members_depth a ≤ 0 → members_depth b ≤ 0 → members_depth c ≤ 0
     → members_depth (match_ordering o a b c) ≤ 0
@@ -71,12 +72,42 @@ told_flat told =
     let flat_moves = number_flat (codes "moves") told.moves stored flat_stored in
     let list = with_text (codes "list") told.list moves in
     let flat_list = text_flat (codes "list") told.list moves flat_moves in
-    let floor = with_number (codes "floor") told.floor list in
-    let flat_floor = number_flat (codes "floor") told.floor list flat_list in
+    let hint = with_text (codes "hint") told.hint list in
+    let flat_hint = text_flat (codes "hint") told.hint list flat_list in
+    let floor = with_number (codes "floor") told.floor hint in
+    let flat_floor = number_flat (codes "floor") told.floor hint flat_hint in
     let fault = with_text (codes "fault") told.fault floor in
     let flat_fault = text_flat (codes "fault") told.fault floor flat_floor in
     let deal = with_number (codes "deal") told.deal fault in
     let flat_deal = number_flat (codes "deal") told.deal fault flat_fault in
-    let board = with_text (codes "board") told.board deal in
-    let flat_board = text_flat (codes "board") told.board deal flat_deal in
+    let by_hand = with_number (codes "by_hand") told.by_hand deal in
+    let flat_by_hand = number_flat (codes "by_hand") told.by_hand deal flat_deal in
+    let board = with_text (codes "board") told.board by_hand in
+    let flat_board = text_flat (codes "board") told.board by_hand flat_by_hand in
     text_flat (codes "answer") (Some told.answer) board flat_board
+
+pub review_flat : (told : Reviewed) → IsFlat (members_of_review told)
+review_flat told =
+    let review = with_text (codes "review") (Some told.review) no_members in
+    let flat_review = text_flat (codes "review") (Some told.review) no_members (omega arith, refl) in
+    let moves = with_number (codes "moves") told.moves review in
+    let flat_moves = number_flat (codes "moves") told.moves review flat_review in
+    let lost_after = with_number (codes "lost_after") told.lost_after moves in
+    let flat_lost_after = number_flat (codes "lost_after") told.lost_after moves flat_moves in
+    let losing = with_text (codes "losing") told.losing lost_after in
+    let flat_losing = text_flat (codes "losing") told.losing lost_after flat_lost_after in
+    let list = with_text (codes "list") told.list losing in
+    let flat_list = text_flat (codes "list") told.list losing flat_losing in
+    let inserted = with_number (codes "inserted") told.inserted list in
+    let flat_inserted = number_flat (codes "inserted") told.inserted list flat_list in
+    let floor = with_number (codes "floor") told.floor inserted in
+    let flat_floor = number_flat (codes "floor") told.floor inserted flat_inserted in
+    let deal = with_number (codes "deal") told.deal floor in
+    let flat_deal = number_flat (codes "deal") told.deal floor flat_floor in
+    let by_hand = with_number (codes "by_hand") told.by_hand deal in
+    let flat_by_hand = number_flat (codes "by_hand") told.by_hand deal flat_deal in
+    let board = with_text (codes "board") told.board by_hand in
+    let flat_board = text_flat (codes "board") told.board by_hand flat_by_hand in
+    let best = with_number (codes "best") told.best board in
+    let flat_best = number_flat (codes "best") told.best board flat_board in
+    number_flat (codes "after") told.after best flat_best

@@ -23,6 +23,10 @@ pub struct Told<'a> {
     pub floor: Option<u32>,
     /// The list that wins, by two letters a move.
     pub list: Option<&'a str>,
+    /// The moves of it that are to be made next.
+    pub hint: Option<&'a str>,
+    /// How many entries of it are left to a player's hands.
+    pub by_hand: Option<u64>,
     /// How many classes the search stored.
     pub stored: Option<u64>,
     /// How many turns it took.
@@ -34,7 +38,7 @@ pub struct Told<'a> {
 impl<'a> Told<'a> {
     /// An answer of this name, and nothing else.
     pub fn new(answer: &'a str) -> Self
-        ensures value { result ≡ record { deal = None; board = None; answer = answer.entry; moves = None; floor = None; list = None; stored = None; turns = None; fault = None } }
+        ensures value { result ≡ record { deal = None; board = None; answer = answer.entry; moves = None; floor = None; list = None; hint = None; by_hand = None; stored = None; turns = None; fault = None } }
     {
         Told {
             deal: None,
@@ -43,6 +47,8 @@ impl<'a> Told<'a> {
             moves: None,
             floor: None,
             list: None,
+            hint: None,
+            by_hand: None,
             stored: None,
             turns: None,
             fault: None,
@@ -70,18 +76,20 @@ fn told_members(alloc: Global, told: &Told<'_>) -> Result<Map<String, Value>, Al
     let mut map = Map::new(alloc);
     put_number(alloc, &mut map, "turns", told.turns)?;
     put_number(alloc, &mut map, "stored", told.stored)?;
-    put_number(alloc, &mut map, "moves", told.moves.map(u64::from))?;
+    put_count(alloc, &mut map, "moves", told.moves)?;
     put_text(alloc, &mut map, "list", told.list)?;
-    put_number(alloc, &mut map, "floor", told.floor.map(u64::from))?;
+    put_text(alloc, &mut map, "hint", told.hint)?;
+    put_count(alloc, &mut map, "floor", told.floor)?;
     put_text(alloc, &mut map, "fault", told.fault)?;
-    put_number(alloc, &mut map, "deal", told.deal.map(u64::from))?;
+    put_count(alloc, &mut map, "deal", told.deal)?;
+    put_number(alloc, &mut map, "by_hand", told.by_hand)?;
     put_text(alloc, &mut map, "board", told.board)?;
     put_text(alloc, &mut map, "answer", Some(told.answer))?;
     Ok(map)
 }
 
 // Puts a number into an object, if there is one.
-fn put_number(
+pub(crate) fn put_number(
     alloc: Global,
     map: &mut Map<String, Value>,
     name: &str,
@@ -95,8 +103,20 @@ fn put_number(
     }
 }
 
+// Puts a number of 32 bits into an object, if there is one.
+pub(crate) fn put_count(
+    alloc: Global,
+    map: &mut Map<String, Value>,
+    name: &str,
+    number: Option<u32>,
+) -> Result<(), AllocError>
+    ensures put { OnOk result (members_view map.new.entries ≡ with_number name.now number (members_view map.old.entries)) }
+{
+    put_number(alloc, map, name, number.map(u64::from))
+}
+
 // Puts a text into an object, if there is one.
-fn put_text(
+pub(crate) fn put_text(
     alloc: Global,
     map: &mut Map<String, Value>,
     name: &str,
