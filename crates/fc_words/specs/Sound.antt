@@ -7,6 +7,9 @@ use Rattle.fc_words.specs.declared.commands.Command.{Command}
 use Rattle.fc_words.specs.declared.commands.Command.TheVariants.{Deal, Show, Best, Hint, Solve, Check, Replay, Review, Batch}
 use Rattle.fc_words.specs.declared.commands.BatchBoards.{BatchBoards}
 use Rattle.fc_words.specs.declared.commands.BatchBoards.TheVariants.{Deals, Files}
+use Rattle.fc_words.specs.declared.commands.ReviewLists.{ReviewLists}
+use Rattle.fc_words.specs.declared.commands.ReviewLists.TheVariants.{One}
+use Rattle.fc_words.specs.declared.commands.ReviewLists.TheVariants as lists
 use Rattle.fc_words.specs.declared.commands.BoardWord.TheVariants.{Input}
 use Rattle.fc_words.specs.declared.commands.MovesWord.TheVariants as moves
 use Rattle.fc_words.specs.declared.commands.BoardWord.{BoardWord}
@@ -26,6 +29,11 @@ abbrev pub ReadsInputOnce : BatchBoards → Type 0
 ReadsInputOnce (Deals _ _) = Unit
 ReadsInputOnce (Files paths) = HasInputOnce paths.items
 
+-- a review reads standard input once
+abbrev pub ReviewsInputOnce : ReviewLists → Type 0
+ReviewsInputOnce (One board moves) = HasOneInput board.word moves
+ReviewsInputOnce (lists.Files paths) = HasInputOnce paths.items
+
 -- a game has four cells at most, and no command reads two things from standard input
 abbrev pub IsSound : Command → Type 0
 IsSound (Deal _) = Unit
@@ -35,7 +43,7 @@ IsSound (Hint words) = words.game.cells ≤ MOST_CELLS
 IsSound (Solve words) = words.game.cells ≤ MOST_CELLS
 IsSound (Check words) = words.game.cells ≤ MOST_CELLS
 IsSound (Replay words) = (words.game.cells ≤ MOST_CELLS) × HasOneInput words.board.word words.moves
-IsSound (Review words) = (words.game.cells ≤ MOST_CELLS) × HasOneInput words.board.word words.moves
+IsSound (Review words) = (words.game.cells ≤ MOST_CELLS) × ReviewsInputOnce words.lists
 IsSound (Batch words) = (words.game.cells ≤ MOST_CELLS) × ReadsInputOnce words.boards
 
 -- the name of a task's subcommand, or of clap's own

@@ -115,8 +115,8 @@ fn batch_search(words: &ArgMatches<'_>) -> Result<BatchSearch, WordsFault> {
     }
 }
 
-// Whether standard input is more than one of the files.
-fn has_input_twice(files: &[&str]) -> bool
+/// Whether standard input is more than one of the files.
+pub(crate) fn has_input_twice(files: &[&str]) -> bool
     ensures value { IsTrue result ↔ (HasInputOnce files.now → ⊥) }
 {
     match place_of(files, "-") {
@@ -131,7 +131,7 @@ fn batch_boards<'a>(alloc: Global, words: &ArgMatches<'a>) -> Result<BatchBoards
 {
     if let Some(files) = words.get_strs(FILES.name) {
         if has_input_twice(files) {
-            return Err(WordsFault::InputTwice);
+            return Err(WordsFault::InputTwice(FILES_NAME));
         }
         return Ok(BatchBoards::Files(Vec::from_slice(alloc, files)?));
     }

@@ -189,6 +189,8 @@ pub struct HintWords<'a> {
     pub search: BestSearchWords,
     /// How many moves are told at most, from 1 on.
     pub count: u8,
+    /// Whether the answer and its next moves are printed as a JSON object.
+    pub is_json: bool,
     /// Whether a link ends the answer.
     pub has_link: bool,
     /// When red suits are in red.
@@ -254,25 +256,38 @@ pub enum BatchBoards<'a> {
     Files(Vec<&'a str>),
 }
 
-/// The words of `review`, of which the board and the moves are not both from standard input.
-#[derive(Clone, Copy)]
+/// Which lists of moves are reviewed.
+#[derive(Drop)]
+pub enum ReviewLists<'a> {
+    /// One, of a board; the board and the moves are not both from standard input.
+    One {
+        board: BoardWords<'a>,
+        moves: MovesWord<'a>,
+    },
+    /// Those of these files, of which `-` is standard input: on each line a board and its moves.
+    Files(Vec<&'a str>),
+}
+
+/// The words of `review`.
+#[derive(Drop)]
 pub struct ReviewWords<'a> {
     pub game: GameWords,
-    pub board: BoardWords<'a>,
-    pub moves: MovesWord<'a>,
+    pub lists: ReviewLists<'a>,
+    /// Whether the texts of boards have the rows across the table, and not the columns.
+    pub is_in_rows: bool,
     pub search: BestSearchWords,
-    /// Whether an entry of the list may move several cards; else each moves one.
+    /// Whether an entry of a list may move several cards; else each moves one.
     pub has_sequences: bool,
     /// Whether each board of the list is answered.
     pub has_all: bool,
+    /// Whether what is told of a list is printed as a JSON object.
+    pub is_json: bool,
     /// Whether a link ends what is told.
     pub has_link: bool,
     /// The file that takes the certificate of a list that wins, if one is asked for.
     pub cert: Option<&'a str>,
     /// The folder that takes the boards before and after the move that loses, with a certificate each, if they are asked for.
     pub certs: Option<&'a str>,
-    /// Whether nothing is said on a terminal but the answer.
-    pub is_quiet: bool,
 }
 
 /// How what is told of each board of a batch is printed.

@@ -20,9 +20,9 @@ pub enum WordsFault {
     /// The board and the moves are both to be read from standard input.
     #[error("BOARD and MOVES can't both be standard input")]
     OneInput,
-    /// Boards are to be read from standard input twice.
-    #[error("--boards can take standard input once")]
-    InputTwice,
+    /// The option of this name is to read standard input twice.
+    #[error("--{0} can take standard input once")]
+    InputTwice(&'static str),
     /// A word that each command line has isn't there; the table of words lets none of these through.
     #[error("a word is missing")]
     Missing,

@@ -27,6 +27,7 @@ Examples:
   fc_solve hint --more 5 617   the first five moves",
     words: &[
         MORE,
+        HINT_IN_JSON,
         PLAIN_LINK,
         BEST_BUDGET,
         COLOR,
@@ -51,6 +52,12 @@ const MORE: Word = Word {
     help: "How many moves to tell, 1 to 255",
 };
 
+const HINT_IN_JSON: Word = Word {
+    name: "json",
+    kind: Kind::FlagInPlaceOf(&["link"]),
+    help: "Prints the answer and its next moves as a JSON object",
+};
+
 /// What `hint` asks for.
 pub(crate) fn hint<'a>(words: &ArgMatches<'a>) -> Result<HintWords<'a>, WordsFault>
     ensures cells { IfOk result (λ hint. hint.game.cells ≤ MOST_CELLS) }
@@ -71,6 +78,7 @@ pub(crate) fn hint<'a>(words: &ArgMatches<'a>) -> Result<HintWords<'a>, WordsFau
         board: optional_board(words),
         search,
         count,
+        is_json: words.get_flag(HINT_IN_JSON.name),
         has_link: words.get_flag(PLAIN_LINK.name),
         colours,
         is_quiet: words.get_flag(QUIET.name),

@@ -7,7 +7,7 @@ pub use bounds::{bound_name, bound_of_name};
 pub use commands::{
     BatchBoards, BatchForm, BatchSearch, BatchWords, BestSearchWords, BestWords, BoardWord,
     BoardWords, CheckWords, Command, DealWords, GameWords, HintWords, MovesWord, ReplayWords,
-    ReviewWords, SearchWords, ShowWords, SolveWords,
+    ReviewLists, ReviewWords, SearchWords, ShowWords, SolveWords,
 };
 pub use expansions::{expansion_name, expansion_of_name, usual_expansion};
 pub use faults::WordsFault;

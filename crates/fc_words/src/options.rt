@@ -47,8 +47,12 @@ pub(crate) enum Kind {
     DealNumberUnless(&'static str),
     /// An option with the paths of one file or more.
     Files,
+    /// An option with the paths of one file or more, in place of the words of these names.
+    FilesInPlaceOf(&'static [&'static str]),
     /// A word that must stand there.
     Needed,
+    /// A word that must stand there but where the option of this name does.
+    NeededUnless(&'static str),
     /// A word that may stand there.
     Optional,
 }
@@ -234,9 +238,10 @@ pub(crate) fn best_search(words: &ArgMatches<'_>) -> Result<BestSearchWords, Wor
     Ok(BestSearchWords { rule, budget })
 }
 
-const BOARD: &str = "BOARD";
+pub(crate) const BOARD: &str = "BOARD";
 
-const BOARD_HELP: &str = "A file, - for standard input, or the number of a deal. A board's text
+pub(crate) const BOARD_HELP: &str =
+    "A file, - for standard input, or the number of a deal. A board's text
 has a line a column, the deepest card first; a card is its rank,
 A 2 to 9 T J Q K, and its suit, C D H S: `4S TD 9C`. An empty line
 is an empty column. What is home and in the cells may be told too:
@@ -372,10 +377,15 @@ pub(crate) const SEQUENCES: Word = Word {
 };
 
 pub(crate) const MOVES: Word = Word {
-    name: "MOVES",
+    name: MOVES_NAME,
     kind: Kind::Needed,
-    help: "A file of moves, or - for standard input: two letters each, or what `solve` prints",
+    help: MOVES_HELP,
 };
+
+pub(crate) const MOVES_NAME: &str = "MOVES";
+
+pub(crate) const MOVES_HELP: &str =
+    "A file of moves, or - for standard input: two letters each, or what `solve` prints";
 
 /// The list of moves.
 pub(crate) fn moves<'a>(words: &ArgMatches<'a>) -> Option<MovesWord<'a>> {

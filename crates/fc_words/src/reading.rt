@@ -17,8 +17,8 @@ use std::alloc::Global;
 ///
 /// # Errors
 /// Words that the table of words doesn't let through, and help and the version, which come in the same way; a budget that is
-/// no number; a certificate that is to go to standard output; a board and moves, or boards twice, that are to be read from standard
-/// input; or want of memory.
+/// no number; a certificate that is to go to standard output; a board and moves, or boards or lists twice, that are to be read from
+/// standard input; or want of memory.
 pub fn read<'a>(alloc: Global, words: &'a [String]) -> Result<Command<'a>, WordsFault>
     ensures sound { IfOk result IsSound }
 {
@@ -72,7 +72,7 @@ fn read_task<'a>(
             Ok(words) => Ok(Command::Replay(words)),
             Err(fault) => Err(fault),
         },
-        Task::Review => match review(words) {
+        Task::Review => match review(alloc, words) {
             Ok(words) => Ok(Command::Review(words)),
             Err(fault) => Err(fault),
         },

@@ -74,14 +74,23 @@ fn arg_of<'a>(alloc: Global, word: &'static Word) -> Result<Arg<'a>, AllocError>
             .value_parser(value_parser!(u32).range(1..=i64::from(u32::MAX)))
             .conflicts_with_all(others)?,
         Kind::DealNumber => arg.required(true).value_parser(value_parser!(u32)),
-        Kind::DealNumberUnless(other) => arg
-            .value_parser(value_parser!(u32))
-            .required_unless_present(other)?
-            .conflicts_with(other)?,
-        Kind::Files => arg.long(word.name).value_name("FILE").num_args(1..),
+        Kind::DealNumberUnless(other) => unless(arg.value_parser(value_parser!(u32)), other)?,
+        Kind::Files => files(arg, word.name),
+        Kind::FilesInPlaceOf(others) => files(arg, word.name).conflicts_with_all(others)?,
         Kind::Needed => arg.required(true),
+        Kind::NeededUnless(other) => unless(arg, other)?,
         Kind::Optional => arg,
     })
+}
+
+// The argument as one that must be there but where another one is.
+fn unless<'a>(arg: Arg<'a>, other: &'a str) -> Result<Arg<'a>, AllocError> {
+    arg.required_unless_present(other)?.conflicts_with(other)
+}
+
+// The argument as an option with the paths of one file or more.
+fn files<'a>(arg: Arg<'a>, name: &'a str) -> Arg<'a> {
+    arg.long(name).value_name("FILE").num_args(1..)
 }
 
 // The argument as a flag.
