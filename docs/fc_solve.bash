@@ -1,34 +1,62 @@
 # Completion of fc_solve's words in bash:  . docs/fc_solve.bash
+# tools/completions.py makes it from the table of options.
 
 _fc_solve() {
-  local word=${COMP_WORDS[COMP_CWORD]} before=${COMP_WORDS[COMP_CWORD - 1]} words
-  local game="--game --kings --cells" search="--budget --within --bound --expand --rule"
-  local form="--words --boards --sequences --json --color"
-  case $before in
-    --game) words="freecell bakers" ;;
-    --bound) words="plain clearing" ;;
-    --expand) words="full partial" ;;
-    --cells) words="0 1 2 3 4" ;;
-    --rule) words="0 1 2" ;;
-    --within) words="1 1.1 1.2 1.3 1.5 2 3 4 5 6 7 8 9 10" ;;
-    --budget) words="100k 1M max" ;;
-    --color) words="auto always never" ;;
-    --cert | --certs | --board-at | --more) ;;
+  local word=${COMP_WORDS[COMP_CWORD]} before=${COMP_WORDS[COMP_CWORD - 1]} command=${COMP_WORDS[1]} line=" ${COMP_WORDS[*]}" words=
+  COMPREPLY=()
+  # (bash takes the `=` of --game=bakers for a word)
+  [[ $before == = ]] && before=${COMP_WORDS[COMP_CWORD - 2]}
+  [[ $word == = ]] && word=
+  case $command in
+    deal | show | best | hint | solve | check | replay | review | batch | help) ;;
+    # a board alone, or an option in front of it
     *)
-      case ${COMP_WORDS[1]} in
-        "$word") words="deal show best hint solve check replay review batch help --help --version" ;;
-        show) words="--plain --color --rows --deal $game --help" ;;
-        best) words="--each --link --cert --deal --rows $form --stats --quiet --budget --rule $game --help" ;;
-        hint) words="--more --link --color --quiet --deal --rows --budget --rule $game --help" ;;
-        review) words="--all --cert --certs --link --sequences --quiet --rows --budget --rule $game --help" ;;
-        solve) words="--link --cert --deal --rows $form --stats --quiet $search $game --help" ;;
-        batch) words="--table --json --totals --boards --rows --certs --best $search $game --help" ;;
-        replay) words="--link --numbered --drawn --expanded --board-at --sequences --must-win --color --rows $game --help" ;;
-        check) words="--json --rows $game --help" ;;
-        help) words="deal show best hint solve check replay review batch" ;;
-      esac
+      command=alone
+      [[ $line == *" --"@(within|bound|expand)* ]] && command=solve
       ;;
   esac
+  ((COMP_CWORD == 1)) && [[ $word != -* ]] && command=first
+  case "$command $before" in
+    *" --color") words="auto always never" ;;
+    *" --game") words="freecell bakers" ;;
+    *" --cells") words="0 1 2 3 4" ;;
+    *" --deal" | *" --more" | *" --board-at") ;;
+    *" --budget") words="100k 500k 1M 4M max" ;;
+    *" --cert" | "batch --boards") return ;;
+    *" --rule") words="0 1 2" ;;
+    *" --within") words="1 1.1 1.2 1.3 1.5 2 3 4 5 6 7 8 9 10" ;;
+    *" --bound") words="plain clearing" ;;
+    *" --expand") words="full partial" ;;
+    *" --certs") mapfile -t COMPREPLY < <(compgen -d -- "$word"); compopt -o filenames 2>/dev/null; return ;;
+    *)
+      case $command in
+        first) words="deal show best hint solve check replay review batch help" ;;
+        help) words="deal show best hint solve check replay review batch" ;;
+        deal) words="--help" ;;
+        show) words="--plain --color --game --kings --cells --deal --rows --help" ;;
+        best) words="--budget --each --link --cert --words --boards --sequences --json --color --stats --quiet --game --kings --cells --rule --deal --rows --help" ;;
+        hint) words="--more --link --budget --color --quiet --game --kings --cells --rule --deal --rows --help" ;;
+        solve) words="--budget --cert --within --bound --expand --link --words --boards --sequences --json --color --stats --quiet --game --kings --cells --rule --deal --rows --help" ;;
+        check) words="--json --game --kings --cells --rows --help" ;;
+        replay) words="--numbered --drawn --expanded --board-at --sequences --must-win --link --color --game --kings --cells --rows --help" ;;
+        review) words="--all --cert --certs --link --sequences --budget --quiet --game --kings --cells --rule --rows --help" ;;
+        batch) words="--table --json --boards --rows --certs --totals --budget --best --within --bound --expand --game --kings --cells --rule --help" ;;
+        alone) words="--budget --each --link --cert --words --boards --sequences --json --color --stats --quiet --game --kings --cells --rule --deal --rows --within --bound --expand --help" ;;
+      esac
+      ((COMP_CWORD == 1)) && [[ $word == -* ]] && words="$words --version"
+      # what has no dash is a file, but where a name or a number stands
+      if [[ $word != -* ]]; then
+        case "$command $line" in
+          "first "* | "help "*) ;;
+          "batch "*" --boards "*) return ;;
+          "deal "* | "batch "*) words= ;;
+          *) return ;;
+        esac
+      fi
+      ;;
+  esac
+  # no file stands in place of a value, but one may in place of a subcommand
+  [[ $command == first ]] || compopt +o default 2>/dev/null
   mapfile -t COMPREPLY < <(compgen -W "$words" -- "$word")
 }
 complete -o default -F _fc_solve fc_solve ./fc_solve
