@@ -22,7 +22,7 @@ _fc_solve() {
     *" --cells") words="0 1 2 3 4" ;;
     *" --deal" | *" --more" | *" --board-at") ;;
     *" --budget") words="100k 500k 1M 4M max" ;;
-    *" --cert" | "batch --boards") return ;;
+    *" --cert" | "batch --boards" | *" --lists") return ;;
     *" --rule") words="0 1 2" ;;
     *" --within") words="1 1.1 1.2 1.3 1.5 2 3 4 5 6 7 8 9 10" ;;
     *" --bound") words="plain clearing" ;;
@@ -35,11 +35,11 @@ _fc_solve() {
         deal) words="--help" ;;
         show) words="--plain --color --game --kings --cells --deal --rows --help" ;;
         best) words="--budget --each --link --cert --words --boards --sequences --json --color --stats --quiet --game --kings --cells --rule --deal --rows --help" ;;
-        hint) words="--more --link --budget --color --quiet --game --kings --cells --rule --deal --rows --help" ;;
+        hint) words="--more --json --link --budget --color --quiet --game --kings --cells --rule --deal --rows --help" ;;
         solve) words="--budget --cert --within --bound --expand --link --words --boards --sequences --json --color --stats --quiet --game --kings --cells --rule --deal --rows --help" ;;
         check) words="--json --game --kings --cells --rows --help" ;;
         replay) words="--numbered --drawn --expanded --board-at --sequences --must-win --link --color --game --kings --cells --rows --help" ;;
-        review) words="--all --cert --certs --link --sequences --budget --quiet --game --kings --cells --rule --rows --help" ;;
+        review) words="--all --json --lists --cert --certs --link --sequences --budget --game --kings --cells --rule --rows --help" ;;
         batch) words="--table --json --boards --rows --certs --totals --budget --best --within --bound --expand --game --kings --cells --rule --help" ;;
         alone) words="--budget --each --link --cert --words --boards --sequences --json --color --stats --quiet --game --kings --cells --rule --deal --rows --within --bound --expand --help" ;;
       esac

@@ -47,6 +47,7 @@ _fc_solve_best() {
 _fc_solve_hint() {
   _arguments "$@" \
     '--more=[How many moves to tell, 1 to 255]:N: ' \
+    '(--link)--json[Prints the answer and its next moves as a JSON object]' \
     '--link[Ends with a link that shows it on the page, to play]' \
     '--budget=[Positions to keep before giving up, to 16M; max is 4M]:B:(100k 500k 1M 4M max)' \
     '--color=[Red suits in red\: auto (on a terminal), always or never]:NAME:(auto always never)' \
@@ -120,20 +121,20 @@ _fc_solve_replay() {
 _fc_solve_review() {
   _arguments "$@" \
     '--all[Answers the board after each move, a line each]' \
+    '(--all --link)--json[Prints a JSON object a list, for other programs]' \
+    '(--all --cert --certs --link)--lists=[The lists of these files, a line each, - for standard input]:FILE:_files' \
     '--cert=[Writes a proof of how good the list is that wins to FILE]:FILE:_files' \
     '--certs=[Writes the boards around the move that loses, and proofs, there]:FOLDER:_files -/' \
     '--link[Ends with a link that shows it on the page, to play]' \
     '--sequences[Expands entries that move several cards, as other solvers print them]' \
     '--budget=[Positions to keep before giving up, to 16M; max is 4M]:B:(100k 500k 1M 4M max)' \
-    '--quiet[Doesn'\''t say on a terminal how far the search is]' \
     '--game=[freecell (in turning colours) or bakers (in suit)]:NAME:(freecell bakers)' \
     '--kings[Only kings may go to an empty column]' \
     '--cells=[How many cells there are, 0 to 4]:N:(0 1 2 3 4)' \
     '--rule=[Cards sent home at once\: none (0), safe (1), more safe (2)]:R:(0 1 2)' \
     '--rows[Reads BOARD in rows across the table, as `show` draws it]' \
     '(- *)'{-h,--help}'[Print help]' \
-    '1:BOARD:_files' \
-    '2:MOVES:_files'
+    '*:BOARD MOVES:_files'
 }
 
 _fc_solve_batch() {

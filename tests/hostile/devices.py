@@ -163,7 +163,9 @@ def sweep_all():
                               (REPLAY, [MOVES], FIVE_BOARDS), (SEQUENCES, [MOVES], FIVE_BOARDS), (EXPANDED, [MOVES], MOVES),
                               (BOARD_AT, [MOVES], SECOND_BOARD), (BATCH, [], b"24 gave up 1\n25 gave up 1\n"),
                               (BEST, [b""], b"shortest 5\n13 1h 2h 2h 3h\n"), (["show", "--plain"], [], TWO_KINGS_PRINTED), (["deal", "1"], [], DEAL_1),
-                              (["solve", "--boards"], [], b""), ([*BATCH, "--table"], [], b"")]:
+                              (["solve", "--boards"], [], b""), (["solve", "--sequences", "--boards"], [], b""),
+                              (["replay", "--drawn", "-", "/dev/fd/3"], [MOVES], b""), (["hint"], [], b""), (["review", "-", "/dev/fd/3"], [MOVES], b""),
+                              ([*BATCH, "--table"], [], b"")]:
         counts = [sweep_writes(words, TWO_KINGS, files, len(out), with_what) for with_what in ("EIO", "ENOSPC", "0")]
         print(f"{name_of(words)}: each {f'of {counts[0]} writes' if out else 'write'} failed, in three ways")
     for words, given, file, size in ((ENTRY_EXPANDED, PAIRS, ENTRY, 9), (ENTRY_BOARD_AT, PAIRS, ENTRY, 76), (SOLVE_LOCKED, LOCKED, b"", 13)):

@@ -1,6 +1,6 @@
 """The program with one allocation refused, each in turn: it ends with its ample answer, or with want of memory.
 
-usage:  refusals.py answers    solve, check, replay, show and batch, on small boards and on deal 941
+usage:  refusals.py answers    solve, best, hint, check, replay, review, show and batch, on small boards and on deal 941
         refusals.py pages      solve --boards
 
 After want of memory nothing stands on standard output, nor in the certificate, whose file is empty, or as it was where it wasn't
@@ -17,7 +17,12 @@ from certificates import made, read_file
 BEFORE = b"what stood here before\n"
 
 # The options of a replay.
-REPLAYS = [], ["--numbered"], ["--sequences"], ["--must-win"], ["--expanded"], ["--board-at", "2"]
+REPLAYS = [], ["--numbered"], ["--drawn"], ["--sequences"], ["--must-win"], ["--expanded"], ["--board-at", "2"], ["--sequences", "--drawn"]
+
+# What is told of the boards, and of lists of two kings: one that wins, one that leaves out what wins, and none.
+TELLINGS = ["best", "--stats"], ["best", "--json"], ["solve", "--sequences", "--words"], ["hint"], ["hint", "--json"]
+REVIEWS = ["review", "-", "/dev/fd/3"], ["review", "--json", "-", "/dev/fd/3"]
+LISTS = b"1a 1h 2h 2h ah\n", b"1a\n", b""
 
 
 def judge(words, ample, ran):
@@ -28,7 +33,7 @@ def judge(words, ample, ran):
     is_left = ran.files in ([BEFORE], [b""]) if "--cert" in words else ran.files == ample.files
     if ran.status == 4 and ran.err.endswith(b"fc_solve: want of memory\n") and ran.out == b"" and is_left:
         return None
-    if words[0] == "batch" and ran.status == 4 and is_one_line_less(ample.out, ran.out):
+    if (words[0] == "batch" or "--lists" in words) and ran.status == 4 and is_one_line_less(ample.out, ran.out):
         return None
     return f"{words}: {ran}, in place of {ample}"
 
@@ -74,6 +79,9 @@ def tasks_of(what):
     tasks += [(check, boards[name], [certs[name]]) for name in certs]
     tasks += [([*replay, *flags], boards["two-kings"], [b"1a 1h 2h 2h ah\n"]) for flags in REPLAYS]
     tasks += [(["show"], boards["two-kings"], [])]
+    tasks += [(words, board, []) for words in TELLINGS for board in boards.values()]
+    tasks += [(words, boards["two-kings"], [moves]) for words in REVIEWS for moves in LISTS]
+    tasks += [(["review", "--lists", "-"], b"boards/two-kings.txt: 1a\n", [])]
     batches = ("1 1 --budget 1", "24 24 --budget 1", "24 26 --budget 50", "24 26 --budget 50 --table")
     tasks += [(["batch", *words.split()], b"", []) for words in batches]
     tasks += [(solve, deal, [BEFORE]), (check, deal, [made(program, deal, [], [])]), (replay, deal, [moves])]

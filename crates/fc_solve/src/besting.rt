@@ -8,8 +8,9 @@ use crate::each::answer_each;
 use crate::endings::{Ending, tell_of_great_budget, tell_of_long_certificate};
 use crate::forms::{LONGEST_ANSWER, Manner, tell_held};
 use crate::games::InGame;
+use crate::hands::by_hand_told;
 use crate::links::{Link, tell_link};
-use crate::objects::{Name, tell_answer};
+use crate::objects::{Beside, Name, tell_answer};
 use crate::outputs::Out;
 use crate::watching::{BestTeller, Line};
 use fc_io::ToArray;
@@ -65,28 +66,40 @@ fn answer_from<G: Game + Drop>(
         return answer_each(rt, words, question, start, cert, teller);
     }
     let line = teller.line();
-    if let (MovesForm::Letters, false) = (words.form, words.has_link) {
+    if let (MovesForm::Letters, false, false) = (words.form, words.has_link, words.has_stats) {
         let mut out = Out::after(rt, line);
         let ran = run_best(rt.alloc(), question, start, &mut out, cert, teller);
         line.clear();
-        teller.tell_stats(words.has_stats, out.front());
         return out.end_of(ran);
     }
     let mut answer = ToArray::<LONGEST_ANSWER>::new();
     let ran = run_best(rt.alloc(), question, start, &mut answer, cert, teller);
     line.clear();
+    let (game, rule) = (question.game(), question.method().rule);
+    let by_hand = match (words.form, words.has_stats) {
+        (MovesForm::Json, _) | (_, true) => {
+            by_hand_told(rt.alloc(), game, start, answer.held(), rule)?
+        }
+        _ => None,
+    };
     let told = if let MovesForm::Json = words.form {
         let name = Name::of(&words.board.word, line.deal());
-        tell_answer(rt, name, ran, answer.held(), teller.stored_and_turns())
+        let beside = Beside {
+            stored_and_turns: teller.stored_and_turns(),
+            by_hand,
+        };
+        tell_answer(rt, name, ran, answer.held(), beside)
     } else {
         let manner = Manner::new(rt, words.form, words.colours);
-        tell_held(rt, question.game(), start, ran, answer.held(), manner)
+        tell_held(rt, game, start, ran, answer.held(), manner)
     };
-    teller.tell_stats(words.has_stats, answer.held());
+    if words.has_stats {
+        teller.tell_stats(answer.held(), by_hand);
+    }
     let status = told?;
     if words.has_link {
         let link = Link::of_answer(words.game, line.deal(), answer.held());
-        tell_link(rt, question.game(), start, &link)?;
+        tell_link(rt, game, start, &link)?;
     }
     Ok(status)
 }

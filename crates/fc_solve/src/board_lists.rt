@@ -1,25 +1,25 @@
-//! Files of several boards.
+//! Files of several boards, or of several lists of moves.
 
 use crate::boards::open;
 use crate::endings::{Ending, tell, tell_of_reading};
 use fc_io::{FromReader, ReadFault, read_to_vec};
 use fc_runs::{Input, ProgramFault};
 
-// The most bytes that a file of boards may have.
+// The most bytes that such a file may have.
 const LONGEST_LIST: usize = 1 << 26;
 
-/// The text of a file of boards, or of standard input where it is called `-`.
-pub fn read_list(rt: &HostRuntime, path: &str) -> Result<Vec<u8>, Ending> {
+/// The text of a file of boards or of lists, or of standard input where it is called `-`.
+pub fn read_list(rt: &HostRuntime, path: &str, input: Input) -> Result<Vec<u8>, Ending> {
     let read = if path == "-" {
         read_to_vec(rt.alloc(), &mut FromReader::new(rt.stdin()), LONGEST_LIST)
     } else {
-        read_to_vec(rt.alloc(), &mut open(rt, path, Input::Board)?, LONGEST_LIST)
+        read_to_vec(rt.alloc(), &mut open(rt, path, input)?, LONGEST_LIST)
     };
     match read {
         Ok(text) => Ok(text),
-        Err(ReadFault::Failed) => Err(tell_of_reading(rt, Input::Board, path)),
+        Err(ReadFault::Failed) => Err(tell_of_reading(rt, input, path)),
         Err(ReadFault::TooLong) => {
-            let status = tell(rt, &ProgramFault::TooLong(Input::Board));
+            let status = tell(rt, &ProgramFault::TooLong(input));
             Err(Ending::Told(status))
         }
         Err(ReadFault::Memory) => Err(Ending::Fault(ProgramFault::Memory)),

@@ -4,7 +4,7 @@ use crate::boards::{find_board, open, read_start};
 use crate::endings::{Ending, tell};
 use crate::forms::tell_whole;
 use crate::games::InGame;
-use crate::objects::{Name, fault_line, tell_answer};
+use crate::objects::{Beside, Name, fault_line, tell_answer};
 use crate::outputs::Out;
 use fc_cert::CertFault;
 use fc_checker::CheckFault;
@@ -48,7 +48,7 @@ fn tell_claim<'a>(
         Err(ProgramFault::Cert(fault)) => Err(tell_refused(rt, name, fault)?),
         ran => {
             let claim = claim.strip_prefix(b"accepted: ").unwrap_or(claim);
-            tell_answer(rt, name, ran, claim, (None, None))
+            tell_answer(rt, name, ran, claim, Beside::NONE)
         }
     }
 }

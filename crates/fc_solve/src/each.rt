@@ -4,12 +4,13 @@ ghost use Rattle.fc_moves.specs.GameRules.{IsPositionOf};
 use crate::certs::CertFile;
 use crate::endings::Ending;
 use crate::forms::{LONGEST_ANSWER, Manner, tell_in_form, tell_whole};
-use crate::objects::{Name, answer_line};
+use crate::hands::by_hand_told;
+use crate::objects::{Beside, Name, answer_line};
 use crate::watching::BestTeller;
 use fc_answers::MoveList;
 use fc_best::{BestListener, BestProgress};
 use fc_io::ToArray;
-use fc_methods::Question;
+use fc_methods::{HomeRule, Question};
 use fc_moves::Game;
 use fc_position::Position;
 use fc_runs::{ProgramFault, list_text, run_best};
@@ -31,6 +32,7 @@ pub fn answer_each<'a, G: Game + Drop>(
     let mut each = EachTeller {
         rt,
         game: question.game(),
+        rule: question.method().rule,
         start,
         manner: Manner::new(rt, words.form, words.colours),
         name: Name::of(&words.board.word, line.deal()),
@@ -40,7 +42,12 @@ pub fn answer_each<'a, G: Game + Drop>(
     let ran = run_best(rt.alloc(), question, start, &mut answer, cert, &mut each);
     line.clear();
     let told = each.end(ran, answer.held());
-    teller.tell_stats(words.has_stats, answer.held());
+    if words.has_stats {
+        let (game, rule) = (question.game(), question.method().rule);
+        // (for want of memory it isn't told; the answer is)
+        let by_hand = by_hand_told(rt.alloc(), game, start, answer.held(), rule).unwrap_or(None);
+        teller.tell_stats(answer.held(), by_hand);
+    }
     told
 }
 
@@ -49,6 +56,7 @@ pub fn answer_each<'a, G: Game + Drop>(
 struct EachTeller<'a, 't, 'b, G: Game> {
     rt: &'a HostRuntime,
     game: &'a G,
+    rule: HomeRule,
     start: &'a Position,
     manner: Manner,
     name: Name<'a>,
@@ -72,8 +80,12 @@ impl<G: Game> EachTeller<'_, '_, '_, G> {
     fn write(&self, answer: &[u8]) -> Result<(), Ending> {
         self.teller.line().clear();
         if let MovesForm::Json = self.manner.form {
-            let counts = self.teller.stored_and_turns();
-            let line = answer_line(self.rt.alloc(), self.name, answer, counts)?;
+            let alloc = self.rt.alloc();
+            let beside = Beside {
+                stored_and_turns: self.teller.stored_and_turns(),
+                by_hand: by_hand_told(alloc, self.game, self.start, answer, self.rule)?,
+            };
+            let line = answer_line(alloc, self.name, answer, None, beside)?;
             return tell_whole(self.rt, line.as_bytes());
         }
         tell_in_form(self.rt, self.game, self.start, answer, self.manner)

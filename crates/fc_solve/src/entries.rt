@@ -95,8 +95,8 @@ fn entries_of<G: Game>(
     }
 }
 
-// The moves of an answer's list.
-fn moves_of(alloc: Global, list: &[u8]) -> Result<Vec<Move>, AllocError> {
+/// The moves of an answer's list.
+pub fn moves_of(alloc: Global, list: &[u8]) -> Result<Vec<Move>, AllocError> {
     let mut moves = Vec::new(alloc);
     for token in Tokens::new(list, MoveGaps) {
         if let Some(m) = read_move(token) {

@@ -6,7 +6,9 @@ use crate::boards::{find_board, read_start};
 use crate::endings::{Ending, tell_of_great_budget};
 use crate::forms::{split_answer, tell_whole};
 use crate::games::InGame;
+use crate::hands::by_hand_told;
 use crate::links::{Link, tell_link};
+use crate::objects::{Beside, Name, answer_line};
 use crate::review_texts::moves_win;
 use crate::watching::{BestTeller, Line};
 use fc_answer_text::{verdict_status, verdict_text};
@@ -41,23 +43,16 @@ impl InGame for HintWords<'_> {
         line.clear();
         let status = verdict_status(&answer.verdict);
         let answered = verdict_text(rt.alloc(), &answer.verdict)?;
-        let (told, moves) = split_answer(answered.as_slice());
-        let text = match statement(rt.alloc(), &answer.verdict)? {
-            Some(statement) => {
-                let first = first_moves(moves, self.count);
-                let is_coloured = self.colours.are_shown(rt.stdout().is_terminal());
-                hint_text(
-                    rt.alloc(),
-                    game,
-                    &start,
-                    first,
-                    is_coloured,
-                    statement.as_str(),
-                )?
-            }
-            None => Vec::from_slice(rt.alloc(), told)?,
-        };
-        tell_whole(rt, text.as_slice())?;
+        if self.is_json {
+            let beside = Beside {
+                stored_and_turns: teller.stored_and_turns(),
+                by_hand: by_hand_told(rt.alloc(), game, &start, answered.as_slice(), method.rule)?,
+            };
+            let name = Name::of(&self.board.word, deal);
+            tell_object(rt, name, answered.as_slice(), self.count, beside)?;
+        } else {
+            tell_words(rt, self, game, &start, &answer.verdict, answered.as_slice())?;
+        }
         if self.has_link {
             let link = Link::of_answer(self.game, deal, answered.as_slice());
             tell_link(rt, game, &start, &link)?;
@@ -65,6 +60,45 @@ impl InGame for HintWords<'_> {
         teller.advise(status);
         Ok(status)
     }
+}
+
+// Tells the next moves in words, and what is known.
+fn tell_words<G: Game>(
+    rt: &HostRuntime,
+    words: &HintWords<'_>,
+    game: &G,
+    start: &Position,
+    verdict: &Verdict,
+    answered: &[u8],
+) -> Result<(), Ending>
+    requires fits { Fits (G.game game.now).cells start.now }
+{
+    let (told, moves) = split_answer(answered);
+    let Some(statement) = statement(rt.alloc(), verdict)? else {
+        return tell_whole(rt, told);
+    };
+    let first = first_moves(moves, words.count);
+    let is_coloured = words.colours.are_shown(rt.stdout().is_terminal());
+    let statement = statement.as_str();
+    let text = hint_text(rt.alloc(), game, start, first, is_coloured, statement)?;
+    tell_whole(rt, text.as_slice())
+}
+
+// Tells an answer and the next moves of its list, so many of them, as an object.
+fn tell_object(
+    rt: &HostRuntime,
+    name: Name<'_>,
+    answered: &[u8],
+    count: u8,
+    beside: Beside,
+) -> Result<(), Ending> {
+    let (_, moves) = split_answer(answered);
+    let hint = match first_moves(moves, count).trim_ascii_end() {
+        [] => None,
+        first => std::str::from_utf8(first).ok(),
+    };
+    let line = answer_line(rt.alloc(), name, answered, hint, beside)?;
+    tell_whole(rt, line.as_bytes())
 }
 
 // What is told of a list that wins; nothing of a verdict that tells none.

@@ -15,6 +15,7 @@ mod entries;
 mod entry_pages;
 mod forms;
 mod games;
+mod hands;
 mod hinting;
 mod lengths;
 mod links;
@@ -27,6 +28,8 @@ mod outputs;
 mod pair_lists;
 mod refusals;
 mod replaying;
+mod review_objects;
+mod review_tables;
 mod review_texts;
 mod reviewing;
 mod showing;
@@ -110,7 +113,7 @@ fn tell_words(rt: &HostRuntime, fault: &WordsFault) -> Result<u8, Ending> {
         | WordsFault::NoWeight
         | WordsFault::CertInAnswer
         | WordsFault::OneInput
-        | WordsFault::InputTwice
+        | WordsFault::InputTwice(_)
         | WordsFault::Missing => {
             let _told = eprintln!(rt; "fc_solve: {fault}");
             Ok(REFUSED)

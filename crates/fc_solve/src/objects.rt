@@ -27,16 +27,16 @@ impl<'a> Name<'a> {
         }
     }
 
-    // The number of the deal.
-    fn deal(self) -> Option<u32> {
+    /// The number of the deal.
+    pub fn deal(self) -> Option<u32> {
         match self {
             Name::Deal(number) => Some(number),
             Name::Board(_) => None,
         }
     }
 
-    // What another board is called.
-    fn board(self) -> Option<&'a str> {
+    /// What another board is called.
+    pub fn board(self) -> Option<&'a str> {
         match self {
             Name::Deal(_) => None,
             Name::Board(name) => Some(name),
@@ -44,16 +44,33 @@ impl<'a> Name<'a> {
     }
 }
 
-/// The object of an answer, with how many classes were stored and how many turns taken, on a line.
+/// The numbers that an object has beside an answer: how many classes were stored and how many turns taken, and how many entries of
+/// its list are left to a player's hands.
+#[derive(Clone, Copy)]
+pub struct Beside {
+    pub stored_and_turns: (Option<u64>, Option<u64>),
+    pub by_hand: Option<u64>,
+}
+
+impl Beside {
+    /// No numbers.
+    pub const NONE: Beside = Beside {
+        stored_and_turns: (None, None),
+        by_hand: None,
+    };
+}
+
+/// The object of an answer, and of the next moves of its list where they are asked for, on a line.
 pub fn answer_line<'a>(
     alloc: Global,
     name: Name<'a>,
     answer: &'a [u8],
-    stored_and_turns: (Option<u64>, Option<u64>),
+    hint: Option<&'a str>,
+    beside: Beside,
 ) -> Result<String, Ending> {
     let (line, list) = split_answer(answer);
     let (moves, floor) = numbers_of(line);
-    let (stored, turns) = stored_and_turns;
+    let (stored, turns) = beside.stored_and_turns;
     let told = Told {
         deal: name.deal(),
         board: name.board(),
@@ -61,6 +78,8 @@ pub fn answer_line<'a>(
         moves,
         floor,
         list: text_of(list),
+        hint,
+        by_hand: beside.by_hand,
         stored,
         turns,
         fault: None,
@@ -77,6 +96,8 @@ pub fn row_line(alloc: Global, name: Name<'_>, row: &Row) -> Result<String, Endi
         moves: row.moves(),
         floor: row.floor(),
         list: None,
+        hint: None,
+        by_hand: None,
         stored: row.far.map(|far| far.classes),
         turns: row.far.map(|far| far.turns),
         fault: None,
@@ -98,6 +119,8 @@ pub fn fault_line<'a>(
         moves: None,
         floor: None,
         list: None,
+        hint: None,
+        by_hand: None,
         stored: None,
         turns: None,
         fault,
@@ -148,17 +171,16 @@ fn line_of(alloc: Global, told: &Told<'_>) -> Result<String, Ending> {
     Ok(text)
 }
 
-/// Writes the answer that a run held as an object, with how many classes were stored and how many turns taken; the run's
-/// status.
+/// Writes the answer that a run held as an object, with these numbers; the run's status.
 pub fn tell_answer<'a>(
     rt: &HostRuntime,
     name: Name<'a>,
     ran: Result<u8, ProgramFault>,
     answer: &'a [u8],
-    stored_and_turns: (Option<u64>, Option<u64>),
+    beside: Beside,
 ) -> Result<u8, Ending> {
     let status = ran?;
-    let line = answer_line(rt.alloc(), name, answer, stored_and_turns)?;
+    let line = answer_line(rt.alloc(), name, answer, None, beside)?;
     tell_whole(rt, line.as_bytes())?;
     Ok(status)
 }

@@ -1,17 +1,11 @@
 //! Standard output, as the program writes it.
 
-ghost use Rattle.std.specs.Prelude.{◌≡◌};
-
 use crate::endings::{Ending, tell};
 use crate::watching::Line;
-use arrayvec::ArrayVec;
 use fc_io::{Failed, Sink};
 use fc_runs::{Output, ProgramFault};
 use std::io;
 use std::io::Write;
-
-/// The most bytes of an answer's front that are kept.
-const LONGEST_FRONT: usize = 64;
 
 /// Standard output: what stands on the line of a terminal is taken away before it is written.
 #[derive(Drop)]
@@ -20,7 +14,6 @@ pub struct Out<'a> {
     line: Option<&'a Line<'a>>,
     has_failed: bool,
     is_closed: bool,
-    front: ArrayVec<u8, LONGEST_FRONT>,
 }
 
 impl<'a> Out<'a> {
@@ -31,7 +24,6 @@ impl<'a> Out<'a> {
             line: None,
             has_failed: false,
             is_closed: false,
-            front: ArrayVec::new(),
         }
     }
 
@@ -40,11 +32,6 @@ impl<'a> Out<'a> {
         let mut out = Out::new(rt);
         out.line = Some(line);
         out
-    }
-
-    /// The first bytes that were written.
-    pub fn front(&self) -> &[u8] {
-        self.front.as_slice()
     }
 
     /// Ends as a run did that wrote here: where whoever reads the output has closed it, as `head` does, nothing is said.
@@ -70,16 +57,6 @@ impl<'a> Out<'a> {
             Ending::Fault(fault) => tell(self.rt, &fault),
         }
     }
-
-    // Keeps the first bytes that are written.
-    fn keep(&mut self, piece: &[u8])
-        ensures stays { self.new.has_failed ≡ self.old.has_failed }
-    {
-        let room = LONGEST_FRONT.saturating_sub(self.front.len());
-        let _fits = self
-            .front
-            .try_extend_from_slice(&piece[..piece.len().min(room)]);
-    }
 }
 
 impl Sink for Out<'_> {
@@ -98,10 +75,7 @@ impl Sink for Out<'_> {
         }
         let mut out = self.rt.stdout();
         match out.write(piece) {
-            Ok(count) if count > 0 || piece.is_empty() => {
-                self.keep(&piece[..count]);
-                Ok(count)
-            }
+            Ok(count) if count > 0 || piece.is_empty() => Ok(count),
             Ok(_) => {
                 self.has_failed = true;
                 Err(Failed)

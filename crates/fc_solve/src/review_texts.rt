@@ -32,6 +32,10 @@ pub fn review_text<G: Game>(
     }
     match (&review.won, review.lost) {
         (None, Some(0)) => format!(in alloc; "can't be won, before any of these moves\n"),
+        (Some(won), None) if count == 0 => {
+            let wins = wins_text(alloc, won)?;
+            format!(in alloc; "there are no moves: from here {wins}\n")
+        }
         (Some(won), None) if won.after >= count => {
             let wins = wins_text(alloc, won)?;
             format!(in alloc; "none of these moves loses: from here {wins}\n")
@@ -123,8 +127,8 @@ fn letters_up_to(letters: &[u8], place: usize) -> &[u8] {
     }
 }
 
-// The letters of the move behind so many.
-fn letters_at(letters: &[u8], place: usize) -> &str {
+/// The letters of the move behind so many.
+pub fn letters_at(letters: &[u8], place: usize) -> &str {
     let from = place.saturating_mul(3);
     match letters.get(from..from.saturating_add(2)) {
         Some(own) => std::str::from_utf8(own).unwrap_or(""),
@@ -153,7 +157,7 @@ pub fn review_status(review: &Review, count: usize) -> u8 {
 pub fn rating_text(
     alloc: Global,
     count: usize,
-    by_hand: usize,
+    by_hand: u64,
     rating: &Rating,
 ) -> Result<String, AllocError> {
     let found = match &rating.best {

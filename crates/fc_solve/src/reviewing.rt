@@ -1,9 +1,10 @@
 //! `review`: which move of a list loses, or how good a list is that wins.
-ghost use Rattle.std.specs.Prelude.{◌≤◌, All, length};
+ghost use Rattle.std.specs.Prelude.{All};
 ghost use Rattle.fc_position.specs.Board.{Board};
+ghost use Rattle.fc_position.specs.Position.{Fits};
 ghost use Rattle.fc_moves.specs.GameRules.{IsPositionOf};
 ghost use Rattle.fc_moves.specs.MoveText.{HasText};
-ghost use Rattle.fc_moves.specs.Run.{Run, Wins};
+ghost use Rattle.fc_moves.specs.Run.{Run};
 
 use crate::apart::keep_apart;
 use crate::boards::{find_board, read_start};
@@ -11,9 +12,13 @@ use crate::certs::CertFile;
 use crate::endings::{Ending, tell_of_file, tell_of_great_budget};
 use crate::forms::{LONGEST_ANSWER, tell_whole};
 use crate::games::InGame;
+use crate::hands::by_hand_of;
 use crate::links::{Link, tell_link};
 use crate::moves::{find_moves, read_moves};
-use crate::review_texts::{line_of, rating_status, rating_text, review_status, review_text};
+use crate::objects::Name;
+use crate::review_objects::{Finding, FoundList, review_line};
+use crate::review_tables::review_files;
+use crate::review_texts::{line_of, rating_text, review_text};
 use crate::written_lists::{WrittenList, list_of};
 use fc_answer_text::{moves_text, verdict_status};
 use fc_answers::{MOST_MOVES, Verdict};
@@ -22,65 +27,76 @@ use fc_io::ToArray;
 use fc_methods::Question;
 use fc_moves::{Game, Move};
 use fc_position::Position;
-use fc_review::{board_after, count_by_hand, known_after, rate, review_of, wins};
+use fc_review::{Review, board_after, known_after, rate, review_of, wins};
 use fc_runs::{Output, ProgramFault, run_best};
 use fc_text::print_board;
-use fc_words::ReviewWords;
+use fc_words::{BoardWords, MovesWord, ReviewLists, ReviewWords};
+use std::alloc::{AllocError, Global};
 use std::fs;
 
 impl InGame for ReviewWords<'_> {
     fn perform<G: Game + Drop>(&self, rt: &HostRuntime, game: &G) -> Result<u8, Ending> {
-        let source = find_board(rt, &self.board)?;
-        let deal = source.deal();
-        let moves = find_moves(rt, &self.moves)?;
-        let mut cert = match self.cert {
-            Some(path) => {
-                keep_apart(rt, path, source.path())?;
-                Some(CertFile::new(rt, path)?)
-            }
-            None => None,
-        };
-        let Some(method) = self.search.method() else {
-            return Err(tell_of_great_budget(rt));
-        };
-        let start = read_start(rt, source, game.cells())?;
-        let text = read_moves(rt, moves)?;
-        let list = list_of(rt, game, &start, text.as_slice(), self.has_sequences)?;
-        tell_inserted(rt, list.inserted);
-        let question = Question::new(game, method);
-        let letters = moves_text(rt.alloc(), list.moves.as_slice())?;
-        let told = Told {
-            words: self,
-            letters: letters.as_slice(),
-        };
-        let status = answer(rt, told, &question, &start, &list, cert.as_mut())?;
-        if self.has_link {
-            let link = Link {
-                game: self.game,
-                deal,
-                list: letters.as_slice(),
-                floor: None,
-                answer: None,
-            };
-            tell_link(rt, game, &start, &link)?;
+        match &self.lists {
+            ReviewLists::One { board, moves } => review_one(rt, self, game, board, moves),
+            ReviewLists::Files(paths) => match self.search.method() {
+                Some(method) => {
+                    review_files(rt, self, &Question::new(game, method), paths.as_slice())
+                }
+                None => Err(tell_of_great_budget(rt)),
+            },
         }
-        Ok(status)
     }
 }
 
-// The words, and the letters of the list.
-#[derive(Clone, Copy)]
-struct Told<'a> {
-    words: &'a ReviewWords<'a>,
-    letters: &'a [u8],
+// Reviews one list.
+fn review_one<G: Game + Drop>(
+    rt: &HostRuntime,
+    words: &ReviewWords<'_>,
+    game: &G,
+    board: &BoardWords<'_>,
+    moves: &MovesWord<'_>,
+) -> Result<u8, Ending> {
+    let source = find_board(rt, board)?;
+    let deal = source.deal();
+    let moves = find_moves(rt, moves)?;
+    let mut cert = match words.cert {
+        Some(path) => {
+            keep_apart(rt, path, source.path())?;
+            Some(CertFile::new(rt, path)?)
+        }
+        None => None,
+    };
+    let Some(method) = words.search.method() else {
+        return Err(tell_of_great_budget(rt));
+    };
+    let start = read_start(rt, source, game.cells())?;
+    let text = read_moves(rt, moves)?;
+    let list = list_of(rt, game, &start, text.as_slice(), words.has_sequences)?;
+    tell_inserted(rt, list.inserted);
+    let question = Question::new(game, method);
+    let name = Name::of(&board.word, deal);
+    let status = answer(rt, words, &question, &start, name, &list, cert.as_mut())?;
+    if words.has_link {
+        let letters = moves_text(rt.alloc(), list.moves.as_slice())?;
+        let link = Link {
+            game: words.game,
+            deal,
+            list: letters.as_slice(),
+            floor: None,
+            answer: None,
+        };
+        tell_link(rt, game, &start, &link)?;
+    }
+    Ok(status)
 }
 
 // Tells what the words ask of a list; the status.
 fn answer<G: Game + Drop>(
     rt: &HostRuntime,
-    told: Told<'_>,
+    words: &ReviewWords<'_>,
     question: &Question<G>,
     start: &Position,
+    name: Name<'_>,
     list: &WrittenList,
     cert: Option<&mut CertFile>,
 ) -> Result<u8, Ending>
@@ -88,14 +104,65 @@ fn answer<G: Game + Drop>(
     requires run { (c : Board) × Run question.now.game start.now list.now.moves.items c }
     requires texts { All HasText list.now.moves.items }
 {
-    let moves = list.moves.as_slice();
-    if told.words.has_all {
-        return answer_all(rt, told.letters, question, start, moves);
+    if words.has_all {
+        return answer_all(rt, question, start, list.moves.as_slice());
     }
-    if moves.len() <= MOST_MOVES as usize && wins(question.game(), start, moves) {
-        return rate_list(rt, question, start, moves, cert);
+    let found = found_of(rt, question, start, list, cert)?;
+    if let (Finding::Traced(review), Some(folder)) = (&found.finding, words.certs) {
+        write_boards(rt, question, start, list.moves.as_slice(), review, folder)?;
     }
-    review_list(rt, told, question, start, moves)
+    let text = if words.is_json {
+        review_line(rt.alloc(), &found.reviewed(name))?
+    } else {
+        found_text(rt.alloc(), question.game(), start, &found)?
+    };
+    tell_whole(rt, text.as_bytes())?;
+    Ok(found.status())
+}
+
+// What is told of a list.
+fn found_text<G: Game>(
+    alloc: Global,
+    game: &G,
+    start: &Position,
+    found: &FoundList,
+) -> Result<String, AllocError>
+    requires fits { Fits (G.game game.now).cells start.now }
+{
+    match &found.finding {
+        Finding::Rated(rating) => rating_text(alloc, found.count(), found.by_hand, rating),
+        Finding::Traced(review) => {
+            review_text(alloc, game, start, found.letters.as_slice(), review)
+        }
+    }
+}
+
+/// What is found of a list; where it wins, and a certificate is asked for, that is written.
+pub fn found_of<G: Game + Drop>(
+    rt: &HostRuntime,
+    question: &Question<G>,
+    start: &Position,
+    list: &WrittenList,
+    cert: Option<&mut CertFile>,
+) -> Result<FoundList, Ending>
+    requires position { IsPositionOf question.now.game start.now }
+    requires run { (c : Board) × Run question.now.game start.now list.now.moves.items c }
+    requires texts { All HasText list.now.moves.items }
+{
+    let (alloc, moves) = (rt.alloc(), list.moves.as_slice());
+    let (game, rule) = (question.game(), question.method().rule);
+    let is_won = moves.len() <= MOST_MOVES as usize && wins(game, start, moves);
+    let finding = if is_won {
+        Finding::Rated(rate(alloc, question, start, moves, cert)?)
+    } else {
+        Finding::Traced(review_of(alloc, question, start, moves)?)
+    };
+    Ok(FoundList {
+        letters: moves_text(alloc, moves)?,
+        inserted: list.inserted as u64,
+        by_hand: by_hand_of(alloc, game, start, moves, rule)?,
+        finding,
+    })
 }
 
 // Says how many moves home a list leaves out.
@@ -107,21 +174,19 @@ fn tell_inserted(rt: &HostRuntime, count: usize) {
     };
 }
 
-// Tells which move of a list loses, once the boards around it are written with their certificates, if that is asked for; the
-// status.
-fn review_list<G: Game + Drop>(
+// Writes the boards around the move that loses, with their certificates, if it is known which one does.
+fn write_boards<G: Game + Drop>(
     rt: &HostRuntime,
-    told: Told<'_>,
     question: &Question<G>,
     start: &Position,
     moves: &[Move],
-) -> Result<u8, Ending>
+    review: &Review,
+    folder: &str,
+) -> Result<(), Ending>
     requires position { IsPositionOf question.now.game start.now }
     requires run { (c : Board) × Run question.now.game start.now moves.now c }
 {
-    let Told { words, letters } = told;
-    let review = review_of(rt.alloc(), question, start, moves)?;
-    if let (Some(folder), Some(place)) = (words.certs, review.losing_move()) {
+    if let Some(place) = review.losing_move() {
         if place < moves.len() {
             let before = board_after(question.game(), start, moves, place);
             write_board(rt, question, &before, folder, "before")?;
@@ -129,9 +194,7 @@ fn review_list<G: Game + Drop>(
             write_board(rt, question, &after, folder, "after")?;
         }
     }
-    let text = review_text(rt.alloc(), question.game(), start, letters, &review)?;
-    tell_whole(rt, text.as_bytes())?;
-    Ok(review_status(&review, letters.len() / 3))
+    Ok(())
 }
 
 // Writes a board to a file of this name in a folder, and the certificate of its best answer beside it.
@@ -166,41 +229,19 @@ fn write_board<G: Game + Drop>(
 // Why a run ends whose boards or certificates aren't written.
 const UNWRITTEN: ProgramFault = ProgramFault::Write(Output::Cert);
 
-// Tells how good a list is that wins, once its certificate is written, if one is asked for; the status.
-fn rate_list<G: Game + Drop>(
-    rt: &HostRuntime,
-    question: &Question<G>,
-    start: &Position,
-    moves: &[Move],
-    cert: Option<&mut CertFile>,
-) -> Result<u8, Ending>
-    requires position { IsPositionOf question.now.game start.now }
-    requires wins { Wins question.now.game start.now moves.now }
-    requires texts { All HasText moves.now }
-    requires few { length moves.now ≤ MOST_MOVES }
-{
-    let rating = rate(rt.alloc(), question, start, moves, cert)?;
-    let rule = question.method().rule;
-    let Ok(by_hand) = count_by_hand(rt.alloc(), question.game(), start, moves, rule) else {
-        // (the moves are allowed)
-        return Err(Ending::Fault(ProgramFault::Memory));
-    };
-    let text = rating_text(rt.alloc(), moves.len(), by_hand, &rating)?;
-    tell_whole(rt, text.as_bytes())?;
-    Ok(rating_status(&rating))
-}
-
 // Answers the board after each move of a list, a line each: behind a lost board all are lost; the status is that of the last board.
 fn answer_all<G: Game + Drop>(
     rt: &HostRuntime,
-    letters: &[u8],
     question: &Question<G>,
     start: &Position,
     moves: &[Move],
 ) -> Result<u8, Ending>
     requires position { IsPositionOf question.now.game start.now }
     requires run { (c : Board) × Run question.now.game start.now moves.now c }
+    requires texts { All HasText moves.now }
 {
+    let letters = moves_text(rt.alloc(), moves)?;
+    let letters = letters.as_slice();
     let mut is_lost = false;
     let mut status = 0;
     for after in 0..=moves.len() {

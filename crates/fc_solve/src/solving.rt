@@ -7,8 +7,9 @@ use crate::certs::CertFile;
 use crate::endings::Ending;
 use crate::forms::{LONGEST_ANSWER, Manner, tell_held};
 use crate::games::InGame;
+use crate::hands::by_hand_told;
 use crate::links::{Link, tell_link};
-use crate::objects::{Name, tell_answer};
+use crate::objects::{Beside, Name, tell_answer};
 use crate::outputs::Out;
 use crate::watching::{Line, Teller};
 use fc_io::ToArray;
@@ -57,7 +58,7 @@ fn search_from<G: Game + Drop>(
 {
     let mut cert = cert;
     let mut teller = Teller::new(line, rt.stderr().is_terminal() && !words.is_quiet);
-    if let (MovesForm::Letters, false) = (words.form, words.has_link) {
+    if let (MovesForm::Letters, false, false) = (words.form, words.has_link, words.has_stats) {
         let mut out = Out::after(rt, line);
         let ran = run_solve_by(
             rt.alloc(),
@@ -68,7 +69,6 @@ fn search_from<G: Game + Drop>(
             &mut teller,
         );
         line.clear();
-        teller.tell_stats(words.has_stats, out.front());
         return out.end_of(ran);
     }
     let mut answer = ToArray::<LONGEST_ANSWER>::new();
@@ -81,18 +81,31 @@ fn search_from<G: Game + Drop>(
         &mut teller,
     );
     line.clear();
+    let (game, rule) = (question.game(), question.method().rule);
+    let by_hand = match (words.form, words.has_stats) {
+        (MovesForm::Json, _) | (_, true) => {
+            by_hand_told(rt.alloc(), game, start, answer.held(), rule)?
+        }
+        _ => None,
+    };
     let told = if let MovesForm::Json = words.form {
         let name = Name::of(&words.board.word, line.deal());
-        tell_answer(rt, name, ran, answer.held(), teller.stored_and_turns())
+        let beside = Beside {
+            stored_and_turns: teller.stored_and_turns(),
+            by_hand,
+        };
+        tell_answer(rt, name, ran, answer.held(), beside)
     } else {
         let manner = Manner::new(rt, words.form, words.colours);
-        tell_held(rt, question.game(), start, ran, answer.held(), manner)
+        tell_held(rt, game, start, ran, answer.held(), manner)
     };
-    teller.tell_stats(words.has_stats, answer.held());
+    if words.has_stats {
+        teller.tell_stats(answer.held(), by_hand);
+    }
     let status = told?;
     if words.has_link {
         let link = Link::of_answer(words.game, line.deal(), answer.held());
-        tell_link(rt, question.game(), start, &link)?;
+        tell_link(rt, game, start, &link)?;
     }
     Ok(status)
 }

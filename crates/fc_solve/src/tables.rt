@@ -14,7 +14,9 @@ use fc_io::write_all;
 use fc_methods::Question;
 use fc_moves::Game;
 use fc_position::Position;
-use fc_runs::{Output, ProgramFault, Row, Sought, answer_row, run_table, table_deals, table_head};
+use fc_runs::{
+    Input, Output, ProgramFault, Row, Sought, answer_row, run_table, table_deals, table_head,
+};
 use fc_words::{BatchBoards, BatchForm, BatchWords};
 use std::fs;
 use std::io::IsTerminal;
@@ -175,7 +177,7 @@ impl<'a, G: Game + Drop> Desk<'a, G> {
 
     // Answers the boards of a file. One that can't be read, or has no board, is told as what is no board.
     fn answer_file(&mut self, path: &str) -> Result<(), Ending> {
-        match read_list(self.rt, path) {
+        match read_list(self.rt, path, Input::Board) {
             Ok(text) => match self.answer_list(path, text.as_slice())? {
                 0 => self.tell_no_board(path, REFUSED),
                 _ => Ok(()),

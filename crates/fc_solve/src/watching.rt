@@ -83,14 +83,25 @@ impl<'a> Line<'a> {
         };
     }
 
-    // Ends a run with a line of numbers.
-    fn tell_stats(&self, classes: usize, turns: u64, most_open: u128, floor: u32) {
+    // Ends a run with a line of numbers: of the search, and how many entries of a list are left to a player's hands.
+    fn tell_stats(
+        &self,
+        classes: usize,
+        turns: u64,
+        most_open: u128,
+        floor: u32,
+        by_hand: Option<u64>,
+    ) {
         if let Some(number) = self.deal {
             let _told = eprint!(self.rt; "deal={number} ");
         }
-        let _told = eprintln!(self.rt;
+        let _told = eprint!(self.rt;
             "classes={classes} turns={turns} most_open={most_open} floor={floor}"
         );
+        let _told = match by_hand {
+            Some(count) => eprintln!(self.rt; " by_hand={count}"),
+            None => eprintln!(self.rt; ""),
+        };
     }
 }
 
@@ -122,14 +133,13 @@ impl<'a> Teller<'a> {
         }
     }
 
-    /// Where it is asked for, the line of numbers of what was heard last, with the floor that the answer tells, if it does.
-    pub fn tell_stats(&self, is_asked_for: bool, answer: &[u8]) {
-        let (true, Some(far)) = (is_asked_for, self.last) else {
-            return;
-        };
-        let floor = floor_told(answer).unwrap_or(far.at_least);
-        self.line
-            .tell_stats(far.classes, far.turns, far.most_open, floor);
+    /// The line of numbers of what was heard last, with the floor that the answer tells, if it does.
+    pub fn tell_stats(&self, answer: &[u8], by_hand: Option<u64>) {
+        if let Some(far) = self.last {
+            let floor = floor_told(answer).unwrap_or(far.at_least);
+            self.line
+                .tell_stats(far.classes, far.turns, far.most_open, floor, by_hand);
+        }
     }
 }
 
@@ -179,14 +189,16 @@ impl<'a> BestTeller<'a> {
         }
     }
 
-    /// Where it is asked for, the line of numbers of all searches together, with the floor that the answer tells, if it does.
-    pub fn tell_stats(&self, is_asked_for: bool, answer: &[u8]) {
-        let (true, Some(far)) = (is_asked_for, self.last) else {
-            return;
-        };
-        let floor = floor_told(answer).unwrap_or(far.at_least);
-        self.line
-            .tell_stats(far.classes as usize, far.turns, far.most_open, floor);
+    /// The line of numbers of all searches together, with the floor that the answer tells, if it does.
+    pub fn tell_stats(&self, answer: &[u8], by_hand: Option<u64>) {
+        if let Some(far) = self.last {
+            let (classes, floor) = (
+                far.classes as usize,
+                floor_told(answer).unwrap_or(far.at_least),
+            );
+            self.line
+                .tell_stats(classes, far.turns, far.most_open, floor, by_hand);
+        }
     }
 
     /// Where the line is shown, says of an answer by its status what helps, if anything does and it leaves something open.
