@@ -6,7 +6,7 @@ use crate::endings::{Ending, REFUSED, tell};
 use crate::forms::UNWRITTEN;
 use crate::objects::Name;
 use crate::outputs::Out;
-use crate::review_objects::{FoundList, REVIEW_HEAD, review_line, review_row};
+use crate::review_objects::{REVIEW_HEAD, review_line, review_row};
 use crate::reviewing::found_of;
 use crate::written_lists::list_of;
 use fc_io::write_all;
@@ -28,14 +28,13 @@ pub fn review_files<G: Game + Drop>(
         words,
         question,
         out: Out::new(rt),
+        is_begun: false,
         status: 0,
     };
-    if !words.is_json {
-        desk.write(REVIEW_HEAD)?;
-    }
     for path in paths {
         desk.review_file(*path)?;
     }
+    desk.begin()?;
     Ok(desk.status)
 }
 
@@ -46,6 +45,8 @@ struct ListDesk<'a, G: Game + Drop> {
     words: &'a ReviewWords<'a>,
     question: &'a Question<G>,
     out: Out<'a>,
+    // Whether a row is written, or the names of the columns.
+    is_begun: bool,
     status: u8,
 }
 
@@ -78,9 +79,9 @@ impl<'a, G: Game + Drop> ListDesk<'a, G> {
             }
             let list = line_read(line);
             match self.review_list(list) {
-                Ok((found, name)) => {
-                    self.tell(&found.reviewed(name))?;
-                    self.status = self.status.max(found.status());
+                Ok((row, status)) => {
+                    self.write_row(row.as_str())?;
+                    self.status = self.status.max(status);
                 }
                 Err(ending) => self.tell_no_list(path, number.saturating_add(1), list, ending)?,
             }
@@ -88,8 +89,8 @@ impl<'a, G: Game + Drop> ListDesk<'a, G> {
         Ok(())
     }
 
-    // What is found of a list, and what its board is called.
-    fn review_list<'l>(&self, list: ListLine<'l>) -> Result<(FoundList, Name<'l>), Ending> {
+    // The row of a list, and its status.
+    fn review_list(&self, list: ListLine<'_>) -> Result<(String, u8), Ending> {
         let rt = self.rt;
         let board = BoardWords {
             word: BoardWord::Named(list.board),
@@ -101,7 +102,8 @@ impl<'a, G: Game + Drop> ListDesk<'a, G> {
         let start = read_start(rt, source, game.cells())?;
         let written = list_of(rt, game, &start, list.moves, self.words.has_sequences)?;
         let found = found_of(rt, self.question, &start, &written, None)?;
-        Ok((found, Name::of(&board.word, deal)))
+        let row = self.row_of(&found.reviewed(Name::of(&board.word, deal)))?;
+        Ok((row, found.status()))
     }
 
     // Says of a line that it has no list that can be reviewed, or that memory was wanted, and writes that.
@@ -122,18 +124,32 @@ impl<'a, G: Game + Drop> ListDesk<'a, G> {
         self.status = self.status.max(status);
         let mut told = Reviewed::new(review);
         told.board = Some(list.board);
-        self.tell(&told)
+        let row = self.row_of(&told)?;
+        self.write_row(row.as_str())
     }
 
-    // Writes the row or the object of a list.
-    fn tell(&mut self, told: &Reviewed<'_>) -> Result<(), Ending> {
+    // The row or the object of a list.
+    fn row_of(&self, told: &Reviewed<'_>) -> Result<String, Ending> {
         let alloc = self.rt.alloc();
-        let text = if self.words.is_json {
-            review_line(alloc, told)?
-        } else {
-            review_row(alloc, told)?
-        };
-        self.write(text.as_str())
+        if self.words.is_json {
+            return review_line(alloc, told);
+        }
+        Ok(review_row(alloc, told)?)
+    }
+
+    // Writes a row, the first one behind the names of the columns.
+    fn write_row(&mut self, row: &str) -> Result<(), Ending> {
+        self.begin()?;
+        self.write(row)
+    }
+
+    // Writes the names of the columns, if there are any and they don't stand yet.
+    fn begin(&mut self) -> Result<(), Ending> {
+        if self.is_begun || self.words.is_json {
+            return Ok(());
+        }
+        self.is_begun = true;
+        self.write(REVIEW_HEAD)
     }
 
     // Writes to standard output.

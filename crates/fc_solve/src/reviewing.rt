@@ -27,10 +27,10 @@ use fc_io::ToArray;
 use fc_methods::Question;
 use fc_moves::{Game, Move};
 use fc_position::Position;
-use fc_review::{Review, board_after, known_after, rate, review_of, wins};
+use fc_review::{board_after, known_after, rate, review_of, wins};
 use fc_runs::{Output, ProgramFault, run_best};
 use fc_text::print_board;
-use fc_words::{BoardWords, MovesWord, ReviewLists, ReviewWords};
+use fc_words::{BoardWords, GameWords, MovesWord, ReviewLists, ReviewWords};
 use std::alloc::{AllocError, Global};
 use std::fs;
 
@@ -74,50 +74,60 @@ fn review_one<G: Game + Drop>(
     let list = list_of(rt, game, &start, text.as_slice(), words.has_sequences)?;
     tell_inserted(rt, list.inserted);
     let question = Question::new(game, method);
-    let name = Name::of(&board.word, deal);
-    let status = answer(rt, words, &question, &start, name, &list, cert.as_mut())?;
+    let status = if words.has_all {
+        answer_all(rt, &question, &start, list.moves.as_slice())?
+    } else {
+        let found = found_of(rt, &question, &start, &list, cert.as_mut())?;
+        write_boards(rt, words, &question, &start, &list, &found.finding)?;
+        tell_found(rt, words, game, &start, Name::of(&board.word, deal), &found)?;
+        found.status()
+    };
     if words.has_link {
-        let letters = moves_text(rt.alloc(), list.moves.as_slice())?;
-        let link = Link {
-            game: words.game,
-            deal,
-            list: letters.as_slice(),
-            floor: None,
-            answer: None,
-        };
-        tell_link(rt, game, &start, &link)?;
+        link_list(rt, words.game, game, deal, &start, list.moves.as_slice())?;
     }
     Ok(status)
 }
 
-// Tells what the words ask of a list; the status.
-fn answer<G: Game + Drop>(
+// Ends what is told with a link to the list.
+fn link_list<G: Game>(
+    rt: &HostRuntime,
+    named: GameWords,
+    game: &G,
+    deal: Option<u32>,
+    start: &Position,
+    moves: &[Move],
+) -> Result<(), Ending>
+    requires position { IsPositionOf (G.game game.now) start.now }
+    requires texts { All HasText moves.now }
+{
+    let letters = moves_text(rt.alloc(), moves)?;
+    let link = Link {
+        game: named,
+        deal,
+        list: letters.as_slice(),
+        floor: None,
+        answer: None,
+    };
+    tell_link(rt, game, start, &link)
+}
+
+// Tells what was found of a list.
+fn tell_found<G: Game>(
     rt: &HostRuntime,
     words: &ReviewWords<'_>,
-    question: &Question<G>,
+    game: &G,
     start: &Position,
     name: Name<'_>,
-    list: &WrittenList,
-    cert: Option<&mut CertFile>,
-) -> Result<u8, Ending>
-    requires position { IsPositionOf question.now.game start.now }
-    requires run { (c : Board) × Run question.now.game start.now list.now.moves.items c }
-    requires texts { All HasText list.now.moves.items }
+    found: &FoundList,
+) -> Result<(), Ending>
+    requires fits { Fits (G.game game.now).cells start.now }
 {
-    if words.has_all {
-        return answer_all(rt, question, start, list.moves.as_slice());
-    }
-    let found = found_of(rt, question, start, list, cert)?;
-    if let (Finding::Traced(review), Some(folder)) = (&found.finding, words.certs) {
-        write_boards(rt, question, start, list.moves.as_slice(), review, folder)?;
-    }
     let text = if words.is_json {
         review_line(rt.alloc(), &found.reviewed(name))?
     } else {
-        found_text(rt.alloc(), question.game(), start, &found)?
+        found_text(rt.alloc(), game, start, found)?
     };
-    tell_whole(rt, text.as_bytes())?;
-    Ok(found.status())
+    tell_whole(rt, text.as_bytes())
 }
 
 // What is told of a list.
@@ -174,18 +184,22 @@ fn tell_inserted(rt: &HostRuntime, count: usize) {
     };
 }
 
-// Writes the boards around the move that loses, with their certificates, if it is known which one does.
+// Where it is asked for, and it is known which move loses, writes the boards around that move, with their certificates.
 fn write_boards<G: Game + Drop>(
     rt: &HostRuntime,
+    words: &ReviewWords<'_>,
     question: &Question<G>,
     start: &Position,
-    moves: &[Move],
-    review: &Review,
-    folder: &str,
+    list: &WrittenList,
+    finding: &Finding,
 ) -> Result<(), Ending>
     requires position { IsPositionOf question.now.game start.now }
-    requires run { (c : Board) × Run question.now.game start.now moves.now c }
+    requires run { (c : Board) × Run question.now.game start.now list.now.moves.items c }
 {
+    let (Some(folder), Finding::Traced(review)) = (words.certs, finding) else {
+        return Ok(());
+    };
+    let moves = list.moves.as_slice();
     if let Some(place) = review.losing_move() {
         if place < moves.len() {
             let before = board_after(question.game(), start, moves, place);
