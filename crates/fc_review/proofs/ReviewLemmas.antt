@@ -68,41 +68,6 @@ wins_told q b (GaveUp up) best told = absurd told
 pub edge_lost : (q : Asked) (b : Board) (moves : List Move) (edge : Edge) → IsEdge q b moves NotLost edge → IsLostAfter q.game b moves edge.behind.after
 edge_lost q b moves edge is = lost_known q b moves edge.behind is.behind (no_loss edge.behind.verdict is.turned)
 
--- so the one before it is followed by a lost one
-pub lost_behind : (q : Asked) (b : Board) (moves : List Move) (edge : Edge) (known : Known) → IsEdge q b moves NotLost edge → edge.before ≡ Some known
-    → IsKnown q b moves known × IsNoLoss known.verdict × IsLostBehind q.game b moves known.after (Some edge.behind.after)
-lost_behind q b moves edge known is first =
-    let before = subst (λ o. MatchOption o (edge.behind.after ≡ 0) (λ k. IsKnown q b moves k × Holds NotLost k.verdict × (edge.behind.after ≡ k.after + 1))) first is.before in
-    (before.0, before.1, (before.2, edge_lost q b moves edge is))
-
--- nothing before it: the first board is lost
-pub review_none : (q : Asked) (b : Board) (moves : List Move) (edge : Edge) → IsEdge q b moves NotLost edge → edge.before ≡ None
-    → IsReview q b moves (record { won = None; lost = Some edge.behind.after })
-review_none q b moves edge is none =
-    let first : edge.behind.after ≡ 0 = subst (λ o. MatchOption o (edge.behind.after ≡ 0) (λ k. IsKnown q b moves k × Holds NotLost k.verdict × (edge.behind.after ≡ k.after + 1))) none is.before in
-    record {
-      won = tt;
-      lost = edge_lost q b moves edge is;
-      behind = inl (ap Some first);
-      before = inl first;
-    }
-
--- a board from which a list is told, behind which one is lost, or which is the last
-pub review_won : (q : Asked) (b : Board) (moves : List Move) (known : Known) (lost : Option ℕ) → IsKnown q b moves known → TellsList known.verdict
-    → IsLostBehind q.game b moves known.after lost → IsReview q b moves (record { won = Some known; lost = lost })
-review_won q b moves known None is tells last = record {
-  won = (is, tells);
-  lost = tt;
-  behind = inr (inl (ap (λ n. n + 1) last));
-  before = inl (ap (λ n. n + 1) last);
-}
-review_won q b moves known (Some n) is tells (place, lost) = record {
-  won = (is, tells);
-  lost = lost;
-  behind = inl (ap Some place);
-  before = inl place;
-}
-
 -- a board that isn't lost and from which no list is told gave up
 pub open_up_to : (q : Asked) (b : Board) (moves : List Move) (known : Known) (lost : Option ℕ) → IsKnown q b moves known → IsNoLoss known.verdict
     → (TellsList known.verdict → ⊥) → IsLostBehind q.game b moves known.after lost → IsOpenUpTo q b moves lost
