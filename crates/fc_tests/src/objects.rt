@@ -63,7 +63,10 @@ const FULL_REVIEW_TEXT: &str =
 
 #[test]
 fn objects_have_what_is_told_of_lists(rt: HostRuntime) {
-    let object = sure(&rt, review_object_text(rt.alloc(), &Reviewed::new("gave up")));
+    let object = sure(
+        &rt,
+        review_object_text(rt.alloc(), &Reviewed::new("gave up")),
+    );
     must(&rt, object.as_str() == "{\"review\":\"gave up\"}");
     let object = sure(&rt, review_object_text(rt.alloc(), &FULL_REVIEW));
     must(&rt, object.as_str() == FULL_REVIEW_TEXT);
