@@ -3,6 +3,11 @@
 #ifndef LUFFAKNIFE_H
 #define LUFFAKNIFE_H
 
+/* That of the program: `fc_solve --version`. */
+#define LUFFAKNIFE_VERSION "0.1.0"
+
+/* A call takes some 310 kB of the stack, as measured. */
+
 #include <stddef.h>
 #include <stdint.h>
 
