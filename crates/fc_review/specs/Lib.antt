@@ -1,5 +1,7 @@
+pub mod Finding
 pub mod Hands
 pub mod Rating
 pub mod Review
+pub mod Texts
 pub mod Weaving
 pub mod inner

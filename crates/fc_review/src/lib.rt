@@ -3,14 +3,18 @@
 #![tactic(auto)]
 
 pub use boards::{Known, board_after, known_after, wins};
+pub use findings::{Finding, find, finding_text, run_review};
 pub use hands::count_by_hand;
 pub use ratings::{Rating, rate};
 pub use reviews::{Review, review_of};
+pub use texts::{rating_status, rating_text, review_status, review_text};
 pub use weaving::{WeaveFault, weave};
 
 mod boards;
 mod edges;
+mod findings;
 mod hands;
 mod ratings;
 mod reviews;
+mod texts;
 mod weaving;

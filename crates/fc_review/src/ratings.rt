@@ -57,8 +57,8 @@ pub fn rate<G: Game + Drop, C: Sink>(
     }
 }
 
-// How good a list is that wins, without a table.
-fn rate_alone<G: Game + Drop>(
+/// How good a list is that wins, without a table.
+pub(crate) fn rate_alone<G: Game + Drop>(
     alloc: Global,
     question: &Question<G>,
     start: &Position,
@@ -76,8 +76,8 @@ fn rate_alone<G: Game + Drop>(
     })
 }
 
-// How good a list is that wins, once its certificate is written.
-fn certify<G: Game + Drop, C: Sink>(
+/// How good a list is that wins, once its certificate is written.
+pub(crate) fn certify<G: Game + Drop, C: Sink>(
     alloc: Global,
     question: &Question<G>,
     start: &Position,

@@ -7,6 +7,7 @@ ghost use Rattle.fc_moves.specs.Run.{Run};
 ghost use Rattle.fc_methods.specs.Method.{Asked};
 ghost use Rattle.fc_moves.specs.declared.steps.Move.{Move};
 ghost use Rattle.fc_review.specs.Review.{IsKnown, IsReview, IsUnsettled, Loses};
+ghost use Rattle.fc_review.specs.Texts.{losing_of};
 ghost use Rattle.fc_review.specs.inner.Edge.{IsEdge, IsLostBehind, IsNoLoss, IsOpenUpTo};
 ghost use Rattle.fc_review.specs.declared.edges.Wanted.TheVariants as wanted;
 
@@ -31,6 +32,7 @@ impl Review {
     /// How many moves of the list stand before the one that loses, if it is known which: a list wins from the board before it, and
     /// none from the board after it.
     pub fn losing_move(&self) -> Option<usize>
+        ensures value { result ≡ losing_of self.now.won self.now.lost }
         ensures loses { (q : Asked) (b : Board) (moves : List Move) → IsReview q b moves self.now → IfSome result (Loses q.game b moves) }
         ensures known { (q : Asked) (b : Board) (moves : List Move) → IsReview q b moves self.now → IfNone result (IsUnsettled q b moves) }
     {

@@ -2,52 +2,33 @@
 
 use crate::endings::Ending;
 use crate::objects::Name;
-use crate::review_texts::{letters_at, rating_status, review_status};
+use crate::review_texts::letters_at;
 use fc_answers::Verdict;
 use fc_json::{Reviewed, review_object_text};
-use fc_review::{Rating, Review};
+use fc_review::{Finding, Rating, Review};
 use std::alloc::{AllocError, Global};
-
-/// What is found of a list of moves.
-#[derive(Drop)]
-pub enum Finding {
-    /// It wins, and is so good.
-    Rated(Rating),
-    /// It doesn't, and so much is known of its boards.
-    Traced(Review),
-}
 
 /// A list that was reviewed.
 #[derive(Drop)]
 pub struct FoundList {
-    /// Its moves, three bytes each but for the last one's.
+    /// Its moves, three bytes each.
     pub letters: Vec<u8>,
     /// How many moves home are put in that it leaves out.
     pub inserted: u64,
     /// How many of its entries are left to a player's hands.
     pub by_hand: u64,
+    /// What is found of it.
     pub finding: Finding,
+    /// The exit status that goes with that.
+    pub status: u8,
 }
 
 impl FoundList {
-    /// How many moves it has.
-    pub fn count(&self) -> usize {
-        self.letters.len() / 3
-    }
-
-    /// What became of it, as an exit status.
-    pub fn status(&self) -> u8 {
-        match &self.finding {
-            Finding::Rated(rating) => rating_status(rating),
-            Finding::Traced(review) => review_status(review, self.count()),
-        }
-    }
-
     /// All that is told of it and of its board's name.
     pub fn reviewed<'a>(&'a self, name: Name<'a>) -> Reviewed<'a> {
-        let count = self.count() as u64;
+        let count = (self.letters.len() / 3) as u64;
         let mut told = match &self.finding {
-            Finding::Rated(rating) => reviewed_of_rating(rating, count),
+            Finding::Rated { rating, .. } => reviewed_of_rating(rating, count),
             Finding::Traced(review) => reviewed_of_review(review, self.letters.as_slice()),
         };
         told.deal = name.deal();

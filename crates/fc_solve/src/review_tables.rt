@@ -103,7 +103,7 @@ impl<'a, G: Game + Drop> ListDesk<'a, G> {
         let written = list_of(rt, game, &start, list.moves, self.words.has_sequences)?;
         let found = found_of(rt, self.question, &start, &written, None)?;
         let row = self.row_of(&found.reviewed(Name::of(&board.word, deal)))?;
-        Ok((row, found.status()))
+        Ok((row, found.status))
     }
 
     // Says of a line that it has no list that can be reviewed, or that memory was wanted, and writes that.

@@ -1,7 +1,6 @@
 //! `review`: which move of a list loses, or how good a list is that wins.
 ghost use Rattle.std.specs.Prelude.{All};
 ghost use Rattle.fc_position.specs.Board.{Board};
-ghost use Rattle.fc_position.specs.Position.{Fits};
 ghost use Rattle.fc_moves.specs.GameRules.{IsPositionOf};
 ghost use Rattle.fc_moves.specs.MoveText.{HasText};
 ghost use Rattle.fc_moves.specs.Run.{Run};
@@ -16,22 +15,22 @@ use crate::hands::by_hand_of;
 use crate::links::{Link, tell_link};
 use crate::moves::{find_moves, read_moves};
 use crate::objects::Name;
-use crate::review_objects::{Finding, FoundList, review_line};
+use crate::outputs::Out;
+use crate::review_objects::{FoundList, review_line};
 use crate::review_tables::review_files;
-use crate::review_texts::{line_of, rating_text, review_text};
+use crate::review_texts::line_of;
 use crate::written_lists::{WrittenList, list_of};
 use fc_answer_text::{moves_text, verdict_status};
-use fc_answers::{MOST_MOVES, Verdict};
+use fc_answers::Verdict;
 use fc_best::Unheard;
 use fc_io::ToArray;
 use fc_methods::Question;
 use fc_moves::{Game, Move};
 use fc_position::Position;
-use fc_review::{board_after, known_after, rate, review_of, wins};
+use fc_review::{Finding, board_after, find, finding_text, known_after, run_review};
 use fc_runs::{Output, ProgramFault, run_best};
 use fc_text::print_board;
 use fc_words::{BoardWords, GameWords, MovesWord, ReviewLists, ReviewWords};
-use std::alloc::{AllocError, Global};
 use std::fs;
 
 impl InGame for ReviewWords<'_> {
@@ -74,18 +73,58 @@ fn review_one<G: Game + Drop>(
     let list = list_of(rt, game, &start, text.as_slice(), words.has_sequences)?;
     tell_inserted(rt, list.inserted);
     let question = Question::new(game, method);
-    let status = if words.has_all {
-        answer_all(rt, &question, &start, list.moves.as_slice())?
-    } else {
-        let found = found_of(rt, &question, &start, &list, cert.as_mut())?;
-        write_boards(rt, words, &question, &start, &list, &found.finding)?;
-        tell_found(rt, words, game, &start, Name::of(&board.word, deal), &found)?;
-        found.status()
+    let told = Told {
+        words,
+        name: Name::of(&board.word, deal),
     };
+    let status = answer(rt, told, &question, &start, &list, cert.as_mut())?;
     if words.has_link {
         link_list(rt, words.game, game, deal, &start, list.moves.as_slice())?;
     }
     Ok(status)
+}
+
+// The words, and what the board is called.
+#[derive(Clone, Copy)]
+struct Told<'a> {
+    words: &'a ReviewWords<'a>,
+    name: Name<'a>,
+}
+
+// Tells what the words ask of a list; the status.
+fn answer<G: Game + Drop>(
+    rt: &HostRuntime,
+    told: Told<'_>,
+    question: &Question<G>,
+    start: &Position,
+    list: &WrittenList,
+    cert: Option<&mut CertFile>,
+) -> Result<u8, Ending>
+    requires position { IsPositionOf question.now.game start.now }
+    requires run { (c : Board) × Run question.now.game start.now list.now.moves.items c }
+    requires texts { All HasText list.now.moves.items }
+{
+    let (alloc, moves, words) = (rt.alloc(), list.moves.as_slice(), told.words);
+    if words.has_all {
+        return answer_all(rt, question, start, moves);
+    }
+    if !words.is_json && words.certs.is_none() {
+        let mut out = Out::new(rt);
+        let ran = run_review(alloc, question, start, moves, &mut out, cert);
+        return out.end_of(ran);
+    }
+    let found = found_of(rt, question, start, list, cert)?;
+    if let Some(folder) = words.certs {
+        write_boards(rt, folder, question, start, moves, &found.finding)?;
+    }
+    if words.is_json {
+        let line = review_line(alloc, &found.reviewed(told.name))?;
+        tell_whole(rt, line.as_bytes())?;
+    } else {
+        let text = finding_text(alloc, question.game(), start, moves, &found.finding)?;
+        tell_whole(rt, text.as_slice())?;
+    }
+    Ok(found.status)
 }
 
 // Ends what is told with a link to the list.
@@ -111,42 +150,6 @@ fn link_list<G: Game>(
     tell_link(rt, game, start, &link)
 }
 
-// Tells what was found of a list.
-fn tell_found<G: Game>(
-    rt: &HostRuntime,
-    words: &ReviewWords<'_>,
-    game: &G,
-    start: &Position,
-    name: Name<'_>,
-    found: &FoundList,
-) -> Result<(), Ending>
-    requires fits { Fits (G.game game.now).cells start.now }
-{
-    let text = if words.is_json {
-        review_line(rt.alloc(), &found.reviewed(name))?
-    } else {
-        found_text(rt.alloc(), game, start, found)?
-    };
-    tell_whole(rt, text.as_bytes())
-}
-
-// What is told of a list.
-fn found_text<G: Game>(
-    alloc: Global,
-    game: &G,
-    start: &Position,
-    found: &FoundList,
-) -> Result<String, AllocError>
-    requires fits { Fits (G.game game.now).cells start.now }
-{
-    match &found.finding {
-        Finding::Rated(rating) => rating_text(alloc, found.count(), found.by_hand, rating),
-        Finding::Traced(review) => {
-            review_text(alloc, game, start, found.letters.as_slice(), review)
-        }
-    }
-}
-
 /// What is found of a list; where it wins, and a certificate is asked for, that is written.
 pub fn found_of<G: Game + Drop>(
     rt: &HostRuntime,
@@ -161,17 +164,18 @@ pub fn found_of<G: Game + Drop>(
 {
     let (alloc, moves) = (rt.alloc(), list.moves.as_slice());
     let (game, rule) = (question.game(), question.method().rule);
-    let is_won = moves.len() <= MOST_MOVES as usize && wins(game, start, moves);
-    let finding = if is_won {
-        Finding::Rated(rate(alloc, question, start, moves, cert)?)
-    } else {
-        Finding::Traced(review_of(alloc, question, start, moves)?)
+    let finding = find(alloc, question, start, moves, cert)?;
+    let by_hand = match &finding {
+        Finding::Rated { by_hand, .. } => *by_hand as u64,
+        Finding::Traced(_) => by_hand_of(alloc, game, start, moves, rule)?,
     };
+    let status = finding.status(moves);
     Ok(FoundList {
         letters: moves_text(alloc, moves)?,
         inserted: list.inserted as u64,
-        by_hand: by_hand_of(alloc, game, start, moves, rule)?,
+        by_hand,
         finding,
+        status,
     })
 }
 
@@ -184,22 +188,21 @@ fn tell_inserted(rt: &HostRuntime, count: usize) {
     };
 }
 
-// Where it is asked for, and it is known which move loses, writes the boards around that move, with their certificates.
+// Writes the boards around the move that loses to a folder, with their certificates, where it is known which move does.
 fn write_boards<G: Game + Drop>(
     rt: &HostRuntime,
-    words: &ReviewWords<'_>,
+    folder: &str,
     question: &Question<G>,
     start: &Position,
-    list: &WrittenList,
+    moves: &[Move],
     finding: &Finding,
 ) -> Result<(), Ending>
     requires position { IsPositionOf question.now.game start.now }
-    requires run { (c : Board) × Run question.now.game start.now list.now.moves.items c }
+    requires run { (c : Board) × Run question.now.game start.now moves.now c }
 {
-    let (Some(folder), Finding::Traced(review)) = (words.certs, finding) else {
+    let Finding::Traced(review) = finding else {
         return Ok(());
     };
-    let moves = list.moves.as_slice();
     if let Some(place) = review.losing_move() {
         if place < moves.len() {
             let before = board_after(question.game(), start, moves, place);
