@@ -1,3 +1,4 @@
+pub mod FindingLemmas
 pub mod GlueLemmas
 pub mod HandLemmas
 pub mod RatingLemmas

@@ -1,10 +1,11 @@
 -- What is found of a list of moves, and what is written of it.
-use Rattle.std.specs.Prelude.{◌≡◌, ◌⊎◌, ℕ, List, [], ◌++◌, length, Option, IfSome, IsTrue, MatchOption, slice_get}
+use Rattle.std.specs.Prelude.{◌≡◌, ◌<◌, ◌⊎◌, ℕ, List, [], ◌++◌, length, Option, IfSome, IsTrue, MatchOption, slice_get}
 use Rattle.fc_io.specs.Moves.{TakesBytes, TakesFront}
 use Rattle.fc_position.specs.Board.{Board}
 use Rattle.fc_moves.specs.declared.steps.Move.{Move}
 use Rattle.fc_moves.specs.MoveText.{move_text}
 use Rattle.fc_moves.specs.Run.{Wins}
+use Rattle.fc_answers.specs.declared.answers.TheConstants.{MOST_MOVES}
 use Rattle.fc_methods.specs.Method.{Asked}
 use Rattle.fc_board_runs.specs.declared.faults.Output.TheVariants.{Answer as of_answer}
 use Rattle.fc_board_runs.specs.declared.faults.ProgramFault.{ProgramFault}
@@ -18,11 +19,11 @@ use Rattle.fc_review.specs.declared.findings.Finding.{Finding}
 use Rattle.fc_review.specs.declared.findings.Finding.TheVariants.{Rated, Traced}
 use Rattle.fc_review.specs.declared.reviews.Review.{Review}
 
--- of a list that wins, how good it is, and how many of its entries are by hand; of another one, what is known of its boards. A sink of
--- certificates takes one of a list that wins alone
+-- of a list that wins, how good it is, and how many of its entries are by hand; of one that doesn't, or that has more moves than an
+-- answer may have, what is known of its boards. A sink of certificates takes one of a list that wins alone
 abbrev pub IsFinding : Asked → Board → List Move → Option Device → Finding → Type 0
 IsFinding q b moves cert (Rated rating by_hand) = Wins q.game b moves × IsRating q b moves cert rating × IsByHand q.method.rule q.game b moves by_hand
-IsFinding q b moves cert (Traced review) = IsReview q b moves review × IfSome cert IsUntouched
+IsFinding q b moves cert (Traced review) = (Wins q.game b moves → MOST_MOVES < length moves) × IsReview q b moves review × IfSome cert IsUntouched
 
 -- a text names the move that a review says loses: by its two letters, and then in words; it is empty where no move is named
 abbrev pub NamesLosing : List Move → Review → List ℕ → Type 0
@@ -44,6 +45,7 @@ pub record IsTold (moves : List Move) (finding : Finding) (sink : Device) (statu
   pub text : List ℕ
   pub tells : TellsFinding moves finding text
   pub taken : TakesBytes sink.old sink.new text
+  pub sound : IsTrue sink.failed → ⊥
   pub own : status ≡ finding_status moves finding
 
 -- why what is found isn't told: a growth was refused, and nothing is written; or the line couldn't be, of which a front may be
