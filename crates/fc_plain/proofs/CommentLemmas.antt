@@ -8,7 +8,7 @@ use Rattle.std.proofs.lemmas.List.Splits.{join_with_byte-slice_split, length-sli
 use Rattle.std.proofs.lemmas.Bool.{and_parts, cond_both, ltb-true}
 use Rattle.std.proofs.lemmas.Slice.Eq.{bytes_eq-Decides}
 use Rattle.fc_text.specs.Line.{after_blanks, after_name, begins_with, is_line_end}
-use Rattle.fc_plain.specs.Comment.{before_comment, blanks_of, comma_blank, is_comment, is_comment_mark, more_cell_names, renamed, said_line, said_lines, without_comments}
+use Rattle.fc_plain.specs.Comment.{before_comment, blanks_of, comma_blank, is_comment, is_column_digit, is_comment_mark, is_number_mark, more_cell_names, more_home_names, numbered, renamed, renamed_line, said_line, said_lines, without_comments}
 use Rattle.fc_plain.proofs.PlainLemmas.{first_line, join-cons, one_line}
 use Rattle.fc_plain.proofs.SortedLemmas.{blanks_parts}
 
@@ -62,42 +62,79 @@ last_said whole done rest new so none pushed =
     pushed ∙ ap (λ t. done ++ t) (sym (ap (λ ls. join_with_byte 10 (said_lines ls)) (one_line rest none))) ∙ so
 
 -- a piece that begins with a name is as long as the name at least
-fits_long : (piece name : List ℕ) → begins_with piece name ≡ true → length name ≤ length piece
+pub fits_long : (piece name : List ℕ) → begins_with piece name ≡ true → length name ≤ length piece
 fits_long piece name fits =
     let front = take (length name) piece in
     let same = (bytes_eq-Decides (map to_ascii_lowercase front) (map to_ascii_lowercase name)).0 fits in
     omega (arith, ap length same, length-map front to_ascii_lowercase, length-map name to_ascii_lowercase, length-take (length name) piece)
 
--- names of three bytes or more
-abbrev are_long : List (List ℕ) → Bool
-are_long [] = true
-are_long (name ∷ names) = nat_lt 2 (length name) && are_long names
+-- names of more bytes than these
+abbrev are_long : ℕ → List (List ℕ) → Bool
+are_long n [] = true
+are_long n (name ∷ names) = nat_lt n (length name) && are_long n names
 
-name_long : (names : List (List ℕ)) (rest piece : List ℕ) → are_long names ≡ true → after_name names rest ≡ Some piece
-    → 3 + length piece ≤ length rest
-name_long [] rest piece long found = absurd (cc found)
-name_long (name ∷ names) rest piece long found =
-    let both = and_parts (nat_lt 2 (length name)) (are_long names) long in
-    elim (begins_with rest name) as (λ t. begins_with rest name ≡ t → cond t (Some (drop (length name) rest)) (after_name names rest) ≡ Some piece → 3 + length piece ≤ length rest) [
+name_long : (n : ℕ) (names : List (List ℕ)) (rest piece : List ℕ) → are_long n names ≡ true → after_name names rest ≡ Some piece
+    → n + 1 + length piece ≤ length rest
+name_long n [] rest piece long found = absurd (cc found)
+name_long n (name ∷ names) rest piece long found =
+    let both = and_parts (nat_lt n (length name)) (are_long n names) long in
+    elim (begins_with rest name) as (λ t. begins_with rest name ≡ t → cond t (Some (drop (length name) rest)) (after_name names rest) ≡ Some piece → n + 1 + length piece ≤ length rest) [
       | true ↦ λ fits e.
           let same : drop (length name) rest ≡ piece = cc e in
-          omega (arith, ltb-true 2 (length name) both.0, fits_long rest name fits, ap length same, length-drop (length name) rest)
-      | false ↦ λ _ e. name_long names rest piece both.1 e
+          omega (arith, ltb-true n (length name) both.0, fits_long rest name fits, ap length same, length-drop (length name) rest)
+      | false ↦ λ _ e. name_long n names rest piece both.1 e
     ] refl found
 
-more_long : are_long more_cell_names ≡ true
-more_long = refl
+cells_are_long : are_long 2 more_cell_names ≡ true
+cells_are_long = refl
 
--- a further name of the cells is longer than `FC:`
+homes_are_long : are_long 4 more_home_names ≡ true
+homes_are_long = refl
+
+-- a further name of the cells is no shorter than `FC:`
 pub cells_long : (rest piece : List ℕ) → after_name more_cell_names rest ≡ Some piece → 3 + length piece ≤ length rest
-cells_long rest piece found = name_long more_cell_names rest piece more_long found
+cells_long rest piece found =
+    let long = name_long 2 more_cell_names rest piece cells_are_long found in omega (arith, long)
+
+-- one of the foundations no shorter than `Deck:`
+pub homes_long : (rest piece : List ℕ) → after_name more_home_names rest ≡ Some piece → 5 + length piece ≤ length rest
+homes_long rest piece found =
+    let long = name_long 4 more_home_names rest piece homes_are_long found in omega (arith, long)
+
+-- a number keeps its size
+pub length-numbered : (piece : List ℕ) → length (numbered piece) ≡ length piece
+length-numbered [] = refl
+length-numbered (b ∷ []) = refl
+length-numbered (b ∷ c ∷ bytes) =
+    cond_both (is_column_digit b && is_number_mark c) (b ∷ 58 ∷ bytes) (b ∷ c ∷ bytes) (λ t. length t ≡ length (b ∷ c ∷ bytes))
+    (λ _. refl) (λ _. refl)
 
 -- nothing grows
-renamed_long : (line : List ℕ) (cells : Option (List ℕ)) → after_name more_cell_names (after_blanks line) ≡ cells
-    → length (renamed cells line) ≤ length line
-renamed_long line None none = omega (arith, length-map line comma_blank)
-renamed_long line (Some piece) found =
-    let size : length (renamed (Some piece) line) ≡ length (blanks_of line) + length (codes "FC:" ++ map comma_blank piece) =
+renamed_long : (line : List ℕ) (cells homes : Option (List ℕ)) → after_name more_cell_names (after_blanks line) ≡ cells
+    → after_name more_home_names (after_blanks line) ≡ homes → length (renamed cells homes line) ≤ length line
+renamed_long line None None none other =
+    omega (
+      arith,
+      length-map (blanks_of line ++ numbered (after_blanks line)) comma_blank,
+      length-append (blanks_of line) (numbered (after_blanks line)),
+      length-numbered (after_blanks line),
+      ap length (blanks_parts line),
+      length-append (blanks_of line) (after_blanks line),
+    )
+renamed_long line None (Some piece) none found =
+    let size : length (renamed None (Some piece) line) ≡ length (blanks_of line) + length (codes "Deck:" ++ map comma_blank piece) =
+    length-append (blanks_of line) (codes "Deck:" ++ map comma_blank piece) in
+    omega (
+      arith,
+      size,
+      length-append (codes "Deck:") (map comma_blank piece),
+      length-map piece comma_blank,
+      homes_long (after_blanks line) piece found,
+      ap length (blanks_parts line),
+      length-append (blanks_of line) (after_blanks line),
+    )
+renamed_long line (Some piece) homes found other =
+    let size : length (renamed (Some piece) homes line) ≡ length (blanks_of line) + length (codes "FC:" ++ map comma_blank piece) =
     length-append (blanks_of line) (codes "FC:" ++ map comma_blank piece) in
     omega (
       arith,
@@ -112,11 +149,11 @@ renamed_long line (Some piece) found =
 said_long : (line : List ℕ) → length (said_line line) ≤ length line
 said_long line =
     let body = before_comment line in
-    cond_both (is_comment line) [] (renamed (after_name more_cell_names (after_blanks body)) body) (λ t. length t ≤ length line)
+    cond_both (is_comment line) [] (renamed_line body) (λ t. length t ≤ length line)
     (λ _. omega arith)
     (λ _. omega (
       arith,
-      renamed_long body (after_name more_cell_names (after_blanks body)) refl,
+      renamed_long body (after_name more_cell_names (after_blanks body)) (after_name more_home_names (after_blanks body)) refl refl,
       length-take (position_or_len is_comment_mark line) line,
     ))
 

@@ -98,7 +98,7 @@ dash_home : (s : ℕ) (rest : List ℕ) → respelled_home (s ∷ 45 ∷ rest) �
 dash_home s rest =
     let token = s ∷ 45 ∷ rest in
     ap (λ o. home_spelling token (option_or o (rank_first token))) (second_fails (is_suit s) (is_rank (45 ∷ rest)) _ None (dash_no_rank rest))
-    ∙ ap (home_spelling token) (dash_front s rest)
+    ∙ ap (home_spelling token) (dash_front s rest) ∙ second_fails (is_suit s) (45 == 58) (s ∷ 45 ∷ rest) token refl
 
 home_stays : (token : List ℕ) → (IsNoHome token → ⊥) → respelled_home token ≡ token
 home_stays [] is = absurd (is (λ s n few home. cc home.parts))

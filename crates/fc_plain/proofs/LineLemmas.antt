@@ -1,5 +1,5 @@
 -- Lines and their labels.
-use Rattle.std.proofs.Common.{◌≡◌, ℕ, suc, ◌+◌, ◌-◌, ◌<◌, ◌==◌, Bool, true, false, not, cond, ◌&&◌, ◌⊎◌, List, [], ◌∷◌, ◌++◌, length, take, drop, refl, sym, ◌∙◌, ap, subst, inl, inr, ⊎_elim, arith}
+use Rattle.std.proofs.Common.{◌≡◌, ◌↔◌, ℕ, suc, ◌+◌, ◌-◌, ◌<◌, ◌==◌, Bool, true, false, not, cond, ◌&&◌, ◌⊎◌, List, [], ◌∷◌, ◌++◌, length, take, drop, refl, sym, ◌∙◌, ap, subst, inl, inr, ⊎_elim, arith}
 use Rattle.std.specs.Prelude.{All, IsTrue, slice_index}
 use Rattle.std.specs.List.{join_with_byte, onto_first, position_or_len, slice_split}
 use Rattle.std.proofs.lemmas.List.{append_assoc, take-append-drop}
@@ -10,6 +10,7 @@ use Rattle.std.proofs.lemmas.Bool.Decides.{nat_tests}
 use Rattle.fc_text.specs.Line.{after_blanks, begin_part, is_blank, is_line_end, is_token, parts_of, without_return}
 use Rattle.fc_plain.specs.Comment.{blanks_of}
 use Rattle.fc_plain.specs.Plain.{is_next_digit, plain_lines, without_digit, without_label, without_labels}
+use Rattle.fc_plain.proofs.AnyLemmas.{AnyOf}
 use Rattle.fc_plain.proofs.PlainLemmas.{columns_after, labels_next, length-labels, told_line}
 
 -- a line that loses its label
@@ -146,7 +147,7 @@ trimmed [] = []
 trimmed (x ∷ []) = cond (is_token x) (x ∷ []) []
 trimmed (x ∷ y ∷ ys) = x ∷ trimmed (y ∷ ys)
 
-trimmed-cons : (x : List ℕ) (ys : List (List ℕ)) → 0 < length ys → trimmed (x ∷ ys) ≡ x ∷ trimmed ys
+pub trimmed-cons : (x : List ℕ) (ys : List (List ℕ)) → 0 < length ys → trimmed (x ∷ ys) ≡ x ∷ trimmed ys
 unfolding trimmed
 trimmed-cons x [] some = absurd (omega arith)
 trimmed-cons x (y ∷ ys) some = refl
@@ -170,7 +171,7 @@ parts-split p (b ∷ text) =
     ]
 
 -- lines that hold no LF
-abbrev NoEnds : List (List ℕ) → Type 0
+abbrev pub NoEnds : List (List ℕ) → Type 0
 NoEnds [] = Unit {0}
 NoEnds (x ∷ xs) = All (λ b. is_line_end b ≡ false) x × NoEnds xs
 
@@ -178,7 +179,7 @@ no_ends-onto : (b : ℕ) (pieces : List (List ℕ)) → is_line_end b ≡ false 
 no_ends-onto b [] other none = (All-cons (λ x. is_line_end x ≡ false) b [] other (All-nil (λ x. is_line_end x ≡ false)), tt)
 no_ends-onto b (x ∷ xs) other none = (All-cons (λ y. is_line_end y ≡ false) b x other none.0, none.1)
 
-no_ends-split : (text : List ℕ) → NoEnds (slice_split is_line_end text)
+pub no_ends-split : (text : List ℕ) → NoEnds (slice_split is_line_end text)
 no_ends-split [] = (All-nil (λ b. is_line_end b ≡ false), tt)
 no_ends-split (b ∷ text) =
     cond_both (is_line_end b) ([] ∷ slice_split is_line_end text) (onto_first b (slice_split is_line_end text)) NoEnds
@@ -186,7 +187,7 @@ no_ends-split (b ∷ text) =
     (λ other. no_ends-onto b (slice_split is_line_end text) other (no_ends-split text))
 
 -- lines that are joined are cut again
-split-joined : (lines : List (List ℕ)) → 0 < length lines → NoEnds lines → slice_split is_line_end (join_with_byte 10 lines) ≡ lines
+pub split-joined : (lines : List (List ℕ)) → 0 < length lines → NoEnds lines → slice_split is_line_end (join_with_byte 10 lines) ≡ lines
 split-joined [] some none = absurd (omega arith)
 split-joined (x ∷ []) some none = slice_split_none is_line_end x none.0
 split-joined (x ∷ y ∷ ys) some none =
@@ -209,7 +210,7 @@ module _ (P : ℕ → Type 0) where
       (digit_keeps before (after_blanks line) (All-drop P n line all)))
       (λ _. all)
 
-no_ends-labels : (before : ℕ) (lines : List (List ℕ)) → NoEnds lines → NoEnds (without_labels before lines)
+pub no_ends-labels : (before : ℕ) (lines : List (List ℕ)) → NoEnds lines → NoEnds (without_labels before lines)
 no_ends-labels before [] none = tt
 no_ends-labels before (x ∷ xs) none =
     subst NoEnds (sym (labels_next before x xs))
@@ -263,6 +264,16 @@ trimmed-all Q ([] ∷ []) none all = All-cons Q [] [] none (All-nil Q)
 trimmed-all Q ((b ∷ x) ∷ []) none all = all
 trimmed-all Q (x ∷ y ∷ ys) none all =
     All-cons Q x (y ∷ ys) (All-head Q x (trimmed (y ∷ ys)) all) (trimmed-all Q (y ∷ ys) none (All-tail Q x (trimmed (y ∷ ys)) all))
+
+-- what holds of one of the pieces, and not of the empty line, holds of one of the parts
+pub trimmed-any : (P : List ℕ → Type 0) (pieces : List (List ℕ)) → (P [] → ⊥) → AnyOf P pieces ↔ AnyOf P (trimmed pieces)
+unfolding trimmed
+trimmed-any P [] none = (λ any. any, λ any. any)
+trimmed-any P ([] ∷ []) none = (⊎_elim (λ here. none here) (λ there. there), λ any. absurd any)
+trimmed-any P ((b ∷ x) ∷ []) none = (λ any. any, λ any. any)
+trimmed-any P (x ∷ y ∷ ys) none =
+    let more = trimmed-any P (y ∷ ys) none in
+    (⊎_elim (λ here. inl here) (λ there. inr (more.0 there)), ⊎_elim (λ here. inl here) (λ there. inr (more.1 there)))
 
 -- a line stays, wherever it stands
 abbrev pub Stays : List ℕ → Type 0

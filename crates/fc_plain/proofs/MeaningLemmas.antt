@@ -10,19 +10,16 @@ use Rattle.fc_position.specs.Board.{Board}
 use Rattle.fc_text.specs.Board.{Spells}
 use Rattle.fc_text.specs.Line.{Line, after_blanks, after_colon, after_name, cell_names, foundation_names, is_blank, is_line_end, line_of, parts_of, sorted_line, without_return}
 use Rattle.fc_text.specs.Spelling.{is_column}
-use Rattle.fc_plain.specs.Laws.{MeaningsStay, SpelledTextsStay}
-use Rattle.fc_plain.specs.Plain.{after_mark, is_column_line, plain_lines, without_label, without_labels, without_signs}
+use Rattle.fc_plain.specs.Plain.{is_column_line, plain_lines, without_label, without_labels}
 use Rattle.fc_plain.specs.Comment.{without_comments}
 use Rattle.fc_plain.specs.Respelled.{after_label, line_spelling, respelled, respelled_column, respelled_line}
-use Rattle.fc_plain.specs.Unit.{in_bytes}
 use Rattle.fc_plain.proofs.KeptLemmas.{homes_stay, cells_stay, column_stays}
 use Rattle.fc_plain.proofs.LineLemmas.{IsLabelled, after_blanks-front, after_blanks-label, label_or_not, parts-split, plain_parts, return-front, trimmed-all}
 use Rattle.fc_plain.proofs.PlainLemmas.{columns_after, labels_next, told_line}
-use Rattle.fc_plain.proofs.ReadLemmas.{IsLow, each_clean, end_low, low_below, parts_all, spelled_shown}
-use Rattle.fc_plain.proofs.SaidLemmas.{SaysItself, low_part, said_stay, says_all}
+use Rattle.fc_plain.proofs.ReadLemmas.{each_clean}
+use Rattle.fc_plain.proofs.SaidLemmas.{SaysItself, said_stay, says_all}
 use Rattle.fc_plain.proofs.SortedLemmas.{EndsWith, by_kind, return_parts}
 use Rattle.fc_plain.proofs.SpelledLemmas.{IsClean, clean_line, label_bad}
-use Rattle.fc_plain.proofs.UnitLemmas.{high_stays, in_bytes_stays}
 
 -- a line as it is sorted
 abbrev sorted : List ℕ → Line
@@ -42,7 +39,7 @@ pub line_stays : (line piece new : List ℕ) (ends : EndsWith line piece) → ne
 line_stays line piece new ends same = ap (λ t. ends.front ++ t) same ∙ sym ends.parts
 
 -- a piece begins with a label, or is read behind its colon
-label_or_colon : (rest : List ℕ) → (after_label rest ≡ after_colon rest)
+pub label_or_colon : (rest : List ℕ) → (after_label rest ≡ after_colon rest)
     ⊎ ((b : ℕ) × (bytes : List ℕ) × (rest ≡ b ∷ 58 ∷ bytes) × (is_blank b ≡ false))
 label_or_colon [] = inl refl
 label_or_colon (b ∷ []) = inl refl
@@ -74,11 +71,11 @@ clean_kept line clean =
     (label_or_colon rest)))
 
 -- a line that has lost its label
-colon_sorted : (blanks rest : List ℕ) → All (λ b. IsTrue (is_blank b)) blanks
+pub colon_sorted : (blanks rest : List ℕ) → All (λ b. IsTrue (is_blank b)) blanks
     → line_of (blanks ++ 58 ∷ rest) ≡ sorted_line None None (58 ∷ rest)
 colon_sorted blanks rest blank = ap sorted (after_blanks-front blanks 58 rest blank refl)
 
-label_after : (before : ℕ) (rest : List ℕ) → before < 8 → after_label ((49 + before) ∷ 58 ∷ rest) ≡ rest
+pub label_after : (before : ℕ) (rest : List ℕ) → before < 8 → after_label ((49 + before) ∷ 58 ∷ rest) ≡ rest
 label_after before rest few =
     cond-true _ rest (after_colon ((49 + before) ∷ 58 ∷ rest)) (grind (arith, nat_tests))
 
@@ -121,7 +118,7 @@ kept_part before part clean = ⊎_elim
     kept_line part (clean_kept (without_return part) (subst (λ t. IsClean (line_of (without_return t))) told clean)))
     (cases_Bool (is_column_line part))
 
-abbrev IsCleanPart : List ℕ → Type 0
+abbrev pub IsCleanPart : List ℕ → Type 0
 IsCleanPart part = IsClean (line_of (without_return part))
 
 -- what holds of each line that is clean once it has lost its label holds of the lines of a text that spells a position
@@ -134,13 +131,13 @@ module _ (K : List ℕ → Type 0) (keeps : (before : ℕ) (part : List ℕ) →
       All-cons K x xs (keeps before x (All-head IsCleanPart (told_line before x) others here))
       (parts_keep (columns_after before x) xs (All-tail IsCleanPart (told_line before x) others here))
 
-  text_keeps : (cells : ℕ) (text : List ℕ) (b : Board) → Spells cells (plain_lines text) b → All K (parts_of is_line_end text)
+  pub text_keeps : (cells : ℕ) (text : List ℕ) (b : Board) → Spells cells (plain_lines text) b → All K (parts_of is_line_end text)
   text_keeps cells text b spells =
       let clean = each_clean (parts_of is_line_end (plain_lines text))
       (λ front rest line e. clean_line cells (plain_lines text) b spells front rest line e) in
       parts_keep 0 (parts_of is_line_end text) (subst (All IsCleanPart) (plain_parts text) clean)
 
-  pieces_keep : (cells : ℕ) (text : List ℕ) (b : Board) → Spells cells (plain_lines text) b → K [] → All K (slice_split is_line_end text)
+  pub pieces_keep : (cells : ℕ) (text : List ℕ) (b : Board) → Spells cells (plain_lines text) b → K [] → All K (slice_split is_line_end text)
   pieces_keep cells text b spells none =
       trimmed-all K (slice_split is_line_end text) none
       (subst (All K) (parts-split is_line_end text) (text_keeps cells text b spells))
@@ -152,41 +149,13 @@ pieces_stay (x ∷ xs) all =
     ap (λ l. l ∷ map respelled_line xs) (All-head Kept x xs all) ∙ ap (λ ls. x ∷ ls) (pieces_stay xs (All-tail Kept x xs all))
 
 -- a text that spells a position once its columns have lost their numbers has no comments, and is not respelled
-text_stays : (cells : ℕ) (text : List ℕ) (b : Board) → Spells cells (plain_lines text) b → respelled text ≡ text
+pub text_stays : (cells : ℕ) (text : List ℕ) (b : Board) → Spells cells (plain_lines text) b → respelled text ≡ text
 text_stays cells text b spells =
     let pieces = slice_split is_line_end text in
     ap (join_with_byte 10) (pieces_stay pieces (pieces_keep Kept kept_part cells text b spells refl)) ∙ join_with_byte-slice_split 10 text
 
-text_says : (cells : ℕ) (text : List ℕ) (b : Board) → Spells cells (plain_lines text) b → without_comments text ≡ text
+pub text_says : (cells : ℕ) (text : List ℕ) (b : Board) → Spells cells (plain_lines text) b → without_comments text ≡ text
 text_says cells text b spells =
     let pieces = slice_split is_line_end text in
     ap (join_with_byte 10) (said_stay pieces (pieces_keep SaysItself says_all cells text b spells (refl, refl)))
     ∙ join_with_byte-slice_split 10 text
-
--- it is ASCII alone, so it was in bytes
-text_low : (cells : ℕ) (text : List ℕ) (b : Board) → Spells cells (plain_lines text) b → All IsLow text
-text_low cells text b spells = parts_all IsLow is_line_end end_low text (text_keeps (All IsLow) low_part cells text b spells)
-
-text_in_bytes : (cells : ℕ) (text : List ℕ) (b : Board) → Spells cells (plain_lines (without_signs 0 (after_mark text))) b
-    → in_bytes text ≡ text
-text_in_bytes cells text b spells =
-    let low = text_low cells (without_signs 0 (after_mark text)) b spells in
-    in_bytes_stays text (λ a bytes e high.
-    let rest = without_signs 0 bytes in
-    let first : without_signs 0 (after_mark text) ≡ a ∷ rest =
-    ap (λ t. without_signs 0 (after_mark t)) e ∙ high_stays a bytes high in
-    let here = low_below a (All-head IsLow a rest (subst (All IsLow) first low)) in
-    omega (arith, here, high))
-
--- so no text changes its meaning
-pub meanings_stay : MeaningsStay
-meanings_stay cells text b spells =
-    let shown = without_signs 0 (after_mark text) in
-    ap (λ t. plain_lines (respelled (without_comments (without_signs 0 (after_mark t))))) (text_in_bytes cells text b spells)
-    ∙ ap (λ t. plain_lines (respelled t)) (text_says cells shown b spells) ∙ ap plain_lines (text_stays cells shown b spells)
-
--- a text that spells a position is plain already
-pub spelled_stays : SpelledTextsStay
-spelled_stays cells text b spells =
-    let shown = spelled_shown cells text b spells in
-    meanings_stay cells text b (subst (λ t. Spells cells t b) (sym shown) spells) ∙ shown

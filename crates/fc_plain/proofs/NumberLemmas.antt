@@ -13,6 +13,7 @@ use Rattle.fc_text.specs.Spelling.{SpellsCard, is_column}
 use Rattle.fc_plain.specs.Plain.{after_mark, is_column_line, plain_lines, without_label, without_labels, without_signs}
 use Rattle.fc_plain.specs.Comment.{without_comments}
 use Rattle.fc_plain.specs.Respelled.{respelled}
+use Rattle.fc_plain.specs.Title.{without_title}
 use Rattle.fc_plain.specs.Unit.{in_bytes}
 use Rattle.fc_plain.specs.Laws.{NumbersAreColumns}
 use Rattle.fc_plain.proofs.LineLemmas.{IsLabelled, after_blanks-label, label_or_not, plain_parts, return-front}
@@ -189,7 +190,7 @@ numbered cells text b n rest above below part spells whole is begins =
 -- a line that is numbered is the column of its number
 pub numbers : NumbersAreColumns
 numbers cells text b n rest spells line =
-    let whole = respelled (without_comments (without_signs 0 (after_mark (in_bytes text)))) in
+    let whole = respelled (without_title (without_comments (without_signs 0 (after_mark (in_bytes text))))) in
     let cut = parted without_return (parts_of is_line_end whole) line.above line.below line.line line.parts in
     let is : is_column_line cut.part ≡ true = ap (λ t. is_column (line_of t).kind) cut.here ∙ line.column in
     subst (λ above. IsColumn b n (columns_of (map line_of above)) rest) cut.mapped

@@ -11,9 +11,10 @@ use Rattle.std.proofs.lemmas.Bool.Decides.{nat_tests}
 use Rattle.std.proofs.lemmas.Slice.Eq.{bytes_eq-Decides}
 use Rattle.fc_text.specs.Line.{after_blanks, after_colon, after_name, begins_with, cell_names, foundation_names, is_blank, is_line_end, parts_of, tokens_of, without_return}
 use Rattle.fc_text.proofs.PartLemmas.{tokens-gap}
-use Rattle.fc_plain.specs.Comment.{more_cell_names, without_comments}
+use Rattle.fc_plain.specs.Comment.{is_column_digit, is_number_mark, more_cell_names, more_home_names, numbered, without_comments}
 use Rattle.fc_plain.specs.Plain.{after_mark, is_column_line, plain, plain_lines, without_label, without_signs}
 use Rattle.fc_plain.specs.Respelled.{after_label, each_token, is_dash_alone, line_spelling, respelled, respelled_card, respelled_column}
+use Rattle.fc_plain.specs.Title.{any_token, has_word, is_board_token, without_title}
 use Rattle.fc_plain.specs.Unit.{in_bytes}
 use Rattle.fc_plain.proofs.KeptLemmas.{each_stays}
 use Rattle.fc_plain.proofs.LineLemmas.{Stays, label_or_not, labels_stay, parts-split, trimmed-all}
@@ -22,11 +23,12 @@ use Rattle.fc_plain.proofs.ReadLemmas.{IsLow, end_low, is_low, low_below, parts_
 use Rattle.fc_plain.proofs.SaidLemmas.{SaysItself, said_stay, says_itself}
 use Rattle.fc_plain.proofs.SortedLemmas.{by_kind}
 use Rattle.fc_plain.proofs.StayLemmas.{ascii_stays}
+use Rattle.fc_plain.proofs.TitleLemmas.{Untitled, untitled_stay}
 use Rattle.fc_plain.proofs.UnitLemmas.{in_bytes_stays}
 
--- a byte of ASCII that is no colon, no comma and no CR, and begins no comment
+-- a byte of ASCII that is no colon, no comma, no CR and no mark of a number, and begins no comment
 abbrev pub is_plain_byte : ℕ → Bool
-is_plain_byte b = is_low b && (not (b == 58) && not (b == 13))
+is_plain_byte b = is_low b && (not (b == 58) && (not (b == 13) && not (is_number_mark b)))
 
 abbrev IsPlainByte : ℕ → Type 0
 IsPlainByte b = is_plain_byte b ≡ true
@@ -36,11 +38,12 @@ abbrev pub are_plain : List ℕ → Bool
 are_plain [] = true
 are_plain (b ∷ bytes) = is_plain_byte b && are_plain bytes
 
--- a line of such bytes, whose tokens are no cards told suit first, and no dash alone
+-- a line of such bytes, whose tokens are no cards told suit first, no dash alone, and have no word
 pub record IsPlainLine (line : List ℕ) : Type 0 where
   pub bytes : are_plain line ≡ true
   pub tokens : map respelled_card (tokens_of line) ≡ tokens_of line
   pub dash : is_dash_alone (tokens_of line) ≡ false
+  pub word : any_token has_word (tokens_of line) ≡ false
 
 plain_bytes : (bytes : List ℕ) → are_plain bytes ≡ true → All IsPlainByte bytes
 plain_bytes [] e = All-nil IsPlainByte
@@ -57,6 +60,9 @@ plain_no_return b plain = grind (arith, nat_tests)
 
 plain_no_colon : (b : ℕ) → IsPlainByte b → (b == 58) ≡ false
 plain_no_colon b plain = grind (arith, nat_tests)
+
+plain_no_mark : (b : ℕ) → IsPlainByte b → is_number_mark b ≡ false
+plain_no_mark b plain = grind (arith, nat_tests)
 
 lower_no_colon : (b : ℕ) → IsPlainByte b → (to_ascii_lowercase b == 58) ≡ false
 lower_no_colon b plain = grind (arith, nat_tests)
@@ -78,6 +84,9 @@ cells_colons = refl
 
 more_colons : have_colons more_cell_names ≡ true
 more_colons = refl
+
+more_home_colons : have_colons more_home_names ≡ true
+more_home_colons = refl
 
 no_colon : (bytes : List ℕ) → All IsPlainByte bytes → has_colon (map to_ascii_lowercase bytes) ≡ false
 no_colon [] plain = refl
@@ -121,11 +130,21 @@ told_plain : (line : List ℕ) → All IsPlainByte line → Stays line
 told_plain line plain before =
     cond_both (is_column_line line) (without_label before line) line (λ t. t ≡ line) (λ _. no_number before line plain) (λ _. refl)
 
+-- nor is it numbered
+unnumbered : (piece : List ℕ) → All IsPlainByte piece → numbered piece ≡ piece
+unnumbered [] plain = refl
+unnumbered (b ∷ []) plain = refl
+unnumbered (b ∷ c ∷ bytes) plain =
+    cond-false _ (b ∷ 58 ∷ bytes) (b ∷ c ∷ bytes)
+    (and_right (is_column_digit b) _ (plain_no_mark c (All-head IsPlainByte c bytes (All-tail IsPlainByte b (c ∷ bytes) plain))))
+
 -- and says itself
 said_plain : (line : List ℕ) → All IsPlainByte line → SaysItself line
 said_plain line plain =
     says_itself line (All-weaker IsPlainByte IsLow plain_low line plain)
     (unnamed more_cell_names (after_blanks line) more_colons (All-drop IsPlainByte _ line plain))
+    (unnamed more_home_names (after_blanks line) more_home_colons (All-drop IsPlainByte _ line plain))
+    (unnumbered (after_blanks line) (All-drop IsPlainByte _ line plain))
 
 -- blanks before tokens are none of them
 tokens_after : (line : List ℕ) → tokens_of (after_blanks line) ≡ tokens_of line
@@ -171,14 +190,26 @@ no_return [] i plain = refl
 no_return (b ∷ line) zero plain = plain_no_return b (All-head IsPlainByte b line plain)
 no_return (b ∷ line) (suc i) plain = no_return line i (All-tail IsPlainByte b line plain)
 
+body_plain : (line : List ℕ) → IsPlainLine line → without_return line ≡ line
+body_plain line plain = cond-false _ _ line (no_return line (length line - 1) (plain_bytes line plain.bytes))
+
 kept_plain : (line : List ℕ) → IsPlainLine line → Kept line
 kept_plain line plain =
-    let same : without_return line ≡ line = cond-false _ _ line (no_return line (length line - 1) (plain_bytes line plain.bytes)) in
-    kept_line line (subst (λ t. line_spelling t ≡ t) (sym same) (spelling_plain line plain))
+    kept_line line (subst (λ t. line_spelling t ≡ t) (sym (body_plain line plain)) (spelling_plain line plain))
+
+-- it is no title
+untitled_plain : (line : List ℕ) → IsPlainLine line → Untitled line
+untitled_plain line plain =
+    let bytes : All IsPlainByte (after_blanks line) = All-drop IsPlainByte _ line (plain_bytes line plain.bytes) in
+    let tokens : tokens_of (after_label (after_blanks (without_return line))) ≡ tokens_of line =
+    ap (λ t. tokens_of (after_label (after_blanks t))) (body_plain line plain) ∙ ap tokens_of (no_label (after_blanks line) bytes) ∙ tokens_after line in
+    and_right (is_column_line line) _
+    (ap (λ t. t && not (any_token is_board_token (tokens_of (after_label (after_blanks (without_return line))))))
+    (ap (any_token has_word) tokens ∙ plain.word))
 
 -- nor does the empty line change, which stands behind the last LF
 none_plain : IsPlainLine []
-none_plain = record { bytes = refl; tokens = refl; dash = refl }
+none_plain = record { bytes = refl; tokens = refl; dash = refl; word = refl }
 
 -- a text of such lines is plain already
 pub plain_already : (text : List ℕ) → All IsPlainLine (parts_of is_line_end text) → plain text ≡ text
@@ -198,10 +229,13 @@ plain_already text lines =
     let signs : without_signs 0 (after_mark text) ≡ text = ascii_stays text (All-weaker IsLow (λ b. b < 128) low_below text low) in
     let said : without_comments text ≡ text =
     ap (join_with_byte 10) (said_stay pieces (All-weaker IsPlainLine SaysItself (λ line plain. said_plain line (bytes line plain)) pieces each)) ∙ joined in
+    let bare : without_title text ≡ text =
+    ap (join_with_byte 10) (untitled_stay pieces (All-weaker IsPlainLine Untitled untitled_plain pieces each)) ∙ joined in
     let spelled : respelled text ≡ text =
     ap (join_with_byte 10) (pieces_stay pieces (All-weaker IsPlainLine Kept kept_plain pieces each)) ∙ joined in
     let shown : plain_lines text ≡ text =
     ap (join_with_byte 10) (labels_stay 0 pieces (All-weaker IsPlainLine Stays (λ line plain. told_plain line (bytes line plain)) pieces each)) ∙ joined in
-    ap (λ t. plain_lines (respelled (without_comments (without_signs 0 (after_mark t))))) units
-    ∙ ap (λ t. plain_lines (respelled (without_comments t))) signs ∙ ap (λ t. plain_lines (respelled t)) said
+    ap (λ t. plain_lines (respelled (without_title (without_comments (without_signs 0 (after_mark t)))))) units
+    ∙ ap (λ t. plain_lines (respelled (without_title (without_comments t)))) signs
+    ∙ ap (λ t. plain_lines (respelled (without_title t))) said ∙ ap (λ t. plain_lines (respelled t)) bare
     ∙ ap plain_lines spelled ∙ shown

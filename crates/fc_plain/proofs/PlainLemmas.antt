@@ -78,14 +78,18 @@ none_at p rest none = ⊎_elim
     (λ no. ltb-false (position_or_len p rest) (length rest) no)
     (cases_Bool (nat_lt (position_or_len p rest) (length rest)))
 
--- a text with an LF is a first line, and the lines of what follows it
+-- a text that is cut somewhere is a first part, and the parts of what follows it
+pub first_part : (p : ℕ → Bool) (rest after : List ℕ) (len : ℕ) → position p rest ≡ Some len → after ≡ drop (len + 1) rest
+    → slice_split p rest ≡ take len rest ∷ slice_split p after
+first_part p rest after len found left =
+    let at = first_at p rest len found in
+    slice_split_first p rest 0 at.0
+    ∙ ap (λ n. take n rest ∷ slice_split p (drop (n + 1) rest)) at.1
+    ∙ ap (λ t. take len rest ∷ slice_split p t) (sym left)
+
 pub first_line : (rest after : List ℕ) (len : ℕ) → position is_line_end rest ≡ Some len → after ≡ drop (len + 1) rest
     → slice_split is_line_end rest ≡ take len rest ∷ slice_split is_line_end after
-first_line rest after len found left =
-    let at = first_at is_line_end rest len found in
-    slice_split_first is_line_end rest 0 at.0
-    ∙ ap (λ n. take n rest ∷ slice_split is_line_end (drop (n + 1) rest)) at.1
-    ∙ ap (λ t. take len rest ∷ slice_split is_line_end t) (sym left)
+first_line rest after len found left = first_part is_line_end rest after len found left
 
 -- the text so far, once a line and the LF behind it were pushed
 pub line_pushed : (whole done rest after mid new : List ℕ) (before next len : ℕ)
@@ -111,11 +115,14 @@ line_pushed whole done rest after mid new before next len so found left pushed e
     ∙ ap (λ t. done ++ t) (sym (join-cons (told_line before line) (without_labels next others) some) ∙ sym (ap (join_with_byte 10) told))
     ∙ so
 
--- a text without an LF is one line
+-- a text that is cut nowhere is one part
+pub one_part : (p : ℕ → Bool) (rest : List ℕ) → position p rest ≡ None → slice_split p rest ≡ rest ∷ []
+one_part p rest none =
+    let far = none_at p rest none in
+    slice_split_none p rest (λ k d within. fails_before_first p rest k d (omega arith))
+
 pub one_line : (rest : List ℕ) → position is_line_end rest ≡ None → slice_split is_line_end rest ≡ rest ∷ []
-one_line rest none =
-    let far = none_at is_line_end rest none in
-    slice_split_none is_line_end rest (λ k d within. fails_before_first is_line_end rest k d (omega arith))
+one_line rest none = one_part is_line_end rest none
 
 -- the whole text, once its last line was pushed
 pub last_pushed : (whole done rest new : List ℕ) (before : ℕ)

@@ -9,7 +9,7 @@ use Rattle.std.proofs.lemmas.Bool.{and_parts, cond_both}
 use Rattle.fc_position.specs.Board.{front_of}
 use Rattle.fc_text.specs.Line.{after_blanks, after_colon, after_name, begins_with, cell_names, foundation_names, is_blank, is_line_end, without_return}
 use Rattle.fc_plain.specs.Comment.{blanks_of}
-use Rattle.fc_plain.specs.Respelled.{after_label, before_piece, card_spelling, each_token, home_spelling, is_rank, is_suit, line_spelling, rank_first, respelled, respelled_card, respelled_column, respelled_home, respelled_line, sorted_spelling}
+use Rattle.fc_plain.specs.Respelled.{after_label, before_piece, card_spelling, colon_dash, each_token, home_spelling, is_rank, is_suit, line_spelling, rank_first, respelled, respelled_card, respelled_column, respelled_home, respelled_line, sorted_spelling}
 
 -- a line ends with a piece
 pub record EndsWith (line piece : List ℕ) : Type 0 where
@@ -114,6 +114,13 @@ card_long (suit ∷ rank) =
       | false ↦ omega arith
     ]
 
+length-dash : (token : List ℕ) → length (colon_dash token) ≡ length token
+length-dash [] = refl
+length-dash (suit ∷ []) = refl
+length-dash (suit ∷ b ∷ rank) =
+    cond_both (is_suit suit && (b == 58)) (suit ∷ 45 ∷ rank) (suit ∷ b ∷ rank) (λ t. length t ≡ length (suit ∷ b ∷ rank))
+    (λ _. refl) (λ _. refl)
+
 rank_first_long : (token : List ℕ) → GrowsByHalf token (home_spelling token (rank_first token))
 rank_first_long token =
     let suit = slice_index token (length token - 1) in
@@ -121,7 +128,7 @@ rank_first_long token =
       | true ↦ λ e.
           let some : 1 ≤ length (front_of token) = some_rank (front_of token) (and_parts (is_suit suit) (is_rank (front_of token)) e).1 in
           omega (arith, some, length-take (length token - 1) token)
-      | false ↦ λ _. omega arith
+      | false ↦ λ _. omega (arith, length-dash token)
     ] refl
 
 home_long : (token : List ℕ) → GrowsByHalf token (respelled_home token)

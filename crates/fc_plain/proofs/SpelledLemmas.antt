@@ -21,7 +21,7 @@ pub record IsClean (line : Line) : Type 0 where
   pub card : HasBadCard line.kind line.tokens → ⊥
   pub foundation : HasBadFoundation line.kind line.tokens → ⊥
 
-front_sound : (n : ℕ) (lines front rest : List Line) (line : Line) → lines ≡ front ++ line ∷ rest → AreSound n lines → AreSound n front
+pub front_sound : (n : ℕ) (lines front rest : List Line) (line : Line) → lines ≡ front ++ line ∷ rest → AreSound n lines → AreSound n front
 front_sound n lines front rest line parts sound before behind other e =
     sound before (behind ++ line ∷ rest) other (parts ∙ ap (λ ls. ls ++ line ∷ rest) e ∙ append_assoc before (other ∷ behind) (line ∷ rest))
 
@@ -95,7 +95,7 @@ pub one_begun : (b : ℕ) (parts : List (List ℕ))
 one_begun b [] = ([], [], refl)
 one_begun b (part ∷ parts) = (part, filter is_token parts, refl)
 
-two_begun : (b c : ℕ) (parts : List (List ℕ))
+pub two_begun : (b c : ℕ) (parts : List (List ℕ))
     → (more : List ℕ) × (others : List (List ℕ)) × (filter is_token (begin_part b (begin_part c parts)) ≡ (b ∷ c ∷ more) ∷ others)
 two_begun b c [] = ([], [], refl)
 two_begun b c (part ∷ parts) = (part, filter is_token parts, refl)

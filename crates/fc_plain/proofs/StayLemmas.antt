@@ -1,5 +1,5 @@
 -- Texts that are plain already, and how long plain texts are.
-use Rattle.std.proofs.Common.{◌≡◌, ℕ, zero, suc, ◌-◌, ◌<◌, ◌≤◌, not, None, List, [], ◌∷◌, length, refl, ◌∙◌, ap, arith}
+use Rattle.std.proofs.Common.{◌≡◌, ℕ, zero, suc, ◌+◌, cond, ◌-◌, ◌<◌, ◌≤◌, not, None, List, [], ◌∷◌, length, refl, ◌∙◌, ap, arith}
 use Rattle.std.specs.Prelude.{All}
 use Rattle.std.specs.List.{join_with_byte, position_or_len, slice_split}
 use Rattle.std.proofs.lemmas.List.{length-append, take-append-drop}
@@ -11,6 +11,7 @@ use Rattle.fc_plain.specs.Comment.{blanks_of, without_comments}
 use Rattle.fc_plain.specs.Plain.{after_mark, sign_of, sign_or, without_digit, without_label, without_labels, without_signs}
 use Rattle.fc_plain.specs.Laws.{PlainTextsGrowByHalf}
 use Rattle.fc_plain.specs.Respelled.{respelled}
+use Rattle.fc_plain.specs.Title.{has_token, is_title, untitled, without_title}
 use Rattle.fc_plain.specs.Unit.{in_bytes}
 use Rattle.fc_plain.proofs.CommentLemmas.{comments_long}
 use Rattle.fc_plain.proofs.UnitLemmas.{in_bytes_long}
@@ -65,19 +66,53 @@ labels_long before (x ∷ y ∷ ys) =
       labels_long after (y ∷ ys),
     )
 
+-- a line before others that have no title is joined to them by an LF
+pub untitled_some : (lines : List (List ℕ)) → 0 < length lines → 0 < length (untitled lines)
+untitled_some [] some' = absurd (omega arith)
+untitled_some (x ∷ []) some' = omega arith
+untitled_some (x ∷ y ∷ ys) some' =
+    cond_both (has_token x) (cond (is_title x) (y ∷ ys) (x ∷ y ∷ ys)) (x ∷ untitled (y ∷ ys)) (λ ls. 0 < length ls)
+    (λ _. cond_both (is_title x) (y ∷ ys) (x ∷ y ∷ ys) (λ ls. 0 < length ls) (λ _. omega arith) (λ _. omega arith))
+    (λ _. omega arith)
+
+untitled_joined : (x : List ℕ) (lines : List (List ℕ)) → 0 < length lines
+    → length (join_with_byte 10 (x ∷ untitled lines)) ≡ length x + (1 + length (join_with_byte 10 (untitled lines)))
+untitled_joined x lines some' =
+    ap length (join-cons x (untitled lines) (untitled_some lines some')) ∙ length-append x (10 ∷ join_with_byte 10 (untitled lines)) ∙ omega arith
+
+-- nor without its title
+title_long : (lines : List (List ℕ)) → length (join_with_byte 10 (untitled lines)) ≤ length (join_with_byte 10 lines)
+title_long [] = omega arith
+title_long (x ∷ []) = omega arith
+title_long (x ∷ y ∷ ys) =
+    let most = length (join_with_byte 10 (x ∷ y ∷ ys)) in
+    let whole : most ≡ length x + length (10 ∷ join_with_byte 10 (y ∷ ys)) = length-append x (10 ∷ join_with_byte 10 (y ∷ ys)) in
+    cond_both (has_token x) (cond (is_title x) (y ∷ ys) (x ∷ y ∷ ys)) (x ∷ untitled (y ∷ ys)) (λ ls. length (join_with_byte 10 ls) ≤ most)
+    (λ _. cond_both (is_title x) (y ∷ ys) (x ∷ y ∷ ys) (λ ls. length (join_with_byte 10 ls) ≤ most)
+    (λ _. omega (arith, whole)) (λ _. omega arith))
+    (λ _. omega (
+      arith,
+      whole,
+      title_long (y ∷ ys),
+      untitled_joined x (y ∷ ys) (omega arith),
+    ))
+
 -- a plain text has at most half as many bytes again
 pub grow_by_half : PlainTextsGrowByHalf
 grow_by_half text =
     let bytes = in_bytes text in
     let spelled = without_signs 0 (after_mark bytes) in
     let said = without_comments spelled in
-    let told = respelled said in (
+    let bare = without_title said in
+    let told = respelled bare in (
       omega (
         arith,
         mark_long bytes,
         signs_long 0 (after_mark bytes),
         comments_long spelled,
-        text_grows said,
+        title_long (slice_split is_line_end said),
+        ap length (join_with_byte-slice_split 10 said),
+        text_grows bare,
         labels_long 0 (slice_split is_line_end told),
         ap length (join_with_byte-slice_split 10 told),
       ),

@@ -1,15 +1,17 @@
 -- What the laws of this crate state.
 use Rattle.std.specs.Prelude.{◌≡◌, ℕ, ◌+◌, ◌-◌, ◌*◌, ◌<◌, ◌≤◌, List, [], ◌∷◌, ◌++◌, length, map, count_by, IsTrue}
-use Rattle.std.specs.List.{AllZip}
+use Rattle.std.specs.List.{AllZip, slice_split}
 use Rattle.fc_cards.specs.Card.{rank, suit}
 use Rattle.fc_cards.specs.Texts.{IsRank, IsRankText, IsSuitText}
 use Rattle.fc_position.specs.Board.{Board, column}
 use Rattle.fc_text.specs.Board.{Spells}
-use Rattle.fc_text.specs.Line.{after_blanks, line_of, lines_of, tokens_of}
+use Rattle.fc_text.specs.Line.{after_blanks, is_line_end, line_of, lines_of, tokens_of}
 use Rattle.fc_text.specs.Spelling.{SpellsCard, SpellsHome, is_column}
 use Rattle.fc_plain.specs.Comment.{without_comments}
-use Rattle.fc_plain.specs.Plain.{after_mark, plain, plain_lines, without_signs}
-use Rattle.fc_plain.specs.Respelled.{respelled, respelled_card, respelled_home}
+use Rattle.fc_plain.specs.Plain.{after_mark, plain, plain_lines, without_labels, without_signs}
+use Rattle.fc_plain.specs.Respelled.{respelled, respelled_card, respelled_home, respelled_line}
+use Rattle.fc_plain.specs.Title.{without_title}
+use Rattle.fc_plain.specs.Typed.{said_of, typed_lines}
 use Rattle.fc_plain.specs.Unit.{in_bytes}
 use Rattle.fc_plain.specs.declared.texts.TheConstants.{MOST_BYTES}
 
@@ -29,11 +31,11 @@ pub record HasNumber (text : List ℕ) (n : ℕ) (rest : List ℕ) : Type 0 wher
   pub begins : after_blanks line ≡ (48 + n) ∷ 58 ∷ rest
 
 -- where a plain text spells a position, a line that is numbered n in the text, once its signs are replaced, its comments
--- left out and its tokens respelled, is the n-th column line, and its cards are the position's n-th column; there are
+-- and its title left out and its tokens respelled, is the n-th column line, and its cards are the position's n-th column; there are
 -- eight columns at most
 abbrev pub NumbersAreColumns : Type 0
 NumbersAreColumns = (cells : ℕ) (text : List ℕ) (b : Board) (n : ℕ) (rest : List ℕ) → Spells cells (plain text) b
-    → (line : HasNumber (respelled (without_comments (without_signs 0 (after_mark (in_bytes text))))) n rest)
+    → (line : HasNumber (respelled (without_title (without_comments (without_signs 0 (after_mark (in_bytes text)))))) n rest)
     → (n ≤ 8) × (count_by (λ l. is_column l.kind) (map line_of line.above) + 1 ≡ n)
     × AllZip SpellsCard (tokens_of rest) (column b (n - 1))
 
@@ -45,6 +47,12 @@ SpelledTextsStay = (cells : ℕ) (text : List ℕ) (b : Board) → Spells cells 
 abbrev pub MeaningsStay : Type 0
 MeaningsStay = (cells : ℕ) (text : List ℕ) (b : Board) → Spells cells (plain_lines (without_signs 0 (after_mark text))) b
     → plain text ≡ plain_lines (without_signs 0 (after_mark text))
+
+-- of a text in bytes, the lines of its plain text are made of the typed lines, one of each in their order: a line is what the typed one
+-- says, respelled, and without its label where it has its own
+abbrev pub PlainLinesAreTyped : Type 0
+PlainLinesAreTyped = (text : List ℕ) → in_bytes text ≡ text
+    → slice_split is_line_end (plain text) ≡ without_labels 0 (map respelled_line (map said_of (typed_lines text)))
 
 -- the text of a card that is told by its suit first is respelled as one that the reader takes for the card
 abbrev pub CardsAreRead : Type 0

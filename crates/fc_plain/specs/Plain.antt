@@ -5,6 +5,7 @@ use Rattle.fc_text.specs.Line.{after_blanks, is_line_end, line_of, without_retur
 use Rattle.fc_text.specs.Spelling.{is_column}
 use Rattle.fc_plain.specs.Comment.{blanks_of, without_comments}
 use Rattle.fc_plain.specs.Respelled.{respelled}
+use Rattle.fc_plain.specs.Title.{title_in, without_title}
 use Rattle.fc_plain.specs.Unit.{in_bytes}
 
 -- the mark of byte order (U+FEFF) that a text may begin with says nothing
@@ -80,4 +81,8 @@ plain_lines text = join_with_byte 10 (without_labels 0 (slice_split is_line_end 
 
 -- the plain text that a text stands for
 abbrev pub plain : List ℕ → List ℕ
-plain text = plain_lines (respelled (without_comments (without_signs 0 (after_mark (in_bytes text)))))
+plain text = plain_lines (respelled (without_title (without_comments (without_signs 0 (after_mark (in_bytes text))))))
+
+-- the title that it leaves out
+abbrev pub left_title : List ℕ → Option (List ℕ)
+left_title text = title_in (slice_split is_line_end (without_comments (without_signs 0 (after_mark (in_bytes text)))))

@@ -42,9 +42,14 @@ card_spelling token (Some card) = card.1 ++ card.0 ∷ []
 abbrev pub respelled_card : List ℕ → List ℕ
 respelled_card token = card_spelling token (suit_first token)
 
--- a foundation that is told by its last card, in either order, is respelled as suit, dash and rank; other tokens stay
+-- a colon behind a suit's letter is a dash, as in `C:3`
+abbrev pub colon_dash : List ℕ → List ℕ
+colon_dash (suit ∷ b ∷ rank) = cond (is_suit suit && (b == 58)) (suit ∷ 45 ∷ rank) (suit ∷ b ∷ rank)
+colon_dash token = token
+
+-- a foundation that is told by its last card, in either order, is respelled as suit, dash and rank
 abbrev pub home_spelling : List ℕ → Option (ℕ × List ℕ) → List ℕ
-home_spelling token None = token
+home_spelling token None = colon_dash token
 home_spelling token (Some card) = card.0 ∷ 45 ∷ card.1
 
 abbrev pub respelled_home : List ℕ → List ℕ

@@ -1,10 +1,10 @@
 ghost use Rattle.std.specs.Prelude.{◌≡◌, ◌+◌, ◌≤◌, ◌∷◌, ◌++◌, [], IfSome, cond, length, map, position};
 ghost use Rattle.std.specs.Option.{option_copied};
-ghost use Rattle.fc_text.specs.Line.{after_blanks, after_name};
-ghost use Rattle.fc_plain.specs.Comment.{before_comment, comma_blank, is_comment, is_comment_mark, more_cell_names, renamed, said_line, without_comments};
+ghost use Rattle.fc_text.specs.Line.{after_name};
+ghost use Rattle.fc_plain.specs.Comment.{before_comment, comma_blank, is_comment, is_comment_mark, more_cell_names, more_home_names, numbered, renamed_line, said_line, without_comments};
 
 use crate::labels::{blanks_len, line_len, push_all};
-use crate::names::{MORE_CELL_NAMES, after_name};
+use crate::names::{MORE_CELL_NAMES, MORE_HOME_NAMES, after_name};
 use crate::texts::ROOM;
 use arrayvec::ArrayVec;
 
@@ -36,8 +36,8 @@ fn push_ended(plain: &mut ArrayVec<u8, ROOM>, line: &[u8])
     }
 }
 
-// Pushes what a line says.
-fn push_said(plain: &mut ArrayVec<u8, ROOM>, line: &[u8])
+/// Pushes what a line says.
+pub(crate) fn push_said(plain: &mut ArrayVec<u8, ROOM>, line: &[u8])
     requires room { length plain.old.items + length line.now ≤ ROOM }
     ensures pushed { plain.new.items ≡ plain.old.items ++ said_line line.now }
     ensures within { length plain.new.items ≤ length plain.old.items + length line.now }
@@ -47,8 +47,8 @@ fn push_said(plain: &mut ArrayVec<u8, ROOM>, line: &[u8])
     }
 }
 
-// Whether a line has nothing but a comment, and blanks before it.
-fn is_comment(line: &[u8]) -> bool
+/// Whether a line has nothing but a comment, and blanks before it.
+pub(crate) fn is_comment(line: &[u8]) -> bool
     ensures { result ≡ is_comment line.now }
 {
     line[blanks_len(line)..].starts_with(b"#")
@@ -75,18 +75,22 @@ fn comment_at(line: &[u8]) -> Option<usize>
 // Pushes a line without a comment, under a name that the reader knows.
 fn push_renamed(plain: &mut ArrayVec<u8, ROOM>, line: &[u8])
     requires room { length plain.old.items + length line.now ≤ ROOM }
-    ensures pushed { plain.new.items ≡ plain.old.items ++ renamed (after_name more_cell_names (after_blanks line.now)) line.now }
+    ensures pushed { plain.new.items ≡ plain.old.items ++ renamed_line line.now }
     ensures within { length plain.new.items ≤ length plain.old.items + length line.now }
 {
     let (blanks, rest) = line.split_at(blanks_len(line));
-    match after_cell_name(rest) {
-        Some(piece) => {
-            push_all(plain, blanks);
-            push_all(plain, b"FC:");
-            push_spaced(plain, piece);
-        }
-        None => push_spaced(plain, line),
+    if let Some(piece) = after_cell_name(rest) {
+        push_all(plain, blanks);
+        push_all(plain, b"FC:");
+        return push_spaced(plain, piece);
     }
+    if let Some(piece) = after_home_name(rest) {
+        push_all(plain, blanks);
+        push_all(plain, b"Deck:");
+        return push_spaced(plain, piece);
+    }
+    push_spaced(plain, blanks);
+    push_numbered(plain, rest);
 }
 
 // What follows a further name of the cells, if the piece begins with one.
@@ -95,6 +99,29 @@ fn after_cell_name(piece: &[u8]) -> Option<&[u8]>
     ensures shorter { IfSome result (λ rest. 3 + length rest.now ≤ length piece.now) }
 {
     after_name(&MORE_CELL_NAMES, piece)
+}
+
+// What follows a further name of the foundations, if the piece begins with one.
+fn after_home_name(piece: &[u8]) -> Option<&[u8]>
+    ensures value { option_copied result ≡ after_name more_home_names piece.now }
+    ensures shorter { IfSome result (λ rest. 5 + length rest.now ≤ length piece.now) }
+{
+    after_name(&MORE_HOME_NAMES, piece)
+}
+
+// Pushes a piece with a colon behind the number that it may begin with, and blanks for its commas.
+fn push_numbered(plain: &mut ArrayVec<u8, ROOM>, piece: &[u8])
+    requires room { length plain.old.items + length piece.now ≤ ROOM }
+    ensures pushed { plain.new.items ≡ plain.old.items ++ map comma_blank (numbered piece.now) }
+    ensures within { length plain.new.items ≤ length plain.old.items + length piece.now }
+{
+    match piece {
+        [number @ b'1'..=b'8', b'.' | b')', rest @ ..] => {
+            push_all(plain, &[*number, b':']);
+            push_spaced(plain, rest);
+        }
+        _ => push_spaced(plain, piece),
+    }
 }
 
 // Pushes a piece with blanks for its commas.

@@ -1,6 +1,6 @@
 //! Laws of the definitions, each the contract of a function that does nothing.
 
-ghost use Rattle.fc_plain.specs.Laws.{CardsAreRead, HomesAreRead, MeaningsStay, NumbersAreColumns, NumbersAreTold, PlainTextsGrowByHalf, SpelledTextsStay};
+ghost use Rattle.fc_plain.specs.Laws.{CardsAreRead, HomesAreRead, MeaningsStay, NumbersAreColumns, NumbersAreTold, PlainLinesAreTyped, PlainTextsGrowByHalf, SpelledTextsStay};
 
 /// A plain text has at most half as many bytes again as the text that it stands for, and so has a text in UTF-8 beside the
 /// same in UTF-16.
@@ -23,6 +23,11 @@ pub fn spelled_texts_stay()
 /// so it spells that position.
 pub fn meanings_stay()
     ensures { MeaningsStay }
+{}
+
+/// Of a text in bytes, each line of its plain text is made of one typed line, in their order, so a number counts both.
+pub fn plain_lines_are_typed()
+    ensures { PlainLinesAreTyped }
 {}
 
 /// The text of a card that is told by its suit first is respelled as one that the reader takes for the card.

@@ -16,7 +16,16 @@ pub(crate) const FOUNDATION_NAMES: [&[u8]; 6] = [
 pub(crate) const CELL_NAMES: [&[u8]; 3] = [b"Freecells:", b"Freecell:", b"FC:"];
 
 // Further names of a cell line.
-pub(crate) const MORE_CELL_NAMES: [&[u8]; 2] = [b"Cells:", b"Cell:"];
+pub(crate) const MORE_CELL_NAMES: [&[u8]; 5] = [
+    b"Cells:",
+    b"Cell:",
+    b"Free cells:",
+    b"Free cell:",
+    b"Free:",
+];
+
+// Further names of a foundation line.
+pub(crate) const MORE_HOME_NAMES: [&[u8]; 2] = [b"Homes:", b"Home:"];
 
 /// What follows the first of the names that the piece begins with.
 pub(crate) fn after_name<'a>(names: &[&[u8]], piece: &'a [u8]) -> Option<&'a [u8]>

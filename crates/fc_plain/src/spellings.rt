@@ -39,8 +39,8 @@ fn push_line(plain: &mut ArrayVec<u8, ROOM>, line: &[u8])
     push_all(plain, &line[body.len()..]);
 }
 
-// The line without the CR that may end it.
-fn without_return(line: &[u8]) -> &[u8]
+/// The line without the CR that may end it.
+pub(crate) fn without_return(line: &[u8]) -> &[u8]
     ensures value { result.now ≡ without_return line.now }
     ensures within { length result.now ≤ length line.now }
 {
@@ -67,8 +67,8 @@ fn push_body(plain: &mut ArrayVec<u8, ROOM>, line: &[u8])
     push_column(plain, line, after_label(rest));
 }
 
-// The piece of a column line behind its label or its colon.
-fn after_label(piece: &[u8]) -> &[u8]
+/// The piece of a column line behind its label or its colon.
+pub(crate) fn after_label(piece: &[u8]) -> &[u8]
     ensures value { result.now ≡ after_label piece.now }
     ensures within { length result.now ≤ length piece.now }
 {

@@ -1,11 +1,14 @@
-ghost use Rattle.std.specs.Prelude.{◌≡◌, ℕ, List, ◌+◌, ◌≤◌, ◌↔◌, length, IsSome, IsTrue, IsErrOf, IfOk, IfSome};
+ghost use Rattle.std.specs.Prelude.{◌≡◌, ℕ, List, ◌+◌, ◌*◌, ◌≤◌, ◌↔◌, length, IsSome, IsTrue, IsErrOf, IfOk, IfSome};
 ghost use Rattle.fc_io.specs.Moves.{Gives, GivesAtMost, IsAllTold, TellsAtLeast, Stays};
-ghost use Rattle.fc_plain.specs.Plain.{plain};
+ghost use Rattle.fc_plain.specs.Comment.{without_comments};
+ghost use Rattle.fc_plain.specs.Plain.{after_mark, plain, without_signs};
+ghost use Rattle.fc_plain.specs.Unit.{in_bytes};
 
 use crate::comments::without_comments;
 use crate::labels::without_labels;
 use crate::signs::{after_mark, without_signs};
 use crate::spellings::respelled;
+use crate::titles::without_title;
 use crate::units::in_bytes;
 use arrayvec::ArrayVec;
 use fc_io::{ReadFault, Source, read_up_to};
@@ -33,16 +36,21 @@ impl Model for PlainText {
 }
 
 impl PlainText {
-    /// The plain text that a text stands for. Five steps make it:
+    /// The plain text that a text stands for. Six steps make it:
     /// 1. A text in units of two bytes (UTF-16), which begins with the mark of byte order, is put into bytes (UTF-8); a
     ///    half of a pair of units and a byte that is left alone become `?`.
     /// 2. A mark of byte order before the text is left out, and symbols of suits and no-break spaces are replaced.
     /// 3. Comments are left out, from `#` to the end of the line; a line that has nothing but a comment and blanks before
-    ///    it vanishes. Commas become blanks, and `Cells:` or `Cell:`, in either case, becomes `FC:`.
-    /// 4. Tokens are respelled: in columns and cells a card that is told suit first is told rank first (`D7` as `7D`), a
-    ///    foundation that is told by its last card, in either order, is told by its count (`4H` as `H-4`), and a dash that
-    ///    stands alone in a column line is left out.
-    /// 5. A column that is numbered loses its number: `1:` to `8:`, first in its line but for blanks, is taken off where
+    ///    it vanishes. Commas become blanks. In either case `Cells:`, `Cell:`, `Free cells:`, `Free cell:` and `Free:`
+    ///    become `FC:`, and `Homes:` and `Home:` become `Deck:`. Where a line begins, after its blanks, with `1` to `8`, a
+    ///    full stop or a bracket behind it becomes a colon.
+    /// 4. A title is left out, the first line that has more than blanks: one without a name of the foundations or the cells,
+    ///    of whose tokens one has four letters in a row, and none is a card, `-`, `--`, `*` or `.`, where another line stands
+    ///    below it. [`Title::of`] tells it.
+    /// 5. Tokens are respelled: in columns and cells a card that is told suit first is told rank first (`D7` as `7D`), a
+    ///    foundation that is told by its last card, in either order, is told by its count (`4H` as `H-4`), or with a colon by
+    ///    a dash (`H:4`), and a dash that stands alone in a column line is left out.
+    /// 6. A column that is numbered loses its number: `1:` to `8:`, first in its line but for blanks, is taken off where
     ///    it heads the column line of its number; the colon stays. Column lines are all that the reader sorts as such:
     ///    those that don't begin with a name of the foundations or the cells, blank lines too.
     ///
@@ -50,6 +58,8 @@ impl PlainText {
     /// and the last step alone make of a text, the other steps change nothing.
     ///
     /// `None` for a text of more than 16,384 bytes.
+    ///
+    /// [`Title::of`]: crate::Title::of
     pub fn of(text: &[u8]) -> Option<PlainText>
         ensures value { IfSome result (λ plain_text. plain_text ≡ plain text.now) }
         ensures some { IsSome result ↔ length text.now ≤ MOST_BYTES }
@@ -57,10 +67,9 @@ impl PlainText {
         if text.len() > MOST_BYTES {
             return None;
         }
-        let bytes = in_bytes(text);
-        let spelled = without_signs(after_mark(bytes.as_slice()));
-        let said = without_comments(spelled.as_slice());
-        let told = respelled(said.as_slice());
+        let said = said_text(text);
+        let bare = without_title(said.as_slice());
+        let told = respelled(bare.as_slice());
         Some(PlainText {
             bytes: without_labels(told.as_slice()),
         })
@@ -91,4 +100,15 @@ impl PlainText {
     {
         self.bytes.as_slice()
     }
+}
+
+/// What a text says in bytes, without its signs and its comments.
+pub(crate) fn said_text(text: &[u8]) -> ArrayVec<u8, ROOM>
+    requires short { length text.now ≤ MOST_BYTES }
+    ensures value { result.items ≡ without_comments (without_signs 0 (after_mark (in_bytes text.now))) }
+    ensures within { 3 * length result.items ≤ 2 * ROOM }
+{
+    let bytes = in_bytes(text);
+    let spelled = without_signs(after_mark(bytes.as_slice()));
+    without_comments(spelled.as_slice())
 }

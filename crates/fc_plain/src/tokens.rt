@@ -1,6 +1,6 @@
 ghost use Rattle.std.specs.Prelude.{◌≡◌, ◌+◌, ◌*◌, ◌≤◌, ◌++◌, length, IfSome, IfNone, Some, None};
 ghost use Rattle.std.specs.Option.{option_or};
-ghost use Rattle.fc_plain.specs.Respelled.{is_rank, is_rank_letter, is_suit, rank_first, respelled_card, respelled_home, suit_first};
+ghost use Rattle.fc_plain.specs.Respelled.{colon_dash, is_rank, is_rank_letter, is_suit, rank_first, respelled_card, respelled_home, suit_first};
 ghost use Rattle.fc_plain.specs.inner.Respelled.{respelled_by};
 
 use crate::labels::push_all;
@@ -54,12 +54,27 @@ fn push_home(plain: &mut ArrayVec<u8, ROOM>, token: &[u8])
             push_all(plain, &[suit, b'-']);
             push_all(plain, rank);
         }
-        None => push_all(plain, token),
+        None => push_dashed(plain, token),
     }
 }
 
-// The suit and the rank of a card that is told in either order.
-fn card_parts(token: &[u8]) -> Option<(u8, &[u8])>
+// Pushes a token with a dash for the colon that stands behind a suit's letter.
+fn push_dashed(plain: &mut ArrayVec<u8, ROOM>, token: &[u8])
+    requires room { length plain.old.items + length token.now ≤ ROOM }
+    ensures pushed { plain.new.items ≡ plain.old.items ++ colon_dash token.now }
+    ensures within { length plain.new.items ≡ length plain.old.items + length token.now }
+{
+    match token {
+        [suit, b':', rank @ ..] if is_suit(*suit) => {
+            push_all(plain, &[*suit, b'-']);
+            push_all(plain, rank);
+        }
+        _ => push_all(plain, token),
+    }
+}
+
+/// The suit and the rank of a card that is told in either order.
+pub(crate) fn card_parts(token: &[u8]) -> Option<(u8, &[u8])>
     ensures some { IfSome result (λ card. option_or (suit_first token.now) (rank_first token.now) ≡ Some (card.0, card.1.now)) }
     ensures size { IfSome result (λ card. (length token.now ≡ 1 + length card.1.now) × (1 ≤ length card.1.now)) }
     ensures none { IfNone result (option_or (suit_first token.now) (rank_first token.now) ≡ None) }

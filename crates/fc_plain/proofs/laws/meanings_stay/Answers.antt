@@ -1,4 +1,4 @@
-use Rattle.fc_plain.proofs.MeaningLemmas.{meanings_stay}
+use Rattle.fc_plain.proofs.StayingTexts.{meanings_stay}
 use Rattle.fc_plain.proofs.laws.meanings_stay.Goals as goal
 
 pub returns : goal.returns

@@ -1,4 +1,4 @@
-use Rattle.fc_plain.proofs.MeaningLemmas.{spelled_stays}
+use Rattle.fc_plain.proofs.StayingTexts.{spelled_stays}
 use Rattle.fc_plain.proofs.laws.spelled_texts_stay.Goals as goal
 
 pub returns : goal.returns
