@@ -35,7 +35,11 @@ target_words is_coloured (Column i) beneath = onto_words is_coloured beneath ++ 
 target_words is_coloured (Cell i) beneath = codes " to cell " ++ place_letter (Cell i) ∷ []
 target_words is_coloured Home beneath = codes " home"
 
--- the line of a move in words: its number, its card, where that comes from, and where it goes
+-- a move in words: its card, where that comes from, and where it goes
+abbrev pub move_words : Bool → ToldMove → List ℕ
+move_words is_coloured told = card_words is_coloured told.card ++ source_words told.m.from
+    ++ target_words is_coloured told.m.to told.beneath
+
+-- the line of a move in words, behind its number
 abbrev pub words_line : Bool → ToldMove → List ℕ
-words_line is_coloured told = decimal told.number ++ codes ". " ++ card_words is_coloured told.card
-    ++ source_words told.m.from ++ target_words is_coloured told.m.to told.beneath ++ codes "\n"
+words_line is_coloured told = decimal told.number ++ codes ". " ++ move_words is_coloured told ++ codes "\n"

@@ -2,7 +2,7 @@
 
 ghost use Rattle.std.specs.Prelude.{◌≡◌, ◌≤◌, ◌+◌, ◌++◌, length};
 ghost use Rattle.fc_moves.specs.MoveText.{HasText};
-ghost use Rattle.fc_replay.specs.Telling.{card_words, onto_words, source_words, target_words, told_move, words_line};
+ghost use Rattle.fc_replay.specs.Telling.{card_words, move_words, onto_words, source_words, target_words, told_move, words_line};
 
 use arrayvec::ArrayVec;
 use fc_cards::{Card, Place};
@@ -36,12 +36,26 @@ impl ToldMove {
             beneath: position.playable(m.to),
         }
     }
+
+    /// The move in words: its card, where that comes from, and where it goes, as in `KC from column 3 to cell c`. Red suits are
+    /// in red, as terminals show it, or not.
+    pub fn words(&self, is_coloured: bool) -> ArrayVec<u8, 128>
+        requires has_text { HasText self.now.m }
+        ensures text { result.items ≡ move_words is_coloured self.now }
+        ensures within { length result.items ≤ 56 }
+    {
+        let mut line = ArrayVec::new();
+        push_card(&mut line, self.card, is_coloured);
+        push_source(&mut line, self.m);
+        push_target(&mut line, self, is_coloured);
+        line
+    }
 }
 
 // A line of words, with room for the longest.
 pub(crate) type WordsLine = ArrayVec<u8, 128>;
 
-/// The line of a move in words: its number, its card, where that comes from, and where it goes.
+/// The line of a move in words, behind its number.
 pub(crate) fn words_line(told: &ToldMove, is_coloured: bool) -> WordsLine
     requires has_text { HasText told.now.m }
     ensures text { result.items ≡ words_line is_coloured told.now }
@@ -50,9 +64,7 @@ pub(crate) fn words_line(told: &ToldMove, is_coloured: bool) -> WordsLine
     let mut line = ArrayVec::new();
     push(&mut line, buffer.format(told.number).as_bytes());
     push(&mut line, b". ");
-    push_card(&mut line, told.card, is_coloured);
-    push_source(&mut line, told.m);
-    push_target(&mut line, told, is_coloured);
+    push(&mut line, &told.words(is_coloured));
     push(&mut line, b"\n");
     line
 }
