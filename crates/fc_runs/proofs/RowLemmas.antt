@@ -1,8 +1,8 @@
 -- The floors of rows, and what their certificates rest on.
 use Rattle.std.proofs.Common.{rules, ◌≡◌, ◌≢◌, ℕ, suc, List, [], ◌∷◌, ◌++◌, true, false, Option, Some, None, refl, sym, subst, arith}
-use Rattle.std.specs.Prelude.{All, IfOk, IfSome, IsSome, Result, Ok, Err}
-use Rattle.std.specs.Result.{result_ok}
+use Rattle.std.specs.Prelude.{All, IfSome, IsSome}
 use Rattle.fc_position.specs.Board.{Board}
+use Rattle.fc_moves.specs.declared.steps.Move.{Move}
 use Rattle.fc_moves.specs.GameRules.{GameRules}
 use Rattle.fc_answers.specs.declared.answers.Outcome.{Outcome}
 use Rattle.fc_answers.specs.declared.answers.Outcome.TheVariants as outcome
@@ -14,13 +14,17 @@ use Rattle.fc_best.specs.Watch.{Better, Heard, IsSo, IsTold, Told}
 use Rattle.fc_best.specs.declared.listeners.BestProgress.{BestProgress}
 use Rattle.fc_methods.specs.Method.{Asked}
 use Rattle.fc_search.specs.declared.listeners.Progress.{Progress}
+use Rattle.fc_search.specs.Problem.{problem_of}
 use Rattle.fc_search.specs.Watch.{HearsAll, TellFloors}
-use Rattle.fc_board_runs.specs.Devices.{Device}
+use Rattle.fc_board_runs.specs.Devices.{Device, IsUntouched}
 use Rattle.fc_runs.specs.declared.rows.Far.{Far}
 use Rattle.fc_runs.specs.declared.rows.Last.{Last}
+use Rattle.fc_runs.specs.declared.rows.Row.{Row}
 use Rattle.fc_runs.specs.declared.rows.Sought.{Sought}
 use Rattle.fc_runs.specs.declared.rows.Sought.TheVariants.{ByMethod, Best}
-use Rattle.fc_runs.specs.Rows.{IsAnswerOf, IsSought, IsToldIn, floor_of, told_floor}
+use Rattle.fc_runs.specs.Lists.{list_of}
+use Rattle.fc_runs.specs.Rows.{IsAnswerOf, IsRowOf, IsSought, IsToldIn, floor_of, told_floor}
+use Rattle.fc_runs.specs.Solving.{IsCertified}
 use Rattle.fc_runs.specs.inner.Rows.{KeepsFar, far_of}
 
 -- who keeps what is told last of a board has a floor of it, if it has any
@@ -50,11 +54,6 @@ best_kept old new (Better moves floor ∷ heard) (mid, keeps, rest) some =
 pub heard_end : (old new : Last) (heard : List Heard) (far : BestProgress) → HearsAll KeepsFar old (heard ++ Told far ∷ []) new → IsSome new.far
 heard_end old new [] far (mid, keeps, rest) = best_kept mid new [] rest (subst IsSome (sym keeps) refl)
 heard_end old new (first ∷ heard) far (mid, keeps, rest) = heard_end mid new heard far rest
-
--- what holds of an answer holds where there is one
-pub where_told : {A E : Type 0} (r : Result A E) (P : Type 0) → IfOk r (λ _. P) → IsSome (result_ok r) → P
-where_told (Ok x) P holds some = holds
-where_told (Err e) P holds some = let no : false ≡ true = some in absurd (search rules)
 
 -- and so has who keeps what is told last of the searches for a best answer
 pub best_last_floor : (q : Asked) (b : Board) (old new : Last) (heard : List Heard) → HearsAll KeepsFar old heard new → All (IsSo q b) heard
@@ -97,17 +96,55 @@ sought_floor ByMethod q b verdict is =
     right_floor q.game q.method.strategy.weight.parts q.method.strategy.weight.times q.method.strategy.budget b verdict is.right.right
 sought_floor Best q b verdict is = best_floor q.game q.method.strategy.budget b verdict is.right
 
-told_of_answer : (sought : Sought) (q : Asked) (b : Board) (cert : Option Device) (told : Outcome) → IsAnswerOf sought q b cert told
-    → IfSome (answered_floor told) (IsFloor q.game b)
-told_of_answer sought q b cert told is =
+told_of_answer : (sought : Sought) (q : Asked) (b : Board) (cert : Option Device) (told : Outcome) (list : Option (List Move))
+    → IsAnswerOf sought q b cert told list → IfSome (answered_floor told) (IsFloor q.game b)
+told_of_answer sought q b cert told list is =
     subst (λ o. IfSome (answered_floor o) (IsFloor q.game b)) (sym is.answer) (sought_floor sought q b is.verdict is.decided)
 
 -- the floor of a row: what its answer tells, and else what was told last
-pub row_floor : (sought : Sought) (q : Asked) (b : Board) (cert : Option Device) (told : Option Outcome) (far : Option Far)
-    → IsToldIn sought q b cert told → IfSome (told_floor far) (IsFloor q.game b) → IfSome (floor_of told far) (IsFloor q.game b)
+row_floor : (sought : Sought) (q : Asked) (b : Board) (cert : Option Device) (told : Option Outcome) (list : Option (List Move)) (far : Option Far)
+    → IsToldIn sought q b cert told list → IfSome (told_floor far) (IsFloor q.game b) → IfSome (floor_of told far) (IsFloor q.game b)
 unfolding answered_floor
-row_floor sought q b cert None far right floor = floor
-row_floor sought q b cert (Some (outcome.GaveUp told)) far right floor = floor
-row_floor sought q b cert (Some outcome.CannotWin) far right floor = tt
-row_floor sought q b cert (Some (outcome.Shortest count)) far right floor = told_of_answer sought q b cert (outcome.Shortest count) right
-row_floor sought q b cert (Some (outcome.Won count least)) far right floor = told_of_answer sought q b cert (outcome.Won count least) right
+row_floor sought q b cert None list far right floor = floor
+row_floor sought q b cert (Some (outcome.GaveUp told)) list far right floor = floor
+row_floor sought q b cert (Some outcome.CannotWin) list far right floor = tt
+row_floor sought q b cert (Some (outcome.Shortest count)) list far right floor =
+    told_of_answer sought q b cert (outcome.Shortest count) list right
+row_floor sought q b cert (Some (outcome.Won count least)) list far right floor =
+    told_of_answer sought q b cert (outcome.Won count least) list right
+
+-- a row has the question's budget, and these parts
+pub record HasParts (q : Asked) (answer : Option Outcome) (moves : Option (List Move)) (last : Option Far) (row : Row) : Type 0 where
+  pub budget : row.budget ≡ q.method.strategy.budget
+  pub told : row.told ≡ answer
+  pub list : row.list ≡ moves
+  pub far : row.far ≡ last
+
+row_of_parts : (sought : Sought) (q : Asked) (b : Board) (cert : Option Device) (told : Option Outcome) (list : Option (List Move)) (far : Option Far)
+    (row : Row) → HasParts q told list far row → IsToldIn sought q b cert told list → (IsSome told → IsSome far)
+    → IfSome (told_floor far) (IsFloor q.game b) → IsRowOf sought q b cert row
+row_of_parts sought q b cert told list far row parts right searched floor =
+    let with_list : IsToldIn sought q b cert told row.list = subst (λ o. IsToldIn sought q b cert told o) (sym parts.list) right in
+    let with_told : IsToldIn sought q b cert row.told row.list = subst (λ o. IsToldIn sought q b cert o row.list) (sym parts.told) with_list in
+    let with_far : IfSome (told_floor row.far) (IsFloor q.game b) = subst (λ o. IfSome (told_floor o) (IsFloor q.game b)) (sym parts.far) floor in
+    record {
+      budget = parts.budget;
+      told = with_told;
+      searched = λ some. subst IsSome (sym parts.far) (searched (subst IsSome parts.told some));
+      floor = row_floor sought q b cert row.told row.list row.far with_told with_far;
+    }
+
+-- the row of a verdict that was sought
+pub verdict_row : (sought : Sought) (q : Asked) (b : Board) (cert : Option Device) (verdict : Verdict) (far : Option Far) (row : Row)
+    → HasParts q (Some (outcome_of verdict)) (list_of verdict) far row → IsSought sought q b verdict
+    → IfSome cert (IsCertified (problem_of q b) verdict) → IsSome far → IfSome (told_floor far) (IsFloor q.game b) → IsRowOf sought q b cert row
+verdict_row sought q b cert verdict far row parts decided certified some floor =
+    row_of_parts sought q b cert (Some (outcome_of verdict)) (list_of verdict) far row parts
+    record { verdict = verdict; decided = decided; certified = certified; answer = refl; listed = refl } (λ _. some) floor
+
+-- and that of want of memory
+pub memory_row : (sought : Sought) (q : Asked) (b : Board) (cert : Option Device) (far : Option Far) (row : Row)
+    → HasParts q None None far row → IfSome cert IsUntouched → IfSome (told_floor far) (IsFloor q.game b) → IsRowOf sought q b cert row
+memory_row sought q b cert far row parts untouched floor =
+    row_of_parts sought q b cert None None far row parts (refl, untouched)
+    (λ some. let no : false ≡ true = some in absurd (search rules)) floor

@@ -3,6 +3,7 @@ pub mod Besting
 pub mod Certificates
 pub mod Checking
 pub mod Laws
+pub mod Lists
 pub mod Rows
 pub mod Solving
 pub mod Tabling

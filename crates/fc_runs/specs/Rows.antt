@@ -1,6 +1,7 @@
 -- What a row tells of a board.
 use Rattle.std.specs.Prelude.{◌≡◌, ℕ, ◌++◌, List, [], Option, Some, None, IfSome, IsSome, codes, decimal}
 use Rattle.fc_position.specs.Board.{Board}
+use Rattle.fc_moves.specs.declared.steps.Move.{Move}
 use Rattle.fc_methods.specs.Method.{Asked}
 use Rattle.fc_answers.specs.declared.answers.Outcome.{Outcome}
 use Rattle.fc_answers.specs.declared.answers.Outcome.TheVariants.{Shortest, Won, CannotWin, GaveUp}
@@ -16,6 +17,7 @@ use Rattle.fc_runs.specs.declared.rows.Far.{Far}
 use Rattle.fc_runs.specs.declared.rows.Row.{Row}
 use Rattle.fc_runs.specs.declared.rows.Sought.{Sought}
 use Rattle.fc_runs.specs.declared.rows.Sought.TheVariants.{ByMethod, Best}
+use Rattle.fc_runs.specs.Lists.{list_of}
 use Rattle.fc_runs.specs.Solving.{IsCertified, IsCutShort, IsDecided}
 
 -- what an answer is called in a table, or that memory was wanted
@@ -58,34 +60,37 @@ abbrev pub far_text : Option Far → List ℕ
 far_text (Some far) = decimal far.classes ++ codes "\t" ++ decimal far.turns ++ codes "\t" ++ decimal far.most_open ++ codes "\n"
 far_text None = codes "\t\t\n"
 
--- the cells of a row behind its name, each after a tab, and its end: the answer, how many moves it has, the floor, and what its
--- search told
+-- the cells of a row behind its name, each after a tab, and its end: the answer, how many moves it has, the floor, the budget, and
+-- what its search told
 abbrev pub cells_text : Row → List ℕ
 cells_text row = codes "\t" ++ answer_name row.told ++ codes "\t" ++ number_text (moves_of row.told) ++ codes "\t"
-    ++ number_text (floor_of row.told row.far) ++ codes "\t" ++ far_text row.far
+    ++ number_text (floor_of row.told row.far) ++ codes "\t" ++ number_text (Some row.budget) ++ codes "\t" ++ far_text row.far
 
 -- a verdict is what was sought of a board: that of a search by the question's method, or a best one
 abbrev pub IsSought : Sought → Asked → Board → Verdict → Type 0
 IsSought ByMethod q b verdict = IsDecided (problem_of q b) verdict
 IsSought Best q b verdict = IsBestVerdict q b verdict
 
--- an answer is told of a board: that of a verdict that was sought, of which the sink of certificates, where there is one, took
--- the certificate
-pub record IsAnswerOf (sought : Sought) (q : Asked) (b : Board) (cert : Option Device) (told : Outcome) : Type 0 where
+-- an answer and a list are told of a board: those of a verdict that was sought, of which the sink of certificates, where there is
+-- one, took the certificate
+pub record IsAnswerOf (sought : Sought) (q : Asked) (b : Board) (cert : Option Device) (told : Outcome) (list : Option (List Move)) : Type 0 where
   pub verdict : Verdict
   pub decided : IsSought sought q b verdict
   pub certified : IfSome cert (IsCertified (problem_of q b) verdict)
   pub answer : told ≡ outcome_of verdict
+  pub listed : list ≡ list_of verdict
 
--- what is told of a board: its answer; or that memory was wanted, and then no certificate is written
-abbrev pub IsToldIn : Sought → Asked → Board → Option Device → Option Outcome → Type 0
-IsToldIn sought q b cert None = IfSome cert IsUntouched
-IsToldIn sought q b cert (Some told) = IsAnswerOf sought q b cert told
+-- what is told of a board: its answer and the list of it; or that memory was wanted, and then there is no list, and no certificate
+-- is written
+abbrev pub IsToldIn : Sought → Asked → Board → Option Device → Option Outcome → Option (List Move) → Type 0
+IsToldIn sought q b cert None list = (list ≡ None) × IfSome cert IsUntouched
+IsToldIn sought q b cert (Some told) list = IsAnswerOf sought q b cert told list
 
--- a row is right for a board: what it tells is; where memory wasn't wanted, there is what the search told last; and no list of fewer
--- moves than its floor wins. Nothing is promised of the other numbers that a search told
+-- a row is right for a board: its budget is the question's, and what it tells is right; where memory wasn't wanted, there is what
+-- the search told last; and no list of fewer moves than its floor wins. Nothing is promised of the other numbers that a search told
 pub record IsRowOf (sought : Sought) (q : Asked) (b : Board) (cert : Option Device) (row : Row) : Type 0 where
-  pub told : IsToldIn sought q b cert row.told
+  pub budget : row.budget ≡ q.method.strategy.budget
+  pub told : IsToldIn sought q b cert row.told row.list
   pub searched : IsSome row.told → IsSome row.far
   pub floor : IfSome (floor_of row.told row.far) (IsFloor q.game b)
 

@@ -16,7 +16,7 @@ use Rattle.fc_answer_text.specs.AnswerText.{Line}
 
 -- the names of the columns, where a row is of a deal
 abbrev pub names_text : List ℕ
-names_text = codes "deal\tanswer\tmoves\tfloor\tclasses\tturns\tmost_open\n"
+names_text = codes "deal\tanswer\tmoves\tfloor\tbudget\tstored\tturns\topen\n"
 
 -- a row of a table: the number of a deal, and what is told of it
 pub record DealRow : Type 0 where

@@ -10,6 +10,7 @@ pub use fc_board_runs::{
     Asked, Input, LONGEST_BOARD, LONGEST_MOVES, ListQuestion, Look, Output, ProgramFault,
     read_position, run_deal, run_list, run_replay, run_replay_as, run_replay_sequences, run_show,
 };
+pub use lists::PrintableList;
 pub use rows::{Far, Row, Sought, answer_row};
 pub use solving::{run_solve, run_solve_by, write_certificate};
 pub use tabling::{run_table, table_deals, table_head};
@@ -19,6 +20,7 @@ mod best_batches;
 mod besting;
 mod checking;
 pub mod laws;
+mod lists;
 mod rows;
 mod solving;
 mod tabling;

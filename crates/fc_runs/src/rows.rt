@@ -1,20 +1,19 @@
-//! What a row tells of a board: its answer without moves, and what its search told last.
+//! What a row tells of a board: its answer, the list of it, and what its search told last.
 
-ghost use Rattle.std.specs.Prelude.{◌≡◌, ◌≢◌, ◌+◌, ◌≤◌, ◌++◌, List, [], Some, None, length, IfOk, IfErr, IfSome};
+ghost use Rattle.std.specs.Prelude.{◌≡◌, ◌+◌, ◌≤◌, ◌++◌, Some, None, length, IfOk, IfErr};
 ghost use Rattle.arrayvec.specs.ArrayString.{array_string_len};
 ghost use Rattle.fc_moves.specs.GameRules.{IsPositionOf};
-ghost use Rattle.fc_search.specs.declared.listeners.Progress.{Progress};
-ghost use Rattle.fc_search.specs.Watch.{HearsAll, TellFloors};
-ghost use Rattle.fc_answers.specs.declared.answers.Verdict.{Verdict};
-ghost use Rattle.fc_best.specs.Watch.{HearsTold, HearsToEnd};
+ghost use Rattle.fc_answers.specs.Verdict.{CanBeWritten, outcome_of};
 ghost use Rattle.fc_board_runs.specs.Devices.{IsHandedBack, change, lent};
 ghost use Rattle.fc_answer_text.specs.AnswerText.{told_status};
-ghost use Rattle.fc_runs.specs.Rows.{IsAnswerOf, IsNoRow, IsRowOf, answer_name, cells_text, far_text, floor_of, moves_of, number_text};
+ghost use Rattle.fc_runs.specs.Lists.{list_of};
+ghost use Rattle.fc_runs.specs.Rows.{IsNoRow, IsRowOf, answer_name, cells_text, far_text, floor_of, moves_of, number_text};
 
+use crate::lists::{PrintableList, list_of};
 use crate::solving::write_certificate;
 use arrayvec::ArrayString;
 use fc_answer_text::{outcome_of, told_status};
-use fc_answers::{MoveList, Outcome};
+use fc_answers::{MoveList, Outcome, Verdict};
 use fc_best::{BestListener, BestProgress, best};
 use fc_board_runs::{Output, ProgramFault};
 use fc_io::Sink;
@@ -23,7 +22,7 @@ use fc_moves::Game;
 use fc_position::Position;
 use fc_search::{Listener, Progress, decide_by, solve_by};
 use itoa::Buffer;
-use std::alloc::{AllocError, Global};
+use std::alloc::Global;
 
 /// What is sought of a board: its answer by the question's method, or its best answer within the question's budget.
 #[derive(Clone, Copy)]
@@ -45,11 +44,16 @@ pub struct Far {
     pub at_least: u32,
 }
 
-/// What a row tells of a board: its answer without moves, or `None` where memory was wanted, and what was told last, which may be
-/// nothing only then.
-#[derive(Clone, Copy)]
+/// What a row tells of a board.
+#[derive(Drop)]
 pub struct Row {
+    /// How many classes might be stored, 1 to 16,000,000.
+    pub budget: u32,
+    /// The answer without moves, or `None` where memory was wanted.
     pub told: Option<Outcome>,
+    /// The moves of its list that wins, if one was found.
+    pub list: Option<PrintableList>,
+    /// What was told last, which may be nothing only where memory was wanted.
     pub far: Option<Far>,
 }
 
@@ -98,11 +102,11 @@ impl Row {
     }
 
     /// The row behind its name, as a table has it: a tab before each cell, and an end of line. The cells are the answer's name,
-    /// the moves, the floor, and the classes, the turns and the most that was open; a cell is empty where there is nothing to
-    /// tell.
-    pub fn cells(&self) -> ArrayString<264>
+    /// the moves, the floor, the budget, and how many classes were stored, the turns and the most that was open; a cell is empty
+    /// where there is nothing to tell.
+    pub fn cells(&self) -> ArrayString<320>
         ensures text { result.bytes ≡ cells_text self.now }
-        ensures short { length result.bytes ≤ 220 }
+        ensures short { length result.bytes ≤ 261 }
     {
         let mut text = ArrayString::new();
         text.push_str("\t");
@@ -112,13 +116,15 @@ impl Row {
         text.push_str("\t");
         push_number(&mut text, self.floor());
         text.push_str("\t");
+        push_number(&mut text, Some(self.budget));
+        text.push_str("\t");
         push_far(&mut text, self.far);
         text
     }
 }
 
 // Appends a number, if there is one.
-fn push_number(text: &mut ArrayString<264>, number: Option<u32>)
+fn push_number(text: &mut ArrayString<320>, number: Option<u32>)
     requires room { array_string_len text.old ≤ 200 }
     ensures text { text.new.bytes ≡ text.old.bytes ++ number_text number }
     ensures short { array_string_len text.new ≤ array_string_len text.old + 40 }
@@ -130,8 +136,8 @@ fn push_number(text: &mut ArrayString<264>, number: Option<u32>)
 }
 
 // Appends what a search told of itself, and the end of a row.
-fn push_far(text: &mut ArrayString<264>, far: Option<Far>)
-    requires room { array_string_len text.old ≤ 98 }
+fn push_far(text: &mut ArrayString<320>, far: Option<Far>)
+    requires room { array_string_len text.old ≤ 139 }
     ensures text { text.new.bytes ≡ text.old.bytes ++ far_text far }
     ensures short { array_string_len text.new ≤ array_string_len text.old + 122 }
 {
@@ -234,27 +240,10 @@ fn row_by_method<G: Game + Drop>(alloc: Global, question: &Question<G>, start: &
     ensures row { IsRowOf Sought.ByMethod question.now start.now None result }
 {
     let mut last = Last { far: None };
-    let told = told_of(alloc, question, start, &mut last);
-    Row {
-        told: told.ok(),
-        far: last.far,
+    match decide_by(alloc, question, start, &mut last) {
+        Ok(verdict) => row_of(question, verdict, last.far),
+        Err(_) => row_of_memory(question, last.far),
     }
-}
-
-// What the search of a position answers, without moves.
-fn told_of<G: Game + Drop, L: Listener>(
-    alloc: Global,
-    question: &Question<G>,
-    start: &Position,
-    listener: &mut L,
-) -> Result<Outcome, AllocError>
-    requires position { IsPositionOf question.now.game start.now }
-    ensures told { IfOk result (IsAnswerOf Sought.ByMethod question.now start.now None) }
-    ensures floors { (heard : List Progress) × HearsAll L.hears listener.old heard listener.new × TellFloors question.now.game start.now heard }
-    ensures ended { IfOk result (λ _. (heard : List Progress) × HearsAll L.hears listener.old heard listener.new × (heard ≢ [])) }
-{
-    let verdict = decide_by(alloc, question, start, listener)?;
-    Ok(outcome_of(&verdict))
 }
 
 // The row of a position whose best answer is searched for.
@@ -263,27 +252,48 @@ fn best_row<G: Game + Drop>(alloc: Global, question: &Question<G>, start: &Posit
     ensures row { IsRowOf Sought.Best question.now start.now None result }
 {
     let mut last = Last { far: None };
-    let told = best_told_of(alloc, question, start, &mut last);
-    Row {
-        told: told.ok(),
-        far: last.far,
+    match best(alloc, question, start, false, &mut last) {
+        Ok(answer) => row_of(question, answer.verdict, last.far),
+        Err(_) => row_of_memory(question, last.far),
     }
 }
 
-// What the searches for the best answer of a position answer, without moves.
-fn best_told_of<G: Game + Drop, L: BestListener>(
-    alloc: Global,
-    question: &Question<G>,
-    start: &Position,
-    listener: &mut L,
-) -> Result<Outcome, AllocError>
-    requires position { IsPositionOf question.now.game start.now }
-    ensures told { IfOk result (IsAnswerOf Sought.Best question.now start.now None) }
-    ensures heard { HearsTold L.hears question.now start.now listener.old listener.new }
-    ensures ended { IfOk result (λ _. (verdict : Verdict) × HearsToEnd L.hears question.now start.now verdict listener.old listener.new) }
+// The row of a verdict for the question, whose searches told this last.
+fn row_of<G: Game + Drop>(question: &Question<G>, verdict: Verdict, far: Option<Far>) -> Row
+    requires written { CanBeWritten verdict }
+    ensures budget { result.budget ≡ question.now.method.strategy.budget }
+    ensures told { result.told ≡ Some (outcome_of verdict) }
+    ensures list { result.list ≡ list_of verdict }
+    ensures far { result.far ≡ far }
 {
-    let answer = best(alloc, question, start, false, listener)?;
-    Ok(outcome_of(&answer.verdict))
+    Row {
+        budget: budget_of(question),
+        told: Some(outcome_of(&verdict)),
+        list: list_of(verdict),
+        far,
+    }
+}
+
+// The row of want of memory, before which the searches told this last.
+fn row_of_memory<G: Game + Drop>(question: &Question<G>, far: Option<Far>) -> Row
+    ensures budget { result.budget ≡ question.now.method.strategy.budget }
+    ensures told { result.told ≡ None }
+    ensures list { result.list ≡ None }
+    ensures far { result.far ≡ far }
+{
+    Row {
+        budget: budget_of(question),
+        told: None,
+        list: None,
+        far,
+    }
+}
+
+// How many classes may be stored for the question.
+fn budget_of<G: Game + Drop>(question: &Question<G>) -> u32
+    ensures value { result ≡ question.now.method.strategy.budget }
+{
+    question.method().strategy.budget.get()
 }
 
 // The row of a position, once its certificate is written.
@@ -317,18 +327,12 @@ fn certified_row_by_method<G: Game + Drop, C: Sink>(
 {
     let mut last = Last { far: None };
     let Ok(answer) = solve_by(alloc, question, start, &mut last) else {
-        return Ok(Row {
-            told: None,
-            far: last.far,
-        });
+        return Ok(row_of_memory(question, last.far));
     };
     let Ok(()) = write_certificate(question.game(), &answer, cert) else {
         return Err(ProgramFault::Write(Output::Cert));
     };
-    Ok(Row {
-        told: Some(outcome_of(&answer.verdict)),
-        far: last.far,
-    })
+    Ok(row_of(question, answer.verdict, last.far))
 }
 
 // The row of a position whose best answer is searched for, once its certificate is written.
@@ -344,16 +348,10 @@ fn certified_best_row<G: Game + Drop, C: Sink>(
 {
     let mut last = Last { far: None };
     let Ok(answer) = best(alloc, question, start, true, &mut last) else {
-        return Ok(Row {
-            told: None,
-            far: last.far,
-        });
+        return Ok(row_of_memory(question, last.far));
     };
     let Ok(()) = write_certificate(question.game(), &answer, cert) else {
         return Err(ProgramFault::Write(Output::Cert));
     };
-    Ok(Row {
-        told: Some(outcome_of(&answer.verdict)),
-        far: last.far,
-    })
+    Ok(row_of(question, answer.verdict, last.far))
 }

@@ -21,7 +21,7 @@ use std::alloc::Global;
 pub fn table_head() -> &'static str
     ensures value { result.now ≡ names_text }
 {
-    "deal\tanswer\tmoves\tfloor\tclasses\tturns\tmost_open\n"
+    "deal\tanswer\tmoves\tfloor\tbudget\tstored\tturns\topen\n"
 }
 
 /// Searches the deals `from` to `to` of the question's game, any number of them and one after the other, each for what is sought,
@@ -116,7 +116,7 @@ fn deal_row<G: Game + Drop>(
 }
 
 // The text of a deal's row.
-fn row_text(deal: u32, row: &Row) -> ArrayString<264>
+fn row_text(deal: u32, row: &Row) -> ArrayString<320>
     ensures text { result.bytes ≡ row_text record { deal = deal; row = row.now } }
 {
     let mut buffer = Buffer::new();

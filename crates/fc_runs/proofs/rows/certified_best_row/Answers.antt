@@ -1,11 +1,10 @@
-use Rattle.std.proofs.Common.{◌≡◌, true, false, Some, None, refl, sym, rules}
+use Rattle.std.proofs.Common.{Some, None, refl, sym, rules}
 use Rattle.fc_search.specs.Problem.{problem_of}
 use Rattle.fc_board_runs.specs.Devices.{Device, IsUntouched}
 use Rattle.fc_runs.specs.declared.rows.Last.{Last}
 use Rattle.fc_runs.specs.declared.rows.Sought.TheVariants.{Best}
-use Rattle.fc_runs.specs.Rows.{IsToldIn}
 use Rattle.fc_runs.proofs.CertificateLemmas.{best_certifiable}
-use Rattle.fc_runs.proofs.RowLemmas.{best_last_floor, heard_end, row_floor}
+use Rattle.fc_runs.proofs.RowLemmas.{best_last_floor, heard_end, memory_row, verdict_row}
 use Rattle.fc_runs.proofs.rows.certified_best_row.Goals as goal
 
 pub returns-in_default-clause-row : goal.returns-in_default-clause-row
@@ -17,11 +16,9 @@ returns-in_default-clause-row g c =
     let cert : Device = record { old = g.C.Sink.held c.args.cert.now; new = g.C.Sink.held c.args.cert.now; failed = g.C.Sink.has_failed c.args.cert.now } in
     let (heard, (hears, told, better)) = c.best.ensures.heard in
     let untouched : IsUntouched cert = search rules in
-    record {
-      told = untouched;
-      searched = λ some. let no : false ≡ true = some in absurd (search rules);
-      floor = row_floor Best q b (Some cert) None last.far untouched (best_last_floor q b nothing last heard hears told tt);
-    }
+    memory_row Best q b (Some cert) last.far c.row_of_memory.result
+    record { budget = c.row_of_memory.ensures.budget; told = c.row_of_memory.ensures.told; list = c.row_of_memory.ensures.list; far = c.row_of_memory.ensures.far }
+    untouched (best_last_floor q b nothing last heard hears told tt)
 
 pub returns-in_default-write_certificate-clause-fault : goal.returns-in_default-write_certificate-clause-fault
 returns-in_default-write_certificate-clause-fault g c =
@@ -45,14 +42,9 @@ returns-clause-row g c =
     let answered = c.in-Ok.ensures in
     let certifiable = best_certifiable q b c.in-Ok.answer answered.best (answered.backed refl) in
     let (heard, (hears, told, better)) = c.best.ensures.heard in
-    let answer : IsToldIn Best q b (Some cert) (Some c.outcome_of.result) = record {
-      verdict = c.in-Ok.answer.verdict;
-      decided = answered.best.told;
-      certified = c.in-Ok-write_certificate.ensures.certified p (sym c.game.ensures.value) c.requires.position certifiable;
-      answer = c.outcome_of.ensures.value;
-    } in
-    record {
-      told = answer;
-      searched = λ _. let (front, far, these, told_of, listed) = answered.ended in heard_end nothing last front far these.0;
-      floor = row_floor Best q b (Some cert) (Some c.outcome_of.result) last.far answer (best_last_floor q b nothing last heard hears told tt);
-    }
+    let (front, far, these, told_of, listed) = answered.ended in
+    verdict_row Best q b (Some cert) c.in-Ok.answer.verdict last.far c.row_of.result
+    record { budget = c.row_of.ensures.budget; told = c.row_of.ensures.told; list = c.row_of.ensures.list; far = c.row_of.ensures.far }
+    answered.best.told
+    (c.in-Ok-write_certificate.ensures.certified p (sym c.game.ensures.value) c.requires.position certifiable)
+    (heard_end nothing last front far these.0) (best_last_floor q b nothing last heard hears told tt)

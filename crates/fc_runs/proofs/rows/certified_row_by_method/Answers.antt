@@ -1,13 +1,12 @@
-use Rattle.std.proofs.Common.{◌≡◌, true, false, Some, None, refl, sym, rules}
+use Rattle.std.proofs.Common.{Some, None, refl, sym, rules}
 use Rattle.fc_search.specs.Problem.{problem_of}
 use Rattle.fc_search.proofs.EndLemmas.{at_most_floors, end_at_most}
 use Rattle.fc_board_runs.specs.Devices.{Device, IsUntouched}
 use Rattle.fc_runs.specs.declared.rows.Last.{Last}
 use Rattle.fc_runs.specs.declared.rows.Sought.TheVariants.{ByMethod}
-use Rattle.fc_runs.specs.Rows.{IsToldIn}
 use Rattle.fc_runs.specs.inner.Rows.{far_of}
 use Rattle.fc_runs.proofs.CertificateLemmas.{answer_certifiable}
-use Rattle.fc_runs.proofs.RowLemmas.{heard_last, last_floor, row_floor}
+use Rattle.fc_runs.proofs.RowLemmas.{heard_last, last_floor, memory_row, verdict_row}
 use Rattle.fc_runs.proofs.rows.certified_row_by_method.Goals as goal
 
 pub returns-in_default-clause-row : goal.returns-in_default-clause-row
@@ -20,11 +19,9 @@ returns-in_default-clause-row g c =
     let cert : Device = record { old = g.C.Sink.held c.args.cert.now; new = g.C.Sink.held c.args.cert.now; failed = g.C.Sink.has_failed c.args.cert.now } in
     let (heard, hears, before) = c.in_default.ensures.heard in
     let untouched : IsUntouched cert = search rules in
-    record {
-      told = untouched;
-      searched = λ some. let no : false ≡ true = some in absurd (search rules);
-      floor = row_floor ByMethod q b (Some cert) None last.far untouched (last_floor q.game b nothing last heard hears (at_most_floors p heard before) tt);
-    }
+    memory_row ByMethod q b (Some cert) last.far c.row_of_memory.result
+    record { budget = c.row_of_memory.ensures.budget; told = c.row_of_memory.ensures.told; list = c.row_of_memory.ensures.list; far = c.row_of_memory.ensures.far }
+    untouched (last_floor q.game b nothing last heard hears (at_most_floors p heard before) tt)
 
 pub returns-in_default-write_certificate-clause-fault : goal.returns-in_default-write_certificate-clause-fault
 returns-in_default-write_certificate-clause-fault g c =
@@ -44,15 +41,9 @@ returns-clause-row g c =
     let cert : Device = record { old = g.C.Sink.held c.args.cert.now; new = g.C.Sink.held c.write_certificate.new.cert; failed = g.C.Sink.has_failed c.write_certificate.new.cert } in
     let answered = c.in-Ok.ensures in
     let (heard, hears, told) = answered.heard in
-    let answer : IsToldIn ByMethod q b (Some cert) (Some c.outcome_of.result) = record {
-      verdict = c.in-Ok.answer.verdict;
-      decided = record { right = answered.answers.told; ran = answered.ran };
-      certified = c.in-Ok-write_certificate.ensures.certified p (sym c.game.ensures.value) c.requires.position (answer_certifiable p c.in-Ok.answer answered.answers);
-      answer = c.outcome_of.ensures.value;
-    } in
-    record {
-      told = answer;
-      searched = λ _. heard_last far_of nothing last heard hears told.some;
-      floor = row_floor ByMethod q b (Some cert) (Some c.outcome_of.result) last.far answer
-          (last_floor q.game b nothing last heard hears (at_most_floors p heard (end_at_most p heard c.in-Ok.answer.verdict told)) tt);
-    }
+    verdict_row ByMethod q b (Some cert) c.in-Ok.answer.verdict last.far c.row_of.result
+    record { budget = c.row_of.ensures.budget; told = c.row_of.ensures.told; list = c.row_of.ensures.list; far = c.row_of.ensures.far }
+    record { right = answered.answers.told; ran = answered.ran }
+    (c.in-Ok-write_certificate.ensures.certified p (sym c.game.ensures.value) c.requires.position (answer_certifiable p c.in-Ok.answer answered.answers))
+    (heard_last far_of nothing last heard hears told.some)
+    (last_floor q.game b nothing last heard hears (at_most_floors p heard (end_at_most p heard c.in-Ok.answer.verdict told)) tt)
