@@ -1,8 +1,9 @@
 -- What is found of a list, once it is told or isn't.
-use Rattle.std.proofs.Common.{inr, ℕ, Option, Result, Ok, Err, IfOk, List}
+use Rattle.std.proofs.Common.{◌≡◌, inr, subst, ℕ, Option, Result, Ok, Err, IfOk, List}
 use Rattle.std.specs.Prelude.{IfErr}
 use Rattle.fc_position.specs.Board.{Board}
 use Rattle.fc_moves.specs.declared.steps.Move.{Move}
+use Rattle.fc_moves.specs.GameRules.{GameRules}
 use Rattle.fc_methods.specs.Method.{Asked}
 use Rattle.fc_board_runs.specs.declared.faults.ProgramFault.{ProgramFault}
 use Rattle.fc_board_runs.specs.Devices.{Device}
@@ -10,13 +11,17 @@ use Rattle.fc_review.specs.Finding.{IsFinding, IsReviewed, IsTold, IsUnreviewed,
 use Rattle.fc_review.specs.declared.findings.Finding.{Finding}
 
 -- what is told was found
-pub reviewed : (q : Asked) (b : Board) (moves : List Move) (cert : Option Device) (sink : Device) (finding : Finding) (r : Result ℕ ProgramFault)
-    → IsFinding q b moves cert finding → IfOk r (IsTold moves finding sink) → IfOk r (IsReviewed q b moves cert sink)
-reviewed q b moves cert sink finding (Ok status) found told = (finding, found, told)
-reviewed q b moves cert sink finding (Err fault) found told = told
+pub reviewed : (q : Asked) (g : GameRules) (b : Board) (moves : List Move) (cert : Option Device) (sink : Device) (finding : Finding)
+    (r : Result ℕ ProgramFault) → g ≡ q.game → IsFinding q b moves cert finding → IfOk r (IsTold g b moves finding sink)
+    → IfOk r (IsReviewed q b moves cert sink)
+reviewed q g b moves cert sink finding (Ok status) same found told =
+    (finding, found, subst (λ game. IsTold game b moves finding sink status) same told)
+reviewed q g b moves cert sink finding (Err fault) same found told = told
 
 -- and so was what isn't told
-pub unreviewed : (q : Asked) (b : Board) (moves : List Move) (cert : Option Device) (sink : Device) (finding : Finding) (r : Result ℕ ProgramFault)
-    → IsFinding q b moves cert finding → IfErr r (IsUntold moves finding sink) → IfErr r (IsUnreviewed q b moves cert sink)
-unreviewed q b moves cert sink finding (Ok status) found untold = untold
-unreviewed q b moves cert sink finding (Err fault) found untold = inr (finding, found, untold)
+pub unreviewed : (q : Asked) (g : GameRules) (b : Board) (moves : List Move) (cert : Option Device) (sink : Device) (finding : Finding)
+    (r : Result ℕ ProgramFault) → g ≡ q.game → IsFinding q b moves cert finding → IfErr r (IsUntold g b moves finding sink)
+    → IfErr r (IsUnreviewed q b moves cert sink)
+unreviewed q g b moves cert sink finding (Ok status) same found untold = untold
+unreviewed q g b moves cert sink finding (Err fault) same found untold =
+    inr (finding, found, subst (λ game. IsUntold game b moves finding sink fault) same untold)

@@ -64,10 +64,6 @@ wins_told q b (Won moves floor) best told = (moves, best.right.0)
 wins_told q b CannotWin best told = absurd told
 wins_told q b (GaveUp up) best told = absurd told
 
--- the board behind an edge that asks for no loss is lost
-pub edge_lost : (q : Asked) (b : Board) (moves : List Move) (edge : Edge) → IsEdge q b moves NotLost edge → IsLostAfter q.game b moves edge.behind.after
-edge_lost q b moves edge is = lost_known q b moves edge.behind is.behind (no_loss edge.behind.verdict is.turned)
-
 -- a board that isn't lost and from which no list is told gave up
 pub open_up_to : (q : Asked) (b : Board) (moves : List Move) (known : Known) (lost : Option ℕ) → IsKnown q b moves known → IsNoLoss known.verdict
     → (TellsList known.verdict → ⊥) → IsLostBehind q.game b moves known.after lost → IsOpenUpTo q b moves lost

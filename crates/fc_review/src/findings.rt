@@ -1,12 +1,12 @@
 //! What is found of a list of moves, and the line that tells it.
 
-ghost use Rattle.std.specs.Prelude.{◌≡◌, ◌<◌, ◌^◌, ◌++◌, ℕ, List, All, Some, None, IfOk, IfErr, OnOk, length};
+ghost use Rattle.std.specs.Prelude.{◌≡◌, ◌<◌, ◌^◌, All, Some, None, IfOk, IfErr, length};
 ghost use Rattle.fc_position.specs.Board.{Board};
 ghost use Rattle.fc_moves.specs.GameRules.{IsPositionOf};
-ghost use Rattle.fc_moves.specs.MoveText.{HasText, move_text};
+ghost use Rattle.fc_moves.specs.MoveText.{HasText};
 ghost use Rattle.fc_moves.specs.Run.{Run};
 ghost use Rattle.fc_board_runs.specs.Devices.{IsHandedBack, change, lent};
-ghost use Rattle.fc_review.specs.Finding.{IsFinding, IsReviewed, IsTold, IsUnreviewed, IsUntold, NamesLosing, TellsFinding, finding_status};
+ghost use Rattle.fc_review.specs.Finding.{IsFinding, IsReviewed, IsTold, IsUnreviewed, IsUntold, NamesLosing, TellsFinding, finding_status, named_text};
 ghost use Rattle.fc_review.specs.Hands.{IsByHand};
 ghost use Rattle.fc_review.specs.Rating.{IsUnrated};
 
@@ -16,11 +16,11 @@ use crate::ratings::{Rating, certify, rate_alone};
 use crate::reviews::{Review, review_of};
 use crate::texts::{rating_status, rating_text, review_status, review_text};
 use fc_answers::MOST_MOVES;
-use fc_io::{Sink, ToArray, write_all};
+use fc_io::{Sink, write_all};
 use fc_methods::Question;
 use fc_moves::{Game, Move, move_text};
 use fc_position::Position;
-use fc_replay::{Page, replay_as};
+use fc_replay::ToldMove;
 use fc_runs::{Output, ProgramFault};
 use std::alloc::{AllocError, Global};
 
@@ -145,7 +145,7 @@ pub fn finding_text<G: Game>(
     requires position { IsPositionOf (G.game game.now) start.now }
     requires run { (c : Board) × Run (G.game game.now) start.now moves.now c }
     requires texts { All HasText moves.now }
-    ensures text { IfOk result (λ t. TellsFinding moves.now finding.now t.items) }
+    ensures text { IfOk result (λ t. TellsFinding (G.game game.now) start.now moves.now finding.now t.items) }
 {
     match finding {
         Finding::Rated { rating, by_hand } => rating_text(alloc, moves.len(), *by_hand, rating),
@@ -167,7 +167,7 @@ fn losing_text<G: Game>(
     requires position { IsPositionOf (G.game game.now) start.now }
     requires run { (c : Board) × Run (G.game game.now) start.now moves.now c }
     requires texts { All HasText moves.now }
-    ensures named { IfOk result (λ t. NamesLosing moves.now review.now t.items) }
+    ensures named { IfOk result (λ t. NamesLosing (G.game game.now) start.now moves.now review.now t.items) }
 {
     let Some(place) = review.losing_move() else {
         return Ok(Vec::new(alloc));
@@ -176,38 +176,19 @@ fn losing_text<G: Game>(
         return Ok(Vec::new(alloc));
     };
     let before = board_after(game, start, moves, place);
-    named_text(alloc, game, &before, *m)
+    named_text(alloc, &before, *m)
 }
 
-// A move by its letters, and in words in brackets.
-fn named_text<G: Game>(
-    alloc: Global,
-    game: &G,
-    before: &Position,
-    m: Move,
-) -> Result<Vec<u8>, AllocError>
-    requires position { IsPositionOf (G.game game.now) before.now }
+// A move by its letters, and in words in brackets, from the board before it.
+fn named_text(alloc: Global, before: &Position, m: Move) -> Result<Vec<u8>, AllocError>
     requires text { HasText m }
-    ensures named { IfOk result (λ t. (words : List ℕ) × (t.items ≡ move_text m ++ words)) }
+    ensures named { IfOk result (λ t. t.items ≡ named_text before.now m) }
 {
-    let letters = move_text(m);
-    let mut words = ToArray::<128>::new();
-    // (a move that isn't allowed, of which there is none here, has no words)
-    let _told = replay_as(game, before, &letters, Page::Words(false), &mut words);
-    let mut text = Vec::from_slice(alloc, &letters)?;
-    push_bracketed(&mut text, words.held())?;
-    Ok(text)
-}
-
-// Appends the words of a line that tells one move, in brackets.
-fn push_bracketed(text: &mut Vec<u8>, line: &[u8]) -> Result<(), AllocError>
-    ensures words { OnOk result ((words : List ℕ) × (text.new.items ≡ text.old.items ++ words)) }
-{
-    let said = line.strip_prefix(b"1. ").unwrap_or(line);
+    let mut text = Vec::from_slice(alloc, &move_text(m))?;
     text.extend_from_slice(b" (")?;
-    text.extend_from_slice(said.trim_ascii_end())?;
+    text.extend_from_slice(&ToldMove::of(1, before, m).words(false))?;
     text.extend_from_slice(b")")?;
-    Ok(())
+    Ok(text)
 }
 
 /// Reviews a list of moves that the rules allow from a position of the question's game, and writes a line of what is found:
@@ -292,8 +273,8 @@ fn write_finding<G: Game, K: Sink>(
     requires position { IsPositionOf (G.game game.now) start.now }
     requires run { (c : Board) × Run (G.game game.now) start.now moves.now c }
     requires texts { All HasText moves.now }
-    ensures told { IfOk result (IsTold moves.now finding.now (change K.held K.has_failed out.old out.new)) }
-    ensures fault { IfErr result (IsUntold moves.now finding.now (change K.held K.has_failed out.old out.new)) }
+    ensures told { IfOk result (IsTold (G.game game.now) start.now moves.now finding.now (change K.held K.has_failed out.old out.new)) }
+    ensures fault { IfErr result (IsUntold (G.game game.now) start.now moves.now finding.now (change K.held K.has_failed out.old out.new)) }
 {
     let text = finding_text(alloc, game, start, moves, finding)?;
     match write_all(out, text.as_slice()) {
