@@ -1,6 +1,6 @@
 -- A drawing is put into the columns of its board's printed text.
 use Rattle.std.proofs.Common.{◌≡◌, ℕ, zero, suc, ◌+◌, ◌*◌, ◌≤◌, false, cond, Option, Some, None, List, [], ◌∷◌, ◌++◌, length, map, take, refl, sym, ◌∙◌, ap, subst, append_assoc, arith}
-use Rattle.std.specs.Prelude.{codes, slice_get}
+use Rattle.std.specs.Prelude.{codes, nat_lt, slice_get}
 use Rattle.std.specs.List.{flat_map, range_with_len}
 use Rattle.std.specs.Option.{option_or}
 use Rattle.std.proofs.lemmas.Bool.{eq-eqb}
@@ -17,8 +17,8 @@ use Rattle.fc_text.proofs.PrintLemmas.{length-board_text}
 use Rattle.fc_show.specs.Drawing.{drawing, held_entry, height, row, rows, top_names, top_row, unmarked}
 use Rattle.fc_show.proofs.DrawingLemmas.{height_position}
 use Rattle.fc_rows.specs.Laws.{DrawingsAreBoards}
-use Rattle.fc_rows.specs.Rows.{Told, cells_text, column_line, column_text, columns_text, entry_count, first_fault, front_text, head_text, kind_below, names_below, row_fault, rows_fault, short_after, told_below, told_lines, words_of}
-use Rattle.fc_rows.specs.declared.faults.RowFault.TheVariants.{BadHead}
+use Rattle.fc_rows.specs.Rows.{Told, cells_text, column_line, column_text, columns_text, entry_count, first_fault, front_text, head_text, kind_below, names_below, rows_fault, short_after, told_below, told_lines, words_of}
+use Rattle.fc_rows.specs.declared.faults.RowFault.TheVariants.{BadHead, LongRow}
 use Rattle.fc_rows.specs.declared.lines.LineKind.{LineKind}
 use Rattle.fc_rows.specs.declared.lines.LineKind.TheVariants.{Blank, Numbers, Names, Held, Row}
 use Rattle.fc_rows.proofs.DrawnHeads.{all-cards, cards-from, cells-are, held-from, held-long, held-take, homes-are, names-above, names-kind, names-long, numbers-above, numbers-kind, numbers_line, top-above, top-count, top-kind, tops}
@@ -179,7 +179,7 @@ rows-fault columns number [] p long = refl
 rows-fault columns number (i ∷ is) p long =
     let rest = map (told_row columns) is in
     let count = row-count columns i p long in
-    ap (λ m. option_or (row_fault None number m) (first_fault (short_after None number m) (number + 1) rest)) count
+    ap (λ m. option_or (cond (nat_lt 8 m) (Some (LongRow number)) None) (first_fault (short_after None number m) (number + 1) rest)) count
     ∙ rows-fault columns (number + 1) is p long
 
 told-fault : (n : ℕ) (b : Board) → Drawn n b → first_fault None 1 (told_drawing n b) ≡ None

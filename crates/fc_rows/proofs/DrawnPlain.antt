@@ -2,7 +2,7 @@
 use Rattle.std.proofs.Common.{◌≡◌, ℕ, ◌<◌, ◌≤◌, ◌&&◌, true, false, cond, Option, Some, None, List, [], ◌∷◌, ◌++◌, length, map, take, refl, sym, ◌∙◌, ap, subst, arith}
 use Rattle.std.specs.Prelude.{All, codes, filter}
 use Rattle.std.specs.List.{flat_map, range_with_len}
-use Rattle.std.proofs.lemmas.Bool.{and_from, and_parts}
+use Rattle.std.proofs.lemmas.Bool.{and_from, and_parts, or_from, or_parts}
 use Rattle.std.proofs.lemmas.Bool.Decides.{nat_tests}
 use Rattle.std.proofs.lemmas.List.{map-append}
 use Rattle.std.proofs.lemmas.List.Elements.{All-cons, All-nil}
@@ -16,6 +16,7 @@ use Rattle.fc_text.specs.Printed.{cell_text}
 use Rattle.fc_text.proofs.PrintedLines.{spells_board}
 use Rattle.fc_text.proofs.PrintedPieces.{AllAbove, AreLines}
 use Rattle.fc_plain.specs.Respelled.{card_spelling, is_dash_alone, is_rank, is_suit, respelled_card}
+use Rattle.fc_plain.specs.Title.{any_token, has_word}
 use Rattle.fc_plain.proofs.PlainBytes.{IsPlainLine, are_plain, is_plain_byte, plain_already}
 use Rattle.fc_show.specs.Drawing.{drawing, height, held_entry, row, top_names, top_row, unmarked}
 use Rattle.fc_rows.specs.Laws.{DrawingsArePlain, DrawingsReadBack}
@@ -38,13 +39,14 @@ parts_same (b ∷ line) above =
 
 -- so its words tell of a line that it is plain
 line_from : (line : List ℕ) (words : List (List ℕ)) → AllAbove 31 line → are_plain line ≡ true → words_of line ≡ words
-    → map respelled_card words ≡ words → is_dash_alone words ≡ false → IsPlainLine line
-line_from line words above bytes are kept dash =
+    → map respelled_card words ≡ words → is_dash_alone words ≡ false → any_token has_word words ≡ false → IsPlainLine line
+line_from line words above bytes are kept dash short =
     let tokens : words ≡ tokens_of line = sym are ∙ ap (filter is_token) (parts_same line above) in
     record {
       bytes = bytes;
       tokens = subst (λ ts. map respelled_card ts ≡ ts) tokens kept;
       dash = subst (λ ts. is_dash_alone ts ≡ false) tokens dash;
+      word = subst (λ ts. any_token has_word ts ≡ false) tokens short;
     }
 
 -- cards are told by their ranks first
@@ -82,6 +84,21 @@ held_kept (Some c ∷ held) all =
     ap (λ word. word ∷ map respelled_card (map cell_text held)) (card_kept c all.0)
     ∙ ap (λ words. card_text c ∷ words) (held_kept held all.1)
 
+-- cards and dashes have no word
+held_short : (held : List (Option ℕ)) → any_token has_word (map cell_text held) ≡ false
+held_short [] = refl
+held_short (None ∷ held) = held_short held
+held_short (Some c ∷ held) = held_short held
+
+cards_short : (cards : List ℕ) → any_token has_word (map card_text cards) ≡ false
+cards_short [] = refl
+cards_short (c ∷ cards) = cards_short cards
+
+short_both : (xs ys : List (List ℕ)) → any_token has_word xs ≡ false → any_token has_word ys ≡ false → any_token has_word (xs ++ ys) ≡ false
+short_both [] ys p q = q
+short_both (x ∷ xs) ys p q =
+    let both = or_parts (has_word x) (any_token has_word xs) p in or_from _ _ both.0 (short_both xs ys both.1 q)
+
 plain_both : (xs ys : List ℕ) → are_plain xs ≡ true → are_plain ys ≡ true → are_plain (xs ++ ys) ≡ true
 plain_both [] ys p q = q
 plain_both (x ∷ xs) ys p q =
@@ -109,6 +126,7 @@ top_plain n b d =
     line_from line words (top-above n b d.position d.held)
     (plain_both (flat_map (held_entry (unmarked false)) cells) _ (held_plain cells d.held) (held_plain (tops b) founds)) are kept
     (several words (omega (arith, sym (ap length are) ∙ top-count n b d.few d.position d.held)))
+    (short_both (cell_words n b) (home_words b) (held_short cells) (held_short (tops b)))
 
 -- rows
 places_plain : (held : List (Option ℕ)) → AreHeld held → are_plain (places held) ≡ true
@@ -130,7 +148,7 @@ cards_alone (c ∷ cards) = refl
 places_line : (held : List (Option ℕ)) → AreHeld held → IsPlainLine (places held)
 places_line held all =
     line_from (places held) (map card_text (somes held)) (places-line held all) (places_plain held all) (words-places held all)
-    (places_kept held all) (cards_alone (somes held))
+    (places_kept held all) (cards_alone (somes held)) (cards_short (somes held))
 
 rows_plain : (columns : List (List ℕ)) (is : List ℕ) → AllCards columns → All IsPlainLine (drawn_rows columns is)
 rows_plain columns [] p = All-nil IsPlainLine
@@ -142,17 +160,17 @@ rows_plain columns (i ∷ is) p =
 names_plain : (n : ℕ) → n ≤ 4 → IsPlainLine (top_names n)
 names_plain =
     by_cells (λ n. IsPlainLine (top_names n))
-    (record { bytes = refl; tokens = refl; dash = refl })
-    (record { bytes = refl; tokens = refl; dash = refl })
-    (record { bytes = refl; tokens = refl; dash = refl })
-    (record { bytes = refl; tokens = refl; dash = refl })
-    (record { bytes = refl; tokens = refl; dash = refl })
+    (record { bytes = refl; tokens = refl; dash = refl; word = refl })
+    (record { bytes = refl; tokens = refl; dash = refl; word = refl })
+    (record { bytes = refl; tokens = refl; dash = refl; word = refl })
+    (record { bytes = refl; tokens = refl; dash = refl; word = refl })
+    (record { bytes = refl; tokens = refl; dash = refl; word = refl })
 
 none_plain : IsPlainLine []
-none_plain = record { bytes = refl; tokens = refl; dash = refl }
+none_plain = record { bytes = refl; tokens = refl; dash = refl; word = refl }
 
 numbers_plain : IsPlainLine numbers_line
-numbers_plain = record { bytes = refl; tokens = refl; dash = refl }
+numbers_plain = record { bytes = refl; tokens = refl; dash = refl; word = refl }
 
 -- all lines
 lines_plain : (n : ℕ) (b : Board) → Drawn n b → All IsPlainLine (drawn_lines n b)

@@ -40,7 +40,7 @@ told_few text =
     omega (arith, length-told None (lines_of text), length-map (parts_of is_line_end text) without_return, length-parts_of is_line_end text)
 
 -- a line without a fault
-pub fault_next : (whole : Option RowFault) (next short : Option ℕ) (number : ℕ) (lines others : List Told) (told : Told) → lines ≡ told ∷ others
+pub fault_next : (whole : Option RowFault) (next short : Option (ℕ × ℕ)) (number : ℕ) (lines others : List Told) (told : Told) → lines ≡ told ∷ others
     → fault_of short number told ≡ None → next ≡ short_below short number told → first_fault short number lines ≡ whole
     → first_fault next (number + 1) others ≡ whole
 fault_next whole next short number lines others told steps sound below so =
@@ -49,14 +49,14 @@ fault_next whole next short number lines others told steps sound below so =
     ∙ so
 
 -- a line with a fault
-pub fault_here : (whole : Option RowFault) (short : Option ℕ) (number : ℕ) (lines others : List Told) (told : Told) (fault : RowFault)
+pub fault_here : (whole : Option RowFault) (short : Option (ℕ × ℕ)) (number : ℕ) (lines others : List Told) (told : Told) (fault : RowFault)
     → lines ≡ told ∷ others → fault_of short number told ≡ Some fault → first_fault short number lines ≡ whole → whole ≡ Some fault
 fault_here whole short number lines others told fault steps is so =
     sym so ∙ ap (first_fault short number) steps
     ∙ ap (λ f. option_or f (first_fault (short_below short number told) (number + 1) others)) is
 
 -- no line is left
-pub fault_none : (whole : Option RowFault) (short : Option ℕ) (number : ℕ) (lines : List Told) → lines ≡ []
+pub fault_none : (whole : Option RowFault) (short : Option (ℕ × ℕ)) (number : ℕ) (lines : List Told) → lines ≡ []
     → first_fault short number lines ≡ whole → whole ≡ None
 fault_none whole short number lines none so = sym so ∙ ap (first_fault short number) none
 

@@ -195,32 +195,47 @@ columns_text lines count = flat_map (λ k. ended (column_line k lines)) (range_w
 unfoldable pub column_text : List ℕ → List ℕ
 column_text text = flat_map front_text (told_lines text) ++ columns_text (told_lines text) 8
 
--- what is wrong with a row that stands below a short one with this number, if one is above it: that one, or its own length
-abbrev pub row_fault : Option ℕ → ℕ → ℕ → Option RowFault
-row_fault (Some above) number count = Some (ShortRow above)
-row_fault None number count = cond (nat_lt 8 count) (Some (LongRow number)) None
+-- the row has a card in one of these columns
+abbrev pub has_card_in : List ℕ → List ℕ → Bool
+has_card_in line [] = false
+has_card_in line (k ∷ columns) = not (is_none (entry_at k line)) || has_card_in line columns
+
+-- the row has a card past its first n entries
+abbrev pub has_card_past : ℕ → List ℕ → Bool
+has_card_past n line = has_card_in line (range_with_len n (8 - n))
+
+-- the row has more entries than there are columns
+abbrev pub long_fault : ℕ → List ℕ → Option RowFault
+long_fault number line = cond (nat_lt 8 (entry_count line)) (Some (LongRow number)) None
+
+-- what is wrong with a row, where the shortest one above it has this number and so many entries, if one is short: that one,
+-- where this row has a card past its end, or its own length
+abbrev pub row_fault : Option (ℕ × ℕ) → ℕ → List ℕ → Option RowFault
+row_fault None number line = long_fault number line
+row_fault (Some above) number line = cond (has_card_past above.1 line) (Some (ShortRow above.0)) (long_fault number line)
 
 -- what is wrong with a line with this number, below such a row or none
-abbrev pub fault_of : Option ℕ → ℕ → Told → Option RowFault
+abbrev pub fault_of : Option (ℕ × ℕ) → ℕ → Told → Option RowFault
 fault_of short number told = elim told.kind as (λ _. Option RowFault) [
   | Blank ↦ None
   | Kept ↦ None
   | Numbers ↦ None
   | Names n ↦ None
   | Held n ↦ cond (length (words_of told.line) == n + 4) None (Some (BadHead number))
-  | Row ↦ row_fault short number (entry_count told.line)
+  | Row ↦ row_fault short number told.line
 ]
 
--- a row with so many entries is short where they are fewer than eight
-abbrev pub short_after : Option ℕ → ℕ → ℕ → Option ℕ
-short_after short number count = cond (nat_lt count 8) (Some number) short
+-- the shortest row so far with fewer than eight entries, the first of equals, below a row with so many entries
+abbrev pub short_after : Option (ℕ × ℕ) → ℕ → ℕ → Option (ℕ × ℕ)
+short_after None number count = cond (nat_lt count 8) (Some (number, count)) None
+short_after (Some above) number count = cond (nat_lt count above.1) (Some (number, count)) (Some above)
 
--- the short row that stands above the next line, if there is one
-abbrev pub short_below : Option ℕ → ℕ → Told → Option ℕ
+-- the one that stands above the next line, if there is one
+abbrev pub short_below : Option (ℕ × ℕ) → ℕ → Told → Option (ℕ × ℕ)
 short_below short number told = cond (is_row told.kind) (short_after short number (entry_count told.line)) short
 
 -- the first fault of lines, the first of which has this number
-abbrev pub first_fault : Option ℕ → ℕ → List Told → Option RowFault
+abbrev pub first_fault : Option (ℕ × ℕ) → ℕ → List Told → Option RowFault
 first_fault short number [] = None
 first_fault short number (told ∷ lines) =
     option_or (fault_of short number told) (first_fault (short_below short number told) (number + 1) lines)

@@ -1,5 +1,5 @@
 ghost use Rattle.std.specs.Prelude.{◌≡◌, ◌*◌, ◌≤◌, drop, length, take};
-ghost use Rattle.fc_rows.specs.Rows.{are_spaces, entry_at, entry_count, is_drawn, is_entry, is_none, is_place};
+ghost use Rattle.fc_rows.specs.Rows.{are_spaces, entry_at, entry_count, has_card_past, is_drawn, is_entry, is_none, is_place};
 
 use crate::words::{is_gap, word_at, word_count};
 
@@ -22,6 +22,18 @@ pub(crate) fn entry_count(line: &[u8]) -> usize
         return 8;
     }
     word_count(line)
+}
+
+/// Whether a row has a card past its first entries, so many of them.
+pub(crate) fn has_card_past(line: &[u8], count: usize) -> bool
+    ensures { result ≡ has_card_past count line.now }
+{
+    for column in count..8 {
+        if !is_none(entry_at(line, column)) {
+            return true;
+        }
+    }
+    false
 }
 
 /// Whether an entry stands for no card.

@@ -12,7 +12,7 @@ pub enum RowFault {
     /// The row has more than eight entries.
     #[error("line {0}: a row has eight entries at most, one a column")]
     LongRow(u32),
-    /// The row has fewer than eight entries, and another one stands below it.
+    /// The row has fewer than eight entries, and one below it has a card past its end.
     #[error("line {0}: a row has eight entries: -- stands for none")]
     ShortRow(u32),
 }

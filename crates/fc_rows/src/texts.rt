@@ -1,9 +1,9 @@
-ghost use Rattle.std.specs.Prelude.{◌≡◌, ℕ, List, ◌<◌, ◌≤◌, ◌++◌, ◌∷◌, Some, None, length, IfOk, OnOk, IfErr};
-ghost use Rattle.fc_rows.specs.Rows.{column_text, fault_of, first_fault, row_fault, rows_fault, short_after, short_below, told_lines};
+ghost use Rattle.std.specs.Prelude.{◌≡◌, ℕ, List, cond, nat_lt, ◌<◌, ◌≤◌, ◌++◌, ◌∷◌, Some, None, length, IfOk, OnOk, IfErr};
+ghost use Rattle.fc_rows.specs.Rows.{column_text, entry_count, fault_of, first_fault, row_fault, rows_fault, short_after, short_below, told_lines};
 ghost use Rattle.fc_rows.specs.inner.Told.{IsFull, told_with};
 
 use crate::columns::{push_columns, push_front};
-use crate::entries::entry_count;
+use crate::entries::{entry_count, has_card_past};
 use crate::faults::RowFault;
 use crate::lines::{LineKind, ToldLines};
 use crate::words::word_count;
@@ -16,6 +16,9 @@ pub const MOST_BYTES: usize = 16_384;
 
 /// The bytes of a text that is put together.
 pub(crate) type Bytes = ArrayVec<u8, MOST_BYTES>;
+
+// The shortest row so far, where it has fewer than eight entries: its number, and how many it has.
+type Short = (u32, usize);
 
 /// A board text in columns that was made from one in rows, seen by contracts as its bytes.
 #[derive(Debug, Drop)]
@@ -45,7 +48,8 @@ impl ColumnText {
 /// of the eight columns.
 ///
 /// A row has an entry for each column, the deepest cards stand in the first one, and an entry of `--`, `-` or `.` is no
-/// card. The last row may have fewer entries, for the columns from the first on. A row as `fc_show` draws it, each entry of
+/// card. A row may have fewer entries, for the columns from the first on, where no row below it has a card in one of the
+/// others. A row as `fc_show` draws it, each entry of
 /// two bytes in its column's place of three, may have blanks in place of entries. Foundation and cell lines stay as they
 /// are; blank lines and the numbers of the columns say nothing. Names as a drawing has them, the first few of `a b c d` for
 /// the cells and `C D H S`, say that the next line that isn't blank has what these hold. Lines are ended by LF or CR LF,
@@ -53,8 +57,8 @@ impl ColumnText {
 /// wrong with one that is no card.
 ///
 /// # Errors
-/// `TooLong` for a text of more than 16,384 bytes; then the first line that is at fault, where a row below a short one tells
-/// on that one; then `TooLong` where the text in columns would have more than 16,384 bytes.
+/// `TooLong` for a text of more than 16,384 bytes; then the first line that is at fault, where a row with a card past the end
+/// of the shortest one above it tells on that one; then `TooLong` where the text in columns would have more than 16,384 bytes.
 pub fn columns_of_rows(text: &[u8]) -> Result<ColumnText, RowFault>
     ensures value { IfOk result (λ columns. columns ≡ column_text text.now) }
     ensures sound { OnOk result (rows_fault text.now ≡ None) }
@@ -106,14 +110,14 @@ fn check_lines(text: &[u8]) -> Result<(), RowFault>
     Ok(())
 }
 
-// The short row that stands above the next line, if there is one, where this line with its number isn't at fault below the
-// one that stands above it.
+// The shortest row that stands above the next line, where this line with its number isn't at fault below the one that stands
+// above it.
 fn check_line(
-    short: Option<u32>,
+    short: Option<Short>,
     number: u32,
     kind: LineKind,
     line: &[u8],
-) -> Result<Option<u32>, RowFault>
+) -> Result<Option<Short>, RowFault>
     ensures next { IfOk result (λ next. next ≡ short_below short number (told_with kind line.now)) }
     ensures sound { OnOk result (fault_of short number (told_with kind line.now) ≡ None) }
     ensures fault { IfErr result (λ fault. fault_of short number (told_with kind line.now) ≡ Some fault) }
@@ -125,26 +129,48 @@ fn check_line(
             }
             Ok(short)
         }
-        LineKind::Row => check_row(short, number, entry_count(line)),
+        LineKind::Row => check_row(short, number, line),
         _ => Ok(short),
     }
 }
 
-// The short row that stands above the next line, where a row with its number and so many entries isn't at fault.
-fn check_row(short: Option<u32>, number: u32, count: usize) -> Result<Option<u32>, RowFault>
-    ensures next { IfOk result (λ next. next ≡ short_after short number count) }
-    ensures sound { OnOk result (row_fault short number count ≡ None) }
-    ensures fault { IfErr result (λ fault. row_fault short number count ≡ Some fault) }
+// The shortest row that stands above the next line, where a row with its number isn't at fault.
+fn check_row(short: Option<Short>, number: u32, line: &[u8]) -> Result<Option<Short>, RowFault>
+    ensures next { IfOk result (λ next. next ≡ short_after short number (entry_count line.now)) }
+    ensures sound { OnOk result (row_fault short number line.now ≡ None) }
+    ensures fault { IfErr result (λ fault. row_fault short number line.now ≡ Some fault) }
 {
-    if let Some(above) = short {
-        return Err(RowFault::ShortRow(above));
+    let count = entry_count(line);
+    match short {
+        None => {
+            check_length(number, count)?;
+            Ok(if count < 8 {
+                Some((number, count))
+            } else {
+                None
+            })
+        }
+        Some((above, least)) => {
+            if has_card_past(line, least) {
+                return Err(RowFault::ShortRow(above));
+            }
+            check_length(number, count)?;
+            Ok(Some(if count < least {
+                (number, count)
+            } else {
+                (above, least)
+            }))
+        }
     }
+}
+
+// Whether a row with its number has more entries than there are columns.
+fn check_length(number: u32, count: usize) -> Result<(), RowFault>
+    ensures sound { OnOk result (cond (nat_lt 8 count) (Some (RowFault.LongRow number)) None ≡ None) }
+    ensures fault { IfErr result (λ fault. cond (nat_lt 8 count) (Some (RowFault.LongRow number)) None ≡ Some fault) }
+{
     if count > 8 {
         return Err(RowFault::LongRow(number));
     }
-    if count < 8 {
-        Ok(Some(number))
-    } else {
-        Ok(None)
-    }
+    Ok(())
 }
