@@ -68,8 +68,10 @@ told_flat told =
     let flat_turns = number_flat (codes "turns") told.turns no_members (omega arith, refl) in
     let stored = with_number (codes "stored") told.stored turns in
     let flat_stored = number_flat (codes "stored") told.stored turns flat_turns in
-    let moves = with_number (codes "moves") told.moves stored in
-    let flat_moves = number_flat (codes "moves") told.moves stored flat_stored in
+    let open_entries = with_number (codes "open") told.most_open stored in
+    let flat_open = number_flat (codes "open") told.most_open stored flat_stored in
+    let moves = with_number (codes "moves") told.moves open_entries in
+    let flat_moves = number_flat (codes "moves") told.moves open_entries flat_open in
     let list = with_text (codes "list") told.list moves in
     let flat_list = text_flat (codes "list") told.list moves flat_moves in
     let hint = with_text (codes "hint") told.hint list in
@@ -82,8 +84,10 @@ told_flat told =
     let flat_deal = number_flat (codes "deal") told.deal fault flat_fault in
     let by_hand = with_number (codes "by_hand") told.by_hand deal in
     let flat_by_hand = number_flat (codes "by_hand") told.by_hand deal flat_deal in
-    let board = with_text (codes "board") told.board by_hand in
-    let flat_board = text_flat (codes "board") told.board by_hand flat_by_hand in
+    let budget = with_number (codes "budget") told.budget by_hand in
+    let flat_budget = number_flat (codes "budget") told.budget by_hand flat_by_hand in
+    let board = with_text (codes "board") told.board budget in
+    let flat_board = text_flat (codes "board") told.board budget flat_budget in
     text_flat (codes "answer") (Some told.answer) board flat_board
 
 pub review_flat : (told : Reviewed) → IsFlat (members_of_review told)

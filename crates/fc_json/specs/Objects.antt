@@ -17,10 +17,11 @@ with_text name None members = members
 
 -- all that is told of a board, each under its name
 abbrev pub members_of : Told → Members
-members_of told = with_text (codes "answer") (Some told.answer) (with_text (codes "board") told.board (with_number (codes "by_hand") told.by_hand
-    (with_number (codes "deal") told.deal (with_text (codes "fault") told.fault (with_number (codes "floor") told.floor
-    (with_text (codes "hint") told.hint (with_text (codes "list") told.list (with_number (codes "moves") told.moves
-    (with_number (codes "stored") told.stored (with_number (codes "turns") told.turns no_members))))))))))
+members_of told = with_text (codes "answer") (Some told.answer) (with_text (codes "board") told.board (with_number (codes "budget") told.budget
+    (with_number (codes "by_hand") told.by_hand (with_number (codes "deal") told.deal (with_text (codes "fault") told.fault
+    (with_number (codes "floor") told.floor (with_text (codes "hint") told.hint (with_text (codes "list") told.list
+    (with_number (codes "moves") told.moves (with_number (codes "open") told.most_open (with_number (codes "stored") told.stored
+    (with_number (codes "turns") told.turns no_members))))))))))))
 
 -- all that is told of a list of moves, each under its name
 abbrev pub members_of_review : Reviewed → Members

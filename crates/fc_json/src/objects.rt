@@ -27,10 +27,14 @@ pub struct Told<'a> {
     pub hint: Option<&'a str>,
     /// How many entries of it are left to a player's hands.
     pub by_hand: Option<u64>,
+    /// How many classes might be stored.
+    pub budget: Option<u32>,
     /// How many classes the search stored.
     pub stored: Option<u64>,
     /// How many turns it took.
     pub turns: Option<u64>,
+    /// The most entries that were open in one search; of more than 2^64 - 1, that number.
+    pub most_open: Option<u64>,
     /// Why there is no answer.
     pub fault: Option<&'a str>,
 }
@@ -38,7 +42,7 @@ pub struct Told<'a> {
 impl<'a> Told<'a> {
     /// An answer of this name, and nothing else.
     pub fn new(answer: &'a str) -> Self
-        ensures value { result ≡ record { deal = None; board = None; answer = answer.entry; moves = None; floor = None; list = None; hint = None; by_hand = None; stored = None; turns = None; fault = None } }
+        ensures value { result ≡ record { deal = None; board = None; answer = answer.entry; moves = None; floor = None; list = None; hint = None; by_hand = None; budget = None; stored = None; turns = None; most_open = None; fault = None } }
     {
         Told {
             deal: None,
@@ -49,8 +53,10 @@ impl<'a> Told<'a> {
             list: None,
             hint: None,
             by_hand: None,
+            budget: None,
             stored: None,
             turns: None,
+            most_open: None,
             fault: None,
         }
     }
@@ -76,6 +82,7 @@ fn told_members(alloc: Global, told: &Told<'_>) -> Result<Map<String, Value>, Al
     let mut map = Map::new(alloc);
     put_number(alloc, &mut map, "turns", told.turns)?;
     put_number(alloc, &mut map, "stored", told.stored)?;
+    put_number(alloc, &mut map, "open", told.most_open)?;
     put_count(alloc, &mut map, "moves", told.moves)?;
     put_text(alloc, &mut map, "list", told.list)?;
     put_text(alloc, &mut map, "hint", told.hint)?;
@@ -83,6 +90,7 @@ fn told_members(alloc: Global, told: &Told<'_>) -> Result<Map<String, Value>, Al
     put_text(alloc, &mut map, "fault", told.fault)?;
     put_count(alloc, &mut map, "deal", told.deal)?;
     put_number(alloc, &mut map, "by_hand", told.by_hand)?;
+    put_count(alloc, &mut map, "budget", told.budget)?;
     put_text(alloc, &mut map, "board", told.board)?;
     put_text(alloc, &mut map, "answer", Some(told.answer))?;
     Ok(map)
