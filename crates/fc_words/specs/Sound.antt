@@ -11,14 +11,14 @@ use Rattle.fc_words.specs.declared.commands.ReviewLists.{ReviewLists}
 use Rattle.fc_words.specs.declared.commands.ReviewLists.TheVariants.{One}
 use Rattle.fc_words.specs.declared.commands.ReviewLists.TheVariants as lists
 use Rattle.fc_words.specs.declared.commands.BoardWord.TheVariants.{Input}
-use Rattle.fc_words.specs.declared.commands.MovesWord.TheVariants as moves
+use Rattle.fc_words.specs.declared.commands.FileWord.TheVariants as file
 use Rattle.fc_words.specs.declared.commands.BoardWord.{BoardWord}
-use Rattle.fc_words.specs.declared.commands.MovesWord.{MovesWord}
+use Rattle.fc_words.specs.declared.commands.FileWord.{FileWord}
 use Rattle.fc_words.specs.declared.options.TheConstants.{MOST_CELLS}
 
--- the board and the moves aren't both read from standard input
-abbrev pub HasOneInput : BoardWord → MovesWord → Type 0
-HasOneInput board list = board ≡ Input → list ≡ moves.Input → ⊥
+-- the board and what is read beside it, moves or a certificate, aren't both standard input
+abbrev pub HasOneInput : BoardWord → FileWord → Type 0
+HasOneInput board word = board ≡ Input → word ≡ file.Input → ⊥
 
 -- of these files at most one is standard input
 abbrev pub HasInputOnce : List (Bor (List ℕ)) → Type 0
@@ -41,7 +41,7 @@ IsSound (Show words) = words.game.cells ≤ MOST_CELLS
 IsSound (Best words) = words.game.cells ≤ MOST_CELLS
 IsSound (Hint words) = words.game.cells ≤ MOST_CELLS
 IsSound (Solve words) = words.game.cells ≤ MOST_CELLS
-IsSound (Check words) = words.game.cells ≤ MOST_CELLS
+IsSound (Check words) = (words.game.cells ≤ MOST_CELLS) × HasOneInput words.board.word words.cert
 IsSound (Replay words) = (words.game.cells ≤ MOST_CELLS) × HasOneInput words.board.word words.moves
 IsSound (Review words) = (words.game.cells ≤ MOST_CELLS) × ReviewsInputOnce words.lists
 IsSound (Batch words) = (words.game.cells ≤ MOST_CELLS) × ReadsInputOnce words.boards

@@ -4,11 +4,12 @@ ghost use Rattle.std.specs.Prelude.{◌≤◌, ◌↔◌, IfOk, IsTrue};
 ghost use Rattle.fc_words.specs.Sound.{HasInputOnce, ReadsInputOnce};
 ghost use Rattle.fc_words.specs.declared.options.TheConstants.{MOST_CELLS};
 
+use crate::board_words::{GUESS, ROWS, text};
 use crate::commands::{BatchBoards, BatchForm, BatchSearch, BatchWords};
 use crate::faults::WordsFault;
 use crate::options::{
-    BATCH_BUDGET, BOUND, CELLS, EXPAND, GAME, KINGS, Kind, ROWS, RULE, WITHIN, Word, best_search,
-    game, search,
+    BATCH_BUDGET, BOUND, CELLS, EXPAND, GAME, KINGS, Kind, RULE, WITHIN, Word, best_search, game,
+    search,
 };
 use crate::places::place_of;
 use crate::subcommands::Subcommand;
@@ -17,7 +18,7 @@ use std::alloc::Global;
 
 /// `batch`: its words and its help.
 pub(crate) static BATCHING: Subcommand = Subcommand {
-    about: "Solves several deals, or boards of files, and prints what is told of each, without moves",
+    about: "Solves several deals, or boards of files: a line or a row of each",
     after_help: "Without --table or what needs one, at most 32 deals are searched side by side, in turns, and each
 gets a line. They hold the memory of as many searches: up to 12 GB by `--budget max`. With
 --table they go one after the other, any number of them, and hold the memory of one.
@@ -39,6 +40,7 @@ Examples:
         ROWS_IN_JSON,
         FILES,
         ROWS,
+        GUESS,
         CERTS,
         TOTALS,
         BATCH_BUDGET,
@@ -91,7 +93,7 @@ const CERTS: Word = Word {
         value: "FOLDER",
         default: None,
     },
-    help: "Writes proofs of the answers: N.cert, for deal N or the Nth board",
+    help: "Writes proofs of the answers: N.cert, or list.txt:2.cert",
 };
 
 const TOTALS: Word = Word {
@@ -170,7 +172,7 @@ pub(crate) fn batch<'a>(alloc: Global, words: &ArgMatches<'a>) -> Result<BatchWo
     Ok(BatchWords {
         game,
         boards,
-        is_in_rows: words.get_flag(ROWS.name),
+        text: text(words),
         search,
         form: batch_form(words),
         certs: words.get_str(CERTS.name),

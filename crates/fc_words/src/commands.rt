@@ -52,18 +52,26 @@ pub enum BoardWord<'a> {
     Input,
 }
 
+/// How the texts of boards are to be read.
+#[derive(Clone, Copy)]
+pub struct TextWords {
+    /// Whether they have the rows across the table, and not the columns.
+    pub is_in_rows: bool,
+    /// Whether the cards that one lacks are taken for home, where they are runs from the aces.
+    pub is_guessed: bool,
+}
+
 /// A board, and how its text is to be read.
 #[derive(Clone, Copy)]
 pub struct BoardWords<'a> {
     /// What names it.
     pub word: BoardWord<'a>,
-    /// Whether its text has the rows across the table, and not the columns.
-    pub is_in_rows: bool,
+    pub text: TextWords,
 }
 
-/// What names a list of moves.
+/// What names a list of moves, or a certificate.
 #[derive(Clone, Copy)]
-pub enum MovesWord<'a> {
+pub enum FileWord<'a> {
     /// The file of this name.
     File(&'a str),
     /// Standard input.
@@ -219,13 +227,13 @@ pub struct SolveWords<'a> {
     pub is_quiet: bool,
 }
 
-/// The words of `check`.
+/// The words of `check`, of which the board and the certificate are not both from standard input.
 #[derive(Clone, Copy)]
 pub struct CheckWords<'a> {
     pub game: GameWords,
     pub board: BoardWords<'a>,
-    /// The file of the certificate.
-    pub cert: &'a str,
+    /// The certificate.
+    pub cert: FileWord<'a>,
     /// Whether what is proved, or why nothing is, is printed as a JSON object.
     pub is_json: bool,
 }
@@ -235,7 +243,7 @@ pub struct CheckWords<'a> {
 pub struct ReplayWords<'a> {
     pub game: GameWords,
     pub board: BoardWords<'a>,
-    pub moves: MovesWord<'a>,
+    pub moves: FileWord<'a>,
     /// What is printed.
     pub form: ReplayForm,
     /// Whether a link ends what is printed.
@@ -262,7 +270,7 @@ pub enum ReviewLists<'a> {
     /// One, of a board; the board and the moves are not both from standard input.
     One {
         board: BoardWords<'a>,
-        moves: MovesWord<'a>,
+        moves: FileWord<'a>,
     },
     /// Those of these files, of which `-` is standard input: on each line a board and its moves.
     Files(Vec<&'a str>),
@@ -273,8 +281,7 @@ pub enum ReviewLists<'a> {
 pub struct ReviewWords<'a> {
     pub game: GameWords,
     pub lists: ReviewLists<'a>,
-    /// Whether the texts of boards have the rows across the table, and not the columns.
-    pub is_in_rows: bool,
+    pub text: TextWords,
     pub search: BestSearchWords,
     /// Whether an entry of a list may move several cards; else each moves one.
     pub has_sequences: bool,
@@ -306,8 +313,7 @@ pub enum BatchForm {
 pub struct BatchWords<'a> {
     pub game: GameWords,
     pub boards: BatchBoards<'a>,
-    /// Whether the texts of boards have the rows across the table, and not the columns.
-    pub is_in_rows: bool,
+    pub text: TextWords,
     pub search: BatchSearch,
     pub form: BatchForm,
     /// The folder that takes a certificate for each board, if they are asked for.

@@ -17,9 +17,9 @@ pub enum WordsFault {
     /// The certificate is to go to standard output, where the answer goes.
     #[error("--cert takes the name of a file: standard output is the answer's")]
     CertInAnswer,
-    /// The board and the moves are both to be read from standard input.
-    #[error("BOARD and MOVES can't both be standard input")]
-    OneInput,
+    /// The board and the word of this name are both to be read from standard input.
+    #[error("BOARD and {0} can't both be standard input")]
+    OneInput(&'static str),
     /// The option of this name is to read standard input twice.
     #[error("--{0} can take standard input once")]
     InputTwice(&'static str),

@@ -43,6 +43,8 @@ pub enum ReplayForm {
     Expanded,
     /// The board alone after so many entries of the list.
     BoardAfter(u32),
+    /// The one-card moves and how the list ended, or why it stopped, in a JSON object.
+    Json,
 }
 
 /// When red suits are shown in red.

@@ -3,12 +3,12 @@
 ghost use Rattle.std.specs.Prelude.{◌≤◌, IfOk};
 ghost use Rattle.fc_words.specs.declared.options.TheConstants.{MOST_CELLS};
 
+use crate::board_words::{DEAL, GUESS, OPTIONAL_BOARD, ROWS, optional_board};
 use crate::commands::HintWords;
 use crate::faults::WordsFault;
 use crate::link_words::PLAIN_LINK;
 use crate::options::{
-    BEST_BUDGET, CELLS, COLOR, DEAL, GAME, KINGS, Kind, OPTIONAL_BOARD, QUIET, ROWS, RULE, Word,
-    best_search, colours, game, optional_board,
+    BEST_BUDGET, CELLS, COLOR, GAME, KINGS, Kind, QUIET, RULE, Word, best_search, colours, game,
 };
 use crate::subcommands::Subcommand;
 use clap::ArgMatches;
@@ -38,6 +38,7 @@ Examples:
         RULE,
         DEAL,
         ROWS,
+        GUESS,
         OPTIONAL_BOARD,
     ],
 };

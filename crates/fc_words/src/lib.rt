@@ -6,8 +6,8 @@ pub use alone::{is_number, is_subcommand, mean_board};
 pub use bounds::{bound_name, bound_of_name};
 pub use commands::{
     BatchBoards, BatchForm, BatchSearch, BatchWords, BestSearchWords, BestWords, BoardWord,
-    BoardWords, CheckWords, Command, DealWords, GameWords, HintWords, MovesWord, ReplayWords,
-    ReviewLists, ReviewWords, SearchWords, ShowWords, SolveWords,
+    BoardWords, CheckWords, Command, DealWords, FileWord, GameWords, HintWords, ReplayWords,
+    ReviewLists, ReviewWords, SearchWords, ShowWords, SolveWords, TextWords,
 };
 pub use expansions::{expansion_name, expansion_of_name, usual_expansion};
 pub use faults::WordsFault;
@@ -19,6 +19,7 @@ pub use weights::weight_of;
 
 mod alone;
 mod batching;
+mod board_words;
 mod bounds;
 mod commands;
 mod expansions;

@@ -4,7 +4,7 @@
 ghost use Rattle.std.specs.Prelude.{◌≤◌, IfSome};
 
 use crate::bounds::{BOUND_NAMES, bound_of_name};
-use crate::commands::{BestSearchWords, BoardWord, BoardWords, GameWords, MovesWord, SearchWords};
+use crate::commands::{BestSearchWords, FileWord, GameWords, SearchWords};
 use crate::expansions::{EXPANSION_NAMES, expansion_of_name, usual_expansion};
 use crate::faults::WordsFault;
 use crate::forms::{COLOURS_NAMES, Colours, EntriesForm, MovesForm};
@@ -163,7 +163,8 @@ pub(crate) const RULE: Word = Word {
         range: (0, GREATEST_RULE),
         default: "2",
     },
-    help: "Cards sent home at once: none (0), safe (1), more safe (2)",
+    help: "Cards sent home at once: none (0); those on which no card that is
+left may stand (1); those on which none may but such (2)",
 };
 
 fn rule(words: &ArgMatches<'_>) -> Option<HomeRule> {
@@ -238,71 +239,6 @@ pub(crate) fn best_search(words: &ArgMatches<'_>) -> Result<BestSearchWords, Wor
     Ok(BestSearchWords { rule, budget })
 }
 
-pub(crate) const BOARD: &str = "BOARD";
-
-pub(crate) const BOARD_HELP: &str =
-    "A file, - for standard input, or the number of a deal. A board's text
-has a line a column, the deepest card first; a card is its rank,
-A 2 to 9 T J Q K, and its suit, C D H S: `4S TD 9C`. An empty line
-is an empty column. What is home and in the cells may be told too:
-`Foundations: H-J C-K D-K S-J` and `Freecells: KH QS`. A `#` begins
-a comment. With --rows a line is a row across the columns instead";
-
-/// `[BOARD]`.
-pub(crate) const OPTIONAL_BOARD: Word = Word {
-    name: BOARD,
-    kind: Kind::Optional,
-    help: BOARD_HELP,
-};
-
-/// `BOARD`.
-pub(crate) const NEEDED_BOARD: Word = Word {
-    name: BOARD,
-    kind: Kind::Needed,
-    help: BOARD_HELP,
-};
-
-/// `--deal N`, in place of `[BOARD]`.
-pub(crate) const DEAL: Word = Word {
-    name: "deal",
-    kind: Kind::DealInPlaceOf(BOARD),
-    help: "The numbered deal in place of BOARD, 1 to 1000000",
-};
-
-pub(crate) const ROWS: Word = Word {
-    name: "rows",
-    kind: Kind::Flag,
-    help: "Reads BOARD in rows across the table, as `show` draws it",
-};
-
-/// The board that `--deal N` or `[BOARD]` names: standard input where neither is there.
-pub(crate) fn optional_board<'a>(words: &ArgMatches<'a>) -> BoardWords<'a> {
-    let word = match words.get_one::<u32>(DEAL.name) {
-        Some(number) => BoardWord::Deal(number),
-        None => board_word(words).unwrap_or(BoardWord::Input),
-    };
-    BoardWords {
-        word,
-        is_in_rows: words.get_flag(ROWS.name),
-    }
-}
-
-/// The board that `BOARD` names.
-pub(crate) fn needed_board<'a>(words: &ArgMatches<'a>) -> Option<BoardWords<'a>> {
-    Some(BoardWords {
-        word: board_word(words)?,
-        is_in_rows: words.get_flag(ROWS.name),
-    })
-}
-
-// What names the board, where `BOARD` does.
-fn board_word<'a>(words: &ArgMatches<'a>) -> Option<BoardWord<'a>> {
-    match words.get_str(BOARD)? {
-        "-" => Some(BoardWord::Input),
-        word => Some(BoardWord::Named(word)),
-    }
-}
-
 pub(crate) const BOARDS: Word = Word {
     name: "boards",
     kind: Kind::FlagInPlaceOf(&["words", "json"]),
@@ -356,7 +292,7 @@ fn entries_form(words: &ArgMatches<'_>) -> EntriesForm {
 pub(crate) const COLOR: Word = Word {
     name: "color",
     kind: Kind::Name(&COLOURS_NAMES),
-    help: "Red suits in red: auto (on a terminal), always or never",
+    help: "Red suits in red: auto, always (as for less -R) or never",
 };
 
 /// When red suits are to be in red.
@@ -387,10 +323,10 @@ pub(crate) const MOVES_NAME: &str = "MOVES";
 pub(crate) const MOVES_HELP: &str =
     "A file of moves, or - for standard input: two letters each, or what `solve` prints";
 
-/// The list of moves.
-pub(crate) fn moves<'a>(words: &ArgMatches<'a>) -> Option<MovesWord<'a>> {
-    match words.get_str(MOVES.name)? {
-        "-" => Some(MovesWord::Input),
-        path => Some(MovesWord::File(path)),
+/// What the word of this name names.
+pub(crate) fn file<'a>(words: &ArgMatches<'a>, name: &str) -> Option<FileWord<'a>> {
+    match words.get_str(name)? {
+        "-" => Some(FileWord::Input),
+        path => Some(FileWord::File(path)),
     }
 }

@@ -65,8 +65,8 @@ fn read_task<'a>(
             Err(fault) => Err(fault),
         },
         Task::Check => match check(words) {
-            Some(words) => Ok(Command::Check(words)),
-            None => Err(WordsFault::Missing),
+            Ok(words) => Ok(Command::Check(words)),
+            Err(fault) => Err(fault),
         },
         Task::Replay => match replay(words) {
             Ok(words) => Ok(Command::Replay(words)),

@@ -4,13 +4,13 @@ ghost use Rattle.std.specs.Prelude.{◌≤◌, IfOk};
 ghost use Rattle.fc_words.specs.Sound.{HasOneInput};
 ghost use Rattle.fc_words.specs.declared.options.TheConstants.{MOST_CELLS};
 
-use crate::commands::{BoardWord, MovesWord, ReplayWords};
+use crate::board_words::{GUESS, NEEDED_BOARD, ROWS, needed_board};
+use crate::commands::{BoardWord, FileWord, ReplayWords};
 use crate::faults::WordsFault;
 use crate::forms::{Colours, ReplayForm};
 use crate::link_words::PLAIN_LINK;
 use crate::options::{
-    CELLS, COLOR, GAME, KINGS, Kind, MOVES, NEEDED_BOARD, ROWS, SEQUENCES, Word, colours, game,
-    moves, needed_board,
+    CELLS, COLOR, GAME, KINGS, Kind, MOVES, SEQUENCES, Word, colours, file, game,
 };
 use crate::subcommands::Subcommand;
 use clap::ArgMatches;
@@ -41,6 +41,7 @@ Examples:
         DRAWN,
         EXPANDED,
         BOARD_AT,
+        REPLAY_IN_JSON,
         SEQUENCES,
         MUST_WIN,
         PLAIN_LINK,
@@ -49,6 +50,7 @@ Examples:
         KINGS,
         CELLS,
         ROWS,
+        GUESS,
         NEEDED_BOARD,
         MOVES,
     ],
@@ -56,26 +58,32 @@ Examples:
 
 const NUMBERED: Word = Word {
     name: "numbered",
-    kind: Kind::FlagInPlaceOf(&["drawn", "expanded", "board-at"]),
+    kind: Kind::FlagInPlaceOf(&["drawn", "expanded", "board-at", "json"]),
     help: "Prints the number and the move above each board",
 };
 
 const DRAWN: Word = Word {
     name: "drawn",
-    kind: Kind::FlagInPlaceOf(&["numbered", "expanded", "board-at"]),
+    kind: Kind::FlagInPlaceOf(&["numbered", "expanded", "board-at", "json"]),
     help: "Draws each board as `show` does, below the move in words",
 };
 
 const EXPANDED: Word = Word {
     name: "expanded",
-    kind: Kind::FlagInPlaceOf(&["numbered", "drawn", "board-at"]),
+    kind: Kind::FlagInPlaceOf(&["numbered", "drawn", "board-at", "json"]),
     help: "Prints the one-card moves alone, on one line, as `solve` does",
 };
 
 const BOARD_AT: Word = Word {
     name: "board-at",
-    kind: Kind::EntryInPlaceOf(&["numbered", "drawn", "expanded", "must-win"]),
+    kind: Kind::EntryInPlaceOf(&["numbered", "drawn", "expanded", "must-win", "json"]),
     help: "Prints only the board before entry N of the list, from 1 on",
+};
+
+const REPLAY_IN_JSON: Word = Word {
+    name: "json",
+    kind: Kind::FlagInPlaceOf(&["numbered", "drawn", "expanded", "board-at", "link"]),
+    help: "Prints how the list ended, and its moves, as a JSON object",
 };
 
 const MUST_WIN: Word = Word {
@@ -89,6 +97,8 @@ fn form(words: &ArgMatches<'_>) -> ReplayForm {
     if let Some(entry) = words.get_one::<u32>(BOARD_AT.name) {
         // (the table of words lets no number below 1 through)
         ReplayForm::BoardAfter(entry.saturating_sub(1))
+    } else if words.get_flag(REPLAY_IN_JSON.name) {
+        ReplayForm::Json
     } else if words.get_flag(EXPANDED.name) {
         ReplayForm::Expanded
     } else if words.get_flag(DRAWN.name) {
@@ -106,12 +116,15 @@ pub(crate) fn replay<'a>(words: &ArgMatches<'a>) -> Result<ReplayWords<'a>, Word
     ensures cells { IfOk result (λ replay. replay.game.cells ≤ MOST_CELLS) }
     ensures one_input { IfOk result (λ replay. HasOneInput replay.board.word replay.moves) }
 {
-    let (Some(game), Some(board), Some(moves)) = (game(words), needed_board(words), moves(words))
-    else {
+    let (Some(game), Some(board), Some(moves)) = (
+        game(words),
+        needed_board(words),
+        file(words, MOVES.name),
+    ) else {
         return Err(WordsFault::Missing);
     };
-    if let (BoardWord::Input, MovesWord::Input) = (board.word, moves) {
-        return Err(WordsFault::OneInput);
+    if let (BoardWord::Input, FileWord::Input) = (board.word, moves) {
+        return Err(WordsFault::OneInput(MOVES.name));
     }
     Ok(ReplayWords {
         game,

@@ -5,12 +5,13 @@ ghost use Rattle.fc_words.specs.Sound.{ReviewsInputOnce};
 ghost use Rattle.fc_words.specs.declared.options.TheConstants.{MOST_CELLS};
 
 use crate::batching::has_input_twice;
-use crate::commands::{BoardWord, MovesWord, ReviewLists, ReviewWords};
+use crate::board_words::{BOARD, BOARD_HELP, GUESS, ROWS, needed_board, text};
+use crate::commands::{BoardWord, FileWord, ReviewLists, ReviewWords};
 use crate::faults::WordsFault;
 use crate::link_words::PLAIN_LINK;
 use crate::options::{
-    BEST_BUDGET, BOARD, BOARD_HELP, CELLS, GAME, KINGS, Kind, MOVES_HELP, MOVES_NAME, ROWS, RULE,
-    SEQUENCES, Word, best_search, game, moves, needed_board,
+    BEST_BUDGET, CELLS, GAME, KINGS, Kind, MOVES_HELP, MOVES_NAME, RULE, SEQUENCES, Word,
+    best_search, file, game,
 };
 use crate::subcommands::{Subcommand, cert};
 use clap::ArgMatches;
@@ -50,6 +51,7 @@ Examples:
         CELLS,
         RULE,
         ROWS,
+        GUESS,
         LISTED_BOARD,
         LISTED_MOVES,
     ],
@@ -117,11 +119,11 @@ fn review_lists<'a>(alloc: Global, words: &ArgMatches<'a>) -> Result<ReviewLists
         }
         return Ok(ReviewLists::Files(Vec::from_slice(alloc, files)?));
     }
-    let (Some(board), Some(moves)) = (needed_board(words), moves(words)) else {
+    let (Some(board), Some(moves)) = (needed_board(words), file(words, MOVES_NAME)) else {
         return Err(WordsFault::Missing);
     };
-    if let (BoardWord::Input, MovesWord::Input) = (board.word, moves) {
-        return Err(WordsFault::OneInput);
+    if let (BoardWord::Input, FileWord::Input) = (board.word, moves) {
+        return Err(WordsFault::OneInput(MOVES_NAME));
     }
     Ok(ReviewLists::One { board, moves })
 }
@@ -143,7 +145,7 @@ pub(crate) fn review<'a>(
     Ok(ReviewWords {
         game,
         lists,
-        is_in_rows: words.get_flag(ROWS.name),
+        text: text(words),
         search,
         has_sequences: words.get_flag(SEQUENCES.name),
         has_all: words.get_flag(ALL.name),

@@ -1,17 +1,22 @@
 //! Each subcommand: its words and its help in one item, and how what it asks for is read in the function below.
 
 ghost use Rattle.std.specs.Prelude.{◌≤◌, IfOk, IfSome};
+ghost use Rattle.fc_words.specs.Sound.{HasOneInput};
 ghost use Rattle.fc_words.specs.declared.options.TheConstants.{MOST_CELLS};
 
 use crate::batching::BATCHING;
-use crate::commands::{BestWords, CheckWords, DealWords, ShowWords, SolveWords};
+use crate::board_words::{
+    DEAL, GUESS, NEEDED_BOARD, OPTIONAL_BOARD, ROWS, needed_board, optional_board,
+};
+use crate::commands::{
+    BestWords, BoardWord, CheckWords, DealWords, FileWord, ShowWords, SolveWords,
+};
 use crate::faults::WordsFault;
 use crate::hint_words::HINTING;
 use crate::link_words::{LINK, LINK_HELP};
 use crate::options::{
-    BEST_BUDGET, BOARDS, BOUND, BUDGET, CELLS, COLOR, DEAL, EXPAND, GAME, IN_JSON, IN_SEQUENCES,
-    KINGS, Kind, NEEDED_BOARD, OPTIONAL_BOARD, QUIET, ROWS, RULE, WITHIN, WORDS, Word, best_search,
-    colours, form, game, needed_board, optional_board, search,
+    BEST_BUDGET, BOARDS, BOUND, BUDGET, CELLS, COLOR, EXPAND, GAME, IN_JSON, IN_SEQUENCES, KINGS,
+    Kind, QUIET, RULE, WITHIN, WORDS, Word, best_search, colours, file, form, game, search,
 };
 use crate::replays::REPLAYING;
 use crate::review_words::REVIEWING;
@@ -63,9 +68,19 @@ pub(crate) fn deal(words: &ArgMatches<'_>) -> Option<DealWords> {
 
 // `show`: its words and its help.
 static SHOWING: Subcommand = Subcommand {
-    about: "Draws a board as it is read, its columns downward, to see that it is the one you mean",
+    about: "Draws a board as it is read, its columns downward",
     after_help: "Example: fc_solve show 617",
-    words: &[PLAIN, COLOR, GAME, KINGS, CELLS, DEAL, ROWS, OPTIONAL_BOARD],
+    words: &[
+        PLAIN,
+        COLOR,
+        GAME,
+        KINGS,
+        CELLS,
+        DEAL,
+        ROWS,
+        GUESS,
+        OPTIONAL_BOARD,
+    ],
 };
 
 const PLAIN: Word = Word {
@@ -88,13 +103,15 @@ pub(crate) fn show<'a>(words: &ArgMatches<'a>) -> Option<ShowWords<'a>>
 
 // `best`: its words and its help.
 static BEST_SOLVING: Subcommand = Subcommand {
-    about: "Prints the best solution that a moment's work gives, and how near the shortest it is",
+    about: "Prints the best solution a moment gives, and how near the shortest",
     after_help: "The answer is one of four, with the moves of a solution below it:
   shortest N         a solution of N moves; none has fewer
   won N, at least L  a solution of N moves; none has fewer than L
   can't be won       there is no solution
-  gave up B          no answer within a budget of B positions
-`--budget max` takes longer, and is surer.
+  gave up B          no answer; more than B positions can be reached
+
+A budget of 100k positions takes up to 0.5 s and 11 MB, 500k 3 s and 25 MB, 4M 29 s and 242 MB, 16M
+140 s and 940 MB, on a processor of 2.5 GHz.
 
 Moves are two letters, from where to where: columns 1 to 8, cells a to d, home h. Each takes
 one card. `show` draws the board as it is read.
@@ -123,6 +140,7 @@ Examples:
         RULE,
         DEAL,
         ROWS,
+        GUESS,
         OPTIONAL_BOARD,
     ],
 };
@@ -167,8 +185,11 @@ const EACH: Word = Word {
 
 // `solve`: its words and its help.
 static SOLVING: Subcommand = Subcommand {
-    about: "Prints a shortest solution, or that the board can't be won, or that it gave up",
-    after_help: "Moves are two letters, from where to where: columns 1 to 8, cells a to d, home h. Each takes
+    about: "Prints a shortest solution, or that none wins, or that it gave up",
+    after_help: "A budget of 100k positions takes up to 0.1 s and 11 MB by the plain bound, 500k 0.5 s and 31 MB, 4M
+7 s and 231 MB; by the clearing bound 0.5, 3 and 29 s, on a processor of 2.5 GHz.
+
+Moves are two letters, from where to where: columns 1 to 8, cells a to d, home h. Each takes
 one card. `show` draws the board as it is read.
 
 Status: 0 a solution, 1 can't be won, 2 gave up, 3 something asked or read isn't right,
@@ -198,6 +219,7 @@ Examples:
         RULE,
         DEAL,
         ROWS,
+        GUESS,
         OPTIONAL_BOARD,
     ],
 };
@@ -252,11 +274,23 @@ pub(crate) fn solve<'a>(words: &ArgMatches<'a>) -> Result<SolveWords<'a>, WordsF
 
 // `check`: its words and its help.
 static CHECKING: Subcommand = Subcommand {
-    about: "Says what a certificate proves of a board, or why it proves nothing; it searches nothing",
+    about: "Says what a certificate proves of a board, without any search",
     after_help: "Status: 0 accepted, 3 refused, 4 want of memory, 5 reading or writing failed.
 
-Example: fc_solve check boards/locked.txt boards/locked.cert",
-    words: &[CLAIM_IN_JSON, GAME, KINGS, CELLS, ROWS, NEEDED_BOARD, CERT],
+Examples:
+  fc_solve check boards/locked.txt boards/locked.cert
+  zstd -dc 46.cert.zst | fc_solve check 46 -
+  fc_solve check list.txt:2 certs/list.txt:2.cert   the second board of a list",
+    words: &[
+        CLAIM_IN_JSON,
+        GAME,
+        KINGS,
+        CELLS,
+        ROWS,
+        GUESS,
+        NEEDED_BOARD,
+        CERT,
+    ],
 };
 
 const CLAIM_IN_JSON: Word = Word {
@@ -268,17 +302,28 @@ const CLAIM_IN_JSON: Word = Word {
 const CERT: Word = Word {
     name: "CERT",
     kind: Kind::Needed,
-    help: "The file of the certificate, as `solve --cert` writes it",
+    help: "The certificate's file, as `solve --cert` writes it, or - for standard input",
 };
 
 /// What `check` asks for.
-pub(crate) fn check<'a>(words: &ArgMatches<'a>) -> Option<CheckWords<'a>>
-    ensures cells { IfSome result (λ check. check.game.cells ≤ MOST_CELLS) }
+pub(crate) fn check<'a>(words: &ArgMatches<'a>) -> Result<CheckWords<'a>, WordsFault>
+    ensures cells { IfOk result (λ check. check.game.cells ≤ MOST_CELLS) }
+    ensures one_input { IfOk result (λ check. HasOneInput check.board.word check.cert) }
 {
-    Some(CheckWords {
-        game: game(words)?,
-        board: needed_board(words)?,
-        cert: words.get_str(CERT.name)?,
+    let (Some(game), Some(board), Some(cert)) = (
+        game(words),
+        needed_board(words),
+        file(words, CERT.name),
+    ) else {
+        return Err(WordsFault::Missing);
+    };
+    if let (BoardWord::Input, FileWord::Input) = (board.word, cert) {
+        return Err(WordsFault::OneInput(CERT.name));
+    }
+    Ok(CheckWords {
+        game,
+        board,
+        cert,
         is_json: words.get_flag(CLAIM_IN_JSON.name),
     })
 }

@@ -13,8 +13,9 @@ pub(crate) fn command<'a>(alloc: Global) -> Result<Command<'a>, AllocError> {
         .version("0.1.0")
         .about("Solves FreeCell in the fewest moves, or proves that a board can't be won.")
         .after_help(
-            "A number or a file alone is answered as by `best`; with --within, --bound or --expand as by
-`solve`, within twice the fewest moves and by the clearing bound where these aren't told.
+            "A number or a file alone is answered as by `best`; with --within, --bound or
+--expand as by `solve`, within twice the fewest moves and by the clearing bound
+where these aren't told.
 
 Examples:
   fc_solve 617        the best solution of deal 617 that a moment gives
