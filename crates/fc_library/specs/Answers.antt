@@ -1,53 +1,26 @@
--- What the best answers of boards promise, told in memory.
-use Rattle.std.specs.Prelude.{ℕ, false, List, [], Some, None}
-use Rattle.fc_position.specs.Board.{Board}
-use Rattle.fc_bound.specs.declared.kinds.BoundKind.TheVariants.{Clearing}
-use Rattle.fc_best_first.specs.Limits.{IsGreatBudget}
-use Rattle.fc_best_first.specs.declared.strategies.Expansion.TheVariants.{Partial}
-use Rattle.fc_methods.specs.Method.{Asked}
-use Rattle.fc_methods.specs.declared.methods.Method.{Method}
+-- What verdicts promise that are told in memory.
+use Rattle.std.specs.Prelude.{◌≡◌, ℕ, false, List, [], Some}
+use Rattle.fc_answers.specs.declared.answers.Verdict.{Verdict}
+use Rattle.fc_answers.specs.Verdict.{outcome_of}
+use Rattle.fc_answer_text.specs.AnswerText.{answer_text, status_of}
 use Rattle.fc_board_runs.specs.Devices.{Device}
-use Rattle.fc_runs.specs.Besting.{IsBestAnswered}
-use Rattle.fc_library.specs.Boards.{IsTextFault, SpellsPlainly}
-use Rattle.fc_library.specs.Games.{IsNamed, game_named}
-use Rattle.fc_library.specs.declared.games.GameName.{GameName}
+use Rattle.fc_search.specs.Problem.{Problem}
+use Rattle.fc_runs.specs.Solving.{IsCertified}
 use Rattle.fc_library.specs.declared.answers.Certified.{Certified}
 use Rattle.fc_library.specs.declared.answers.Told.{Told}
-use Rattle.fc_library.specs.declared.refusals.Refusal.{Refusal}
-use Rattle.fc_library.specs.declared.refusals.Refusal.TheVariants as refused
 
 -- a sink that held nothing, and holds these bytes now
 abbrev pub holding : List ℕ → Device
 holding bytes = record { old = Some []; new = Some bytes; failed = false }
 
--- a search by home rule 2, the clearing bound and partial expansion, within a budget
-abbrev pub best_method : ℕ → Method
-best_method budget = record { rule = 2; bound = Clearing; strategy = record { weight = record { parts = 1; times = 1 }; expansion = Partial; budget = budget } }
+-- a verdict was told: its text, how many moves its list has and the floor, and its status
+pub record IsVerdictTold (verdict : Verdict) (told : Told) : Type 0 where
+  pub written : told.text.items ≡ answer_text verdict
+  pub numbers : told.outcome ≡ Some (outcome_of verdict)
+  pub status : told.status ≡ status_of verdict
+  pub place : told.place ≡ 0
 
--- the question of a best answer in a game that is named
-abbrev pub asked_best : GameName → ℕ → Asked
-asked_best name budget = record { game = game_named name; method = best_method budget }
-
--- what is asked can be: the game is one, the budget is one, and the text spells the position
-pub record CanBeAsked (name : GameName) (text : List ℕ) (budget : ℕ) (start : Board) : Type 0 where
-  pub named : IsNamed name
-  pub budgeted : IsGreatBudget budget
-  pub spelled : SpellsPlainly name.cells text start
-
--- a board was answered, by the text of its best verdict
-abbrev pub IsBestTold : GameName → List ℕ → ℕ → Told → Type 0
-IsBestTold name text budget told = (start : Board) × CanBeAsked name text budget start
-    × IsBestAnswered (asked_best name budget) start None (holding told.text.items) told.status
-
--- and by its certificate
-abbrev pub IsBestCertified : GameName → List ℕ → ℕ → Certified → Type 0
-IsBestCertified name text budget told = (start : Board) × CanBeAsked name text budget start
-    × IsBestAnswered (asked_best name budget) start (Some (holding told.certificate.items)) (holding told.text.items) told.status
-
--- why a board wasn't answered, each fault only where those before it have no cause
-abbrev pub IsBestRefused : GameName → List ℕ → ℕ → Refusal → Type 0
-IsBestRefused name text budget refused.Game = IsNamed name → ⊥
-IsBestRefused name text budget refused.Budget = IsNamed name × (IsGreatBudget budget → ⊥)
-IsBestRefused name text budget (refused.Board fault) = IsNamed name × IsGreatBudget budget × IsTextFault name.cells text fault
-IsBestRefused name text budget refused.Memory = (start : Board) × CanBeAsked name text budget start
-IsBestRefused name text budget other = ⊥
+-- and what there is of certificates of it
+pub record IsVerdictCertified (p : Problem) (verdict : Verdict) (both : Certified) : Type 0 where
+  pub told : IsVerdictTold verdict both.told
+  pub certificate : IsCertified p verdict (holding both.certificate.items)

@@ -1,5 +1,5 @@
 -- What checking promises, of bytes in memory.
-use Rattle.std.specs.Prelude.{◌≡◌, ℕ, ◌<◌, ◌≤◌, List, length}
+use Rattle.std.specs.Prelude.{◌≡◌, ℕ, ◌<◌, ◌≤◌, List, Some, length}
 use Rattle.fc_position.specs.Board.{Board}
 use Rattle.fc_cert.specs.Claim.{IsCertificate, IsTrueOf}
 use Rattle.fc_cert.specs.declared.certificates.TheConstants.{LONGEST_CERTIFICATE}
@@ -7,6 +7,7 @@ use Rattle.fc_cert.specs.declared.claims.Claim.{Claim}
 use Rattle.fc_checker.specs.Check.{IsCheckFault}
 use Rattle.fc_answer_text.specs.AnswerText.{accepted_text}
 use Rattle.fc_library.specs.Boards.{IsTextFault, SpellsPlainly}
+use Rattle.fc_library.specs.Figures.{claimed_outcome}
 use Rattle.fc_library.specs.Games.{IsNamed, game_named}
 use Rattle.fc_library.specs.declared.games.GameName.{GameName}
 use Rattle.fc_library.specs.declared.answers.Told.{Told}
@@ -19,7 +20,7 @@ pub record CanBeChecked (name : GameName) (text bytes : List ℕ) (start : Board
   pub spelled : SpellsPlainly name.cells text start
   pub short : length bytes ≤ LONGEST_CERTIFICATE
 
--- the bytes are a certificate of a claim of the board, the claim is true, and this is its text
+-- the bytes are a certificate of a claim of the board, the claim is true, and these are its text and its numbers
 pub record IsAccepted (name : GameName) (text bytes : List ℕ) (told : Told) : Type 0 where
   pub start : Board
   pub given : CanBeChecked name text bytes start
@@ -27,7 +28,9 @@ pub record IsAccepted (name : GameName) (text bytes : List ℕ) (told : Told) : 
   pub proves : IsCertificate (game_named name) start bytes claim
   pub holds : IsTrueOf (game_named name) start claim
   pub written : told.text.items ≡ accepted_text claim
+  pub numbers : told.outcome ≡ Some (claimed_outcome claim)
   pub status : told.status ≡ 0
+  pub place : told.place ≡ 0
 
 -- why bytes weren't accepted, each fault only where those before it have no cause
 abbrev pub IsCheckRefused : GameName → List ℕ → List ℕ → Refusal → Type 0

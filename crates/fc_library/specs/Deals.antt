@@ -1,5 +1,5 @@
 -- What telling deals promises.
-use Rattle.std.specs.Prelude.{◌≡◌, ℕ}
+use Rattle.std.specs.Prelude.{◌≡◌, ℕ, None}
 use Rattle.fc_deal.specs.Deal.{IsDealNumber, dealt_board}
 use Rattle.fc_deal.specs.DealText.{deal_text}
 use Rattle.fc_library.specs.declared.answers.Told.{Told}
@@ -10,7 +10,9 @@ use Rattle.fc_library.specs.declared.refusals.Refusal.TheVariants as refused
 pub record IsDealTold (n : ℕ) (told : Told) : Type 0 where
   pub number : IsDealNumber n
   pub written : told.text.items ≡ deal_text (dealt_board n)
+  pub numbers : told.outcome ≡ None
   pub status : told.status ≡ 0
+  pub place : told.place ≡ 0
 
 -- why it wasn't: the number is no deal's, or memory was wanted
 abbrev pub IsDealRefused : ℕ → Refusal → Type 0

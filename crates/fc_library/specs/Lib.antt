@@ -1,8 +1,17 @@
 pub mod Answers
+pub mod Bests
 pub mod Boards
 pub mod Checks
 pub mod Deals
+pub mod Figures
 pub mod Games
+pub mod Keeps
+pub mod Lists
+pub mod Methods
 pub mod Numbers
 pub mod Replays
+pub mod Reviews
 pub mod Rooms
+pub mod Sequences
+pub mod Solves
+pub mod inner

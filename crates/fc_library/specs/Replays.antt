@@ -1,5 +1,5 @@
 -- What replaying promises, of a list in memory.
-use Rattle.std.specs.Prelude.{◌≡◌, ℕ, ◌<◌, ◌≤◌, cond, List, [], length, Some, Ok, Err}
+use Rattle.std.specs.Prelude.{◌≡◌, ℕ, ◌<◌, ◌≤◌, cond, List, [], length, None, Some, Ok, Err}
 use Rattle.fc_position.specs.Board.{Board}
 use Rattle.fc_replay.specs.Played.{ReplaysAs, sink_change}
 use Rattle.fc_replay.specs.Token.{move_tokens}
@@ -25,7 +25,9 @@ pub record IsReplayTold (name : GameName) (text list : List ℕ) (told : Told) :
   pub given : CanBeReplayed name text list start
   pub ended : Ended
   pub replayed : ReplaysAs page.Board (game_named name) start (move_tokens list) (sink_change (Some []) (Some told.text.items)) (Ok ended)
+  pub numbers : told.outcome ≡ None
   pub status : told.status ≡ cond ended.is_won 0 3
+  pub place : told.place ≡ 0
 
 -- why a list wasn't played to its end, each fault only where those before it have no cause: what stood written when it
 -- stopped is told of the fault

@@ -4,6 +4,7 @@ ghost use Rattle.fc_library.specs.Checks.{IsAccepted, IsCheckRefused};
 
 use crate::answers::Told;
 use crate::boards::start_of;
+use crate::figures::claimed_outcome;
 use crate::games::{GameName, game_of};
 use crate::refusals::Refusal;
 use fc_answer_text::accepted_text;
@@ -12,8 +13,8 @@ use fc_checker::check;
 use fc_moves::Game;
 use std::alloc::Global;
 
-/// The text of the claim that the bytes prove of a board of the game of this name, as the program prints
-/// it. Nothing is searched.
+/// The text of the claim that the bytes prove of a board of the game of this name, as the program prints it, and its numbers.
+/// Nothing is searched.
 ///
 /// # Errors
 /// In this order: `Game`; `Board`; `TooLong` for more than 1 GiB; `Certificate`, the first thing that is asked of one and
@@ -39,7 +40,12 @@ pub fn check_bytes(
     }
     match check(alloc, &game, &start, bytes) {
         Ok(claim) => match accepted_text(alloc, claim) {
-            Ok(text) => Ok(Told { status: 0, text }),
+            Ok(text) => Ok(Told {
+                status: 0,
+                place: 0,
+                outcome: Some(claimed_outcome(claim)),
+                text,
+            }),
             Err(_) => Err(Refusal::Memory),
         },
         Err(fault) => Err(Refusal::Certificate(fault)),

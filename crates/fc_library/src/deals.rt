@@ -19,7 +19,12 @@ pub fn deal_of(alloc: Global, number: u32) -> Result<Told, Refusal>
         return Err(Refusal::Deal);
     };
     match Vec::from_slice(alloc, deal_text(&position).as_bytes()) {
-        Ok(text) => Ok(Told { status: 0, text }),
+        Ok(text) => Ok(Told {
+            status: 0,
+            place: 0,
+            outcome: None,
+            text,
+        }),
         Err(_) => Err(Refusal::Memory),
     }
 }

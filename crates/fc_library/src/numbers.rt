@@ -1,4 +1,15 @@
-//! The numbers that tell how a call ended. `lib/luffaknife.h` names the same ones.
+//! The numbers that tell what an answer is, and how a call ended. `lib/luffaknife.h` names the same ones.
+
+/// No answer and no claim is told.
+pub const KIND_NONE: u32 = 0;
+/// A shortest list.
+pub const KIND_SHORTEST: u32 = 1;
+/// A list that wins, and a number that each such list has at least.
+pub const KIND_WON: u32 = 2;
+/// That no list wins.
+pub const KIND_CANNOT_WIN: u32 = 3;
+/// That the search gave up.
+pub const KIND_GAVE_UP: u32 = 4;
 
 /// A list that wins was told, a certificate was accepted, a list was played to a won board, or a deal was told.
 pub const DONE: u32 = 0;
@@ -13,7 +24,7 @@ pub const NOT_WON: u32 = 3;
 pub const BAD_GAME: u32 = 16;
 /// No deal has this number.
 pub const BAD_DEAL: u32 = 17;
-/// The budget is outside 1 to 16,000,000.
+/// The budget is outside 1 to 16,000,000, or of one search 4,000,000.
 pub const BAD_BUDGET: u32 = 18;
 /// A growth of memory was refused.
 pub const NO_MEMORY: u32 = 19;
@@ -25,6 +36,16 @@ pub const TOO_LONG: u32 = 21;
 pub const NOT_A_MOVE: u32 = 22;
 /// The move of this step isn't allowed.
 pub const NOT_ALLOWED: u32 = 23;
+/// The entries of a list up to this step lead to more than 1,000 boards.
+pub const TOO_MANY_WAYS: u32 = 24;
+/// No home rule has this number.
+pub const BAD_RULE: u32 = 25;
+/// No kind of bound has this number.
+pub const BAD_BOUND: u32 = 26;
+/// So many tenths are no weight.
+pub const BAD_WEIGHT: u32 = 27;
+/// No expansion has this number.
+pub const BAD_EXPANSION: u32 = 28;
 
 /// The board's text is too long.
 pub const BOARD_TOO_LONG: u32 = 32;

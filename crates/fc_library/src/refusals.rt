@@ -14,14 +14,24 @@ pub enum Refusal {
     Game,
     /// No deal has this number.
     Deal,
-    /// The budget is outside 1 to 16,000,000.
+    /// The budget is outside 1 to 16,000,000, or of one search 4,000,000.
     Budget,
+    /// No home rule has this number.
+    Rule,
+    /// No kind of bound has this number.
+    Bound,
+    /// So many tenths are no weight.
+    Weight,
+    /// No expansion has this number.
+    Expansion,
     /// The text spells no board of the game.
     Board(BoardFault),
     /// A list has more than 1,048,576 bytes, or a certificate more than 1 GiB.
     TooLong,
     /// A step of a list is no move, or isn't allowed.
     Moves(ReplayFault),
+    /// The entries of a list up to this step lead to more than 1,000 boards, since how many cards go to empty columns isn't told.
+    TooManyWays(u32),
     /// The bytes are no certificate of the board.
     Certificate(CheckFault),
     /// A growth of memory was refused.
@@ -37,9 +47,14 @@ impl Refusal {
             Refusal::Game => BAD_GAME,
             Refusal::Deal => BAD_DEAL,
             Refusal::Budget => BAD_BUDGET,
+            Refusal::Rule => BAD_RULE,
+            Refusal::Bound => BAD_BOUND,
+            Refusal::Weight => BAD_WEIGHT,
+            Refusal::Expansion => BAD_EXPANSION,
             Refusal::Board(fault) => board_number(fault),
             Refusal::TooLong => TOO_LONG,
             Refusal::Moves(fault) => replay_number(fault),
+            Refusal::TooManyWays(_) => TOO_MANY_WAYS,
             Refusal::Certificate(fault) => check_number(fault),
             Refusal::Memory => NO_MEMORY,
         }
@@ -53,6 +68,7 @@ impl Refusal {
         match self {
             Refusal::Board(fault) => board_place(fault),
             Refusal::Moves(fault) => replay_place(fault),
+            Refusal::TooManyWays(step) => *step,
             Refusal::Certificate(fault) => check_place(fault),
             _ => 0,
         }

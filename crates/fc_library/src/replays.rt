@@ -41,6 +41,8 @@ pub fn replay_list(
     match replay_as(&game, &start, list, Page::Board, &mut boards) {
         Ok(ended) => Ok(Told {
             status: if ended.is_won { 0 } else { 3 },
+            place: 0,
+            outcome: None,
             text: boards.into_bytes(),
         }),
         Err(fault) => Err(Refusal::Moves(fault)),

@@ -1,0 +1,57 @@
+-- What the best answers of boards promise, told in memory.
+use Rattle.std.specs.Prelude.{ℕ, List}
+use Rattle.fc_position.specs.Board.{Board}
+use Rattle.fc_answers.specs.declared.answers.Verdict.{Verdict}
+use Rattle.fc_bound.specs.declared.kinds.BoundKind.TheVariants.{Clearing}
+use Rattle.fc_best.specs.Best.{IsBestVerdict}
+use Rattle.fc_best_first.specs.Limits.{IsGreatBudget}
+use Rattle.fc_best_first.specs.declared.strategies.Expansion.TheVariants.{Partial}
+use Rattle.fc_methods.specs.Method.{Asked}
+use Rattle.fc_methods.specs.declared.methods.Method.{Method}
+use Rattle.fc_search.specs.Problem.{problem_of}
+use Rattle.fc_library.specs.Answers.{IsVerdictCertified, IsVerdictTold}
+use Rattle.fc_library.specs.Boards.{IsTextFault, SpellsPlainly}
+use Rattle.fc_library.specs.Games.{IsNamed, game_named}
+use Rattle.fc_library.specs.declared.games.GameName.{GameName}
+use Rattle.fc_library.specs.declared.answers.Certified.{Certified}
+use Rattle.fc_library.specs.declared.answers.Told.{Told}
+use Rattle.fc_library.specs.declared.refusals.Refusal.{Refusal}
+use Rattle.fc_library.specs.declared.refusals.Refusal.TheVariants as refused
+
+-- a search by home rule 2, the clearing bound and partial expansion, within a budget
+abbrev pub best_method : ℕ → Method
+best_method budget = record { rule = 2; bound = Clearing; strategy = record { weight = record { parts = 1; times = 1 }; expansion = Partial; budget = budget } }
+
+-- the question of a best answer in a game that is named
+abbrev pub asked_best : GameName → ℕ → Asked
+asked_best name budget = record { game = game_named name; method = best_method budget }
+
+-- what is asked can be: the game is one, the budget is one, and the text spells the position
+pub record CanBeAsked (name : GameName) (text : List ℕ) (budget : ℕ) (start : Board) : Type 0 where
+  pub named : IsNamed name
+  pub budgeted : IsGreatBudget budget
+  pub spelled : SpellsPlainly name.cells text start
+
+-- a best verdict for a board was told
+abbrev pub IsBestToldOf : Asked → Board → Told → Type 0
+IsBestToldOf q b told = (verdict : Verdict) × IsBestVerdict q b verdict × IsVerdictTold verdict told
+
+-- and certified
+abbrev pub IsBestCertifiedOf : Asked → Board → Certified → Type 0
+IsBestCertifiedOf q b told = (verdict : Verdict) × IsBestVerdict q b verdict × IsVerdictCertified (problem_of q b) verdict told
+
+-- a board was answered, by its best verdict
+abbrev pub IsBestTold : GameName → List ℕ → ℕ → Told → Type 0
+IsBestTold name text budget told = (start : Board) × CanBeAsked name text budget start × IsBestToldOf (asked_best name budget) start told
+
+-- and by its certificate
+abbrev pub IsBestCertified : GameName → List ℕ → ℕ → Certified → Type 0
+IsBestCertified name text budget told = (start : Board) × CanBeAsked name text budget start × IsBestCertifiedOf (asked_best name budget) start told
+
+-- why a board wasn't answered, each fault only where those before it have no cause
+abbrev pub IsBestRefused : GameName → List ℕ → ℕ → Refusal → Type 0
+IsBestRefused name text budget refused.Game = IsNamed name → ⊥
+IsBestRefused name text budget refused.Budget = IsNamed name × (IsGreatBudget budget → ⊥)
+IsBestRefused name text budget (refused.Board fault) = IsNamed name × IsGreatBudget budget × IsTextFault name.cells text fault
+IsBestRefused name text budget refused.Memory = (start : Board) × CanBeAsked name text budget start
+IsBestRefused name text budget other = ⊥

@@ -1,0 +1,49 @@
+-- What replaying promises, of a list in memory whose entries may move several cards.
+use Rattle.std.specs.Prelude.{◌≡◌, ◌⊎◌, ℕ, ◌<◌, cond, List, [], length, None, Some, Ok}
+use Rattle.fc_position.specs.Board.{Board}
+use Rattle.fc_moves.specs.declared.steps.Move.{Move}
+use Rattle.fc_replay.specs.Played.{PlaysAs, sink_change}
+use Rattle.fc_replay.specs.Token.{move_tokens}
+use Rattle.fc_replay.specs.declared.pages.Page.TheVariants as page
+use Rattle.fc_replay.specs.declared.replays.Ended.{Ended}
+use Rattle.fc_board_runs.specs.Sequences.{IsExpanded, IsUnplayed}
+use Rattle.fc_board_runs.specs.declared.faults.Input.TheVariants.{Moves as of_moves}
+use Rattle.fc_board_runs.specs.declared.faults.ProgramFault.{ProgramFault}
+use Rattle.fc_board_runs.specs.declared.faults.ProgramFault.TheVariants as program
+use Rattle.fc_board_runs.specs.declared.runs.TheConstants.{LONGEST_MOVES}
+use Rattle.fc_library.specs.Boards.{IsTextFault, SpellsPlainly}
+use Rattle.fc_library.specs.Games.{IsNamed, game_named}
+use Rattle.fc_library.specs.Replays.{CanBeReplayed}
+use Rattle.fc_library.specs.declared.games.GameName.{GameName}
+use Rattle.fc_library.specs.declared.answers.Told.{Told}
+use Rattle.fc_library.specs.declared.refusals.Refusal.{Refusal}
+use Rattle.fc_library.specs.declared.refusals.Refusal.TheVariants as refused
+
+-- the tokens spell entries that these one-card moves play, the text is that of the boards after each, and the status tells whether
+-- the last is won
+pub record IsSequencesTold (name : GameName) (text list : List ℕ) (told : Told) : Type 0 where
+  pub start : Board
+  pub given : CanBeReplayed name text list start
+  pub steps : List Move
+  pub expanded : IsExpanded (game_named name) start (move_tokens list) steps
+  pub ended : Ended
+  pub played : PlaysAs page.Board (game_named name) start steps (sink_change (Some []) (Some told.text.items)) (Ok ended)
+  pub numbers : told.outcome ≡ None
+  pub status : told.status ≡ cond ended.is_won 0 3
+  pub place : told.place ≡ 0
+
+-- a board of a game was given and a list that isn't too long, whose entries aren't played for this
+abbrev pub IsUnplayedList : GameName → List ℕ → List ℕ → ProgramFault → Type 0
+IsUnplayedList name text list fault = (start : Board) × CanBeReplayed name text list start × IsUnplayed (game_named name) start (move_tokens list) fault
+
+-- why a list wasn't played to its end, each fault only where those before it have no cause
+abbrev pub IsSequencesRefused : GameName → List ℕ → List ℕ → Refusal → Type 0
+IsSequencesRefused name text list refused.Game = IsNamed name → ⊥
+IsSequencesRefused name text list (refused.Board fault) = IsNamed name × IsTextFault name.cells text fault
+IsSequencesRefused name text list refused.TooLong =
+    (IsNamed name × ((start : Board) × SpellsPlainly name.cells text start) × (LONGEST_MOVES < length list))
+    ⊎ IsUnplayedList name text list (program.TooLong of_moves)
+IsSequencesRefused name text list (refused.Moves fault) = IsUnplayedList name text list (program.Moves fault)
+IsSequencesRefused name text list (refused.TooManyWays step) = IsUnplayedList name text list (program.TooManyWays step)
+IsSequencesRefused name text list refused.Memory = (start : Board) × CanBeReplayed name text list start
+IsSequencesRefused name text list other = ⊥
