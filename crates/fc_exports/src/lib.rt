@@ -1,21 +1,26 @@
 //! What C and other languages call: each export calls `fc_library`, and puts what that hands over into rooms of the caller's.
-//! To C a slice is a pointer, which may not be null, and a length; a `Global` is nothing; the structs are those of
-//! `lib/luffaknife.h`.
+//! To C a slice is a pointer, which may not be null, and a length; a `&mut` to one is a pointer to a struct of both; a `Global` is
+//! nothing; the structs are those of `lib/luffaknife.h`.
 #![tactic(auto)]
 
 ghost use Rattle.std.specs.Prelude.{Result, MatchResult};
-ghost use Rattle.fc_library.specs.Answers.{IsBestCertified, IsBestRefused, IsBestTold};
+ghost use Rattle.fc_library.specs.Bests.{IsBestCertified, IsBestRefused, IsBestTold};
 ghost use Rattle.fc_library.specs.Checks.{IsAccepted, IsCheckRefused};
 ghost use Rattle.fc_library.specs.Deals.{IsDealRefused, IsDealTold};
+ghost use Rattle.fc_library.specs.Keeps.{IsKept, IsKeptBoth};
 ghost use Rattle.fc_library.specs.Replays.{IsReplayRefused, IsReplayTold};
+ghost use Rattle.fc_library.specs.Reviews.{IsReviewRefused, IsReviewTold};
 ghost use Rattle.fc_library.specs.Rooms.{IsHandedOver, IsHandedOverBoth};
+ghost use Rattle.fc_library.specs.Sequences.{IsSequencesRefused, IsSequencesTold};
+ghost use Rattle.fc_library.specs.Solves.{IsSolvedCertified, IsSolvedTold, IsSolveRefused};
 ghost use Rattle.fc_library.specs.declared.answers.Certified.{Certified};
 ghost use Rattle.fc_library.specs.declared.answers.Told.{Told};
 ghost use Rattle.fc_library.specs.declared.refusals.Refusal.{Refusal};
 
 use fc_library::{
-    Call, GameName, best, best_certified, check_bytes, deal_of, hand_over, hand_over_certified,
-    replay_list,
+    Call, GameName, MethodName, best, best_certified, check_bytes, deal_of, hand_over,
+    hand_over_certified, keep, keep_certified, replay_list, replay_sequences, review, solve,
+    solve_certified,
 };
 use std::alloc::Global;
 
@@ -63,6 +68,111 @@ pub extern "C" fn luffaknife_best_certified(
     )
 }
 
+/// The best answer for a board's text, left in memory of `malloc`'s that is the caller's from then on.
+#[unsafe(no_mangle)]
+pub extern "C" fn luffaknife_keep_best(
+    alloc: Global,
+    name: GameName,
+    budget: u32,
+    board: &[u8],
+    text: &mut &'static [u8],
+) -> Call
+    ensures kept { (told : Result Told Refusal) × MatchResult told (IsBestTold name board.now budget) (IsBestRefused name board.now budget)
+        × IsKept told text.old.now text.new.now result }
+{
+    keep(best(alloc, name, board, budget), text)
+}
+
+/// The same, with the certificate of the answer.
+#[unsafe(no_mangle)]
+pub extern "C" fn luffaknife_keep_best_certified(
+    alloc: Global,
+    name: GameName,
+    budget: u32,
+    board: &[u8],
+    text: &mut &'static [u8],
+    certificate: &mut &'static [u8],
+) -> Call
+    ensures kept { (told : Result Certified Refusal) × MatchResult told (IsBestCertified name board.now budget) (IsBestRefused name board.now budget)
+        × IsKeptBoth told (text.old.now, certificate.old.now) (text.new.now, certificate.new.now) result }
+{
+    keep_certified(
+        best_certified(alloc, name, board, budget),
+        text,
+        certificate,
+    )
+}
+
+/// The answer of one search by a method for a board's text: what the program prints.
+#[unsafe(no_mangle)]
+pub extern "C" fn luffaknife_solve(
+    alloc: Global,
+    name: GameName,
+    method: MethodName,
+    board: &[u8],
+    text: &mut [u8],
+) -> Call
+    ensures handed { (told : Result Told Refusal) × MatchResult told (IsSolvedTold name method board.now) (IsSolveRefused name method board.now)
+        × IsHandedOver told text.old text.new result }
+{
+    hand_over(&solve(alloc, name, method, board), text)
+}
+
+/// The same, with the certificate of the answer.
+#[unsafe(no_mangle)]
+pub extern "C" fn luffaknife_solve_certified(
+    alloc: Global,
+    name: GameName,
+    method: MethodName,
+    board: &[u8],
+    text: &mut [u8],
+    certificate: &mut [u8],
+) -> Call
+    ensures handed { (told : Result Certified Refusal) × MatchResult told (IsSolvedCertified name method board.now) (IsSolveRefused name method board.now)
+        × IsHandedOverBoth told (text.old, certificate.old) (text.new, certificate.new) result }
+{
+    hand_over_certified(
+        &solve_certified(alloc, name, method, board),
+        text,
+        certificate,
+    )
+}
+
+/// The answer of one search, left in memory of `malloc`'s that is the caller's from then on.
+#[unsafe(no_mangle)]
+pub extern "C" fn luffaknife_keep_solve(
+    alloc: Global,
+    name: GameName,
+    method: MethodName,
+    board: &[u8],
+    text: &mut &'static [u8],
+) -> Call
+    ensures kept { (told : Result Told Refusal) × MatchResult told (IsSolvedTold name method board.now) (IsSolveRefused name method board.now)
+        × IsKept told text.old.now text.new.now result }
+{
+    keep(solve(alloc, name, method, board), text)
+}
+
+/// The same, with the certificate of the answer.
+#[unsafe(no_mangle)]
+pub extern "C" fn luffaknife_keep_solve_certified(
+    alloc: Global,
+    name: GameName,
+    method: MethodName,
+    board: &[u8],
+    text: &mut &'static [u8],
+    certificate: &mut &'static [u8],
+) -> Call
+    ensures kept { (told : Result Certified Refusal) × MatchResult told (IsSolvedCertified name method board.now) (IsSolveRefused name method board.now)
+        × IsKeptBoth told (text.old.now, certificate.old.now) (text.new.now, certificate.new.now) result }
+{
+    keep_certified(
+        solve_certified(alloc, name, method, board),
+        text,
+        certificate,
+    )
+}
+
 /// The claim that a certificate proves of a board's text, as the program prints it. Nothing is searched.
 #[unsafe(no_mangle)]
 pub extern "C" fn luffaknife_check(
@@ -91,4 +201,51 @@ pub extern "C" fn luffaknife_replay(
         × IsHandedOver told text.old text.new result }
 {
     hand_over(&replay_list(alloc, name, board, list), text)
+}
+
+/// The boards of a list whose entries may move several cards, one-card move by one-card move, as the program prints them.
+#[unsafe(no_mangle)]
+pub extern "C" fn luffaknife_replay_sequences(
+    alloc: Global,
+    name: GameName,
+    board: &[u8],
+    list: &[u8],
+    text: &mut [u8],
+) -> Call
+    ensures handed { (told : Result Told Refusal) × MatchResult told (IsSequencesTold name board.now list.now) (IsSequencesRefused name board.now list.now)
+        × IsHandedOver told text.old text.new result }
+{
+    hand_over(&replay_sequences(alloc, name, board, list), text)
+}
+
+/// Where a list of moves loses, or how good one is that wins, by best answers within a budget: the line that the program prints.
+#[unsafe(no_mangle)]
+pub extern "C" fn luffaknife_review(
+    alloc: Global,
+    name: GameName,
+    budget: u32,
+    board: &[u8],
+    list: &[u8],
+    text: &mut [u8],
+) -> Call
+    ensures handed { (told : Result Told Refusal) × MatchResult told (IsReviewTold name board.now list.now budget) (IsReviewRefused name board.now list.now budget)
+        × IsHandedOver told text.old text.new result }
+{
+    hand_over(&review(alloc, name, board, list, budget), text)
+}
+
+/// The same, left in memory of `malloc`'s that is the caller's from then on.
+#[unsafe(no_mangle)]
+pub extern "C" fn luffaknife_keep_review(
+    alloc: Global,
+    name: GameName,
+    budget: u32,
+    board: &[u8],
+    list: &[u8],
+    text: &mut &'static [u8],
+) -> Call
+    ensures kept { (told : Result Told Refusal) × MatchResult told (IsReviewTold name board.now list.now budget) (IsReviewRefused name board.now list.now budget)
+        × IsKept told text.old.now text.new.now result }
+{
+    keep(review(alloc, name, board, list, budget), text)
 }
