@@ -71,11 +71,13 @@ fn write_lines<G: Game + Drop>(
     }
 }
 
-// Ends with why a table of deals can't be asked for: it has any number of them, but some.
+// Ends with why a table of deals can't be asked for: it has any number of them, but at least one.
 fn untabled(rt: &HostRuntime, fault: ProgramFault, from: u32, to: u32) -> Ending {
     match fault {
         ProgramFault::Range => {
-            tell_none(rt, from, to);
+            let _told = eprintln!(rt;
+                "fc_solve: a table has a deal or more: {from} to {to} are none, the lesser number stands first"
+            );
             Ending::Told(fault.status())
         }
         _ => Ending::Fault(fault),

@@ -3,25 +3,30 @@ ghost use Rattle.std.specs.Prelude.{◌≤◌, IfOk, IfSome};
 ghost use Rattle.fc_position.specs.Position.{Fits};
 
 use crate::apart::INPUT;
+use crate::board_lists::{board_behind, read_list};
 use crate::endings::{
     Ending, REFUSED, tell_of_board, tell_of_file, tell_of_length, tell_of_reading, tell_of_rows,
 };
-use crate::lengths::{note_lengths, note_rows};
+use crate::lengths::{note_lengths, note_reversed, note_rows};
+use crate::notes::BoardText;
+use crate::shown::{front_of, rest_of};
+use arrayvec::ArrayVec;
 use fc_deal::deal;
-use fc_io::{FromReader, FromSlice, ReadFault};
-use fc_plain::PlainText;
+use fc_io::{FromReader, FromSlice, ReadFault, Source, read_up_to};
+use fc_plain::{GuessedText, MOST_BYTES, PlainText, Title};
 use fc_position::Position;
 use fc_rows::columns_of_rows;
 use fc_runs::{Input, ProgramFault, read_position};
-use fc_words::{BoardWord, BoardWords, is_number};
-use std::fs::{self, File};
+use fc_text::BoardFault;
+use fc_words::{BoardWord, BoardWords, TextWords, is_number};
+use std::fs::{self, File, exists};
 use std::io::IsTerminal;
 
 /// Where a board comes from, and how its text is to be read.
 #[derive(Drop)]
 pub struct BoardSource<'a> {
     place: BoardPlace<'a>,
-    is_in_rows: bool,
+    text: TextWords,
 }
 
 // Where a board comes from.
@@ -31,6 +36,8 @@ enum BoardPlace<'a> {
     Deal(u32),
     // A file, and its path.
     File(FromReader<File>, &'a str),
+    // One of the boards of a file.
+    Listed(Listed<'a>),
     // Standard input.
     Input,
 }
@@ -49,9 +56,36 @@ impl<'a> BoardSource<'a> {
         match self.place {
             BoardPlace::Deal(_) => None,
             BoardPlace::File(_, path) => Some(path),
+            BoardPlace::Listed(listed) => Some(listed.path),
             BoardPlace::Input => Some(INPUT),
         }
     }
+}
+
+/// A board of a file that has several, as a table names it: `list.txt:2`.
+#[derive(Clone, Copy)]
+pub struct Listed<'a> {
+    /// The whole name.
+    name: &'a str,
+    path: &'a str,
+    /// Which of the file's boards, from 1 on.
+    place: u64,
+}
+
+/// The board of a list that a word names: no file has that name, and one has what stands in it before a colon and a number from
+/// 1 on.
+pub fn listed_board<'a>(rt: &HostRuntime, word: &'a str) -> Option<Listed<'a>> {
+    let (path, number) = word.rsplit_once(":")?;
+    let place = number.parse::<u64>().ok()?;
+    let is_listed = is_number(number)
+        && place > 0
+        && !exists(rt, word).unwrap_or(false)
+        && exists(rt, path).unwrap_or(false);
+    is_listed.then_some(Listed {
+        name: word,
+        path,
+        place,
+    })
 }
 
 /// Where the board comes from that the words name; a file is opened.
@@ -60,11 +94,14 @@ pub fn find_board<'a>(rt: &HostRuntime, words: &BoardWords<'a>) -> Result<BoardS
         BoardWord::Deal(number) => BoardPlace::Deal(number),
         BoardWord::Input => BoardPlace::Input,
         BoardWord::Named(word) if is_deal(rt, word) => BoardPlace::Deal(number_of(rt, word)?),
-        BoardWord::Named(word) => BoardPlace::File(open(rt, word, Input::Board)?, word),
+        BoardWord::Named(word) => match listed_board(rt, word) {
+            Some(listed) => BoardPlace::Listed(listed),
+            None => BoardPlace::File(open(rt, word, Input::Board)?, word),
+        },
     };
     Ok(BoardSource {
         place,
-        is_in_rows: words.is_in_rows,
+        text: words.text,
     })
 }
 
@@ -94,19 +131,45 @@ pub fn read_start(rt: &HostRuntime, source: BoardSource<'_>, cells: u8) -> Resul
     requires cells { cells ≤ 4 }
     ensures fits { IfOk result (Fits cells) }
 {
-    let is_in_rows = source.is_in_rows;
-    match source.place {
-        BoardPlace::Deal(number) => match deal_for(number, cells) {
-            Some(start) => Ok(start),
-            None => Err(Ending::Fault(ProgramFault::Number(number))),
-        },
-        BoardPlace::File(file, path) => {
-            let text = read_file(rt, file, path)?;
-            read_text(rt, text.bytes(), is_in_rows, cells)
+    let words = source.text;
+    let start = match source.place {
+        BoardPlace::Deal(number) => {
+            return match deal_for(number, cells) {
+                Some(start) => Ok(start),
+                None => Err(Ending::Fault(ProgramFault::Number(number))),
+            };
         }
+        BoardPlace::File(file, path) => {
+            let typed = read_file(rt, file, path)?;
+            read_typed(rt, &typed, words, cells)?
+        }
+        BoardPlace::Listed(listed) => read_listed(rt, listed, words, cells)?,
         BoardPlace::Input => {
-            let text = read_input(rt)?;
-            read_text(rt, text.bytes(), is_in_rows, cells)
+            let typed = read_input(rt)?;
+            read_typed(rt, &typed, words, cells)?
+        }
+    };
+    note_reversed(rt, &start);
+    Ok(start)
+}
+
+// A board of a file that has several.
+fn read_listed(
+    rt: &HostRuntime,
+    listed: Listed<'_>,
+    words: TextWords,
+    cells: u8,
+) -> Result<Position, Ending>
+    requires cells { cells ≤ 4 }
+    ensures fits { IfOk result (Fits cells) }
+{
+    let list = read_list(rt, listed.path, Input::Board)?;
+    match board_behind(list.as_slice(), listed.place.saturating_sub(1)) {
+        Some(text) => read_board_text(rt, text, words, cells),
+        None => {
+            let name = listed.name;
+            let _told = eprintln!(rt; "fc_solve: {name}: the file has no such board");
+            Err(Ending::Told(REFUSED))
         }
     }
 }
@@ -119,10 +182,35 @@ pub fn deal_for(number: u32, cells: u8) -> Option<Position>
     deal(number)
 }
 
+// A text as it was typed, made plain, and the title that was left out of it.
+#[derive(Drop)]
+struct TypedText {
+    typed: ArrayVec<u8, MOST_BYTES>,
+    plain: PlainText,
+    title: Option<Title>,
+}
+
+impl TypedText {
+    // That of all that a source gives; too long a text isn't made plain.
+    fn read<S: Source>(source: &mut S) -> Result<TypedText, ReadFault> {
+        let mut room = [0; MOST_BYTES + 1];
+        let count = read_up_to(source, &mut room)?;
+        let text = &room[..count];
+        let plain = PlainText::of(text).ok_or(ReadFault::TooLong)?;
+        let mut typed = ArrayVec::new();
+        let _fits = typed.try_extend_from_slice(text);
+        Ok(TypedText {
+            typed,
+            plain,
+            title: Title::of(text),
+        })
+    }
+}
+
 // The text of a file, made plain.
-fn read_file(rt: &HostRuntime, file: FromReader<File>, path: &str) -> Result<PlainText, Ending> {
+fn read_file(rt: &HostRuntime, file: FromReader<File>, path: &str) -> Result<TypedText, Ending> {
     let mut file = file;
-    match PlainText::read(&mut file) {
+    match TypedText::read(&mut file) {
         Ok(text) => Ok(text),
         Err(ReadFault::Failed) => Err(tell_of_reading(rt, Input::Board, path)),
         Err(fault) => Err(unread(rt, fault)),
@@ -130,12 +218,12 @@ fn read_file(rt: &HostRuntime, file: FromReader<File>, path: &str) -> Result<Pla
 }
 
 // The text of standard input, made plain.
-fn read_input(rt: &HostRuntime) -> Result<PlainText, Ending> {
+fn read_input(rt: &HostRuntime) -> Result<TypedText, Ending> {
     let input = rt.stdin();
     if input.is_terminal() {
         let _told = eprintln!(rt; "fc_solve: reading a board; Ctrl-D ends it");
     }
-    match PlainText::read(&mut FromReader::new(input)) {
+    match TypedText::read(&mut FromReader::new(input)) {
         Ok(text) => Ok(text),
         Err(fault) => Err(unread(rt, fault)),
     }
@@ -145,51 +233,99 @@ fn read_input(rt: &HostRuntime) -> Result<PlainText, Ending> {
 pub fn read_board_text(
     rt: &HostRuntime,
     text: &[u8],
-    is_in_rows: bool,
+    words: TextWords,
     cells: u8,
 ) -> Result<Position, Ending>
     requires cells { cells ≤ 4 }
     ensures fits { IfOk result (Fits cells) }
 {
-    match PlainText::read(&mut FromSlice::new(text)) {
-        Ok(plain) => read_text(rt, plain.bytes(), is_in_rows, cells),
+    match TypedText::read(&mut FromSlice::new(text)) {
+        Ok(typed) => read_typed(rt, &typed, words, cells),
         Err(fault) => Err(unread(rt, fault)),
     }
 }
 
-// The board of a text that was made plain.
-fn read_text(rt: &HostRuntime, text: &[u8], is_in_rows: bool, cells: u8) -> Result<Position, Ending>
+// The board of a text that was made plain; what title was left out is told.
+fn read_typed(
+    rt: &HostRuntime,
+    typed: &TypedText,
+    words: TextWords,
+    cells: u8,
+) -> Result<Position, Ending>
     requires cells { cells ≤ 4 }
     ensures fits { IfOk result (Fits cells) }
 {
-    if is_in_rows {
-        let columns = match columns_of_rows(text) {
+    let text = BoardText {
+        plain: typed.plain.bytes(),
+        typed: typed.typed.as_slice(),
+    };
+    let read = read_text(rt, text, words, cells);
+    if let Some(title) = &typed.title {
+        let title = title.bytes().trim_ascii();
+        let (shown, more) = (front_of(title).escape_ascii(), rest_of(title));
+        let _told = eprintln!(rt; "fc_solve: left out as a title: '{shown}{more}'");
+    }
+    read
+}
+
+// The board of a text that was made plain.
+fn read_text(
+    rt: &HostRuntime,
+    text: BoardText<'_>,
+    words: TextWords,
+    cells: u8,
+) -> Result<Position, Ending>
+    requires cells { cells ≤ 4 }
+    ensures fits { IfOk result (Fits cells) }
+{
+    if words.is_in_rows {
+        let columns = match columns_of_rows(text.plain) {
             Ok(columns) => columns,
             Err(fault) => return Err(tell_of_rows(rt, fault)),
         };
-        return read_columns(rt, columns.bytes(), cells);
+        let text = BoardText {
+            plain: columns.bytes(),
+            typed: &[],
+        };
+        let start = read_columns(rt, text, words.is_guessed, cells)?;
+        note_lengths(rt, &start, &[], cells);
+        return Ok(start);
     }
-    match read_columns(rt, text, cells) {
+    match read_columns(rt, text, words.is_guessed, cells) {
         Ok(start) => {
-            note_lengths(rt, &start, text, cells);
+            note_lengths(rt, &start, text.plain, cells);
             Ok(start)
         }
         Err(ending) => {
-            note_rows(rt, text, cells);
+            note_rows(rt, text.plain, cells);
             Err(ending)
         }
     }
 }
 
-// The board of a text in columns.
-fn read_columns(rt: &HostRuntime, text: &[u8], cells: u8) -> Result<Position, Ending>
+// The board of a text in columns; where that is asked for, the cards that it lacks are taken for home, if that makes it one.
+fn read_columns(
+    rt: &HostRuntime,
+    text: BoardText<'_>,
+    is_guessed: bool,
+    cells: u8,
+) -> Result<Position, Ending>
     requires cells { cells ≤ 4 }
     ensures fits { IfOk result (Fits cells) }
 {
-    match read_position(&mut FromSlice::new(text), cells) {
-        Ok(start) => Ok(start),
-        Err(fault) => Err(tell_of_board(rt, fault, text, cells)),
+    let fault = match read_position(&mut FromSlice::new(text.plain), cells) {
+        Ok(start) => return Ok(start),
+        Err(fault) => fault,
+    };
+    if let (true, ProgramFault::Board(BoardFault::MissingCard(_))) = (is_guessed, fault)
+        && let Some(guess) = GuessedText::of(text.plain, cells)
+        && let Ok(start) = read_position(&mut FromSlice::new(guess.bytes()), cells)
+    {
+        let line = guess.line().escape_ascii();
+        let _told = eprintln!(rt; "fc_solve: taken for home: {line}");
+        return Ok(start);
     }
+    Err(tell_of_board(rt, fault, text, cells))
 }
 
 // Ends where no text of a board was read; that it is too long is told with what to do.

@@ -1,57 +1,125 @@
 //! `check`: a certificate is checked for a board.
 
-use crate::boards::{find_board, open, read_start};
+ghost use Rattle.fc_position.specs.Position.{Fits};
+
+use crate::boards::{find_board, read_start};
 use crate::endings::{Ending, tell};
 use crate::forms::tell_whole;
 use crate::games::InGame;
+use crate::moves::{FileSource, find_file, push_letters};
 use crate::objects::{Beside, Name, fault_line, tell_answer};
 use crate::outputs::Out;
-use fc_cert::CertFault;
+use fc_cert::{CertFault, Certificate, LONGEST_CERTIFICATE};
 use fc_checker::CheckFault;
-use fc_io::ToArray;
+use fc_io::{FromReader, FromSlice, ReadFault, Source, ToArray, read_to_vec};
 use fc_moves::Game;
+use fc_position::Position;
 use fc_runs::{Input, ProgramFault, run_check_of};
 use fc_words::CheckWords;
+use std::alloc::{AllocError, Global};
 
 impl InGame for CheckWords<'_> {
     fn perform<G: Game + Drop>(&self, rt: &HostRuntime, game: &G) -> Result<u8, Ending> {
         let source = find_board(rt, &self.board)?;
         // (a file that can't be opened is told before the board is read)
-        let mut cert = open(rt, self.cert, Input::Cert)?;
-        let deal = source.deal();
+        let cert = find_file(rt, &self.cert, Input::Cert)?;
+        let name = Name::of(&self.board.word, source.deal());
         let start = read_start(rt, source, game.cells())?;
-        if self.is_json {
-            let mut held = ToArray::<LONGEST_CLAIM>::new();
-            let ran = run_check_of(rt.alloc(), game, &start, &mut cert, &mut held);
-            return tell_claim(rt, Name::of(&self.board.word, deal), ran, held.held());
+        let name = self.is_json.then_some(name);
+        match cert {
+            FileSource::File(mut file) => check_from(rt, name, game, &start, &mut file),
+            FileSource::Input => {
+                check_from(rt, name, game, &start, &mut FromReader::new(rt.stdin()))
+            }
         }
-        let mut out = Out::new(rt);
-        match run_check_of(rt.alloc(), game, &start, &mut cert, &mut out) {
-            Ok(status) => Ok(status),
-            Err(ProgramFault::Cert(fault)) => Err(tell_refusal(rt, fault)),
-            Err(fault) => Err(out.ending_of(fault)),
-        }
+    }
+}
+
+// Checks the certificate that a source gives, and tells what it proves: as an object, where the board has a name.
+fn check_from<G: Game, S: Source>(
+    rt: &HostRuntime,
+    name: Option<Name<'_>>,
+    game: &G,
+    start: &Position,
+    cert: &mut S,
+) -> Result<u8, Ending>
+    requires fits { Fits (G.game game.now).cells start.now }
+{
+    if let Some(name) = name {
+        return check_to_object(rt, name, game, start, cert);
+    }
+    let mut out = Out::new(rt);
+    match run_check_of(rt.alloc(), game, start, cert, &mut out) {
+        Ok(status) => Ok(status),
+        Err(ProgramFault::Cert(fault)) => Err(tell_refusal(rt, fault)),
+        Err(fault) => Err(out.ending_of(fault)),
     }
 }
 
 // The most bytes of a text that tells a claim.
 const LONGEST_CLAIM: usize = 64;
 
-// Writes as an object what a certificate proves of a board, or why it is refused; that is told on standard error, too.
-fn tell_claim<'a>(
+// Checks the certificate that a source gives, and writes as an object what it proves of a board, with its list, or why it is refused;
+// that is told on standard error, too.
+fn check_to_object<G: Game, S: Source>(
     rt: &HostRuntime,
-    name: Name<'a>,
-    ran: Result<u8, ProgramFault>,
-    claim: &'a [u8],
-) -> Result<u8, Ending> {
-    match ran {
+    name: Name<'_>,
+    game: &G,
+    start: &Position,
+    cert: &mut S,
+) -> Result<u8, Ending>
+    requires fits { Fits (G.game game.now).cells start.now }
+{
+    let alloc = rt.alloc();
+    let bytes = match read_to_vec(alloc, cert, LONGEST_CERTIFICATE) {
+        Ok(bytes) => bytes,
+        Err(fault) => return Err(Ending::Fault(unread(fault))),
+    };
+    let mut held = ToArray::<LONGEST_CLAIM>::new();
+    let mut source = FromSlice::new(bytes.as_slice());
+    match run_check_of(alloc, game, start, &mut source, &mut held) {
         Err(ProgramFault::Cert(fault)) => Err(tell_refused(rt, name, fault)?),
         ran => {
+            let claim = held.held();
             let claim = claim.strip_prefix(b"accepted: ").unwrap_or(claim);
-            tell_answer(rt, name, ran, claim, Beside::NONE)
+            let mut text = Vec::from_slice(alloc, claim)?;
+            push_list(alloc, &mut text, bytes.as_slice())?;
+            tell_answer(rt, name, ran, text.as_slice(), Beside::NONE)
         }
     }
 }
+
+// Why a certificate isn't read.
+fn unread(fault: ReadFault) -> ProgramFault {
+    match fault {
+        ReadFault::Failed => ProgramFault::Read(Input::Cert),
+        ReadFault::TooLong => ProgramFault::TooLong(Input::Cert),
+        ReadFault::Memory => ProgramFault::Memory,
+    }
+}
+
+// Appends the line of a certificate's list, if it has one.
+fn push_list(alloc: Global, text: &mut Vec<u8>, bytes: &[u8]) -> Result<(), AllocError> {
+    if bytes.len() > LONGEST_CERTIFICATE {
+        return Ok(());
+    }
+    let Ok(cert) = Certificate::read(alloc, bytes) else {
+        return Ok(());
+    };
+    if cert.kind() == NO_LIST {
+        return Ok(());
+    }
+    let mut moves = Vec::new(alloc);
+    for i in 0..cert.move_count() {
+        moves.push(cert.move_at(i))?;
+    }
+    push_letters(text, moves.as_slice())?;
+    text.push(b'\n')?;
+    Ok(())
+}
+
+// The kind of a certificate that has no list, since none wins.
+const NO_LIST: u8 = 2;
 
 // Writes as an object why a certificate is refused, after the lines that say it.
 fn tell_refused(rt: &HostRuntime, name: Name<'_>, fault: CheckFault) -> Result<Ending, Ending> {

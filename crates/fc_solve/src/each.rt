@@ -82,7 +82,7 @@ impl<G: Game> EachTeller<'_, '_, '_, G> {
         if let MovesForm::Json = self.manner.form {
             let alloc = self.rt.alloc();
             let beside = Beside {
-                stored_and_turns: self.teller.stored_and_turns(),
+                searched: self.teller.searched(),
                 by_hand: by_hand_told(alloc, self.game, self.start, answer, self.rule)?,
             };
             let line = answer_line(alloc, self.name, answer, None, beside)?;

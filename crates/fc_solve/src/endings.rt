@@ -1,7 +1,9 @@
 //! How the program ends early, and what it says of it on standard error: the line of the fault, and then perhaps one more,
 //! which tells where it lies and why. Where a line can't be written, the status still tells the fault.
 
-use crate::notes::add_note;
+ghost use Rattle.std.specs.Prelude.{◌≤◌};
+
+use crate::notes::{BoardText, add_note};
 use fc_cert::LONGEST_CERTIFICATE;
 use fc_methods::MOST_GREAT_BUDGET;
 use fc_rows::RowFault;
@@ -94,7 +96,11 @@ pub fn tell_of_reading(rt: &HostRuntime, input: Input, path: &str) -> Ending {
 /// Says that the text of a board is too long, and what to do.
 pub fn tell_of_length(rt: &HostRuntime) -> Ending {
     let status = tell(rt, &ProgramFault::Board(BoardFault::TooLong));
-    add_note(rt, BoardFault::TooLong, &[], 0);
+    let none = BoardText {
+        plain: &[],
+        typed: &[],
+    };
+    add_note(rt, BoardFault::TooLong, none, 0);
     Ending::Told(status)
 }
 
@@ -102,10 +108,17 @@ pub fn tell_of_length(rt: &HostRuntime) -> Ending {
 const NO_BOARD: &str = "the board is empty: its text has nothing but blanks";
 
 /// Says what is wrong with a board's text, read for a game with so many cells, and where it lies.
-pub fn tell_of_board(rt: &HostRuntime, fault: ProgramFault, text: &[u8], cells: u8) -> Ending {
+pub fn tell_of_board(
+    rt: &HostRuntime,
+    fault: ProgramFault,
+    text: BoardText<'_>,
+    cells: u8,
+) -> Ending
+    requires cells { cells ≤ 4 }
+{
     let status = tell(rt, &fault);
     if let ProgramFault::Board(fault) = fault {
-        if text.iter().all(|byte| byte.is_ascii_whitespace()) {
+        if text.plain.iter().all(|byte| byte.is_ascii_whitespace()) {
             let _told = eprintln!(rt; "fc_solve: {NO_BOARD}");
         } else {
             add_note(rt, fault, text, cells);

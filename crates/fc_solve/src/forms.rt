@@ -12,6 +12,7 @@ use fc_position::Position;
 use fc_replay::{Page, replay_as};
 use fc_runs::{LONGEST_MOVES, Output, ProgramFault};
 use fc_words::{Colours, EntriesForm, MovesForm};
+use std::alloc::{AllocError, Global};
 use std::io::IsTerminal;
 
 /// The most bytes of an answer that is held to be told otherwise.
@@ -23,14 +24,18 @@ pub struct Manner {
     pub form: MovesForm,
     /// Whether red suits are in red.
     pub is_coloured: bool,
+    /// Whether letters stand ten moves a line, with the number of the first in front.
+    pub is_numbered: bool,
 }
 
 impl Manner {
     /// What the words say, on the terminal that standard output may be.
     pub fn new(rt: &HostRuntime, form: MovesForm, colours: Colours) -> Manner {
+        let is_terminal = rt.stdout().is_terminal();
         Manner {
             form,
-            is_coloured: colours.are_shown(rt.stdout().is_terminal()),
+            is_coloured: colours.are_shown(is_terminal),
+            is_numbered: is_terminal,
         }
     }
 }
@@ -63,12 +68,47 @@ pub fn tell_in_form<G: Game>(
 {
     let is_coloured = manner.is_coloured;
     match manner.form {
+        MovesForm::Letters if manner.is_numbered => tell_numbered(rt, answer),
         MovesForm::Letters | MovesForm::Json => tell_whole(rt, answer),
         MovesForm::Words => tell_in_pages(rt, game, start, answer, Page::Words(is_coloured)),
         MovesForm::Boards => tell_in_pages(rt, game, start, answer, Page::Drawn(is_coloured)),
         MovesForm::Sequences(form) => tell_joined(rt, game, start, answer, form, is_coloured),
     }
 }
+
+// Writes the first line of an answer, and then its moves, ten a line, with the number of the first in front.
+fn tell_numbered(rt: &HostRuntime, answer: &[u8]) -> Result<(), Ending> {
+    let (told, moves) = split_answer(answer);
+    let text = numbered_text(rt.alloc(), told, moves.trim_ascii_end())?;
+    tell_whole(rt, text.as_slice())
+}
+
+// The first line of an answer, and its moves, ten a line.
+fn numbered_text(alloc: Global, told: &[u8], moves: &[u8]) -> Result<Vec<u8>, AllocError> {
+    let mut text = Vec::from_slice(alloc, told)?;
+    for (place, letters) in moves.split(|byte| *byte == b' ').enumerate() {
+        if letters.is_empty() {
+            continue;
+        }
+        if place % MOVES_A_LINE == 0 {
+            let number = place.saturating_add(1);
+            let number = format!(in alloc; "{number:4}.")?;
+            text.extend_from_slice(number.as_bytes())?;
+        }
+        text.push(b' ')?;
+        text.extend_from_slice(letters)?;
+        if place % MOVES_A_LINE == MOVES_A_LINE - 1 {
+            text.push(b'\n')?;
+        }
+    }
+    if text.last() != Some(&b'\n') {
+        text.push(b'\n')?;
+    }
+    Ok(text)
+}
+
+// How many moves stand on a line of a terminal.
+const MOVES_A_LINE: usize = 10;
 
 // Writes an answer whose moves are joined to entries.
 fn tell_joined<G: Game>(

@@ -45,7 +45,7 @@ impl InGame for HintWords<'_> {
         let answered = verdict_text(rt.alloc(), &answer.verdict)?;
         if self.is_json {
             let beside = Beside {
-                stored_and_turns: teller.stored_and_turns(),
+                searched: teller.searched(),
                 by_hand: by_hand_told(rt.alloc(), game, &start, answered.as_slice(), method.rule)?,
             };
             let name = Name::of(&self.board.word, deal);

@@ -46,7 +46,7 @@ fn push_entries(
 ) -> Result<(), AllocError> {
     match form {
         Form::Letters(first, end) if first <= number && number < end => {
-            list.extend_from_slice(line)
+            list.extend_from_slice(without_number(line))
         }
         Form::Letters(..) => Ok(()),
         Form::Words(has_sequences) => match told_entry(line) {
@@ -55,6 +55,19 @@ fn push_entries(
         },
         Form::Sayings if line.starts_with(SAYING) => push_saying(list, line),
         Form::Sayings => Ok(()),
+    }
+}
+
+// A line of letters without the number of its first move, as `solve` prints it on a terminal.
+fn without_number(line: &[u8]) -> &[u8] {
+    let line = line.trim_ascii_start();
+    let digits = line
+        .iter()
+        .position(|byte| !byte.is_ascii_digit())
+        .unwrap_or(0);
+    match line.get(digits..) {
+        Some([b'.', b' ', letters @ ..]) if digits > 0 => letters,
+        _ => line,
     }
 }
 

@@ -6,6 +6,7 @@ mod batching;
 mod besting;
 mod board_lists;
 mod boards;
+mod cert_names;
 mod certs;
 mod checking;
 mod dealing;
@@ -19,6 +20,7 @@ mod hands;
 mod hinting;
 mod lengths;
 mod links;
+mod list_hints;
 mod lists;
 mod moves;
 mod notes;
@@ -27,6 +29,7 @@ mod others;
 mod outputs;
 mod pair_lists;
 mod refusals;
+mod replay_objects;
 mod replaying;
 mod review_objects;
 mod review_tables;
@@ -43,6 +46,7 @@ mod written_lists;
 
 ghost use Rattle.fc_words.specs.Sound.{IsSound};
 
+use boards::listed_board;
 use clap::error::ErrorKind;
 use endings::{Ending, REFUSED, tell};
 use fc_runs::ProgramFault;
@@ -91,7 +95,8 @@ fn names_board(rt: &HostRuntime, word: &str) -> bool {
         return !matches!(word, "-h" | "--help" | "-V" | "--version");
     }
     let is_path = word.bytes().any(|byte| byte == b'.' || byte == b'/');
-    is_number(word) || (!is_subcommand(word) && (is_path || exists(rt, word).unwrap_or(false)))
+    let is_there = exists(rt, word).unwrap_or(false) || listed_board(rt, word).is_some();
+    is_number(word) || (!is_subcommand(word) && (is_path || is_there))
 }
 
 // What a board alone is, on a command line that begins with none and with no command.
@@ -112,7 +117,7 @@ fn tell_words(rt: &HostRuntime, fault: &WordsFault) -> Result<u8, Ending> {
         WordsFault::NoBudget
         | WordsFault::NoWeight
         | WordsFault::CertInAnswer
-        | WordsFault::OneInput
+        | WordsFault::OneInput(_)
         | WordsFault::InputTwice(_)
         | WordsFault::Missing => {
             let _told = eprintln!(rt; "fc_solve: {fault}");

@@ -1,35 +1,43 @@
-//! Lists of moves: where they come from, how they are read, and what is said at their end.
+//! What is read beside a board, lists of moves and certificates: where it comes from, how a list is read, and what is said at its
+//! end.
 
 use crate::boards::open;
 use crate::endings::Ending;
+use fc_cards::Place;
 use fc_io::{FromReader, ReadFault, read_to_vec};
+use fc_moves::Move;
 use fc_replay::Ended;
 use fc_runs::{Input, LONGEST_MOVES, ProgramFault};
-use fc_words::MovesWord;
+use fc_words::FileWord;
+use std::alloc::AllocError;
 use std::fs::File;
 
-/// Where a list of moves comes from.
+/// Where what is read beside a board comes from.
 #[derive(Drop)]
-pub enum MovesSource {
+pub enum FileSource {
     /// A file.
     File(FromReader<File>),
     /// Standard input.
     Input,
 }
 
-/// Where the list of moves comes from that a word names; a file is opened.
-pub fn find_moves(rt: &HostRuntime, word: &MovesWord<'_>) -> Result<MovesSource, Ending> {
+/// Where this input comes from that a word names; a file is opened.
+pub fn find_file(
+    rt: &HostRuntime,
+    word: &FileWord<'_>,
+    input: Input,
+) -> Result<FileSource, Ending> {
     match *word {
-        MovesWord::Input => Ok(MovesSource::Input),
-        MovesWord::File(path) => Ok(MovesSource::File(open(rt, path, Input::Moves)?)),
+        FileWord::Input => Ok(FileSource::Input),
+        FileWord::File(path) => Ok(FileSource::File(open(rt, path, input)?)),
     }
 }
 
 /// The text of a list of moves.
-pub fn read_moves(rt: &HostRuntime, source: MovesSource) -> Result<Vec<u8>, Ending> {
+pub fn read_moves(rt: &HostRuntime, source: FileSource) -> Result<Vec<u8>, Ending> {
     let read = match source {
-        MovesSource::File(mut file) => read_to_vec(rt.alloc(), &mut file, LONGEST_MOVES),
-        MovesSource::Input => {
+        FileSource::File(mut file) => read_to_vec(rt.alloc(), &mut file, LONGEST_MOVES),
+        FileSource::Input => {
             read_to_vec(rt.alloc(), &mut FromReader::new(rt.stdin()), LONGEST_MOVES)
         }
     };
@@ -38,6 +46,27 @@ pub fn read_moves(rt: &HostRuntime, source: MovesSource) -> Result<Vec<u8>, Endi
         Err(ReadFault::Failed) => Err(Ending::Fault(ProgramFault::Read(Input::Moves))),
         Err(ReadFault::TooLong) => Err(Ending::Fault(ProgramFault::TooLong(Input::Moves))),
         Err(ReadFault::Memory) => Err(Ending::Fault(ProgramFault::Memory)),
+    }
+}
+
+/// Appends a line of moves, two letters each with a blank between, without its end.
+pub fn push_letters(text: &mut Vec<u8>, moves: &[Move]) -> Result<(), AllocError> {
+    for (place, m) in moves.iter().enumerate() {
+        if place > 0 {
+            text.push(b' ')?;
+        }
+        text.push(letter_of(m.from))?;
+        text.push(letter_of(m.to))?;
+    }
+    Ok(())
+}
+
+// The letter of a place.
+fn letter_of(place: Place) -> u8 {
+    match place {
+        Place::Column(number) => b'1'.saturating_add(number),
+        Place::Cell(number) => b'a'.saturating_add(number),
+        Place::Home => b'h',
     }
 }
 

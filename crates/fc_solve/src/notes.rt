@@ -1,12 +1,24 @@
 //! Where a board's fault lies and what would mend it: the line after the fault's own.
 
+ghost use Rattle.std.specs.Prelude.{◌≤◌};
+
 use crate::shown::{front_of, rest_of};
 use fc_cards::Card;
+use fc_plain::{GuessedText, missing_cards, typed_word};
 use fc_text::{BoardFault, Spot, first_spot_of, last_spot_of, spot_of};
 
+/// A board's text, made plain, and as it was typed, or nothing where that has other lines.
+#[derive(Clone, Copy)]
+pub struct BoardText<'a> {
+    pub plain: &'a [u8],
+    pub typed: &'a [u8],
+}
+
 /// Says on standard error where the fault of a board's text lies, that was read for a game with so many cells, and why it
-/// is one.
-pub fn add_note(rt: &HostRuntime, fault: BoardFault, text: &[u8], cells: u8) {
+/// is one. What is quoted is quoted as it was typed.
+pub fn add_note(rt: &HostRuntime, fault: BoardFault, text: BoardText<'_>, cells: u8)
+    requires cells { cells ≤ 4 }
+{
     match fault {
         BoardFault::TooLong => note(
             rt,
@@ -17,11 +29,8 @@ pub fn add_note(rt: &HostRuntime, fault: BoardFault, text: &[u8], cells: u8) {
                 "fc_solve: line {line}: a line above tells it already: keep one board alone"
             );
         }
-        BoardFault::RepeatedCard(card) => note_places(rt, text, card),
-        BoardFault::MissingCard(_) => note(
-            rt,
-            "a board has 52 cards: in its columns, in its cells, or home on its foundations",
-        ),
+        BoardFault::RepeatedCard(card) => note_places(rt, text.plain, card),
+        BoardFault::MissingCard(_) => note_missing(rt, text.plain, cells),
         BoardFault::BadCard(_)
         | BoardFault::BadFoundation(_)
         | BoardFault::TooManyCells(_)
@@ -29,10 +38,34 @@ pub fn add_note(rt: &HostRuntime, fault: BoardFault, text: &[u8], cells: u8) {
     }
 }
 
+// Says which cards are missing, or by which foundation line none is.
+fn note_missing(rt: &HostRuntime, text: &[u8], cells: u8)
+    requires cells { cells ≤ 4 }
+{
+    if let Some(guess) = GuessedText::of(text, cells) {
+        let line = guess.line().escape_ascii();
+        let _told = eprintln!(rt; "fc_solve: with this line it is a board: {line}");
+        let _told = eprintln!(rt; "fc_solve: --guess adds it");
+        return;
+    }
+    let missing = missing_cards(text);
+    if missing.len() > 1 {
+        let _told = eprint!(rt; "fc_solve: missing are");
+        for card in missing.as_slice() {
+            let _told = eprint!(rt; " {card}");
+        }
+        let _told = eprintln!(rt; "");
+    }
+    note(
+        rt,
+        "a board has 52 cards: in its columns, in its cells, or home on its foundations",
+    );
+}
+
 // Says where the fault of a line lies.
-fn note_spot(rt: &HostRuntime, text: &[u8], cells: u8, fault: BoardFault) {
-    if let Some(spot) = spot_of(text, cells, fault) {
-        note_token(rt, &spot, reason_of(&fault, &spot));
+fn note_spot(rt: &HostRuntime, text: BoardText<'_>, cells: u8, fault: BoardFault) {
+    if let Some(spot) = spot_of(text.plain, cells, fault) {
+        note_token(rt, text.typed, &spot, reason_of(&fault, &spot));
     }
 }
 
@@ -41,8 +74,13 @@ fn note(rt: &HostRuntime, words: &str) {
 }
 
 // Says where a token stands, and what is wrong with it.
-fn note_token(rt: &HostRuntime, spot: &Spot<'_>, reason: &str) {
-    let (line, place, token) = (spot.line, spot.place, spot.token);
+fn note_token(rt: &HostRuntime, typed: &[u8], spot: &Spot<'_>, reason: &str) {
+    let (line, place) = (spot.line, spot.place);
+    // (a sign of a suit is told by its letter)
+    let token = match typed_word(typed, line as usize, spot.token) {
+        Some(word) if word.is_ascii() => word,
+        _ => spot.token,
+    };
     let (shown, more) = (front_of(token).escape_ascii(), rest_of(token));
     let _told = eprintln!(rt; "fc_solve: line {line}, word {place}: '{shown}{more}' {reason}");
 }

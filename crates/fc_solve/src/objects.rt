@@ -4,7 +4,7 @@ use crate::endings::Ending;
 use crate::forms::{split_answer, tell_whole};
 use fc_json::{Told, object_text};
 use fc_plain::read_count;
-use fc_runs::{ProgramFault, Row};
+use fc_runs::{Far, ProgramFault, Row};
 use fc_words::BoardWord;
 use std::alloc::Global;
 
@@ -44,20 +44,44 @@ impl<'a> Name<'a> {
     }
 }
 
-/// The numbers that an object has beside an answer: how many classes were stored and how many turns taken, and how many entries of
-/// its list are left to a player's hands.
+/// What searches told last, and how many classes they might store.
+#[derive(Clone, Copy)]
+pub struct Searched {
+    pub budget: u32,
+    pub far: Far,
+}
+
+/// The numbers that an object has beside an answer: those of the searches, and how many entries of its list are left to a player's
+/// hands.
 #[derive(Clone, Copy)]
 pub struct Beside {
-    pub stored_and_turns: (Option<u64>, Option<u64>),
+    pub searched: Option<Searched>,
     pub by_hand: Option<u64>,
 }
 
 impl Beside {
     /// No numbers.
     pub const NONE: Beside = Beside {
-        stored_and_turns: (None, None),
+        searched: None,
         by_hand: None,
     };
+}
+
+// An answer of this name, of a board of that one.
+fn told_of<'a>(name: Name<'a>, answer: &'a str) -> Told<'a> {
+    let mut told = Told::new(answer);
+    told.deal = name.deal();
+    told.board = name.board();
+    told
+}
+
+// The numbers of searches put beside an answer.
+fn put_searched(told: &mut Told<'_>, searched: Searched) {
+    let Searched { budget, far } = searched;
+    told.budget = Some(budget);
+    told.stored = Some(far.classes);
+    told.turns = Some(far.turns);
+    told.most_open = Some(u64::try_from(far.most_open).unwrap_or(u64::MAX));
 }
 
 /// The object of an answer, and of the next moves of its list where they are asked for, on a line.
@@ -69,39 +93,52 @@ pub fn answer_line<'a>(
     beside: Beside,
 ) -> Result<String, Ending> {
     let (line, list) = split_answer(answer);
-    let (moves, floor) = numbers_of(line);
-    let (stored, turns) = beside.stored_and_turns;
-    let told = Told {
-        deal: name.deal(),
-        board: name.board(),
-        answer: answer_of(line),
-        moves,
-        floor,
-        list: text_of(list),
-        hint,
-        by_hand: beside.by_hand,
-        stored,
-        turns,
-        fault: None,
-    };
+    let mut told = told_of(name, answer_of(line));
+    (told.moves, told.floor) = numbers_of(line);
+    told.list = text_of(list);
+    told.hint = hint;
+    told.by_hand = beside.by_hand;
+    if let Some(searched) = beside.searched {
+        put_searched(&mut told, searched);
+        if told.answer == GAVE_UP {
+            told.floor = Some(searched.far.at_least);
+        }
+    }
     line_of(alloc, &told)
 }
 
-/// The object of a row, on a line.
-pub fn row_line(alloc: Global, name: Name<'_>, row: &Row) -> Result<String, Ending> {
-    let told = Told {
-        deal: name.deal(),
-        board: name.board(),
-        answer: row.answer_name(),
-        moves: row.moves(),
-        floor: row.floor(),
-        list: None,
-        hint: None,
-        by_hand: None,
-        stored: row.far.map(|far| far.classes),
-        turns: row.far.map(|far| far.turns),
-        fault: None,
+/// The object of a row, and how many entries of its list are left to a player's hands, on a line.
+pub fn row_line(
+    alloc: Global,
+    name: Name<'_>,
+    row: &Row,
+    by_hand: Option<u64>,
+) -> Result<String, Ending> {
+    let letters = match &row.list {
+        Some(list) => list.text(alloc)?,
+        None => Vec::new(alloc),
     };
+    told_row(alloc, name, row, letters.as_slice(), by_hand)
+}
+
+// The object of a row whose list has this line, if it has one.
+fn told_row<'a>(
+    alloc: Global,
+    name: Name<'a>,
+    row: &Row,
+    letters: &'a [u8],
+    by_hand: Option<u64>,
+) -> Result<String, Ending> {
+    let mut told = told_of(name, row.answer_name());
+    told.moves = row.moves();
+    told.floor = row.floor();
+    told.list = text_of(letters);
+    told.by_hand = by_hand;
+    told.budget = Some(row.budget);
+    if let Some(far) = row.far {
+        let budget = row.budget;
+        put_searched(&mut told, Searched { budget, far });
+    }
     line_of(alloc, &told)
 }
 
@@ -112,19 +149,28 @@ pub fn fault_line<'a>(
     answer: &'static str,
     fault: Option<&'a str>,
 ) -> Result<String, Ending> {
-    let told = Told {
-        deal: name.deal(),
-        board: name.board(),
-        answer,
-        moves: None,
-        floor: None,
-        list: None,
-        hint: None,
-        by_hand: None,
-        stored: None,
-        turns: None,
-        fault,
-    };
+    let mut told = told_of(name, answer);
+    told.fault = fault;
+    line_of(alloc, &told)
+}
+
+// What giving up is called.
+const GAVE_UP: &str = "gave up";
+
+/// The object of a list that was replayed, its one-card moves and how many there are, and how many entries are left to a player's
+/// hands, on a line.
+pub fn list_line<'a>(
+    alloc: Global,
+    name: Name<'a>,
+    answer: &'static str,
+    moves: u32,
+    list: &'a [u8],
+    by_hand: u64,
+) -> Result<String, Ending> {
+    let mut told = told_of(name, answer);
+    told.moves = Some(moves);
+    told.list = std::str::from_utf8(list).ok();
+    told.by_hand = Some(by_hand);
     line_of(alloc, &told)
 }
 
@@ -135,7 +181,7 @@ pub fn answer_of(line: &[u8]) -> &'static str {
     } else if line.starts_with(b"won ") {
         "won"
     } else if line.starts_with(b"gave up ") {
-        "gave up"
+        GAVE_UP
     } else {
         "can't be won"
     }

@@ -4,16 +4,19 @@ ghost use Rattle.fc_moves.specs.GameRules.{IsPositionOf};
 use crate::boards::{find_board, read_start};
 use crate::endings::Ending;
 use crate::entry_pages::{EntryPage, write_entries};
-use crate::forms::LONGEST_ANSWER;
+use crate::forms::{LONGEST_ANSWER, tell_whole};
 use crate::games::InGame;
 use crate::links::{Link, tell_link};
+use crate::list_hints::tell_list_hint;
 use crate::lists::plain_list;
-use crate::moves::{find_moves, read_moves, tell_end};
+use crate::moves::{find_file, read_moves, tell_end};
+use crate::objects::{Name, fault_line};
 use crate::others::tell_other_game;
 use crate::outputs::Out;
 use crate::pair_lists::expand_list;
 use crate::refusals::{tell_move, tell_sequence};
-use fc_io::{FromSlice, ToArray};
+use crate::replay_objects::replay_line;
+use fc_io::{FromSlice, ToArray, write_all};
 use fc_moves::Game;
 use fc_position::Position;
 use fc_replay::{Ended, Page, ReplayFault};
@@ -29,12 +32,27 @@ impl InGame for ReplayWords<'_> {
         let source = find_board(rt, &self.board)?;
         let deal = source.deal();
         // (a file that can't be opened is told before the board is read, and one that can't be read after it)
-        let moves = find_moves(rt, &self.moves)?;
+        let moves = find_file(rt, &self.moves, Input::Moves)?;
         let start = read_start(rt, source, game.cells())?;
         let text = read_moves(rt, moves)?;
         let list = plain_list(rt.alloc(), text.as_slice(), self.has_sequences)?;
         let mut out = Out::new(rt);
-        match replay(rt, game, &start, list.as_slice(), self, &mut out) {
+        let name = Name::of(&self.board.word, deal);
+        let ran = match self.form {
+            ReplayForm::Json => {
+                let line = replay_line(
+                    rt.alloc(),
+                    game,
+                    &start,
+                    name,
+                    list.as_slice(),
+                    self.has_sequences,
+                );
+                write_object(line, &mut out)
+            }
+            _ => replay(rt, game, &start, list.as_slice(), self, &mut out),
+        };
+        match ran {
             Ok(ended) => {
                 if self.has_link {
                     link_list(rt, game, &start, list.as_slice(), self, deal)?;
@@ -51,10 +69,41 @@ impl InGame for ReplayWords<'_> {
                 if let ProgramFault::Moves(ReplayFault::NotAllowed(_)) = fault {
                     tell_other_game(rt, self, &start, list.as_slice());
                 }
+                if let ProgramFault::Moves(fault) = fault {
+                    tell_list_hint(rt, game, &start, text.as_slice(), self.has_sequences, fault);
+                    tell_refused_object(rt, self.form, name, fault)?;
+                }
                 Err(Ending::Told(status))
             }
         }
     }
+}
+
+// Writes the object that tells how a list ended.
+fn write_object(
+    told: Result<(String, Ended), ProgramFault>,
+    out: &mut Out<'_>,
+) -> Result<Ended, ProgramFault> {
+    let (line, ended) = told?;
+    match write_all(out, line.as_bytes()) {
+        Ok(()) => Ok(ended),
+        Err(_) => Err(ProgramFault::Write(Output::Answer)),
+    }
+}
+
+// Writes why a list is refused as an object, where that form is asked for.
+fn tell_refused_object(
+    rt: &HostRuntime,
+    form: ReplayForm,
+    name: Name<'_>,
+    fault: ReplayFault,
+) -> Result<(), Ending> {
+    let ReplayForm::Json = form else {
+        return Ok(());
+    };
+    let reason = format!(in rt.alloc(); "{fault}")?;
+    let line = fault_line(rt.alloc(), name, "refused", Some(reason.as_str()))?;
+    tell_whole(rt, line.as_bytes())
 }
 
 // Replays a list, and writes what the words ask for.
@@ -89,6 +138,8 @@ fn replay<G: Game>(
             let question = question_of(Asked::BoardAfter(entries), words);
             return run_list(alloc, game, start, &mut moves, question, out);
         }
+        // (an object is written otherwise)
+        ReplayForm::Json => Page::Board,
     };
     if has_sequences {
         run_replay_sequences(alloc, game, start, &mut moves, page, out)

@@ -94,7 +94,7 @@ impl<'a, G: Game + Drop> ListDesk<'a, G> {
         let rt = self.rt;
         let board = BoardWords {
             word: BoardWord::Named(list.board),
-            is_in_rows: self.words.is_in_rows,
+            text: self.words.text,
         };
         let source = find_board(rt, &board)?;
         let deal = source.deal();

@@ -13,7 +13,7 @@ use crate::forms::{LONGEST_ANSWER, tell_whole};
 use crate::games::InGame;
 use crate::hands::by_hand_of;
 use crate::links::{Link, tell_link};
-use crate::moves::{find_moves, read_moves};
+use crate::moves::{find_file, read_moves};
 use crate::objects::Name;
 use crate::outputs::Out;
 use crate::review_objects::{FoundList, review_line};
@@ -28,9 +28,9 @@ use fc_methods::Question;
 use fc_moves::{Game, Move};
 use fc_position::Position;
 use fc_review::{Finding, board_after, find, finding_text, known_after, run_review};
-use fc_runs::{Output, ProgramFault, run_best};
+use fc_runs::{Input, Output, ProgramFault, run_best};
 use fc_text::print_board;
-use fc_words::{BoardWords, GameWords, MovesWord, ReviewLists, ReviewWords};
+use fc_words::{BoardWords, FileWord, GameWords, ReviewLists, ReviewWords};
 use std::fs;
 
 impl InGame for ReviewWords<'_> {
@@ -53,11 +53,11 @@ fn review_one<G: Game + Drop>(
     words: &ReviewWords<'_>,
     game: &G,
     board: &BoardWords<'_>,
-    moves: &MovesWord<'_>,
+    moves: &FileWord<'_>,
 ) -> Result<u8, Ending> {
     let source = find_board(rt, board)?;
     let deal = source.deal();
-    let moves = find_moves(rt, moves)?;
+    let moves = find_file(rt, moves, Input::Moves)?;
     let mut cert = match words.cert {
         Some(path) => {
             keep_apart(rt, path, source.path())?;

@@ -58,7 +58,9 @@ fn search_from<G: Game + Drop>(
 {
     let mut cert = cert;
     let mut teller = Teller::new(line, rt.stderr().is_terminal() && !words.is_quiet);
-    if let (MovesForm::Letters, false, false) = (words.form, words.has_link, words.has_stats) {
+    let manner = Manner::new(rt, words.form, words.colours);
+    let is_held = manner.is_numbered || words.has_link || words.has_stats;
+    if let (MovesForm::Letters, false) = (words.form, is_held) {
         let mut out = Out::after(rt, line);
         let ran = run_solve_by(
             rt.alloc(),
@@ -91,12 +93,11 @@ fn search_from<G: Game + Drop>(
     let told = if let MovesForm::Json = words.form {
         let name = Name::of(&words.board.word, line.deal());
         let beside = Beside {
-            stored_and_turns: teller.stored_and_turns(),
+            searched: teller.searched(),
             by_hand,
         };
         tell_answer(rt, name, ran, answer.held(), beside)
     } else {
-        let manner = Manner::new(rt, words.form, words.colours);
         tell_held(rt, game, start, ran, answer.held(), manner)
     };
     if words.has_stats {

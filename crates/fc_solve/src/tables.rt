@@ -4,8 +4,10 @@ ghost use Rattle.fc_moves.specs.GameRules.{IsPositionOf};
 use crate::apart::keep_apart;
 use crate::board_lists::{is_blank, is_rule, read_list};
 use crate::boards::{deal_for, read_board_text};
+use crate::cert_names::cert_name;
 use crate::certs::CertFile;
 use crate::endings::{Ending, REFUSED, tell_of_file, tell_of_long_certificate};
+use crate::hands::by_hand_of;
 use crate::objects::{Name, fault_line, row_line};
 use crate::outputs::Out;
 use crate::tallies::{ANSWERS, CountedRows, Tally};
@@ -162,7 +164,7 @@ impl<'a, G: Game + Drop> Desk<'a, G> {
             let Some(start) = deal_for(number, self.question.game().cells()) else {
                 return Err(Ending::Fault(ProgramFault::Number(number)));
             };
-            self.answer(Name::Deal(number), number as u64, &start)?;
+            self.answer(Name::Deal(number), &start)?;
         }
         Ok(())
     }
@@ -211,10 +213,9 @@ impl<'a, G: Game + Drop> Desk<'a, G> {
         let place = before.saturating_add(1);
         let name = format!(in self.rt.alloc(); "{path}:{place}")?;
         let cells = self.question.game().cells();
-        match read_board_text(self.rt, text, self.words.is_in_rows, cells) {
+        match read_board_text(self.rt, text, self.words.text, cells) {
             Ok(start) => {
-                let number = self.tally.done().saturating_add(1);
-                self.answer(Name::Board(name.as_str()), number, &start)?;
+                self.answer(Name::Board(name.as_str()), &start)?;
             }
             Err(Ending::Told(status)) => {
                 self.tell_no_board(name.as_str(), status)?;
@@ -224,29 +225,37 @@ impl<'a, G: Game + Drop> Desk<'a, G> {
         Ok(place)
     }
 
-    // Answers a board; its certificate has this number.
-    fn answer(&mut self, name: Name<'_>, number: u64, start: &Position) -> Result<(), Ending>
+    // Answers a board.
+    fn answer(&mut self, name: Name<'_>, start: &Position) -> Result<(), Ending>
         requires position { IsPositionOf self.old.question.now.game start.now }
     {
+        let (alloc, question) = (self.rt.alloc(), self.question);
         let row = match self.words.certs {
-            Some(folder) => self.certified_row(folder, number, start)?,
-            None => answer_row::<G, CertFile>(
-                self.rt.alloc(),
-                self.question,
-                self.sought,
-                start,
-                None,
-            )?,
+            Some(folder) => self.certified_row(folder, name, start)?,
+            None => answer_row::<G, CertFile>(alloc, question, self.sought, start, None)?,
         };
-        self.tell_row(name, &row)
+        let by_hand = match (self.words.form, &row.list) {
+            (BatchForm::Json, Some(list)) => {
+                let (game, rule) = (question.game(), question.method().rule);
+                Some(by_hand_of(alloc, game, start, list.as_slice(), rule)?)
+            }
+            _ => None,
+        };
+        self.tell_row(name, &row, by_hand)
     }
 
     // The row of a board, whose certificate gets its name once it is whole.
-    fn certified_row(&mut self, folder: &str, number: u64, start: &Position) -> Result<Row, Ending>
+    fn certified_row(
+        &mut self,
+        folder: &str,
+        name: Name<'_>,
+        start: &Position,
+    ) -> Result<Row, Ending>
         requires position { IsPositionOf self.old.question.now.game start.now }
     {
         let alloc = self.rt.alloc();
-        let path = format!(in alloc; "{folder}/{number}.cert")?;
+        let name = cert_name(alloc, name)?;
+        let path = format!(in alloc; "{folder}/{name}.cert")?;
         keep_apart(self.rt, path.as_str(), None)?;
         let (mut cert, part) = CertFile::part(self.rt, path.as_str())?;
         let row = answer_row(alloc, self.question, self.sought, start, Some(&mut cert));
@@ -270,9 +279,9 @@ impl<'a, G: Game + Drop> Desk<'a, G> {
     }
 
     // Writes what is told of a board, and counts it.
-    fn tell_row(&mut self, name: Name<'_>, row: &Row) -> Result<(), Ending> {
+    fn tell_row(&mut self, name: Name<'_>, row: &Row, by_hand: Option<u64>) -> Result<(), Ending> {
         let text = match self.words.form {
-            BatchForm::Json => row_line(self.rt.alloc(), name, row)?,
+            BatchForm::Json => row_line(self.rt.alloc(), name, row, by_hand)?,
             _ => {
                 let cells = row.cells();
                 let cells = cells.as_str();
@@ -292,7 +301,7 @@ impl<'a, G: Game + Drop> Desk<'a, G> {
         let name = Name::Board(name);
         let text = match self.words.form {
             BatchForm::Json => fault_line(self.rt.alloc(), name, NO_BOARD, None)?,
-            _ => row_of(self.rt, name, "\tno board\t\t\t\t\t\n")?,
+            _ => row_of(self.rt, name, "\tno board\t\t\t\t\t\t\n")?,
         };
         self.write(text.as_bytes())?;
         self.status = self.status.max(status);
@@ -324,7 +333,7 @@ impl<'a, G: Game + Drop> Desk<'a, G> {
             most_open,
         } = self.sums;
         let sums = format!(in self.rt.alloc();
-            "\t{moves}\t{floors}\t{classes}\t{turns}\t{most_open}\n"
+            "\t{moves}\t{floors}\t\t{classes}\t{turns}\t{most_open}\n"
         )?;
         text.push_str(sums.as_str())?;
         self.write(text.as_bytes())

@@ -1,10 +1,12 @@
 //! How far a search is, told on standard error: on a terminal by one line that is written over, and at the end, where it is
 //! asked for, by a line of numbers. Where a line can't be written, the search goes on.
 
+use crate::objects::Searched;
 use fc_answers::MoveList;
 use fc_best::{BestListener, BestProgress};
 use fc_methods::{MOST_BUDGET, MOST_GREAT_BUDGET};
 use fc_plain::read_count;
+use fc_runs::Far;
 use fc_search::{Listener, Progress};
 use std::cell::Cell;
 
@@ -75,12 +77,26 @@ impl<'a> Line<'a> {
         };
     }
 
-    // Says below an answer what helps.
-    fn tell_advice(&self, why: &str, step: &str) {
+    // Begins a line below an answer.
+    fn begin_advice(&self) {
         let _told = match self.deal {
-            Some(number) => eprintln!(self.rt; "fc_solve: deal {number}: {why} {step}"),
-            None => eprintln!(self.rt; "fc_solve: {why} {step}"),
+            Some(number) => eprint!(self.rt; "fc_solve: deal {number}: "),
+            None => eprint!(self.rt; "fc_solve: "),
         };
+    }
+
+    // Says what helps below a list that may not be a shortest one.
+    fn tell_closer(&self, step: &str) {
+        self.begin_advice();
+        let _told = eprintln!(self.rt; "closer: {step}");
+    }
+
+    // Says what helps below giving up, and why fewer positions are told than the budget.
+    fn tell_more(&self, budget: u32, step: &str) {
+        self.begin_advice();
+        let _told = eprintln!(self.rt;
+            "gave up, several searches sharing the budget of {budget}: try {step}"
+        );
     }
 
     // Ends a run with a line of numbers: of the search, and how many entries of a list are left to a player's hands.
@@ -96,7 +112,7 @@ impl<'a> Line<'a> {
             let _told = eprint!(self.rt; "deal={number} ");
         }
         let _told = eprint!(self.rt;
-            "classes={classes} turns={turns} most_open={most_open} floor={floor}"
+            "stored={classes} turns={turns} open={most_open} floor={floor}"
         );
         let _told = match by_hand {
             Some(count) => eprintln!(self.rt; " by_hand={count}"),
@@ -125,12 +141,18 @@ impl<'a> Teller<'a> {
         }
     }
 
-    /// How many classes were stored, and how many turns taken, as was heard last.
-    pub fn stored_and_turns(&self) -> (Option<u64>, Option<u64>) {
-        match self.last {
-            Some(far) => (Some(far.classes as u64), Some(far.turns)),
-            None => (None, None),
-        }
+    /// What was heard last.
+    pub fn searched(&self) -> Option<Searched> {
+        let far = self.last?;
+        Some(Searched {
+            budget: far.budget,
+            far: Far {
+                classes: far.classes as u64,
+                turns: far.turns,
+                most_open: far.most_open,
+                at_least: far.at_least,
+            },
+        })
     }
 
     /// The line of numbers of what was heard last, with the floor that the answer tells, if it does.
@@ -181,12 +203,18 @@ impl<'a> BestTeller<'a> {
         self.line
     }
 
-    /// How many classes all searches stored together, and how many turns they took, as was heard last.
-    pub fn stored_and_turns(&self) -> (Option<u64>, Option<u64>) {
-        match self.last {
-            Some(far) => (Some(u64::from(far.classes)), Some(far.turns)),
-            None => (None, None),
-        }
+    /// What was heard last, of all searches together.
+    pub fn searched(&self) -> Option<Searched> {
+        let far = self.last?;
+        Some(Searched {
+            budget: far.budget,
+            far: Far {
+                classes: u64::from(far.classes),
+                turns: far.turns,
+                most_open: far.most_open,
+                at_least: far.at_least,
+            },
+        })
     }
 
     /// The line of numbers of all searches together, with the floor that the answer tells, if it does.
@@ -210,8 +238,8 @@ impl<'a> BestTeller<'a> {
             return;
         };
         match far.shortest {
-            Some(moves) if far.at_least < moves => self.line.tell_advice("closer:", step),
-            None if status == 2 => self.line.tell_advice("gave up: try", step),
+            Some(moves) if far.at_least < moves => self.line.tell_closer(step),
+            None if status == 2 => self.line.tell_more(far.budget, step),
             _ => {}
         }
     }
