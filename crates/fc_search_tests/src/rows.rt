@@ -22,7 +22,7 @@ fn certificates_that_cant_be_written_end_a_row(rt: HostRuntime) {
     }
 }
 
-// What a row tells, the text of its cells, and its status.
+// What a row by a budget of 100 tells, the text of its cells, and its status.
 static CELLS: [(Option<Outcome>, Option<Far>, &[u8], u8); 6] = [
     (
         Some(Outcome::Shortest(75)),
@@ -32,7 +32,7 @@ static CELLS: [(Option<Outcome>, Option<Far>, &[u8], u8); 6] = [
             most_open: 7,
             at_least: 70,
         }),
-        b"\tshortest\t75\t75\t9\t8\t7\n",
+        b"\tshortest\t75\t75\t100\t9\t8\t7\n",
         0,
     ),
     (
@@ -41,7 +41,7 @@ static CELLS: [(Option<Outcome>, Option<Far>, &[u8], u8); 6] = [
             floor: 80,
         }),
         None,
-        b"\twon\t90\t80\t\t\t\n",
+        b"\twon\t90\t80\t100\t\t\t\n",
         0,
     ),
     (
@@ -52,7 +52,7 @@ static CELLS: [(Option<Outcome>, Option<Far>, &[u8], u8); 6] = [
             most_open: 7,
             at_least: 4,
         }),
-        b"\tcan't be won\t\t\t9\t8\t7\n",
+        b"\tcan't be won\t\t\t100\t9\t8\t7\n",
         1,
     ),
     (
@@ -63,7 +63,7 @@ static CELLS: [(Option<Outcome>, Option<Far>, &[u8], u8); 6] = [
             most_open: 7,
             at_least: 71,
         }),
-        b"\tgave up\t\t71\t9\t8\t7\n",
+        b"\tgave up\t\t71\t100\t9\t8\t7\n",
         2,
     ),
     (
@@ -74,16 +74,21 @@ static CELLS: [(Option<Outcome>, Option<Far>, &[u8], u8); 6] = [
             most_open: 7,
             at_least: 72,
         }),
-        b"\twant of memory\t\t72\t9\t8\t7\n",
+        b"\twant of memory\t\t72\t100\t9\t8\t7\n",
         4,
     ),
-    (None, None, b"\twant of memory\t\t\t\t\t\n", 4),
+    (None, None, b"\twant of memory\t\t\t100\t\t\t\n", 4),
 ];
 
 #[test]
 fn cells_are_parted_by_tabs(rt: HostRuntime) {
     for &(told, far, text, status) in &CELLS {
-        let row = Row { told, far };
+        let row = Row {
+            budget: 100,
+            told,
+            list: None,
+            far,
+        };
         let cells = row.cells();
         must(&rt, cells.as_bytes() == text);
         must(&rt, row.status() == status);

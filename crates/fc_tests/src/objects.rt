@@ -15,8 +15,10 @@ const FULL: Told<'static> = Told {
     list: Some("7a 7b"),
     hint: Some("7a"),
     by_hand: Some(36),
+    budget: Some(16_000_000),
     stored: Some(u64::MAX),
     turns: Some(0),
+    most_open: Some(4_294_967_296),
     fault: Some("Open(3)"),
 };
 
@@ -28,7 +30,7 @@ fn check_object(rt: &impl Abort, alloc: Global, told: &Told<'_>, text: &str) {
 
 // The object of all that can be told.
 const FULL_TEXT: &str =
-    "{\"answer\":\"won\",\"board\":\"a \\\"board\\\"\\n\u{2663}\",\"by_hand\":36,\"deal\":617,\"fault\":\"Open(3)\",\"floor\":80,\"hint\":\"7a\",\"list\":\"7a 7b\",\"moves\":88,\"stored\":18446744073709551615,\"turns\":0}";
+    "{\"answer\":\"won\",\"board\":\"a \\\"board\\\"\\n\u{2663}\",\"budget\":16000000,\"by_hand\":36,\"deal\":617,\"fault\":\"Open(3)\",\"floor\":80,\"hint\":\"7a\",\"list\":\"7a 7b\",\"moves\":88,\"open\":4294967296,\"stored\":18446744073709551615,\"turns\":0}";
 
 #[test]
 fn objects_have_what_is_told(rt: HostRuntime) {
