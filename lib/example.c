@@ -25,9 +25,18 @@ int main(int count, char **words) {
     call = luffaknife_best_certified(FREE_CELL, BUDGET, board, board_len, text, sizeof text, certificate, CERTIFICATE_ROOM);
     size_t text_len = call.text_len, certificate_len = call.certificate_len;
     printf("best: %u\n%.*s", call.status, (int)text_len, text);
+    printf("kind %u: %u moves, at least %u\n", call.figures.kind, call.figures.moves, call.figures.floor);
     printf("a certificate of %zu bytes\n", certificate_len);
     call = luffaknife_check(FREE_CELL, board, board_len, certificate, certificate_len, told, sizeof told);
     printf("check: %u, %.*s", call.status, (int)call.text_len, told);
+
+    struct luffaknife_bytes kept = LUFFAKNIFE_NO_BYTES, kept_certificate = LUFFAKNIFE_NO_BYTES;
+    call = luffaknife_keep_best_certified(FREE_CELL, BUDGET, board, board_len, &kept, &kept_certificate);
+    printf("kept: %u, %s\n", call.status, kept.len == text_len && !memcmp(kept.bytes, text, text_len) ? "the same text" : "another text");
+    printf("%s\n", kept_certificate.len == certificate_len && !memcmp(kept_certificate.bytes, certificate, certificate_len)
+                       ? "the same certificate" : "another certificate");
+    luffaknife_free(kept);
+    luffaknife_free(kept_certificate);
 
     uint8_t *list = memchr(text, '\n', text_len);
     size_t list_len = list ? text_len - (size_t)(list - text) : 0;

@@ -11,20 +11,42 @@ class Game(ctypes.Structure):
     _fields_ = [("code", ctypes.c_uint8), ("cells", ctypes.c_uint8)]
 
 
+class Method(ctypes.Structure):
+    """How a board is searched by `solve`: the home rule, the bound, the weight in tenths, the expansion and the budget."""
+
+    _fields_ = [(name, ctypes.c_uint8) for name in ("rule", "bound", "tenths", "expansion")] + [("budget", ctypes.c_uint32)]
+
+
+class Figures(ctypes.Structure):
+    _fields_ = [(name, ctypes.c_uint32) for name in ("kind", "moves", "floor", "budget")]
+
+
 class Call(ctypes.Structure):
-    _fields_ = [("status", ctypes.c_uint32), ("place", ctypes.c_uint32), ("text_len", ctypes.c_size_t), ("certificate_len", ctypes.c_size_t)]
+    _fields_ = [("status", ctypes.c_uint32), ("place", ctypes.c_uint32), ("figures", Figures), ("text_len", ctypes.c_size_t),
+                ("certificate_len", ctypes.c_size_t)]
+
+
+class Bytes(ctypes.Structure):
+    """Bytes that a call left behind: a block of malloc's, if there are any."""
+
+    _fields_ = [("bytes", ctypes.c_void_p), ("len", ctypes.c_size_t)]
 
 
 class Refused(Exception):
     """A number of luffaknife.h, and where the refusal lies."""
 
 
+CALLS = ("deal", "best", "best_certified", "keep_best", "keep_best_certified", "solve", "solve_certified", "keep_solve", "keep_solve_certified",
+         "check", "replay", "replay_sequences", "review", "keep_review")
+
+
 class Luffaknife:
-    """The calls, each with rooms that are large enough: a call with too little room says how much it wants."""
+    """The calls, each with rooms that are large enough: a call with too little room says how much it wants. The figures are those of
+    what the last call told."""
 
     def __init__(self, path):
-        self.shared = ctypes.CDLL(path)
-        for name in ("deal", "best", "best_certified", "check", "replay"):
+        self.shared, self.figures = ctypes.CDLL(path), None
+        for name in CALLS:
             getattr(self.shared, f"luffaknife_{name}").restype = Call
 
     def call(self, name, *given, rooms=1):
@@ -40,6 +62,7 @@ class Luffaknife:
             sizes = [max(1, it) for it in wanted]
         if ended.status > 3:
             raise Refused(ended.status, ended.place)
+        self.figures = ended.figures
         return [room.raw[:it] for room, it in zip(made, wanted)]
 
     def deal(self, number):
@@ -60,6 +83,7 @@ def main(path, number):
     board = luffaknife.deal(number)
     text, certificate = luffaknife.best_certified(free_cell, 500_000, board)
     print(text.decode(), end="")
+    print(*[f"{name} {getattr(luffaknife.figures, name)}" for name, _ in Figures._fields_])
     print(luffaknife.check(free_cell, board, certificate).decode(), end="")
     print(luffaknife.replay(free_cell, board, text.split(b"\n")[1]).decode().split("\n")[0])
     for wrong in (lambda: luffaknife.check(free_cell, board, certificate[:-1]), lambda: luffaknife.replay(Game(0, 0), board, b"1a")):

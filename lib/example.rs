@@ -1,4 +1,4 @@
-//! Calls luffaknife.h from Rust, and wraps one call so that it can't be misused.
+//! Calls luffaknife.h from Rust, and wraps two calls so that they can't be misused.
 //! rustc -O lib/example.rs -L lib/out -l static=luffaknife -o /tmp/example && /tmp/example 941
 
 #[repr(C)]
@@ -9,16 +9,54 @@ struct Game {
 }
 
 #[repr(C)]
+#[derive(Clone, Copy, Debug)]
+struct Figures {
+    kind: u32,
+    moves: u32,
+    floor: u32,
+    budget: u32,
+}
+
+#[repr(C)]
 struct Call {
     status: u32,
     place: u32,
+    figures: Figures,
     text_len: usize,
     certificate_len: usize,
 }
 
 extern "C" {
     fn luffaknife_deal(number: u32, text: *mut u8, text_room: usize) -> Call;
-    fn luffaknife_best(game: Game, budget: u32, board: *const u8, board_len: usize, text: *mut u8, text_room: usize) -> Call;
+    fn luffaknife_keep_best(game: Game, budget: u32, board: *const u8, board_len: usize, text: *mut Bytes) -> Call;
+    fn free(block: *mut u8);
+}
+
+#[repr(C)]
+struct Bytes {
+    bytes: *const u8,
+    len: usize,
+}
+
+/// What a call left behind, freed when it is dropped.
+struct Kept(Bytes);
+
+impl Kept {
+    fn new() -> Kept {
+        Kept(Bytes { bytes: b"".as_ptr(), len: 0 })
+    }
+
+    fn as_slice(&self) -> &[u8] {
+        unsafe { std::slice::from_raw_parts(self.0.bytes, self.0.len) }
+    }
+}
+
+impl Drop for Kept {
+    fn drop(&mut self) {
+        if self.0.len > 0 {
+            unsafe { free(self.0.bytes.cast_mut()) }
+        }
+    }
 }
 
 const FREE_CELL: Game = Game { code: 0, cells: 4 };
@@ -44,13 +82,21 @@ fn deal(number: u32) -> Result<String, (u32, u32)> {
     told(|room| unsafe { luffaknife_deal(number, room.as_mut_ptr(), room.len()) })
 }
 
-fn best(game: Game, budget: u32, board: &str) -> Result<String, (u32, u32)> {
-    told(|room| unsafe { luffaknife_best(game, budget, board.as_ptr(), board.len(), room.as_mut_ptr(), room.len()) })
+/// The text of a best answer, and its figures: the answer is kept, so no room is too small for it.
+fn best(game: Game, budget: u32, board: &str) -> Result<(String, Figures), (u32, u32)> {
+    let mut kept = Kept::new();
+    let ended = unsafe { luffaknife_keep_best(game, budget, board.as_ptr(), board.len(), &mut kept.0) };
+    if ended.status > 3 {
+        return Err((ended.status, ended.place));
+    }
+    Ok((String::from_utf8_lossy(kept.as_slice()).into_owned(), ended.figures))
 }
 
 fn main() {
     let number = std::env::args().nth(1).and_then(|word| word.parse().ok()).unwrap_or(941);
     let board = deal(number).expect("a deal");
-    print!("{board}{}", best(FREE_CELL, 500_000, &board).expect("an answer"));
-    println!("{:?} {:?}", deal(0), best(FREE_CELL, 500_000, "AC AC"));
+    let (text, figures) = best(FREE_CELL, 500_000, &board).expect("an answer");
+    print!("{board}{text}");
+    println!("kind {}: {} moves, at least {}, {} positions", figures.kind, figures.moves, figures.floor, figures.budget);
+    println!("{:?} {:?}", deal(0), best(FREE_CELL, 500_000, "AC AC").map(|(text, _)| text));
 }
