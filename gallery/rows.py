@@ -15,7 +15,7 @@ import urllib.parse
 from typing import NamedTuple
 
 HERE = os.path.dirname(os.path.abspath(__file__))
-COLUMNS = ("deal", "answer", "moves", "floor", "budget", "classes", "bytes", "sha256", "list")
+COLUMNS = ("deal", "answer", "moves", "floor", "budget", "stored", "bytes", "sha256", "list")
 HEAD = "\t".join(COLUMNS) + "\n"
 # How many deals stand in a file.
 OF_A_FILE = 1000
@@ -37,7 +37,7 @@ class Row(NamedTuple):
     moves: str
     floor: str
     budget: str
-    classes: str
+    stored: str
     bytes: str
     sha256: str
     list: str
@@ -116,7 +116,7 @@ class Folder:
         for name in [*names, *["boards.tsv"] * os.path.exists(self.at("boards.tsv"))]:
             with open(self.at(name), encoding="utf-8") as it:
                 head, *lines = it
-            if head != HEAD:
+            if head.replace("\tclasses\t", "\tstored\t") != HEAD:  # (an older folder's, which gets this one with its next row)
                 raise ValueError(f"{self.at(name)} has another head")
             self.files[name] = {row.deal: row for row in map(row_of, lines)}
             self.rows.update(self.files[name])
