@@ -50,14 +50,14 @@ def wrong_files():
 def wrong_row(row):
     """What is wrong with a row by itself, or with the certificate that is kept."""
     has_list, has_digest = row.answer in ("shortest", "won"), row.sha256 != ""
-    numbers = [row.moves, row.floor, *[row.classes] * (row.classes != ""), *[row.bytes] * has_digest]
+    numbers = [row.moves, row.floor, *[row.stored] * (row.stored != ""), *[row.bytes] * has_digest]
     if row.answer not in gallery.ANSWERS or not all(map(NUMBER.fullmatch, numbers if has_list else numbers[2:])):
         return f"it isn't a row: {row}"
     if [row.moves != "", row.floor != "", len(row.list)] != [has_list, has_list, 2 * int(row.moves) if has_list else 0]:
         return f"moves, floor and list don't agree: {row}"
     if has_list and (int(row.floor) > int(row.moves) or (row.answer == "shortest") != (row.floor == row.moves)):
         return f"the floor {row.floor} beside {row.moves} moves, {row.answer}"
-    if row.budget != gallery.budget_of(row.budget) or (row.classes == "" and not has_digest):
+    if row.budget != gallery.budget_of(row.budget) or (row.stored == "" and not has_digest):
         return "another budget, or it isn't told how many classes were stored"
     if has_digest and (not re.fullmatch("[0-9a-f]{64}", row.sha256) or row.answer == "gave up") or (row.bytes != "") != has_digest:
         return "it has no size and digest, or one of them alone"

@@ -179,7 +179,7 @@ def try_checked(room, _):
     with open(path, encoding="ascii") as it:
         text = it.read()
     rows = rows_in(out)
-    wrong = rows["2"]._replace(classes=str(int(rows["2"].classes) + 1)), rows["3"]._replace(answer="can't be won"), rows["5"]._replace(moves="1")
+    wrong = rows["2"]._replace(stored=str(int(rows["2"].stored) + 1)), rows["3"]._replace(answer="can't be won"), rows["5"]._replace(moves="1")
     for it in wrong:
         text = text.replace(rows[it.deal].line(), it.line())
     with open(path, "w", encoding="ascii") as it:

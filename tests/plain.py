@@ -140,7 +140,7 @@ def try_words(game, boards, words, weight):
     texts = [it.board for it in boards]
     with tempfile.TemporaryDirectory() as folder:
         rows, certified = rows_of(words, texts), rows_of(words, texts, folder)
-        certs = [read(f"{folder}/{number}.cert") for number in range(1, len(boards) + 1)]
+        certs = [read(f"{folder}/-:{number}.cert") for number in range(1, len(boards) + 1)]
     for (board, fewest), row, again, cert in zip(boards, rows, certified, certs):
         moves = moves_of(cert)
         is_well = row == again and is_right(row, fewest, weight) and len(moves) == (row.moves or 0)
@@ -249,7 +249,7 @@ def long_lists(numbers, boards):
     starts = [rules.play(FREE_CELL, board, front) for board, front in zip(boards, fronts)]
     with tempfile.TemporaryDirectory() as folder:
         rows = rows_of(["--within", "3", *FREE_CELL.words()], starts, folder)
-        certs = [read(f"{folder}/{number}.cert") if row.moves is not None else None for number, row in enumerate(rows, 1)]
+        certs = [read(f"{folder}/-:{number}.cert") if row.moves is not None else None for number, row in enumerate(rows, 1)]
     lists = [front + moves_of(cert) if cert else None for front, cert in zip(fronts, certs)]
     return [it if it and wins(FREE_CELL, board, it) else None for board, it in zip(boards, lists)]
 

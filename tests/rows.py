@@ -139,7 +139,7 @@ class Trial:
 
     def check_certificate(self):
         """What is wrong with the certificate that was written, or None."""
-        path = next((it for it in ("cert", "certs/1.cert") if read(f"{self.folder}/{it}")), None)
+        path = next((it for it in ("cert", "certs/board:1.cert") if read(f"{self.folder}/{it}")), None)
         claim = self.row.get("claim")
         if not path or not claim:
             return f"wanted {claim}, and there is {path}" if path or claim else None

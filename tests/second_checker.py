@@ -90,9 +90,8 @@ def compare(source, cert):
     """What both checkers say of these bytes as a certificate of the board; and whether it is the same."""
     with open(CERT, "wb") as file:
         file.write(cert)
-    board = ["--deal", source.board] if source.board.isdigit() else [source.board]
-    first = said([PROGRAM, "check", *source.words, source.board, CERT])
-    second = said([SECOND, *source.words, *board, CERT])
+    words = [source.board, *source.words, CERT]
+    first, second = said([PROGRAM, "check", *words]), said([SECOND, *words])
     if first != second or first[0] not in (0, 3):
         print(f"{source.board} {source.words} {cert[:100].hex()} ({len(cert)} bytes): check {first}, the second checker {second}")
     return first, first == second and first[0] in (0, 3)

@@ -1,4 +1,4 @@
-"""Thirty-six texts with one fault each: standard error says what is wrong, and then where and why."""
+"""Thirty-seven texts with one fault each: standard error says what is wrong, and then where and why."""
 import os
 import subprocess
 
@@ -56,7 +56,10 @@ ROWS = [
     (deal(8, "5H 3H 3C 7S 7D TC\nFC: 10c"), "card TC stands twice", "line 8, word 6, and line 9, word 1: 'TC' is one card"),
     ("Foundations: H-K C-K D-K S-K\nKS\n", "card KS stands twice", "line 2, word 1: 'KS' is home already, by its foundation"),
     (deal(8, "5H 3H 3C 7S 7D"), "card TC is missing", DECK),
-    (deal(4, ""), "card 5S is missing", DECK),
+    (deal(4, ""), "card 5S is missing", f"missing are 5S 6H TH JC QD QH QS\nfc_solve: {DECK}"),
+    # in the middle of a game without its foundations
+    ("KC QD JC TD\nKD QC JD TC\nKH QS JH TS\nKS QH JS TH\n9S 9H 9C\n8C\n", "card AC is missing",
+     "with this line it is a board: Foundations: H-8 C-7 D-9 S-8\nfc_solve: --guess adds it"),
     # what solvers print beside boards, and columns that are numbered out of order
     ("-=-=-=-=-=-=-=-=-=-=-=-\n\nFoundations: H-0 C-0 D-0 S-0\n", "line 1: not a card", f"line 1, word 1: '-=-=-=-=-=-=-=-=-=-=-=-' {SOLVER}"),
     (deal(8, DEAL_1[7]) + "\n====================\n", "line 10: not a card", f"line 10, word 1: '====================' {SOLVER}"),

@@ -39,6 +39,19 @@ def plain(text):
     """The text made plain."""
     if len(text) > 16384:
         raise Fault("too long")
+    lines, columns = [respelled(line) for line in untitled(said_of(text))], 0
+    for number, line in enumerate(lines):
+        if sort_line(line)[0] != "column":
+            continue
+        columns += 1
+        rest = line.lstrip(BLANKS)
+        if columns <= 8 and rest.startswith(b"%d:" % columns):
+            lines[number] = line[: len(line) - len(rest)] + rest[1:]
+    return b"\n".join(lines)
+
+
+def said_of(text):
+    """What the lines of a text say, in bytes and without its signs."""
     for mark, order in ((b"\xff\xfe", "little"), (b"\xfe\xff", "big")):
         if text.startswith(mark):
             text = in_bytes(text[2:], order)
@@ -49,15 +62,13 @@ def plain(text):
         for selector in ("\ufe0e", "\ufe0f", ""):
             text = text.replace((symbol + selector).encode(), letter.encode())
     text = text.replace("\u00a0".encode(), b" ")
-    lines, columns = [respelled(line) for line in said(text.split(b"\n"))], 0
-    for number, line in enumerate(lines):
-        if sort_line(line)[0] != "column":
-            continue
-        columns += 1
-        rest = line.lstrip(BLANKS)
-        if columns <= 8 and rest.startswith(b"%d:" % columns):
-            lines[number] = line[: len(line) - len(rest)] + rest[1:]
-    return b"\n".join(lines)
+    return said(text.split(b"\n"))
+
+
+def has_title(text):
+    """Whether a title is left out of a text."""
+    lines = said_of(text)
+    return untitled(lines) != lines
 
 
 def in_bytes(text, order):
@@ -75,9 +86,31 @@ def said(lines):
             told += [b""] if number == len(lines) else []
             continue
         line = line.split(b"#")[0]
-        named = re.match(rb"([ \t]*)cells?:", line, re.IGNORECASE)
-        told.append((named[1] + b"FC:" + line[named.end():] if named else line).replace(b",", b" "))
+        for spelled, name in ((rb"(?:cells?|free(?: cells?)?):", b"FC:"), (rb"homes?:", b"Deck:")):
+            named = re.match(rb"([ \t]*)" + spelled, line, re.IGNORECASE)
+            line = named[1] + name + line[named.end():] if named else line
+        line = re.sub(rb"\A([ \t]*[1-8])[.)]", rb"\1:", line)
+        told.append(line.replace(b",", b" "))
     return told
+
+
+def untitled(lines):
+    """The lines without the title, if the first that has more than blanks is one and another stands below."""
+    for number, line in enumerate(lines[:-1]):
+        body = line[:-1] if line.endswith(b"\r") else line
+        if body.strip(BLANKS):
+            return lines[:number] + lines[number + 1:] if is_title(body) else lines
+    return lines
+
+
+def is_title(body):
+    """Whether a line is no foundation or cell line, and of its tokens one has a word and none may stand in a column."""
+    if sort_line(body)[0] != "column":
+        return False
+    piece = body.lstrip(BLANKS)
+    tokens = re.findall(rb"[^ \t]+", piece[len(re.match(rb"([1-8]:|:)?", piece)[0]):])
+    is_of_board = lambda token: card_of(respelled_card(token)) is not None or card_of(token) is not None or token in (b"-", b"--", b"*", b".")
+    return any(re.search(rb"[A-Za-z]{4}", token) for token in tokens) and not any(map(is_of_board, tokens))
 
 
 def respelled(line):
@@ -103,7 +136,10 @@ def respelled_card(token):
 
 def respelled_home(token):
     card = respelled_card(token)
-    return token if card_of(card) is None else card[-1:] + b"-" + card[:-1]
+    if card_of(card) is not None:
+        return card[-1:] + b"-" + card[:-1]
+    dashed = token[:1] + b"-" + token[2:]
+    return dashed if token[1:2] == b":" and home_of(dashed) else token
 
 
 def rank_of(token):

@@ -24,9 +24,14 @@ def wanted(text, cells):
     """The status, the output and the first line on standard error, or its front."""
     try:
         board = rules.read_plain(rules.plain(text), cells)
-        return 0, rules.printed(board).encode(), lengths_note(board)
+        return 0, rules.printed(board).encode(), lengths_note(board) or title_note(text)
     except rules.Fault as fault:
         return 3, b"", f"fc_solve: board: {fault}"
+
+
+def title_note(text):
+    """How it begins what is said where a title is left out."""
+    return "fc_solve: left out as a title" if rules.has_title(text) else ""
 
 
 def lengths_note(board):
@@ -42,6 +47,8 @@ def told_wrong(program, text, cells):
     ran, right = program.run(["show", "--plain", "--cells", str(cells)], text), wanted(text, cells)
     # (behind the lengths of columns may stand what to do)
     fault = ran.fault().removesuffix(": for a board typed in rows say --rows")
+    # (and behind this the title)
+    fault = re.sub(r"^(fc_solve: left out as a title): '.*'$", r"\1", fault)
     if (ran.status, ran.out, fault) == right and ran.seconds < 1:
         return None
     return f"{text!r}, {cells} cells: {ran.status} {ran.out!r} {ran.fault()!r} {ran.seconds:.2f} s in place of {right!r}"

@@ -197,7 +197,7 @@ def texts():
 
 def told_of(text):
     ran = said(["show", "--plain"], text.encode())
-    return ran.out.decode() or ran.err.decode().replace("fc_solve: ", "")
+    return ran.out.decode() or ran.err.decode().replace("fc_solve: ", "").replace("--guess adds it\n", "")
 
 
 def faults():

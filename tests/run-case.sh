@@ -1,0 +1,22 @@
+#!/bin/sh
+# Runs one case, the folder of this name in cases/, by the program that $fc_solve names, and says in one line how it went.
+# usage, at the top of the repository: tests/run-case.sh NAME
+set -u
+case=cases/$1
+out=$(mktemp) || exit 1
+errors=$(mktemp) || exit 1
+trap 'rm -f "$out" "$errors"' EXIT
+
+want=0
+[ -f "$case/status" ] && want=$(cat "$case/status")
+told=/dev/null
+[ -f "$case/stderr" ] && told=$case/stderr
+sh "$case/cmd" >"$out" 2>"$errors" </dev/null
+status=$?
+if [ "$status" -eq 77 ]; then
+  echo "case $1: skipped: $(head -n 1 "$out")"
+elif [ "$status" -eq "$want" ] && cmp -s "$out" "$case/stdout" && cmp -s "$errors" "$told"; then
+  echo "case $1: passed"
+else
+  echo "case $1: FAILED"
+fi
