@@ -193,6 +193,12 @@ def check_lock(crate, expect):
     make_edits(JUDGED)
     quietly(breaks.try_crate, breaks.task_of(crate, True), locks=True)
     expect("what is refused is locked", new_edits(crate) == [])
+    lock = breaks.task_of(crate, True).lock
+    write(lock.path, judged.read(lock.path).replace(lock.kit, "another kit"))
+    expect("another kit's lines judge nothing", new_edits(crate) == sorted(f"{it}.edit" for it in JUDGED))
+    quietly(breaks.try_crate, breaks.task_of(crate, True), locks=True)
+    expect("and stay where this kit judges", [len(it) for it in judged.parts_of(judged.read(lock.path)).values()] == [2, 2])
+    expect("whose lines do", new_edits(crate) == [])
     for what, (path, old, new, is_anew) in CHANGES.items():
         write(path, FILES[path].replace(old, new))
         expect(f"{what} changed", new_edits(crate) == (sorted(f"{it}.edit" for it in JUDGED) if is_anew else []))

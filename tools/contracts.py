@@ -1,8 +1,8 @@
 #!/usr/bin/env python3
-"""Writes docs/CONTRACTS.md: what each public call promises, quoted from the sources.
+"""Writes docs/contracts/, a page a crate: what each public call promises, quoted from the sources.
 
-usage, at the top of the repository:  contracts.py            writes the page
-                                      contracts.py --check    says where it is stale, which definitions stand on the wrong side,
+usage, at the top of the repository:  contracts.py            writes the pages
+                                      contracts.py --check    says which are stale, which definitions stand on the wrong side,
                                                               and what the tour quotes and no source says; the last line is
                                                               'N passed, M failed'
 
@@ -18,11 +18,15 @@ import re
 import sys
 from dataclasses import dataclass, field
 
-PAGE = "docs/CONTRACTS.md"
+FOLDER = "docs/contracts"
+INDEX = "README.md"
 TOUR = "docs/TOUR.md"
 OPENING = """# What each public call promises
 
-Written by `tools/contracts.py` from the sources, crate by crate, lowest first; `./test` says where it is stale. Each call has the first sentence of its doc comment and its clauses as the prover reads them: `requires` is the caller's to show, `ensures` is proved. A law is the contract of a call that does nothing: here stands what it states. The words are those of `specs/` in the same crate or in one below. [PROVED.md](PROVED.md) says the same for readers.
+Written by `tools/contracts.py` from the sources, a page a crate, lowest first; `./test` says where one is stale. Each call has the first sentence of its doc comment and its clauses as the prover reads them: `requires` is the caller's to show, `ensures` is proved. A law is the contract of a call that does nothing: its page says what it states. The words are those of `specs/` in the same crate or in one below. [PROVED.md](../PROVED.md) says the same for readers.
+
+| Crate | What it is | Calls |
+|---|---|---|
 """
 # Crates whose public calls serve the repository alone.
 OURS = re.compile(r"_tests$|^fc_bench$")
@@ -49,8 +53,8 @@ class Call:
     clauses: list
 
     def sentence(self):
-        """The first sentence of its doc comment."""
-        return re.split(r"(?<=[.])\s", self.doc, maxsplit=1)[0]
+        """The first sentence of its doc comment, without the links to other items."""
+        return re.sub(r"\[([^\]]+)\]\([\w:]+\)", r"\1", re.split(r"(?<=[.])\s", self.doc, maxsplit=1)[0])
 
 
 @dataclass
@@ -229,21 +233,54 @@ def crates_in_order():
     return [it for it in named if not OURS.search(it)]
 
 
-def page(sources, definitions):
-    out = [OPENING]
+def about(crate):
+    """What the first lines of the crate's root say of it."""
+    root = text_of(f"crates/{crate}/src/lib.rt")
+    lines = [it[3:].strip() for it in root.split("\n") if it.startswith("//!")]
+    return re.split(r"(?<=[.])\s", " ".join(lines), maxsplit=1)[0]
+
+
+def page(crate, calls, definitions):
+    """The page of a crate whose public calls have clauses."""
+    out = [f"# {crate}\n"]
+    for call in calls:
+        if call.clauses:
+            told = f": {call.sentence()}" if call.doc else ""
+            out.append("\n".join([f"`{call.name}`{told}", "```", *statement(call, definitions), "```", ""]))
+    bare = [f"`{it.name}`" for it in calls if not it.clauses]
+    if bare:
+        out.append(f"With the clauses of their trait alone, or with none: {', '.join(bare)}.\n")
+    return "\n".join(out)
+
+
+def pages(sources, definitions):
+    """Each page by its name, the index among them."""
+    found, rows = {}, []
     for crate, files in sources.items():
         calls = [it for source in files for it in source.calls]
-        if not any(it.clauses for it in calls):
-            continue
-        out.append(f"## {crate}\n")
-        for call in calls:
-            if call.clauses:
-                told = f": {call.sentence()}" if call.doc else ""
-                out.append("\n".join([f"`{call.name}`{told}", "```", *statement(call, definitions[crate]), "```", ""]))
-        bare = [f"`{it.name}`" for it in calls if not it.clauses]
-        if bare:
-            out.append(f"With the clauses of their trait alone, or with none: {', '.join(bare)}.\n")
-    return "\n".join(out)
+        if any(it.clauses for it in calls):
+            found[f"{crate}.md"] = page(crate, calls, definitions[crate])
+            rows.append(f"| [{crate}]({crate}.md) | {about(crate)} | {len(calls)} |\n")
+    found[INDEX] = OPENING + "".join(rows)
+    return found
+
+
+def stale(found):
+    """The pages that aren't as the sources have them, and those that nothing writes."""
+    there = set(os.listdir(FOLDER)) if os.path.isdir(FOLDER) else set()
+    for name in sorted(there | set(found)):
+        if name not in there or name not in found or text_of(f"{FOLDER}/{name}") != found[name]:
+            yield f"{FOLDER}/{name} is stale: run tools/contracts.py"
+
+
+def write(found):
+    os.makedirs(FOLDER, exist_ok=True)
+    for name in os.listdir(FOLDER):
+        if name not in found:
+            os.remove(f"{FOLDER}/{name}")
+    for name, text in found.items():
+        with open(f"{FOLDER}/{name}", "w", encoding="utf-8") as it:
+            it.write(text)
 
 
 def misplaced(sources, definitions):
@@ -274,15 +311,12 @@ def main(how):
     crates = crates_in_order()
     sources = {it: list(sources_of(it)) for it in crates}
     definitions = {it: definitions_of(it) for it in crates}
-    text = page(sources, definitions)
+    found = pages(sources, definitions)
     if how == ["--check"]:
-        wrong = [*misplaced(sources, definitions), *misquoted()]
-        if not os.path.exists(PAGE) or text_of(PAGE) != text:
-            wrong.append(f"{PAGE} is stale: run tools/contracts.py")
+        wrong = [*misplaced(sources, definitions), *misquoted(), *stale(found)]
         print("\n".join([*wrong, f"{int(not wrong)} passed, {len(wrong)} failed"]))
         return 1 if wrong else 0
-    with open(PAGE, "w", encoding="utf-8") as it:
-        it.write(text)
+    write(found)
     return 0
 
 

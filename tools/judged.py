@@ -1,8 +1,9 @@
 """The lock of judged edits: which wrong edits the prover refused, and a sum of all that each judgement read.
 
-A crate's file breaks/judged.txt has a line for each edit of breaks/ and breaks/more/: the sum, the edit's name, and the functions
-that were refused. The sum is of the kit, the crate's line in crates.txt, its sources, definitions and proofs, what its check reads
-of the crates below, and the edit's text. Rattle's own tokens are summed, so neither comments nor layout count.
+A crate's file breaks/judged.txt has a part for each kit, and in it a line for each edit of breaks/ and breaks/more/: the sum, the
+edit's name, and the functions that were refused. The sum is of the kit, the crate's line in crates.txt, its sources, definitions and
+proofs, what its check reads of the crates below, and the edit's text. Rattle's own tokens are summed, so neither comments nor layout
+count. What one kit judged stays when another judges, so that a machine with either takes what its own refused.
 
 Of a crate below a check reads the public interface and the statements: here its definitions, its lemmas, and its sources without
 the bodies of functions. What a constant function gives can decide another crate's constant, so its body counts. A static library
@@ -114,29 +115,45 @@ def sum_of_crate(crate):
     return sum_of((kit_sum(), crate.name, crate.of_kit, crate.is_static, own_sum(crate.folder), below))
 
 
+def parts_of(text):
+    """The lines of a lock by the kit that judged them: of each edit's name the sum and the functions."""
+    parts, rows = {}, {}
+    for line in text.splitlines():
+        head = re.fullmatch(r"# .*, by (.+)\.", line)
+        row = re.fullmatch(r"([0-9a-f]{64}) (\S+) (.+)", line)
+        if head:
+            rows = parts.setdefault(head[1], {})
+        elif row:
+            rows[row[2]] = row[1], row[3]
+    return parts
+
+
 class Judged:
     """The lines of a crate's lock, and the sums that they would have today."""
 
     def __init__(self, crate, names):
-        self.path = f"{crate.folder}/breaks/{LOCK}"
-        self.known, base = {}, sum_of_crate(crate)
+        self.path, self.kit = f"{crate.folder}/breaks/{LOCK}", read(f"{rt.KIT}/KIT-ID").strip()
+        base = sum_of_crate(crate)
         self.sums = {name: sum_of((base, name, read(f"{crate.folder}/breaks/{name}"))) for name in names}
-        if os.path.isfile(self.path):
-            rows = [re.fullmatch(r"([0-9a-f]{64}) (\S+) (.+)", it) for it in read(self.path).splitlines()]
-            self.known = {row[2]: (row[1], row[3]) for row in rows if row}
+        self.parts = parts_of(read(self.path)) if os.path.isfile(self.path) else {}
+        self.known = self.parts.get(self.kit, {})
 
     def has(self, name):
-        """Whether a line says that the edit was refused over all that is read today."""
+        """Whether a line says that this kit refused the edit over all that is read today."""
         return self.known.get(name, ("", ""))[0] == self.sums[name]
 
     def write(self, refused):
-        """Writes the lines: those that hold, and those of the edits that were refused now, by their functions."""
-        lines = {name: self.known[name][1] for name in self.sums if self.has(name)}
-        lines.update({name: ", ".join(sorted(functions)) for name, functions in refused.items()})
-        kit = read(f"{rt.KIT}/KIT-ID").strip()
-        head = f"# The sum of all that a judgement read, the edit, and the functions in which the prover refused it, by {kit}.\n# tools/breaks.py --lock writes this.\n"
+        """Writes the lines: those that hold, and those of the edits that were refused now, by their functions. Those of other kits
+        stay, but of edits that are gone."""
+        lines = {name: self.known[name] for name in self.sums if self.has(name)}
+        lines.update({name: (self.sums[name], ", ".join(sorted(functions))) for name, functions in refused.items()})
+        parts = {kit: {name: row for name, row in rows.items() if name in self.sums} for kit, rows in self.parts.items()}
+        parts[self.kit] = lines
         with open(self.path, "w", encoding="utf-8") as it:
-            it.write(head + "".join(f"{self.sums[name]} {name} {lines[name]}\n" for name in sorted(lines)))
+            it.write("# tools/breaks.py --lock writes this.\n")
+            for kit, rows in sorted(parts.items()):
+                it.write(f"# The sum of all that a judgement read, the edit, and the functions in which the prover refused it, by {kit}.\n")
+                it.write("".join(f"{rows[name][0]} {name} {rows[name][1]}\n" for name in sorted(rows)))
 
 
 def seed_of(root):

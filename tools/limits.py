@@ -5,6 +5,7 @@ usage, at the top of the repository:  limits.py
 
 The last line is 'N passed, M failed'.
 """
+import os
 import re
 import sys
 
@@ -13,6 +14,8 @@ from contracts import files_below, heads_of, text_of
 
 MOST_PARAMETERS = 6
 MOST_LINES = 400
+# Of the README of a crate.
+MOST_WORDS = 150
 # The product's definition writes these calls out, with a game, a home rule and a budget one by one.
 WRITTEN_OUT = {"run_solve", "run_batch"}
 TESTS = re.compile(r"crates/\w+_tests/")
@@ -127,8 +130,18 @@ def of_searches(lines):
             yield f"crates.txt: {CHECKER} stands on {name}, which knows of a search"
 
 
+def of_readmes(lines):
+    """Which crates of these lines of crates.txt have no README, or one that is too long."""
+    for name in re.findall(r"^(\w+)(?: staticlib)?:", "\n".join(lines), re.M):
+        path = f"crates/{name}/README.md"
+        words = len(text_of(path).split()) if os.path.exists(path) else 0
+        if not 0 < words <= MOST_WORDS:
+            yield f"{path}: {words} words, where 1 to {MOST_WORDS} are to stand"
+
+
 def main():
-    wrong = [*past_limits(), *of_searches(text_of("crates.txt").splitlines())]
+    lines = text_of("crates.txt").splitlines()
+    wrong = [*past_limits(), *of_searches(lines), *of_readmes(lines)]
     print("\n".join([*wrong, f"{int(not wrong)} passed, {len(wrong)} failed"]))
     return 1 if wrong else 0
 
