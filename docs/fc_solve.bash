@@ -33,15 +33,15 @@ _fc_solve() {
         first) words="deal show best hint solve check replay review batch help" ;;
         help) words="deal show best hint solve check replay review batch" ;;
         deal) words="--help" ;;
-        show) words="--plain --color --game --kings --cells --deal --rows --help" ;;
-        best) words="--budget --each --link --cert --words --boards --sequences --json --color --stats --quiet --game --kings --cells --rule --deal --rows --help" ;;
-        hint) words="--more --json --link --budget --color --quiet --game --kings --cells --rule --deal --rows --help" ;;
-        solve) words="--budget --cert --within --bound --expand --link --words --boards --sequences --json --color --stats --quiet --game --kings --cells --rule --deal --rows --help" ;;
-        check) words="--json --game --kings --cells --rows --help" ;;
-        replay) words="--numbered --drawn --expanded --board-at --sequences --must-win --link --color --game --kings --cells --rows --help" ;;
-        review) words="--all --json --lists --cert --certs --link --sequences --budget --game --kings --cells --rule --rows --help" ;;
-        batch) words="--table --json --boards --rows --certs --totals --budget --best --within --bound --expand --game --kings --cells --rule --help" ;;
-        alone) words="--budget --each --link --cert --words --boards --sequences --json --color --stats --quiet --game --kings --cells --rule --deal --rows --within --bound --expand --help" ;;
+        show) words="--plain --color --game --kings --cells --deal --rows --guess --help" ;;
+        best) words="--budget --each --link --cert --words --boards --sequences --json --color --stats --quiet --game --kings --cells --rule --deal --rows --guess --help" ;;
+        hint) words="--more --json --link --budget --color --quiet --game --kings --cells --rule --deal --rows --guess --help" ;;
+        solve) words="--budget --cert --within --bound --expand --link --words --boards --sequences --json --color --stats --quiet --game --kings --cells --rule --deal --rows --guess --help" ;;
+        check) words="--json --game --kings --cells --rows --guess --help" ;;
+        replay) words="--numbered --drawn --expanded --board-at --json --sequences --must-win --link --color --game --kings --cells --rows --guess --help" ;;
+        review) words="--all --json --lists --cert --certs --link --sequences --budget --game --kings --cells --rule --rows --guess --help" ;;
+        batch) words="--table --json --boards --rows --guess --certs --totals --budget --best --within --bound --expand --game --kings --cells --rule --help" ;;
+        alone) words="--budget --each --link --cert --words --boards --sequences --json --color --stats --quiet --game --kings --cells --rule --deal --rows --guess --within --bound --expand --help" ;;
       esac
       ((COMP_CWORD == 1)) && [[ $word == -* ]] && words="$words --version"
       # what has no dash is a file, but where a name or a number stands
