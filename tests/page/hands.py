@@ -42,6 +42,11 @@ return least;
 """
 NAMELESS = """return [...document.querySelectorAll("button, a, input, select, textarea, [role=button], [role=img]")].filter(it => it.getClientRects().length > 0
   && !(it.getAttribute("aria-label") || it.textContent.trim() || (it.labels && it.labels.length))).map(it => it.outerHTML.slice(0, 80))"""
+# Scripts that the page asks for come later than it writes its link.
+LATE = """
+const append = Element.prototype.append;
+Element.prototype.append = function (...inside) { inside[0] instanceof HTMLScriptElement ? setTimeout(() => append.apply(this, inside), 700) : append.apply(this, inside); };
+"""
 OUTSIDE = "return performance.getEntriesByType('resource').map(it => it.name).filter(it => !it.startsWith(new URL('.', location.href).href))"
 
 
@@ -252,6 +257,15 @@ def take_by_keys(page):
     same(page.run("return document.getElementById('help-box').open"), True, "the keys")
 
 
+def await_rows(page):
+    """A link's step is shown when its row comes, however late."""
+    told = page.driver.execute_cdp_cmd("Page.addScriptToEvaluateOnNewDocument", {"source": LATE})
+    page.open("#deal=617&step=40")
+    page.wait("return store.now().at === 40")
+    page.wait("return location.hash === '#deal=617&step=40'")
+    page.driver.execute_cdp_cmd("Page.removeScriptToEvaluateOnNewDocument", told)
+
+
 def watch(page):
     """Play and pause, the slider, steps of the list, and back to the solution."""
     from selenium.webdriver.common.keys import Keys
@@ -301,10 +315,10 @@ def other_links(page):
     has(text(page, "known"), "Deal 146692 can't be won: so its answer says.", "an answer without a list")
     page.open("#deal=31999&answer=gave+up&floor=70")
     has(text(page, "known"), "Deal 31999: no list was found, and none that wins has fewer than 70 moves: so its answer says.", "an answer that gave up")
-    drawn = subprocess.run([os.environ["fc_solve"], "show", "617"], capture_output=True, text=True, check=True).stdout
+    drawn = subprocess.run([os.environ["fc_solve"], "show", "1"], capture_output=True, text=True, check=True).stdout
     page.open(link(drawn))
     page.wait("return store.now().deal === null")
-    same(page.run("return board.print(store.now().start, store.now().game) === board.print(deal.dealt(617), store.now().game)"), True, "a drawn board")
+    same(page.run("return board.print(store.now().start, store.now().game) === board.print(deal.dealt(1), store.now().game)"), True, "a drawn board")
     page.open(link(FAULTY))
     same(page.run("return document.getElementById('paste-box').open"), True, "a link with a fault")
 
@@ -313,7 +327,7 @@ def clicks(_folder):
     with browsers.Chromium() as page:
         page.scheme("light")
         page.size(1280)
-        for work in (drag_cards, tap_cards, take_by_keys, watch, other_links):
+        for work in (drag_cards, tap_cards, take_by_keys, await_rows, watch, other_links):
             work(page)
             clean(page, work.__name__)
     return "cards dragged, tapped and taken by keys, a solution watched, links opened: as they should be"
