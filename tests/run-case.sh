@@ -1,6 +1,6 @@
 #!/bin/sh
-# Runs one case, the folder of this name in cases/, by the program that $fc_solve names, and says in one line how it went.
-# usage, at the top of the repository: tests/run-case.sh NAME
+# Runs one case, the folder GROUP/NAME of cases/, by the program that $fc_solve names, and says in one line how it went.
+# usage, at the top of the repository: tests/run-case.sh GROUP/NAME
 set -u
 case=cases/$1
 out=$(mktemp) || exit 1

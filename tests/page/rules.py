@@ -176,7 +176,7 @@ def every(count, seed):
 def texts():
     """The texts of cases that are refused, and some that are read."""
     with redirect_stdout(io.StringIO()):
-        spec = importlib.util.spec_from_file_location("table", os.path.join(TOP, "cases", "faults-name-their-place", "table.py"))
+        spec = importlib.util.spec_from_file_location("table", os.path.join(TOP, "cases", "boards", "faults-name-their-place", "table.py"))
         table = importlib.util.module_from_spec(spec)
         spec.loader.exec_module(table)
     yield from (text for text, *_ in table.ROWS)
