@@ -1,24 +1,23 @@
 //! `best`: a board is answered as well as a budget lets, and it is told how far the searches are.
 ghost use Rattle.fc_moves.specs.GameRules.{IsPositionOf};
 
+use crate::answers::best_answer;
 use crate::apart::keep_apart;
 use crate::boards::{find_board, read_start};
 use crate::certs::CertFile;
 use crate::each::answer_each;
 use crate::endings::{Ending, tell_of_great_budget, tell_of_long_certificate};
-use crate::forms::{LONGEST_ANSWER, Manner, tell_held};
+use crate::forms::Manner;
 use crate::games::InGame;
-use crate::hands::by_hand_told;
-use crate::links::{Link, tell_link};
-use crate::objects::{Beside, Name, tell_answer};
+use crate::objects::Name;
 use crate::outputs::Out;
+use crate::telling::Telling;
 use crate::watching::{BestTeller, Line};
-use fc_io::ToArray;
 use fc_methods::Question;
 use fc_moves::Game;
 use fc_position::Position;
 use fc_runs::run_best;
-use fc_words::{BestWords, MovesForm};
+use fc_words::BestWords;
 use std::io::IsTerminal;
 
 impl InGame for BestWords<'_> {
@@ -62,45 +61,23 @@ fn answer_from<G: Game + Drop>(
 ) -> Result<u8, Ending>
     requires position { IsPositionOf question.now.game start.now }
 {
-    if words.is_each {
-        return answer_each(rt, words, question, start, cert, teller);
-    }
     let line = teller.line();
-    let manner = Manner::new(rt, words.form, words.colours);
-    let is_held = manner.is_numbered || words.has_link || words.has_stats;
-    if let (MovesForm::Letters, false) = (words.form, is_held) {
+    let telling = Telling {
+        name: Name::of(&words.board.word, line.deal()),
+        game: words.game,
+        manner: Manner::new(rt, words.form, words.colours),
+        has_stats: words.has_stats,
+        has_link: words.has_link,
+    };
+    if words.is_each {
+        return answer_each(rt, telling, question, start, cert, teller);
+    }
+    if telling.is_plain() {
         let mut out = Out::after(rt, line);
         let ran = run_best(rt.alloc(), question, start, &mut out, cert, teller);
         line.clear();
         return out.end_of(ran);
     }
-    let mut answer = ToArray::<LONGEST_ANSWER>::new();
-    let ran = run_best(rt.alloc(), question, start, &mut answer, cert, teller);
-    line.clear();
-    let (game, rule) = (question.game(), question.method().rule);
-    let by_hand = match (words.form, words.has_stats) {
-        (MovesForm::Json, _) | (_, true) => {
-            by_hand_told(rt.alloc(), game, start, answer.held(), rule)?
-        }
-        _ => None,
-    };
-    let told = if let MovesForm::Json = words.form {
-        let name = Name::of(&words.board.word, line.deal());
-        let beside = Beside {
-            searched: teller.searched(),
-            by_hand,
-        };
-        tell_answer(rt, name, ran, answer.held(), beside)
-    } else {
-        tell_held(rt, game, start, ran, answer.held(), manner)
-    };
-    if words.has_stats {
-        teller.tell_stats(answer.held(), by_hand);
-    }
-    let status = told?;
-    if words.has_link {
-        let link = Link::of_answer(words.game, line.deal(), answer.held());
-        tell_link(rt, game, start, &link)?;
-    }
-    Ok(status)
+    let found = best_answer(rt.alloc(), question, start, cert, teller);
+    telling.tell(rt, question, start, found, teller.searched(), line)
 }

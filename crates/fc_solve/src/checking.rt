@@ -1,5 +1,6 @@
 //! `check`: a certificate is checked for a board.
 
+ghost use Rattle.std.specs.Prelude.{◌≤◌, length};
 ghost use Rattle.fc_position.specs.Position.{Fits};
 
 use crate::boards::{find_board, read_start};
@@ -7,11 +8,11 @@ use crate::endings::{Ending, tell};
 use crate::forms::tell_whole;
 use crate::games::InGame;
 use crate::moves::{FileSource, find_file, push_letters};
-use crate::objects::{Beside, Name, fault_line, tell_answer};
+use crate::objects::{Name, claim_line, fault_line};
 use crate::outputs::Out;
 use fc_cert::{CertFault, Certificate, LONGEST_CERTIFICATE};
-use fc_checker::CheckFault;
-use fc_io::{FromReader, FromSlice, ReadFault, Source, ToArray, read_to_vec};
+use fc_checker::{CheckFault, check};
+use fc_io::{FromReader, ReadFault, Source, read_to_vec};
 use fc_moves::Game;
 use fc_position::Position;
 use fc_runs::{Input, ProgramFault, run_check_of};
@@ -56,9 +57,6 @@ fn check_from<G: Game, S: Source>(
     }
 }
 
-// The most bytes of a text that tells a claim.
-const LONGEST_CLAIM: usize = 64;
-
 // Checks the certificate that a source gives, and writes as an object what it proves of a board, with its list, or why it is refused;
 // that is told on standard error, too.
 fn check_to_object<G: Game, S: Source>(
@@ -75,18 +73,19 @@ fn check_to_object<G: Game, S: Source>(
         Ok(bytes) => bytes,
         Err(fault) => return Err(Ending::Fault(unread(fault))),
     };
-    let mut held = ToArray::<LONGEST_CLAIM>::new();
-    let mut source = FromSlice::new(bytes.as_slice());
-    match run_check_of(alloc, game, start, &mut source, &mut held) {
-        Err(ProgramFault::Cert(fault)) => Err(tell_refused(rt, name, fault)?),
-        ran => {
-            let claim = held.held();
-            let claim = claim.strip_prefix(b"accepted: ").unwrap_or(claim);
-            let mut text = Vec::from_slice(alloc, claim)?;
-            push_list(alloc, &mut text, bytes.as_slice())?;
-            tell_answer(rt, name, ran, text.as_slice(), Beside::NONE)
-        }
-    }
+    let claim = match check(alloc, game, start, bytes.as_slice()) {
+        Ok(claim) => claim,
+        Err(CheckFault::Memory) => return Err(Ending::Fault(ProgramFault::Memory)),
+        Err(fault) => return Err(tell_refused(rt, name, fault)?),
+    };
+    let letters = letters_of(alloc, bytes.as_slice())?;
+    let letters = match &letters {
+        Some(letters) => std::str::from_utf8(letters.as_slice()).ok(),
+        None => None,
+    };
+    let line = claim_line(alloc, name, claim, letters)?;
+    tell_whole(rt, line.as_bytes())?;
+    Ok(0)
 }
 
 // Why a certificate isn't read.
@@ -98,24 +97,23 @@ fn unread(fault: ReadFault) -> ProgramFault {
     }
 }
 
-// Appends the line of a certificate's list, if it has one.
-fn push_list(alloc: Global, text: &mut Vec<u8>, bytes: &[u8]) -> Result<(), AllocError> {
-    if bytes.len() > LONGEST_CERTIFICATE {
-        return Ok(());
-    }
+// The letters of a certificate's list, if it has one.
+fn letters_of(alloc: Global, bytes: &[u8]) -> Result<Option<Vec<u8>>, AllocError>
+    requires limit { length bytes.now ≤ LONGEST_CERTIFICATE }
+{
     let Ok(cert) = Certificate::read(alloc, bytes) else {
-        return Ok(());
+        return Ok(None);
     };
     if cert.kind() == NO_LIST {
-        return Ok(());
+        return Ok(None);
     }
     let mut moves = Vec::new(alloc);
     for i in 0..cert.move_count() {
         moves.push(cert.move_at(i))?;
     }
-    push_letters(text, moves.as_slice())?;
-    text.push(b'\n')?;
-    Ok(())
+    let mut letters = Vec::new(alloc);
+    push_letters(&mut letters, moves.as_slice())?;
+    Ok(Some(letters))
 }
 
 // The kind of a certificate that has no list, since none wins.

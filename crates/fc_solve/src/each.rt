@@ -1,98 +1,101 @@
 //! `best --each`: each better answer is written as it comes.
 ghost use Rattle.fc_moves.specs.GameRules.{IsPositionOf};
 
+use crate::answers::{Answered, best_answer};
 use crate::certs::CertFile;
 use crate::endings::Ending;
-use crate::forms::{LONGEST_ANSWER, Manner, tell_in_form, tell_whole};
 use crate::hands::by_hand_told;
-use crate::objects::{Beside, Name, answer_line};
+use crate::objects::Beside;
+use crate::telling::Telling;
 use crate::watching::BestTeller;
 use fc_answers::MoveList;
 use fc_best::{BestListener, BestProgress};
-use fc_io::ToArray;
 use fc_methods::{HomeRule, Question};
 use fc_moves::Game;
 use fc_position::Position;
-use fc_runs::{ProgramFault, list_text, run_best};
-use fc_words::{BestWords, MovesForm};
+use fc_runs::ProgramFault;
+use fc_words::MovesForm;
 
 /// Searches, tells on a line how far the searches are, and writes each better answer: the last one is the best answer.
-pub fn answer_each<'a, G: Game + Drop>(
-    rt: &'a HostRuntime,
-    words: &BestWords<'a>,
-    question: &'a Question<G>,
-    start: &'a Position,
+pub fn answer_each<G: Game + Drop>(
+    rt: &HostRuntime,
+    telling: Telling<'_>,
+    question: &Question<G>,
+    start: &Position,
     cert: Option<&mut CertFile>,
     teller: &mut BestTeller<'_>,
 ) -> Result<u8, Ending>
     requires position { IsPositionOf question.now.game start.now }
 {
     let line = teller.line();
-    let mut answer = ToArray::<LONGEST_ANSWER>::new();
+    let (game, rule) = (question.game(), question.method().rule);
     let mut each = EachTeller {
         rt,
-        game: question.game(),
-        rule: question.method().rule,
+        telling,
+        game,
+        rule,
         start,
-        manner: Manner::new(rt, words.form, words.colours),
-        name: Name::of(&words.board.word, line.deal()),
         teller,
         written: Ok(false),
     };
-    let ran = run_best(rt.alloc(), question, start, &mut answer, cert, &mut each);
+    let found = best_answer(rt.alloc(), question, start, cert, &mut each);
     line.clear();
-    let told = each.end(ran, answer.held());
-    if words.has_stats {
-        let (game, rule) = (question.game(), question.method().rule);
-        // (for want of memory it isn't told; the answer is)
-        let by_hand = by_hand_told(rt.alloc(), game, start, answer.held(), rule).unwrap_or(None);
-        teller.tell_stats(answer.held(), by_hand);
+    let told = each.end(&found);
+    let searched = teller.searched();
+    match &found {
+        Ok(answered) if telling.has_stats => {
+            // (for want of memory it isn't told; the answer is)
+            let by_hand = by_hand_told(rt.alloc(), game, start, answered, rule).unwrap_or(None);
+            telling.tell_stats(line, searched, answered.floor(), by_hand);
+        }
+        _ => telling.tell_stats(line, searched, None, None),
     }
     told
 }
 
 // Who writes each better answer to standard output, and tells on a line how far the searches are.
 #[derive(Drop)]
-struct EachTeller<'a, 't, 'b, G: Game> {
+struct EachTeller<'a, 'w, 't, 'b, G: Game> {
     rt: &'a HostRuntime,
+    telling: Telling<'w>,
     game: &'a G,
     rule: HomeRule,
     start: &'a Position,
-    manner: Manner,
-    name: Name<'a>,
     teller: &'t mut BestTeller<'b>,
     // Whether the list that was heard last is written, or why no more can be.
     written: Result<bool, Ending>,
     ghost fits: { IsPositionOf (G.game game.now) start.now },
 }
 
-impl<G: Game> EachTeller<'_, '_, '_, G> {
+impl<G: Game> EachTeller<'_, '_, '_, '_, G> {
     // Ends as the run did: what it answers is written, unless the list that was heard last is that.
-    fn end(&self, ran: Result<u8, ProgramFault>, answer: &[u8]) -> Result<u8, Ending> {
-        let status = ran?;
+    fn end(&self, found: &Result<Answered, ProgramFault>) -> Result<u8, Ending> {
+        let answered = match found {
+            Ok(answered) => answered,
+            Err(fault) => return Err(Ending::Fault(*fault)),
+        };
         if !self.written? {
-            self.write(answer)?;
+            self.write(answered)?;
         }
-        Ok(status)
+        Ok(answered.status())
     }
 
     // Writes an answer in the form that is asked for, on a line that is free.
-    fn write(&self, answer: &[u8]) -> Result<(), Ending> {
+    fn write(&self, answered: &Answered) -> Result<(), Ending> {
         self.teller.line().clear();
-        if let MovesForm::Json = self.manner.form {
-            let alloc = self.rt.alloc();
-            let beside = Beside {
-                searched: self.teller.searched(),
-                by_hand: by_hand_told(alloc, self.game, self.start, answer, self.rule)?,
-            };
-            let line = answer_line(alloc, self.name, answer, None, beside)?;
-            return tell_whole(self.rt, line.as_bytes());
-        }
-        tell_in_form(self.rt, self.game, self.start, answer, self.manner)
+        let by_hand = if let MovesForm::Json = self.telling.manner.form {
+            by_hand_told(self.rt.alloc(), self.game, self.start, answered, self.rule)?
+        } else {
+            None
+        };
+        let searched = self.teller.searched();
+        let beside = Beside { searched, by_hand };
+        self.telling
+            .write(self.rt, self.game, self.start, answered, beside)
     }
 }
 
-impl<G: Game> BestListener for EachTeller<'_, '_, '_, G> {
+impl<G: Game> BestListener for EachTeller<'_, '_, '_, '_, G> {
     ghost hears = { λ _ _ _. Unit {0} };
 
     fn hear(&mut self, far: BestProgress) {
@@ -104,11 +107,11 @@ impl<G: Game> BestListener for EachTeller<'_, '_, '_, G> {
         if self.written.is_err() {
             return;
         }
-        let Ok(text) = list_text(self.rt.alloc(), moves, at_least) else {
+        let Ok(answered) = Answered::of_list(self.rt.alloc(), moves, at_least) else {
             self.written = Ok(false);
             return;
         };
-        self.written = match self.write(text.as_slice()) {
+        self.written = match self.write(&answered) {
             Ok(()) => Ok(true),
             Err(Ending::Fault(ProgramFault::Memory)) => Ok(false),
             Err(ending) => Err(ending),

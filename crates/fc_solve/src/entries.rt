@@ -3,17 +3,16 @@ ghost use Rattle.std.specs.Prelude.{◌≤◌, All, IfOk, length};
 ghost use Rattle.fc_moves.specs.GameRules.{IsPositionOf};
 ghost use Rattle.fc_sequences.specs.Pair.{HasPairText};
 
+use crate::answers::Answered;
 use crate::endings::Ending;
 use crate::entry_pages::{EntryPage, write_entries};
-use crate::forms::{UNWRITTEN, split_answer, tell_whole};
+use crate::forms::{UNWRITTEN, tell_whole};
 use crate::outputs::Out;
 use fc_io::write_all;
-use fc_moves::{Game, Move, read_move};
+use fc_moves::{Game, Move};
 use fc_position::Position;
-use fc_replay::MoveGaps;
 use fc_runs::{LONGEST_MOVES, ProgramFault};
 use fc_sequences::{Pair, expand, gather, print_pair};
-use fc_text::Tokens;
 use std::alloc::{AllocError, Global};
 
 /// Writes the first line of an answer, with how many entries there are, and then the entries that its moves are joined to.
@@ -21,16 +20,15 @@ pub fn tell_entries<G: Game>(
     rt: &HostRuntime,
     game: &G,
     start: &Position,
-    answer: &[u8],
+    answered: &Answered,
 ) -> Result<(), Ending>
     requires position { IsPositionOf (G.game game.now) start.now }
 {
-    let (told, list) = split_answer(answer);
-    let pairs = entries_of(rt.alloc(), game, start, list)?;
+    let pairs = entries_of(rt.alloc(), game, start, answered.moves())?;
     if pairs.is_empty() {
-        return tell_whole(rt, answer);
+        return tell_whole(rt, answered.text());
     }
-    let text = text_of(rt.alloc(), told, pairs.as_slice())?;
+    let text = text_of(rt.alloc(), answered.told(), pairs.as_slice())?;
     tell_whole(rt, text.as_slice())
 }
 
@@ -40,21 +38,20 @@ pub fn tell_entry_pages<G: Game>(
     rt: &HostRuntime,
     game: &G,
     start: &Position,
-    answer: &[u8],
+    answered: &Answered,
     page: EntryPage,
 ) -> Result<(), Ending>
     requires position { IsPositionOf (G.game game.now) start.now }
 {
-    let (told, list) = split_answer(answer);
-    let pairs = entries_of(rt.alloc(), game, start, list)?;
+    let pairs = entries_of(rt.alloc(), game, start, answered.moves())?;
     if pairs.is_empty() {
-        return tell_whole(rt, told);
+        return tell_whole(rt, answered.told());
     }
     // (each entry leads to one board alone, so it is the answer's)
     let Ok(moves) = expand(rt.alloc(), game, start, pairs.as_slice()) else {
         return Err(Ending::Fault(ProgramFault::Memory));
     };
-    let mut head = head_of(rt.alloc(), told, pairs.len())?;
+    let mut head = head_of(rt.alloc(), answered.told(), pairs.len())?;
     head.extend_from_slice(b"\n")?;
     let mut out = Out::new(rt);
     let Ok(()) = write_all(&mut out, head.as_slice()) else {
@@ -73,37 +70,25 @@ pub fn tell_entry_pages<G: Game>(
     }
 }
 
-// The entries that the moves of an answer's list are joined to; none where it has no moves.
+// The entries that these moves are joined to; none where there are no moves.
 fn entries_of<G: Game>(
     alloc: Global,
     game: &G,
     start: &Position,
-    list: &[u8],
+    moves: &[Move],
 ) -> Result<Vec<Pair>, Ending>
     requires position { IsPositionOf (G.game game.now) start.now }
     ensures few { IfOk result (λ pairs. length pairs.items ≤ LONGEST_MOVES) }
     ensures texts { IfOk result (λ pairs. All HasPairText pairs.items) }
 {
-    let moves = moves_of(alloc, list)?;
     if moves.len() > LONGEST_MOVES {
         return Ok(Vec::new(alloc));
     }
     // (the moves are those of an answer, so each is allowed)
-    match gather(alloc, game, start, moves.as_slice()) {
+    match gather(alloc, game, start, moves) {
         Ok(pairs) if pairs.len() <= LONGEST_MOVES => Ok(pairs),
         _ => Err(Ending::Fault(ProgramFault::Memory)),
     }
-}
-
-/// The moves of an answer's list.
-pub fn moves_of(alloc: Global, list: &[u8]) -> Result<Vec<Move>, AllocError> {
-    let mut moves = Vec::new(alloc);
-    for token in Tokens::new(list, MoveGaps) {
-        if let Some(m) = read_move(token) {
-            moves.push(m)?;
-        }
-    }
-    Ok(moves)
 }
 
 // An answer's first line, with how many entries there are, and the entries in a line.

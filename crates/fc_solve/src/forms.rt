@@ -2,21 +2,20 @@
 ghost use Rattle.fc_position.specs.Position.{Fits};
 ghost use Rattle.fc_moves.specs.GameRules.{IsPositionOf};
 
+use crate::answers::Answered;
 use crate::endings::Ending;
 use crate::entries::{tell_entries, tell_entry_pages};
 use crate::entry_pages::EntryPage;
+use crate::moves::push_letters;
 use crate::outputs::Out;
 use fc_io::{Sink, write_all};
-use fc_moves::Game;
+use fc_moves::{Game, Move};
 use fc_position::Position;
 use fc_replay::{Page, replay_as};
 use fc_runs::{LONGEST_MOVES, Output, ProgramFault};
 use fc_words::{Colours, EntriesForm, MovesForm};
 use std::alloc::{AllocError, Global};
 use std::io::IsTerminal;
-
-/// The most bytes of an answer that is held to be told otherwise.
-pub const LONGEST_ANSWER: usize = 32_768;
 
 /// How an answer is told.
 #[derive(Clone, Copy)]
@@ -40,69 +39,42 @@ impl Manner {
     }
 }
 
-/// Writes the answer that a run held, in this manner; the run's status.
-pub fn tell_held<G: Game>(
-    rt: &HostRuntime,
-    game: &G,
-    start: &Position,
-    ran: Result<u8, ProgramFault>,
-    answer: &[u8],
-    manner: Manner,
-) -> Result<u8, Ending>
-    requires position { IsPositionOf (G.game game.now) start.now }
-{
-    let status = ran?;
-    tell_in_form(rt, game, start, answer, manner)?;
-    Ok(status)
-}
-
 /// Writes an answer in this manner.
 pub fn tell_in_form<G: Game>(
     rt: &HostRuntime,
     game: &G,
     start: &Position,
-    answer: &[u8],
+    answered: &Answered,
     manner: Manner,
 ) -> Result<(), Ending>
     requires position { IsPositionOf (G.game game.now) start.now }
 {
     let is_coloured = manner.is_coloured;
     match manner.form {
-        MovesForm::Letters if manner.is_numbered => tell_numbered(rt, answer),
-        MovesForm::Letters | MovesForm::Json => tell_whole(rt, answer),
-        MovesForm::Words => tell_in_pages(rt, game, start, answer, Page::Words(is_coloured)),
-        MovesForm::Boards => tell_in_pages(rt, game, start, answer, Page::Drawn(is_coloured)),
-        MovesForm::Sequences(form) => tell_joined(rt, game, start, answer, form, is_coloured),
+        MovesForm::Letters if manner.is_numbered => tell_numbered(rt, answered),
+        MovesForm::Letters | MovesForm::Json => tell_whole(rt, answered.text()),
+        MovesForm::Words => tell_in_pages(rt, game, start, answered, Page::Words(is_coloured)),
+        MovesForm::Boards => tell_in_pages(rt, game, start, answered, Page::Drawn(is_coloured)),
+        MovesForm::Sequences(form) => tell_joined(rt, game, start, answered, form, is_coloured),
     }
 }
 
 // Writes the first line of an answer, and then its moves, ten a line, with the number of the first in front.
-fn tell_numbered(rt: &HostRuntime, answer: &[u8]) -> Result<(), Ending> {
-    let (told, moves) = split_answer(answer);
-    let text = numbered_text(rt.alloc(), told, moves.trim_ascii_end())?;
+fn tell_numbered(rt: &HostRuntime, answered: &Answered) -> Result<(), Ending> {
+    let text = numbered_text(rt.alloc(), answered.told(), answered.moves())?;
     tell_whole(rt, text.as_slice())
 }
 
 // The first line of an answer, and its moves, ten a line.
-fn numbered_text(alloc: Global, told: &[u8], moves: &[u8]) -> Result<Vec<u8>, AllocError> {
+fn numbered_text(alloc: Global, told: &[u8], moves: &[Move]) -> Result<Vec<u8>, AllocError> {
     let mut text = Vec::from_slice(alloc, told)?;
-    for (place, letters) in moves.split(|byte| *byte == b' ').enumerate() {
-        if letters.is_empty() {
-            continue;
-        }
-        if place % MOVES_A_LINE == 0 {
-            let number = place.saturating_add(1);
-            let number = format!(in alloc; "{number:4}.")?;
-            text.extend_from_slice(number.as_bytes())?;
-        }
-        text.push(b' ')?;
-        text.extend_from_slice(letters)?;
-        if place % MOVES_A_LINE == MOVES_A_LINE - 1 {
-            text.push(b'\n')?;
-        }
-    }
-    if text.last() != Some(&b'\n') {
+    let mut number = 1usize;
+    for line in moves.chunks(MOVES_A_LINE) {
+        let head = format!(in alloc; "{number:4}. ")?;
+        text.extend_from_slice(head.as_bytes())?;
+        push_letters(&mut text, line)?;
         text.push(b'\n')?;
+        number = number.saturating_add(MOVES_A_LINE);
     }
     Ok(text)
 }
@@ -115,14 +87,14 @@ fn tell_joined<G: Game>(
     rt: &HostRuntime,
     game: &G,
     start: &Position,
-    answer: &[u8],
+    answered: &Answered,
     form: EntriesForm,
     is_coloured: bool,
 ) -> Result<(), Ending>
     requires position { IsPositionOf (G.game game.now) start.now }
 {
     let has_board = match form {
-        EntriesForm::Letters => return tell_entries(rt, game, start, answer),
+        EntriesForm::Letters => return tell_entries(rt, game, start, answered),
         EntriesForm::Words => false,
         EntriesForm::Boards => true,
     };
@@ -130,7 +102,7 @@ fn tell_joined<G: Game>(
         has_board,
         is_coloured,
     };
-    tell_entry_pages(rt, game, start, answer, page)
+    tell_entry_pages(rt, game, start, answered, page)
 }
 
 /// Writes a text.
@@ -150,23 +122,22 @@ fn tell_in_pages<G: Game>(
     rt: &HostRuntime,
     game: &G,
     start: &Position,
-    answer: &[u8],
+    answered: &Answered,
     page: Page,
 ) -> Result<(), Ending>
     requires fits { Fits (G.game game.now).cells start.now }
 {
-    let (told, moves) = split_answer(answer);
     let mut out = Out::new(rt);
-    let Ok(()) = write_all(&mut out, told) else {
+    let Ok(()) = write_all(&mut out, answered.told()) else {
         return Err(out.ending_of(UNWRITTEN));
     };
-    match show_moves(game, start, moves, page, &mut out) {
+    match show_moves(game, start, answered.letters(), page, &mut out) {
         Ok(()) => Ok(()),
         Err(fault) => Err(out.ending_of(fault)),
     }
 }
 
-// Writes a page for each move of an answer. No memory is asked for, so none can be wanted behind an answer's first line.
+// Writes a page for each move of a line. No memory is asked for, so none can be wanted behind an answer's first line.
 fn show_moves<G: Game, K: Sink>(
     game: &G,
     start: &Position,
@@ -182,13 +153,5 @@ fn show_moves<G: Game, K: Sink>(
     match replay_as(game, start, moves, page, out) {
         Ok(_) => Ok(()),
         Err(_) => Err(UNWRITTEN),
-    }
-}
-
-/// The first line of an answer, and the moves below it.
-pub fn split_answer(answer: &[u8]) -> (&[u8], &[u8]) {
-    match answer.iter().position(|byte| *byte == b'\n') {
-        Some(end) => answer.split_at(end + 1),
-        None => (answer, &[]),
     }
 }

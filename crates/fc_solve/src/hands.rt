@@ -1,9 +1,8 @@
 //! How many entries of an answer are left to a player's hands.
 ghost use Rattle.fc_moves.specs.GameRules.{IsPositionOf};
 
+use crate::answers::Answered;
 use crate::endings::Ending;
-use crate::entries::moves_of;
-use crate::forms::split_answer;
 use fc_methods::HomeRule;
 use fc_moves::{Game, Move};
 use fc_position::Position;
@@ -17,17 +16,15 @@ pub fn by_hand_told<G: Game>(
     alloc: Global,
     game: &G,
     start: &Position,
-    answer: &[u8],
+    answered: &Answered,
     rule: HomeRule,
 ) -> Result<Option<u64>, Ending>
     requires position { IsPositionOf (G.game game.now) start.now }
 {
-    if !answer.starts_with(b"shortest ") && !answer.starts_with(b"won ") {
-        return Ok(None);
+    match answered.count() {
+        Some(_) => Ok(Some(by_hand_of(alloc, game, start, answered.moves(), rule)?)),
+        None => Ok(None),
     }
-    let (_, list) = split_answer(answer);
-    let moves = moves_of(alloc, list)?;
-    Ok(Some(by_hand_of(alloc, game, start, moves.as_slice(), rule)?))
 }
 
 /// How many entries of a list are left to a player's hands.

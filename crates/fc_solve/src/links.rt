@@ -1,9 +1,9 @@
 //! Links to the page that shows a board with a list of moves and plays it.
 ghost use Rattle.fc_position.specs.Position.{Fits};
 
+use crate::answers::Answered;
 use crate::endings::Ending;
-use crate::forms::{split_answer, tell_whole};
-use crate::objects::{answer_of, numbers_of};
+use crate::forms::tell_whole;
 use fc_moves::Game;
 use fc_position::Position;
 use fc_text::print_board;
@@ -26,19 +26,17 @@ pub struct Link<'a> {
 }
 
 impl<'a> Link<'a> {
-    /// A link to an answer, as it is printed in letters.
-    pub fn of_answer(game: GameWords, deal: Option<u32>, answer: &'a [u8]) -> Link<'a> {
-        let (told, list) = split_answer(answer);
-        let (moves, floor) = numbers_of(told);
-        let answer = match moves {
+    /// A link to an answer.
+    pub fn of_answer(game: GameWords, deal: Option<u32>, answered: &'a Answered) -> Link<'a> {
+        let answer = match answered.count() {
             Some(_) => None,
-            None => Some(answer_of(told)),
+            None => Some(answered.name()),
         };
         Link {
             game,
             deal,
-            list,
-            floor,
+            list: answered.letters(),
+            floor: answered.floor(),
             answer,
         }
     }

@@ -1,6 +1,7 @@
 //! The program: FreeCell boards dealt, solved with answers that are proved, and moves replayed.
 #![tactic(auto)]
 
+mod answers;
 mod apart;
 mod batching;
 mod besting;
@@ -41,6 +42,7 @@ mod solving;
 mod streams;
 mod tables;
 mod tallies;
+mod telling;
 mod watching;
 mod written_lists;
 

@@ -61,6 +61,15 @@ pub fn push_letters(text: &mut Vec<u8>, moves: &[Move]) -> Result<(), AllocError
     Ok(())
 }
 
+/// The letters of the move behind so many in a line of moves.
+pub fn letters_at(letters: &[u8], place: usize) -> &str {
+    let from = place.saturating_mul(3);
+    match letters.get(from..from.saturating_add(2)) {
+        Some(own) => std::str::from_utf8(own).unwrap_or(""),
+        None => "",
+    }
+}
+
 // The letter of a place.
 fn letter_of(place: Place) -> u8 {
     match place {

@@ -1,10 +1,11 @@
 //! Answers as JSON objects, for other programs.
 
+use crate::answers::Answered;
 use crate::endings::Ending;
-use crate::forms::{split_answer, tell_whole};
+use fc_answers::Verdict;
+use fc_cert::Claim;
 use fc_json::{Told, object_text};
-use fc_plain::read_count;
-use fc_runs::{Far, ProgramFault, Row};
+use fc_runs::{Far, Row};
 use fc_words::BoardWord;
 use std::alloc::Global;
 
@@ -59,14 +60,6 @@ pub struct Beside {
     pub by_hand: Option<u64>,
 }
 
-impl Beside {
-    /// No numbers.
-    pub const NONE: Beside = Beside {
-        searched: None,
-        by_hand: None,
-    };
-}
-
 // An answer of this name, of a board of that one.
 fn told_of<'a>(name: Name<'a>, answer: &'a str) -> Told<'a> {
     let mut told = Told::new(answer);
@@ -88,22 +81,41 @@ fn put_searched(told: &mut Told<'_>, searched: Searched) {
 pub fn answer_line<'a>(
     alloc: Global,
     name: Name<'a>,
-    answer: &'a [u8],
+    answered: &'a Answered,
     hint: Option<&'a str>,
     beside: Beside,
 ) -> Result<String, Ending> {
-    let (line, list) = split_answer(answer);
-    let mut told = told_of(name, answer_of(line));
-    (told.moves, told.floor) = numbers_of(line);
-    told.list = text_of(list);
+    let mut told = told_of(name, answered.name());
+    told.moves = answered.count();
+    told.floor = answered.floor();
+    told.list = text_of(answered.letters());
     told.hint = hint;
     told.by_hand = beside.by_hand;
     if let Some(searched) = beside.searched {
         put_searched(&mut told, searched);
-        if told.answer == GAVE_UP {
+        if let Verdict::GaveUp(_) = answered.verdict() {
             told.floor = Some(searched.far.at_least);
         }
     }
+    line_of(alloc, &told)
+}
+
+/// The object of a claim that is proved, with the moves of its list, if it has one, on a line.
+pub fn claim_line<'a>(
+    alloc: Global,
+    name: Name<'a>,
+    claim: Claim,
+    letters: Option<&'a str>,
+) -> Result<String, Ending> {
+    let (answer, moves, floor) = match claim {
+        Claim::Shortest(moves) => ("shortest", Some(moves), Some(moves)),
+        Claim::Between { floor, moves } => ("won", Some(moves), Some(floor)),
+        Claim::CannotWin => ("can't be won", None, None),
+    };
+    let mut told = told_of(name, answer);
+    told.moves = moves;
+    told.floor = floor;
+    told.list = letters;
     line_of(alloc, &told)
 }
 
@@ -154,9 +166,6 @@ pub fn fault_line<'a>(
     line_of(alloc, &told)
 }
 
-// What giving up is called.
-const GAVE_UP: &str = "gave up";
-
 /// The object of a list that was replayed, its one-card moves and how many there are, and how many entries are left to a player's
 /// hands, on a line.
 pub fn list_line<'a>(
@@ -174,36 +183,6 @@ pub fn list_line<'a>(
     line_of(alloc, &told)
 }
 
-/// What the answer of a first line is called.
-pub fn answer_of(line: &[u8]) -> &'static str {
-    if line.starts_with(b"shortest ") {
-        "shortest"
-    } else if line.starts_with(b"won ") {
-        "won"
-    } else if line.starts_with(b"gave up ") {
-        GAVE_UP
-    } else {
-        "can't be won"
-    }
-}
-
-/// How many moves the list of a first line has, and how many each list has at least.
-pub fn numbers_of(line: &[u8]) -> (Option<u32>, Option<u32>) {
-    let line = line.strip_suffix(b"\n").unwrap_or(line);
-    if let Some(number) = line.strip_prefix(b"shortest ") {
-        let moves = read_count(number);
-        return (moves, moves);
-    }
-    if !line.starts_with(b"won ") {
-        return (None, None);
-    }
-    let mut words = line.split(|byte| *byte == b' ');
-    let moves = words
-        .nth(1)
-        .and_then(|word| read_count(word.strip_suffix(b",").unwrap_or(word)));
-    (moves, words.last().and_then(|word| read_count(word)))
-}
-
 // The line of a list of moves, if there is one.
 fn text_of(list: &[u8]) -> Option<&str> {
     let line = list.strip_suffix(b"\n")?;
@@ -215,18 +194,4 @@ fn line_of(alloc: Global, told: &Told<'_>) -> Result<String, Ending> {
     let mut text = object_text(alloc, told)?;
     text.push_str("\n")?;
     Ok(text)
-}
-
-/// Writes the answer that a run held as an object, with these numbers; the run's status.
-pub fn tell_answer<'a>(
-    rt: &HostRuntime,
-    name: Name<'a>,
-    ran: Result<u8, ProgramFault>,
-    answer: &'a [u8],
-    beside: Beside,
-) -> Result<u8, Ending> {
-    let status = ran?;
-    let line = answer_line(rt.alloc(), name, answer, None, beside)?;
-    tell_whole(rt, line.as_bytes())?;
-    Ok(status)
 }

@@ -4,7 +4,7 @@ ghost use Rattle.fc_moves.specs.GameRules.{IsPositionOf};
 use crate::boards::{find_board, read_start};
 use crate::endings::Ending;
 use crate::entry_pages::{EntryPage, write_entries};
-use crate::forms::{LONGEST_ANSWER, tell_whole};
+use crate::forms::tell_whole;
 use crate::games::InGame;
 use crate::links::{Link, tell_link};
 use crate::list_hints::tell_list_hint;
@@ -148,6 +148,9 @@ fn replay<G: Game>(
     }
 }
 
+// The most bytes of the one-card moves of a list to which a link leads.
+const LONGEST_LINE: usize = 32_768;
+
 // Writes a link to the page that plays a list.
 fn link_list<G: Game>(
     rt: &HostRuntime,
@@ -159,7 +162,7 @@ fn link_list<G: Game>(
 ) -> Result<(), Ending>
     requires position { IsPositionOf (G.game game.now) start.now }
 {
-    let mut line = ToArray::<LONGEST_ANSWER>::new();
+    let mut line = ToArray::<LONGEST_LINE>::new();
     let question = question_of(Asked::Line, words);
     run_list(
         rt.alloc(),

@@ -1,8 +1,8 @@
 //! What an object or a row tells of a list of moves.
 
 use crate::endings::Ending;
+use crate::moves::letters_at;
 use crate::objects::Name;
-use crate::review_texts::letters_at;
 use fc_answers::Verdict;
 use fc_json::{Reviewed, review_object_text};
 use fc_review::{Finding, Rating, Review};

@@ -5,11 +5,12 @@ ghost use Rattle.fc_moves.specs.GameRules.{IsPositionOf};
 ghost use Rattle.fc_moves.specs.MoveText.{HasText};
 ghost use Rattle.fc_moves.specs.Run.{Run};
 
+use crate::answers::best_answer;
 use crate::apart::keep_apart;
 use crate::boards::{find_board, read_start};
 use crate::certs::CertFile;
 use crate::endings::{Ending, tell_of_file, tell_of_great_budget};
-use crate::forms::{LONGEST_ANSWER, tell_whole};
+use crate::forms::tell_whole;
 use crate::games::InGame;
 use crate::hands::by_hand_of;
 use crate::links::{Link, tell_link};
@@ -18,19 +19,19 @@ use crate::objects::Name;
 use crate::outputs::Out;
 use crate::review_objects::{FoundList, review_line};
 use crate::review_tables::review_files;
-use crate::review_texts::line_of;
+use crate::review_texts::{line_of, told_move};
 use crate::written_lists::{WrittenList, list_of};
 use fc_answer_text::{moves_text, verdict_status};
 use fc_answers::Verdict;
 use fc_best::Unheard;
-use fc_io::ToArray;
 use fc_methods::Question;
-use fc_moves::{Game, Move};
+use fc_moves::{Game, Move, allows, apply};
 use fc_position::Position;
 use fc_review::{Finding, board_after, find, finding_text, known_after, run_review};
-use fc_runs::{Input, Output, ProgramFault, run_best};
+use fc_runs::{Input, Output, ProgramFault};
 use fc_text::print_board;
 use fc_words::{BoardWords, FileWord, GameWords, ReviewLists, ReviewWords};
+use std::alloc::{AllocError, Global};
 use std::fs;
 
 impl InGame for ReviewWords<'_> {
@@ -231,15 +232,7 @@ fn write_board<G: Game + Drop>(
     }
     let path = format!(in rt.alloc(); "{folder}/{name}.cert")?;
     let mut cert = CertFile::new(rt, path.as_str())?;
-    let mut answer = ToArray::<LONGEST_ANSWER>::new();
-    run_best(
-        rt.alloc(),
-        question,
-        board,
-        &mut answer,
-        Some(&mut cert),
-        &mut Unheard,
-    )?;
+    let _answered = best_answer(rt.alloc(), question, board, Some(&mut cert), &mut Unheard)?;
     Ok(())
 }
 
@@ -257,8 +250,7 @@ fn answer_all<G: Game + Drop>(
     requires run { (c : Board) × Run question.now.game start.now moves.now c }
     requires texts { All HasText moves.now }
 {
-    let letters = moves_text(rt.alloc(), moves)?;
-    let letters = letters.as_slice();
+    let mut board = start.copy();
     let mut is_lost = false;
     let mut status = 0;
     for after in 0..=moves.len() {
@@ -268,9 +260,30 @@ fn answer_all<G: Game + Drop>(
             known_after(rt.alloc(), question, start, moves, after)?.verdict
         };
         is_lost = matches!(verdict, Verdict::CannotWin);
-        let line = line_of(rt.alloc(), question.game(), start, letters, after, &verdict)?;
+        let last = match after.checked_sub(1) {
+            Some(place) => told_and_made(rt.alloc(), question.game(), &mut board, moves[place])?,
+            None => String::from_str(rt.alloc(), "the board itself")?,
+        };
+        let line = line_of(rt.alloc(), after, last.as_str(), &verdict)?;
         tell_whole(rt, line.as_bytes())?;
         status = verdict_status(&verdict);
     }
     Ok(status)
+}
+
+// A move by its letters and in words, which is then made.
+fn told_and_made<G: Game>(
+    alloc: Global,
+    game: &G,
+    board: &mut Position,
+    m: Move,
+) -> Result<String, AllocError>
+    requires text { HasText m }
+{
+    let told = told_move(alloc, board, m)?;
+    // (the rules allow each move of the list)
+    if allows(game, board, m) {
+        apply(game, board, m);
+    }
+    Ok(told)
 }

@@ -1,23 +1,22 @@
 //! `solve`: a board is solved, and it is told how far the search is.
 ghost use Rattle.fc_moves.specs.GameRules.{IsPositionOf};
 
+use crate::answers::answer_by_method;
 use crate::apart::keep_apart;
 use crate::boards::{find_board, read_start};
 use crate::certs::CertFile;
 use crate::endings::Ending;
-use crate::forms::{LONGEST_ANSWER, Manner, tell_held};
+use crate::forms::Manner;
 use crate::games::InGame;
-use crate::hands::by_hand_told;
-use crate::links::{Link, tell_link};
-use crate::objects::{Beside, Name, tell_answer};
+use crate::objects::Name;
 use crate::outputs::Out;
+use crate::telling::Telling;
 use crate::watching::{Line, Teller};
-use fc_io::ToArray;
 use fc_methods::{BoundKind, MOST_BUDGET, Method, Question};
 use fc_moves::Game;
 use fc_position::Position;
 use fc_runs::{ProgramFault, run_solve_by};
-use fc_words::{GameName, GameWords, MovesForm, SolveWords};
+use fc_words::{GameName, GameWords, SolveWords};
 use std::io::IsTerminal;
 
 impl InGame for SolveWords<'_> {
@@ -58,9 +57,14 @@ fn search_from<G: Game + Drop>(
 {
     let mut cert = cert;
     let mut teller = Teller::new(line, rt.stderr().is_terminal() && !words.is_quiet);
-    let manner = Manner::new(rt, words.form, words.colours);
-    let is_held = manner.is_numbered || words.has_link || words.has_stats;
-    if let (MovesForm::Letters, false) = (words.form, is_held) {
+    let telling = Telling {
+        name: Name::of(&words.board.word, line.deal()),
+        game: words.game,
+        manner: Manner::new(rt, words.form, words.colours),
+        has_stats: words.has_stats,
+        has_link: words.has_link,
+    };
+    if telling.is_plain() {
         let mut out = Out::after(rt, line);
         let ran = run_solve_by(
             rt.alloc(),
@@ -73,42 +77,8 @@ fn search_from<G: Game + Drop>(
         line.clear();
         return out.end_of(ran);
     }
-    let mut answer = ToArray::<LONGEST_ANSWER>::new();
-    let ran = run_solve_by(
-        rt.alloc(),
-        question,
-        start,
-        &mut answer,
-        cert.as_mut(),
-        &mut teller,
-    );
-    line.clear();
-    let (game, rule) = (question.game(), question.method().rule);
-    let by_hand = match (words.form, words.has_stats) {
-        (MovesForm::Json, _) | (_, true) => {
-            by_hand_told(rt.alloc(), game, start, answer.held(), rule)?
-        }
-        _ => None,
-    };
-    let told = if let MovesForm::Json = words.form {
-        let name = Name::of(&words.board.word, line.deal());
-        let beside = Beside {
-            searched: teller.searched(),
-            by_hand,
-        };
-        tell_answer(rt, name, ran, answer.held(), beside)
-    } else {
-        tell_held(rt, game, start, ran, answer.held(), manner)
-    };
-    if words.has_stats {
-        teller.tell_stats(answer.held(), by_hand);
-    }
-    let status = told?;
-    if words.has_link {
-        let link = Link::of_answer(words.game, line.deal(), answer.held());
-        tell_link(rt, game, start, &link)?;
-    }
-    Ok(status)
+    let found = answer_by_method(rt.alloc(), question, start, cert.as_mut(), &mut teller);
+    telling.tell(rt, question, start, found, teller.searched(), line)
 }
 
 // Says on standard error what helps after giving up. Where this can't be written, the answer stands all the same.

@@ -5,7 +5,6 @@ use crate::objects::Searched;
 use fc_answers::MoveList;
 use fc_best::{BestListener, BestProgress};
 use fc_methods::{MOST_BUDGET, MOST_GREAT_BUDGET};
-use fc_plain::read_count;
 use fc_runs::Far;
 use fc_search::{Listener, Progress};
 use std::cell::Cell;
@@ -99,15 +98,16 @@ impl<'a> Line<'a> {
         );
     }
 
-    // Ends a run with a line of numbers: of the search, and how many entries of a list are left to a player's hands.
-    fn tell_stats(
-        &self,
-        classes: usize,
-        turns: u64,
-        most_open: u128,
-        floor: u32,
-        by_hand: Option<u64>,
-    ) {
+    /// Ends a run whose searches told this last with a line of numbers: with the floor that the answer tells, if it does, and how many
+    /// entries of its list are left to a player's hands.
+    pub fn tell_stats(&self, searched: Searched, floor: Option<u32>, by_hand: Option<u64>) {
+        let Far {
+            classes,
+            turns,
+            most_open,
+            at_least,
+        } = searched.far;
+        let floor = floor.unwrap_or(at_least);
         if let Some(number) = self.deal {
             let _told = eprint!(self.rt; "deal={number} ");
         }
@@ -153,15 +153,6 @@ impl<'a> Teller<'a> {
                 at_least: far.at_least,
             },
         })
-    }
-
-    /// The line of numbers of what was heard last, with the floor that the answer tells, if it does.
-    pub fn tell_stats(&self, answer: &[u8], by_hand: Option<u64>) {
-        if let Some(far) = self.last {
-            let floor = floor_told(answer).unwrap_or(far.at_least);
-            self.line
-                .tell_stats(far.classes, far.turns, far.most_open, floor, by_hand);
-        }
     }
 }
 
@@ -215,18 +206,6 @@ impl<'a> BestTeller<'a> {
                 at_least: far.at_least,
             },
         })
-    }
-
-    /// The line of numbers of all searches together, with the floor that the answer tells, if it does.
-    pub fn tell_stats(&self, answer: &[u8], by_hand: Option<u64>) {
-        if let Some(far) = self.last {
-            let (classes, floor) = (
-                far.classes as usize,
-                floor_told(answer).unwrap_or(far.at_least),
-            );
-            self.line
-                .tell_stats(classes, far.turns, far.most_open, floor, by_hand);
-        }
     }
 
     /// Where the line is shown, says of an answer by its status what helps, if anything does and it leaves something open.
@@ -294,14 +273,4 @@ fn next_step(budget: u32) -> Option<&'static str> {
     } else {
         None
     }
-}
-
-// The number of moves below which an answer's first line says that no list wins.
-fn floor_told(answer: &[u8]) -> Option<u32> {
-    let line = answer.split(|byte| *byte == b'\n').next()?;
-    if !line.starts_with(b"shortest ") && !line.starts_with(b"won ") {
-        return None;
-    }
-    let number = line.rsplit(|byte| *byte == b' ').next()?;
-    read_count(number)
 }
