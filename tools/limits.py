@@ -139,9 +139,19 @@ def of_readmes(lines):
             yield f"{path}: {words} words, where 1 to {MOST_WORDS} are to stand"
 
 
+def of_names(lines):
+    """Which crates of the repository these lines of crates.txt list for a crate that no file of it names."""
+    for name, below in re.findall(r"^(\w+)(?: staticlib)?:(.*)$", "\n".join(lines), re.M):
+        paths = [*files_below(f"crates/{name}", ".rt"), *files_below(f"crates/{name}", ".antt")]
+        named = {it for path in paths for it in re.findall(r"\b(fc_\w+)(?:::|\.)", text_of(path))}
+        for it in below.split():
+            if it.startswith("fc_") and it not in named:
+                yield f"crates.txt: {name} lists {it}, which none of its files names"
+
+
 def main():
     lines = text_of("crates.txt").splitlines()
-    wrong = [*past_limits(), *of_searches(lines), *of_readmes(lines)]
+    wrong = [*past_limits(), *of_searches(lines), *of_readmes(lines), *of_names(lines)]
     print("\n".join([*wrong, f"{int(not wrong)} passed, {len(wrong)} failed"]))
     return 1 if wrong else 0
 
