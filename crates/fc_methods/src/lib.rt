@@ -1,4 +1,4 @@
-//! How a position is searched: the home rule, the kind of bound, the weight, the expansion and the budget, as one value.
+//! What is sought of a position and how: the home rule, the kind of bound, the weight, the expansion and the budget, as one value.
 //! Nothing here searches.
 #![tactic(auto)]
 
@@ -8,6 +8,6 @@ pub use fc_best_first::{
 };
 pub use fc_bound::BoundKind;
 pub use fc_home::HomeRule;
-pub use methods::{Method, Question};
+pub use methods::{Method, Question, Sought};
 
 mod methods;

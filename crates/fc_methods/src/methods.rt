@@ -32,10 +32,19 @@ impl Method {
     }
 }
 
-/// How few moves of a game win, and how that is searched: a position makes it a search.
+/// What is sought of a position: what one search by the method answers, or the best answer that several searches give which store
+/// no more classes than its budget, all told.
+#[derive(Clone, Copy, Debug, PartialEq, Eq)]
+pub enum Sought {
+    ByMethod,
+    Best,
+}
+
+/// How few moves of a game win, what is sought of that, and how: a position makes it a search.
 #[derive(Drop)]
 pub struct Question<G: Game + Drop> {
     game: G,
+    sought: Sought,
     method: Method,
 }
 
@@ -44,17 +53,19 @@ impl<G: Game + Drop> Model for Question<G> {
 
     ghost Value = { Asked };
 
-    ghost view = { λ s. record { game = G.game s.game; method = s.method } };
+    ghost view = { λ s. record { game = G.game s.game; sought = s.sought; method = s.method } };
 }
 
 impl<G: Game + Drop> Question<G> {
-    /// The question of a game, to be searched by this method.
-    pub fn new(game: &G, method: Method) -> Self
+    /// The question of a game of which this is sought, by this method.
+    pub fn new(game: &G, sought: Sought, method: Method) -> Self
         ensures game { result.game ≡ G.game game.now }
+        ensures sought { result.sought ≡ sought }
         ensures method { result.method ≡ method }
     {
         Question {
             game: game.copy(),
+            sought,
             method,
         }
     }
@@ -65,6 +76,7 @@ impl<G: Game + Drop> Question<G> {
     {
         Question {
             game: game.copy(),
+            sought: Sought::ByMethod,
             method: Method::shortest(rule, budget),
         }
     }
@@ -74,6 +86,13 @@ impl<G: Game + Drop> Question<G> {
         ensures value { G.game result.now ≡ self.now.game }
     {
         &self.game
+    }
+
+    /// What is sought.
+    pub fn sought(&self) -> Sought
+        ensures value { result ≡ self.now.sought }
+    {
+        self.sought
     }
 
     /// How it is searched.
