@@ -1,5 +1,5 @@
 -- How far a search is that began and had turns, and what is heard of it then.
-use Rattle.std.proofs.Common.{◌≡◌, ◌≢◌, ℕ, ◌+◌, ◌*◌, ◌<◌, ◌≤◌, List, [], ◌∷◌, ◌++◌, length, ◌∙◌, ap, refl, sym, subst, inr}
+use Rattle.std.proofs.Common.{◌≡◌, ◌≢◌, ℕ, ◌+◌, ◌*◌, ◌<◌, ◌≤◌, List, [], ◌∷◌, ◌++◌, length, None, ◌∙◌, ap, refl, sym, subst, inr}
 use Rattle.std.specs.Prelude.{max}
 use Rattle.fc_frontier.specs.Queue.{Adds}
 use Rattle.fc_moves.specs.declared.steps.Move.{Move}
@@ -50,11 +50,11 @@ module _ (q : Problem) where
       (floor : TellsFloor q (stage_of next (turns + made)) far) where
     -- what was heard of a search that was not stopped, and how far it is now
     pub heard_then : next.status ≢ Stopped → far.classes ≡ length next.store.stored → far.open ≡ length next.store.waiting
-        → most ≡ most_of 0 heard → far.most_open ≡ max most far.open
+        → far.shortest ≡ None → most ≡ most_of 0 heard → far.most_open ≡ max most far.open
         → IsHeard q (stage_of first 0) 0 (heard ++ far ∷ []) (stage_of next (turns + made))
-    heard_then going stored opened before greatest =
+    heard_then going stored opened unlisted before greatest =
         heard_on q (stage_of first 0) (stage_of now turns) (stage_of next (turns + made)) 0 made heard far told some turned
-        (record { going = going; stored = stored; opened = opened; floor = floor })
+        (record { going = going; stored = stored; opened = opened; unlisted = unlisted; floor = floor })
         (greatest ∙ ap (λ m. max m far.open) before)
 
     -- what was heard of one that a growth stopped

@@ -1,5 +1,5 @@
 -- Searches that tell how far they are, and who hears it.
-use Rattle.std.specs.Prelude.{◌≡◌, ◌≢◌, ℕ, zero, suc, ◌+◌, ◌*◌, ◌<◌, ◌≤◌, ◌⊎◌, max, List, [], ◌∷◌, ◌++◌, length, Result}
+use Rattle.std.specs.Prelude.{◌≡◌, ◌≢◌, ℕ, zero, suc, ◌+◌, ◌*◌, ◌<◌, ◌≤◌, ◌⊎◌, max, List, [], ◌∷◌, ◌++◌, length, None, Result}
 use Rattle.fc_frontier.specs.Queue.{Adds}
 use Rattle.fc_moves.specs.declared.steps.Move.{Move}
 use Rattle.fc_moves.specs.GameRules.{GameRules}
@@ -21,6 +21,15 @@ module _ {L E : Type 0} where
   abbrev pub HearsAll : (L → E → L → Type 0) → L → List E → L → Type 0
   HearsAll hears old [] new = new ≡ old
   HearsAll hears old (far ∷ later) new = (mid : L) × hears old far mid × HearsAll hears mid later new
+
+-- what a listener hears: how far searches are; or a better list, or one with a greater number of moves that none is below
+pub data Heard : Type 0 where
+  Far : Progress → Heard
+  Better : List Move → ℕ → Heard
+
+-- what hearing how far a search is does to a listener
+abbrev pub HearsFar : {L : Type 0} → (L → Heard → L → Type 0) → L → Progress → L → Type 0
+HearsFar hears old far new = hears old (Far far) new
 
 -- where a search stands: what it stores and has open, its status, its floor, and how many turns there were
 pub record Stage : Type 0 where
@@ -60,12 +69,13 @@ pub record TellsFloor (p : Problem) (stage : Stage) (far : Progress) : Type 0 wh
   pub near : (stage.floor ≤ p.method.strategy.weight.times * far.at_least) × (p.method.strategy.weight.times * far.at_least < stage.floor + p.method.strategy.weight.times)
   pub least : (moves : List Move) → Wins p.game p.start moves → far.at_least ≤ length moves
 
--- so far a search of the problem is at this stage, where no turn was refused: how many classes it stores, and how many
--- entries are open
+-- so far a search of the problem is at this stage, where no turn was refused: how many classes it stores, how many entries are
+-- open, and no list
 pub record IsFar (p : Problem) (stage : Stage) (far : Progress) : Type 0 where
   pub going : stage.status ≢ Stopped
   pub stored : far.classes ≡ length stage.store.stored
   pub opened : far.open ≡ length stage.store.waiting
+  pub unlisted : far.shortest ≡ None
   pub floor : TellsFloor p stage far
 
 -- what is heard of a search from one stage on, so many entries having been open at most before, and the stage that was told

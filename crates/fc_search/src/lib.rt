@@ -8,13 +8,14 @@
 pub use fc_answers::{Answer, MoveList, Table, Verdict};
 pub use fc_best_first::{SearchFault, Step};
 pub use fc_methods::{
-    BoundKind, Budget, Expansion, HomeRule, MOST_BUDGET, MOST_WEIGHT, Method, Question, Strategy,
-    TENTHS, Weight,
+    BoundKind, Budget, Expansion, HomeRule, MOST_BUDGET, MOST_WEIGHT, Method, Question, Sought,
+    Strategy, TENTHS, Weight,
 };
 pub use fc_space::{Children, ClassRules, Positions};
 pub use listeners::{Listener, Progress, Unheard};
 pub use searches::Search;
-pub use solving::{decide_by, ended_below, solve, solve_by};
+pub use solving::{decide_by, ended_below, solve_by};
+pub use written_out::solve;
 
 mod listeners;
 mod progress;
@@ -24,3 +25,4 @@ mod solving;
 mod tables;
 mod walks;
 mod watches;
+mod written_out;

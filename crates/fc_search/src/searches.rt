@@ -55,34 +55,6 @@ impl<F: Frontier + Drop, G: Game + Drop> Model for Search<F, G> {
 }
 
 impl<F: Frontier + Drop, G: Game + Drop> Search<F, G> {
-    /// A search for a shortest list by the plain bound, for a position that fits the game, under a home rule of at most 2 and
-    /// with a budget of 1 to 4,000,000 stored classes. It has had no turn.
-    ///
-    /// # Errors
-    /// `Budget` outside that range, before any memory is asked for; `Memory` where a growth was refused.
-    pub fn new(
-        alloc: Global,
-        game: &G,
-        rule: u8,
-        position: &Position,
-        budget: u32,
-    ) -> Result<Self, SearchFault>
-        requires rule { rule ≤ GREATEST_RULE }
-        requires fits { Fits (G.game game.now).cells position.now }
-        ensures problem { IfOk result (λ search. search.problem ≡ shortest_from (G.game game.now) rule position.now budget) }
-        ensures status { IfOk result (λ search. search.status ≡ Status.Running) }
-        ensures begins { IfOk result (λ search. Begins (task_of_problem search.problem) search.store) }
-        ensures floor { IfOk result (λ search. Adds [] search.store.waiting (search.floor, 0)) }
-        ensures range { OnOk result (IsBudget budget) }
-        ensures fault { IfErr result (IsRefused budget) }
-    {
-        let question = shortest(game, HomeRule::new(rule).unwrap(), budget)?;
-        match Search::new_by(alloc, &question, position) {
-            Ok(search) => Ok(search),
-            Err(_) => Err(SearchFault::Memory),
-        }
-    }
-
     /// A search of a question for a position that fits its game. It has had no turn.
     ///
     /// # Errors
@@ -329,21 +301,5 @@ impl<F: Frontier + Drop, G: Game + Drop> Search<F, G> {
             verdict: Verdict::CannotWin,
             table: Some(table),
         })
-    }
-}
-
-// The question of a shortest list by the plain bound; `Budget` where the budget is none.
-pub(crate) fn shortest<G: Game + Drop>(
-    game: &G,
-    rule: HomeRule,
-    budget: u32,
-) -> Result<Question<G>, SearchFault>
-    ensures question { IfOk result (λ question. question ≡ shortest_asked (G.game game.now) rule budget) }
-    ensures range { OnOk result (IsBudget budget) }
-    ensures fault { IfErr result (λ f. (f ≡ SearchFault.Budget) × (IsBudget budget → ⊥)) }
-{
-    match Budget::new(budget) {
-        Some(budget) => Ok(Question::shortest(game, rule, budget)),
-        None => Err(SearchFault::Budget),
     }
 }

@@ -7,10 +7,10 @@ ghost use Rattle.fc_best_first.specs.Search.{reply_of};
 ghost use Rattle.fc_search.specs.declared.listeners.Progress.{Progress};
 ghost use Rattle.fc_search.specs.Problem.{problem_below, problem_of, shortest_from};
 ghost use Rattle.fc_search.specs.Search.{Answers, IsOfStatus, IsOneOfThree, IsRefused, IsVerdict, IsRunToEnd, HasRun};
-ghost use Rattle.fc_search.specs.Watch.{HearsAll, IsHeardAtMost, IsHeardOn, IsHeardToEnd, TellFloors};
+ghost use Rattle.fc_search.specs.Watch.{HearsAll, HearsFar, IsHeardAtMost, IsHeardOn, IsHeardToEnd, TellFloors};
 
-use crate::listeners::{Listener, Unheard};
-use crate::searches::{Search, shortest};
+use crate::listeners::Listener;
+use crate::searches::Search;
 use crate::watches::watch;
 use fc_answers::{Answer, Verdict};
 use fc_best_first::{SearchFault, Step};
@@ -20,34 +20,6 @@ use fc_methods::{HomeRule, Question};
 use fc_moves::Game;
 use fc_position::Position;
 use std::alloc::{AllocError, Global};
-
-/// The answer for a position that fits the game, under a home rule of at most 2, of a search that runs to its end with a
-/// budget of 1 to 4,000,000 stored classes: a shortest list, or that none wins, or that the search gave up, which it does
-/// only where one more class must be stored.
-///
-/// # Errors
-/// `Budget` outside that range, before any memory is asked for; `Memory` where a growth was refused.
-pub fn solve<G: Game + Drop>(
-    alloc: Global,
-    game: &G,
-    rule: u8,
-    position: &Position,
-    budget: u32,
-) -> Result<Answer, SearchFault>
-    requires rule { rule ≤ GREATEST_RULE }
-    requires fits { Fits (G.game game.now).cells position.now }
-    ensures three { IfOk result (λ answer. IsOneOfThree (G.game game.now) position.now budget answer.verdict) }
-    ensures answers { IfOk result (Answers (shortest_from (G.game game.now) rule position.now budget)) }
-    ensures ran { IfOk result (λ answer. IsRunToEnd (shortest_from (G.game game.now) rule position.now budget) answer.verdict) }
-    ensures range { OnOk result (IsBudget budget) }
-    ensures fault { IfErr result (IsRefused budget) }
-{
-    let question = shortest(game, HomeRule::new(rule).unwrap(), budget)?;
-    match solve_by(alloc, &question, position, &mut Unheard) {
-        Ok(answer) => Ok(answer),
-        Err(_) => Err(SearchFault::Memory),
-    }
-}
 
 /// The answer of a question for a position that fits its game, of a search that runs to its end. The listener hears how far
 /// the search is after each stretch of turns, and once when it ends, also where memory ends it.
@@ -63,7 +35,7 @@ pub fn solve_by<G: Game + Drop, L: Listener>(
     requires fits { Fits question.now.game.cells position.now }
     ensures answers { IfOk result (Answers (problem_of question.now position.now)) }
     ensures ran { IfOk result (λ answer. IsRunToEnd (problem_of question.now position.now) answer.verdict) }
-    ensures heard { (heard : List Progress) × HearsAll L.hears listener.old heard listener.new
+    ensures heard { (heard : List Progress) × HearsAll (HearsFar L.hears) listener.old heard listener.new
         × MatchResult result (λ answer. IsHeardToEnd (problem_of question.now position.now) heard answer.verdict)
         (λ refused. IsHeardAtMost (problem_of question.now position.now) heard) }
 {
@@ -83,7 +55,7 @@ pub fn decide_by<G: Game + Drop, L: Listener>(
     requires fits { Fits question.now.game.cells position.now }
     ensures told { IfOk result (IsVerdict (problem_of question.now position.now)) }
     ensures ran { IfOk result (IsRunToEnd (problem_of question.now position.now)) }
-    ensures heard { (heard : List Progress) × HearsAll L.hears listener.old heard listener.new
+    ensures heard { (heard : List Progress) × HearsAll (HearsFar L.hears) listener.old heard listener.new
         × MatchResult result (IsHeardToEnd (problem_of question.now position.now) heard)
         (λ refused. IsHeardAtMost (problem_of question.now position.now) heard) }
 {
@@ -106,7 +78,7 @@ pub fn ended_below<F: Frontier + Drop, G: Game + Drop, L: Listener>(
     ensures problem { IfOk result (λ search. search.problem ≡ problem_below question.now position.now limit) }
     ensures ran { IfOk result (λ search. HasRun (problem_below question.now position.now limit) search.store search.status) }
     ensures done { IfOk result (λ search. reply_of search.status ≡ Ok Step.Done) }
-    ensures heard { (heard : List Progress) × HearsAll L.hears listener.old heard listener.new
+    ensures heard { (heard : List Progress) × HearsAll (HearsFar L.hears) listener.old heard listener.new
         × TellFloors question.now.game position.now heard
         × MatchResult result (IsHeardOn (problem_below question.now position.now limit) heard)
         (λ refused. IsHeardAtMost (problem_below question.now position.now limit) heard) }
@@ -127,7 +99,7 @@ fn solve_with<F: Frontier + Drop, G: Game + Drop, L: Listener>(
     requires fits { Fits question.now.game.cells position.now }
     ensures answers { IfOk result (Answers (problem_of question.now position.now)) }
     ensures ran { IfOk result (λ answer. IsRunToEnd (problem_of question.now position.now) answer.verdict) }
-    ensures heard { (heard : List Progress) × HearsAll L.hears listener.old heard listener.new
+    ensures heard { (heard : List Progress) × HearsAll (HearsFar L.hears) listener.old heard listener.new
         × MatchResult result (λ answer. IsHeardToEnd (problem_of question.now position.now) heard answer.verdict)
         (λ refused. IsHeardAtMost (problem_of question.now position.now) heard) }
 {
@@ -158,7 +130,7 @@ fn decide_with<F: Frontier + Drop, G: Game + Drop, L: Listener>(
     requires fits { Fits question.now.game.cells position.now }
     ensures told { IfOk result (IsVerdict (problem_of question.now position.now)) }
     ensures ran { IfOk result (IsRunToEnd (problem_of question.now position.now)) }
-    ensures heard { (heard : List Progress) × HearsAll L.hears listener.old heard listener.new
+    ensures heard { (heard : List Progress) × HearsAll (HearsFar L.hears) listener.old heard listener.new
         × MatchResult result (IsHeardToEnd (problem_of question.now position.now) heard)
         (λ refused. IsHeardAtMost (problem_of question.now position.now) heard) }
 {

@@ -8,7 +8,7 @@ ghost use Rattle.fc_best_first.specs.Search.{Begins, Runs, reply_of};
 ghost use Rattle.fc_best_first.specs.Turn.{work_left};
 ghost use Rattle.fc_search.specs.Problem.{task_of_problem};
 ghost use Rattle.fc_search.specs.declared.listeners.Progress.{Progress};
-ghost use Rattle.fc_search.specs.Watch.{HearsAll, IsHeardInPart, TurnsMany, IsHeardOn, stage_of};
+ghost use Rattle.fc_search.specs.Watch.{HearsAll, HearsFar, IsHeardInPart, TurnsMany, IsHeardOn, stage_of};
 
 use crate::listeners::{Listener, Progress};
 use crate::searches::Search;
@@ -31,7 +31,7 @@ pub(crate) fn watch<F: Frontier + Drop, G: Game + Drop, L: Listener>(
     ensures problem { search.new.problem ≡ search.old.problem }
     ensures runs { Runs (task_of_problem search.old.problem) Status.Running search.old.store search.new.store search.new.status }
     ensures done { OnOk result (reply_of search.new.status ≡ Ok Step.Done) }
-    ensures heard { (heard : List Progress) × HearsAll L.hears listener.old heard listener.new
+    ensures heard { (heard : List Progress) × HearsAll (HearsFar L.hears) listener.old heard listener.new
         × MatchResult result (λ done. IsHeardOn search.old.problem heard search.new) (λ refused. IsHeardInPart search.old.problem heard) }
 {
     search.known();
@@ -48,6 +48,7 @@ pub(crate) fn watch<F: Frontier + Drop, G: Game + Drop, L: Listener>(
             turns,
             open,
             most_open,
+            shortest: None,
             at_least: search.at_least(),
         });
         let Ok(step) = reply else {

@@ -1,4 +1,4 @@
-use Rattle.std.proofs.Common.{◌≡◌, ℕ, ◌+◌, ◌≤◌, [], ◌∷◌, ◌++◌, Ok, refl, sym, ◌∙◌, ap, subst, arith}
+use Rattle.std.proofs.Common.{◌≡◌, ℕ, ◌+◌, ◌≤◌, [], ◌∷◌, ◌++◌, None, Ok, refl, sym, ◌∙◌, ap, subst, arith}
 use Rattle.std.specs.Prelude.{MatchResult, max}
 use Rattle.fc_bound.specs.Kinds.{guide_of}
 use Rattle.fc_bound.proofs.KindLemmas.{bounds_lower}
@@ -11,7 +11,7 @@ use Rattle.fc_classes.specs.Namings.{by_codes}
 use Rattle.fc_classes.proofs.TableLemmas.{lawful}
 use Rattle.fc_search.specs.Problem.{Problem, task_of_problem}
 use Rattle.fc_search.specs.declared.listeners.Progress.{Progress}
-use Rattle.fc_search.specs.Watch.{stage_of}
+use Rattle.fc_search.specs.Watch.{HearsFar, stage_of}
 use Rattle.fc_search.proofs.FarLemmas.{heard_stopped, heard_then, heard_to, is_first, tells_floor, turned_on}
 use Rattle.fc_search.proofs.HearLemmas.{hears_on, most_of-append, most_of-none, stopped_runs}
 use Rattle.fc_search.proofs.TurnLemmas.{begun_work, ended_stopped, replies_going, replies_running}
@@ -60,6 +60,7 @@ returns-in_default-clause-heard g c =
       turns = turns;
       «open» = c.open-open.result;
       most_open = c.max-most_open.result;
+      shortest = None;
       at_least = c.at_least.result;
     } in
     let (heard, hears, most, told) = c.loop-step.invariant.heard in
@@ -71,7 +72,7 @@ returns-in_default-clause-heard g c =
     let stopped = ended_stopped c.run_on-made.result.1 next.status c.in_default.not-Ok c.run_on-made.ensures.reply in
     let begins = is_first q first refl c.requires.running c.requires.begins c.requires.floor in (
       heard ++ far ∷ [],
-      hears_on g.L.Listener.hears c.args.listener.now c.loop-step.listener c.hear.new.self heard far hears c.hear.ensures.heard,
+      hears_on (HearsFar g.L.Listener.hears) c.args.listener.now c.loop-step.listener c.hear.new.self heard far hears c.hear.ensures.heard,
       heard_stopped q first now next c.loop-step.turns c.run_on-made.result.0 c.loop-step.most_open heard far told
           c.run_on-made.ensures.some turned floor begins stopped,
     )
@@ -101,6 +102,7 @@ returns-in-Done-clause-heard g c =
       turns = turns;
       «open» = c.open-open.result;
       most_open = c.max-most_open.result;
+      shortest = None;
       at_least = c.at_least.result;
     } in
     let (heard, hears, most, told) = c.loop-step.invariant.heard in
@@ -116,9 +118,9 @@ returns-in-Done-clause-heard g c =
     let going = replies_going (task_of_problem q) next.status Done replied in
     let begins = is_first q first refl c.requires.running c.requires.begins c.requires.floor in
     let heard_now = heard_then q first now next c.loop-step.turns c.run_on-made.result.0 c.loop-step.most_open heard far told c.run_on-made.ensures.some
-    turned floor going c.len.ensures.size c.open-open.ensures.size most greatest in (
+    turned floor going c.len.ensures.size c.open-open.ensures.size refl most greatest in (
       heard ++ far ∷ [],
-      hears_on g.L.Listener.hears c.args.listener.now c.loop-step.listener c.hear.new.self heard far hears c.hear.ensures.heard,
+      hears_on (HearsFar g.L.Listener.hears) c.args.listener.now c.loop-step.listener c.hear.new.self heard far hears c.hear.ensures.heard,
       heard_to q first next turns heard far begins heard_now,
     )
 
@@ -135,6 +137,7 @@ loop-step-preserved g c =
       turns = turns;
       «open» = c.open-open.result;
       most_open = c.max-most_open.result;
+      shortest = None;
       at_least = c.at_least.result;
     } in
     let (heard, hears, most, told) = c.loop-step.invariant.heard in
@@ -157,9 +160,9 @@ loop-step-preserved g c =
       falls = omega (arith, falls, c.loop-step.invariant.falls);
       heard = (
         heard ++ far ∷ [],
-        hears_on g.L.Listener.hears c.args.listener.now c.loop-step.listener c.hear.new.self heard far hears c.hear.ensures.heard,
+        hears_on (HearsFar g.L.Listener.hears) c.args.listener.now c.loop-step.listener c.hear.new.self heard far hears c.hear.ensures.heard,
         sym (most_of-append 0 heard far),
         heard_then q first now next c.loop-step.turns c.run_on-made.result.0 c.loop-step.most_open heard far told c.run_on-made.ensures.some
-            turned floor going c.len.ensures.size c.open-open.ensures.size most greatest,
+            turned floor going c.len.ensures.size c.open-open.ensures.size refl most greatest,
       );
     }

@@ -2,7 +2,7 @@ use Rattle.std.proofs.Common.{◌≡◌, ◌+◌, ◌≤◌, List}
 use Rattle.fc_best_first.specs.declared.turns.Status.TheVariants.{Running}
 use Rattle.fc_best_first.specs.Turn.{work_left}
 use Rattle.fc_search.specs.declared.listeners.Progress.{Progress}
-use Rattle.fc_search.specs.Watch.{HearsAll, IsHeard, stage_of}
+use Rattle.fc_search.specs.Watch.{HearsAll, HearsFar, IsHeard, stage_of}
 use Rattle.fc_search.proofs.HearLemmas.{most_of}
 use Rattle.fc_search.proofs.watches.watch.Given as goal
 
@@ -13,7 +13,7 @@ invariant-loop-step g l =
       problem : l.search.problem ≡ first.problem;
       status : l.search.status ≡ Running;
       falls : l.turns + work_left first.problem.method.strategy.budget l.search.store ≤ work_left first.problem.method.strategy.budget first.store;
-      heard : (heard : List Progress) × HearsAll g.L.Listener.hears l.initial.listener heard l.listener × (l.most_open ≡ most_of 0 heard)
+      heard : (heard : List Progress) × HearsAll (HearsFar g.L.Listener.hears) l.initial.listener heard l.listener × (l.most_open ≡ most_of 0 heard)
           × IsHeard first.problem (stage_of first 0) 0 heard (stage_of l.search l.turns);
     }
 

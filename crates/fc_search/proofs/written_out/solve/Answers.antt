@@ -3,8 +3,8 @@ use Rattle.std.specs.Prelude.{IfSome}
 use Rattle.fc_search.specs.Problem.{problem_of, shortest_from}
 use Rattle.fc_search.specs.Search.{Answers, IsRunToEnd}
 use Rattle.fc_search.proofs.AnswerLemmas.{asked_shortest, one_of_three}
-use Rattle.fc_search.proofs.solving.solve.Goals as goal
-use Rattle.fc_search.proofs.solving.solve.Goals.{In-Ok}
+use Rattle.fc_search.proofs.written_out.solve.Goals as goal
+use Rattle.fc_search.proofs.written_out.solve.Goals.{In-Ok}
 
 -- the problem that was searched is that of a shortest list
 asked : (g : _) (c : In-Ok g)
