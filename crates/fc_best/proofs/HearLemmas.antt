@@ -8,16 +8,16 @@ use Rattle.fc_moves.specs.declared.steps.Move.{Move}
 use Rattle.fc_moves.specs.GameRules.{GameRules}
 use Rattle.fc_moves.specs.Run.{Wins}
 use Rattle.fc_methods.specs.Method.{Asked}
-use Rattle.fc_search.specs.Watch.{HearsAll}
+use Rattle.fc_search.specs.Watch.{HearsAll, Better, Far, Heard}
 use Rattle.fc_answers.specs.declared.answers.Verdict.{Verdict}
 use Rattle.fc_best.specs.declared.attempts.Shown.{Shown}
-use Rattle.fc_best.specs.declared.listeners.BestProgress.{BestProgress}
+use Rattle.fc_search.specs.declared.listeners.Progress.{Progress}
 use Rattle.fc_best.specs.declared.standings.Standing.{Standing}
 use Rattle.fc_best.specs.Best.{IsFloor}
 use Rattle.fc_best.specs.inner.Attempt.{IsEnd, IsGoodList, IsShown}
 use Rattle.fc_best.specs.inner.Standing.{IsLeastOf, Stands, limit_of}
 use Rattle.fc_best.specs.inner.Watch.{HearsFurther, HearsList, HearsOn, HearsSome, HasNoBetter, IsFurther, IsFurtherTold, IsSoUp, Rises, list_in, with_floor}
-use Rattle.fc_best.specs.Watch.{Better, Told, Heard, HearsTold, HearsToEnd, IsNoWorse, IsSo, IsTold, IsToldOf, floor_heard, last_list, list_told, moves_heard}
+use Rattle.fc_best.specs.Watch.{HearsTold, HearsToEnd, IsNoWorse, IsSo, IsTold, IsToldOf, floor_heard, last_list, list_told, moves_heard}
 
 -- what is so holds of a fault, whichever it is
 pub if_err : {T E : Type 0} (r : Result T E) (P : Type 0) → P → IfErr r (λ e. P)
@@ -33,7 +33,7 @@ hears_both hears old mid new (far ∷ later) more (next, first, rest) then = (ne
 -- the list that was heard last of some and then of others
 last_both : (before : Option (List Move × ℕ)) (heard more : List Heard) → last_list before (heard ++ more) ≡ last_list (last_list before heard) more
 last_both before [] more = refl
-last_both before (Told far ∷ later) more = last_both before later more
+last_both before (Far far ∷ later) more = last_both before later more
 last_both before (Better moves floor ∷ later) more = last_both (Some (moves, floor)) later more
 
 -- what is told again is no worse
@@ -82,22 +82,22 @@ rises_pairs first last (next ∷ later) (no_worse, rest) =
     AllPairs-cons IsNoWorse next later (rises_above next last later rest) (rises_pairs next last later rest)
 
 -- while one search goes on nothing changes, and no list is heard
-further_rises : (before : BestProgress) (first last : Heard) (heard : List Heard) → IsFurtherTold before first → All (IsFurtherTold before) heard
-    → IsNoWorse (Told before) last → Rises first heard last
+further_rises : (before : Progress) (first last : Heard) (heard : List Heard) → IsFurtherTold before first → All (IsFurtherTold before) heard
+    → IsNoWorse (Far before) last → Rises first heard last
 further_rises before (Better moves floor) last heard none all no_worse = absurd none
-further_rises before (Told first) last [] one all no_worse =
-    no_worse_on (Told first) (Told before) last (no_worse_same (Told first) (Told before) (sym one.shortest) (sym one.at_least)) no_worse
-further_rises before (Told first) last (Better moves floor ∷ later) one all no_worse =
-    let none : ⊥ = all 0 (Told first) (omega arith) in absurd none
-further_rises before (Told first) last (Told far ∷ later) one all no_worse =
-    let next : IsFurther before far = all 0 (Told first) (omega arith) in (
-      no_worse_same (Told first) (Told far) (next.shortest ∙ sym one.shortest) (next.at_least ∙ sym one.at_least),
-      further_rises before (Told far) last later next (λ k d within. all (suc k) d (omega (arith, within))) no_worse,
+further_rises before (Far first) last [] one all no_worse =
+    no_worse_on (Far first) (Far before) last (no_worse_same (Far first) (Far before) (sym one.shortest) (sym one.at_least)) no_worse
+further_rises before (Far first) last (Better moves floor ∷ later) one all no_worse =
+    let none : ⊥ = all 0 (Far first) (omega arith) in absurd none
+further_rises before (Far first) last (Far far ∷ later) one all no_worse =
+    let next : IsFurther before far = all 0 (Far first) (omega arith) in (
+      no_worse_same (Far first) (Far far) (next.shortest ∙ sym one.shortest) (next.at_least ∙ sym one.at_least),
+      further_rises before (Far far) last later next (λ k d within. all (suc k) d (omega (arith, within))) no_worse,
     )
 
-further_keeps : (before : BestProgress) (list : Option (List Move × ℕ)) (heard : List Heard) → All (IsFurtherTold before) heard → last_list list heard ≡ list
+further_keeps : (before : Progress) (list : Option (List Move × ℕ)) (heard : List Heard) → All (IsFurtherTold before) heard → last_list list heard ≡ list
 further_keeps before list [] all = refl
-further_keeps before list (Told far ∷ later) all = further_keeps before list later (λ k d within. all (suc k) d (omega (arith, within)))
+further_keeps before list (Far far ∷ later) all = further_keeps before list later (λ k d within. all (suc k) d (omega (arith, within)))
 further_keeps before list (Better moves floor ∷ later) all = let none : ⊥ = all 0 (Better moves floor) (omega arith) in absurd none
 
 -- there is a list of as many moves as are told
@@ -128,7 +128,7 @@ module _ (q : Asked) (b : Board) where
   }
 
   -- and so is what is told after that
-  told_further : (before far : BestProgress) → IsTold q b before → IsFurther before far → IsTold q b far
+  told_further : (before far : Progress) → IsTold q b before → IsFurther before far → IsTold q b far
   told_further before far told further = record {
     budgeted = further.budget ∙ told.budgeted;
     least = subst (IsFloor q.game b) (sym further.at_least) told.least;
@@ -136,10 +136,10 @@ module _ (q : Asked) (b : Board) where
   }
 
   -- what is heard after that is so
-  further_so : (before : BestProgress) (heard : List Heard) → IsTold q b before → All (IsFurtherTold before) heard → All (IsSo q b) heard
+  further_so : (before : Progress) (heard : List Heard) → IsTold q b before → All (IsFurtherTold before) heard → All (IsSo q b) heard
   further_so before [] told all = All-nil (IsSo q b)
-  further_so before (Told far ∷ later) told all =
-      All-cons (IsSo q b) (Told far) later (told_further before far told (all 0 (Told far) (omega arith)))
+  further_so before (Far far ∷ later) told all =
+      All-cons (IsSo q b) (Far far) later (told_further before far told (all 0 (Far far) (omega arith)))
       (further_so before later told (λ k d within. all (suc k) d (omega (arith, within))))
   further_so before (Better moves floor ∷ later) told all = let none : ⊥ = all 0 (Better moves floor) (omega arith) in absurd none
 
@@ -168,7 +168,7 @@ module _ (q : Asked) (b : Board) where
   no_limit None same = refl
   no_limit (Some moves) same = absurd (cc)
 
-  still_listed : (s last : Standing) → Stands q b s → Stands q b last → IsNoWorse (Told s.far) (Told last.far)
+  still_listed : (s last : Standing) → Stands q b s → Stands q b last → IsNoWorse (Far s.far) (Far last.far)
       → (limit_of last.list ≡ limit_of s.list → last.list ≡ s.list) → HasNoBetter s.far last → list_in s ≡ list_in last
   still_listed s last was stands no_worse same better =
       ⊎_elim
@@ -182,14 +182,14 @@ module _ (q : Asked) (b : Board) where
 
   module _ {L : Type 0} (hears : L → Heard → L → Type 0) where
     pub hears_none : (s : Standing) (old new : L) → new ≡ old → HearsOn hears q b s s old new
-    hears_none s old new same = ([], same, (All-nil (IsSo q b), no_worse_same (Told s.far) (Told s.far) refl refl), refl)
+    hears_none s old new same = ([], same, (All-nil (IsSo q b), no_worse_same (Far s.far) (Far s.far) refl refl), refl)
 
     pub hears_more : (first mid last : Standing) (old between new : L) → HearsOn hears q b first mid old between
         → HearsOn hears q b mid last between new → HearsOn hears q b first last old new
     hears_more first mid last old between new (heard, hearing, (told, rises), list) (more, then, (so, on), next) = (
       heard ++ more,
       hears_both hears old between new heard more hearing then,
-      (All-append (IsSo q b) heard more told so, rises_both (Told first.far) (Told mid.far) (Told last.far) heard more rises on),
+      (All-append (IsSo q b) heard more told so, rises_both (Far first.far) (Far mid.far) (Far last.far) heard more rises on),
       last_both (list_in first) heard more ∙ ap (λ o. last_list o more) list ∙ next,
     )
 
@@ -199,57 +199,57 @@ module _ (q : Asked) (b : Board) where
       heard ++ more,
       last,
       hears_both hears old between new heard more hearing then,
-      (All-append (IsSo q b) heard more told so, rises_both (Told first.far) (Told mid.far) last heard more rises on),
+      (All-append (IsSo q b) heard more told so, rises_both (Far first.far) (Far mid.far) last heard more rises on),
     )
 
     -- where the searches so far stand so, and one more is heard after them
-    hears_search : (s : Standing) (last : Heard) (old new : L) → Stands q b s → HearsFurther hears s.far old new → IsNoWorse (Told s.far) last
-        → (heard : List Heard) × HearsAll hears old heard new × IsSoUp q b (Told s.far) heard last × (last_list (list_in s) heard ≡ list_in s)
+    hears_search : (s : Standing) (last : Heard) (old new : L) → Stands q b s → HearsFurther hears s.far old new → IsNoWorse (Far s.far) last
+        → (heard : List Heard) × HearsAll hears old heard new × IsSoUp q b (Far s.far) heard last × (last_list (list_in s) heard ≡ list_in s)
     hears_search s last old new stands (heard, hearing, further) no_worse = (
       heard,
       hearing,
       (
         further_so s.far heard (told_stands s stands) further,
-        further_rises s.far (Told s.far) last heard (record { budget = refl; shortest = refl; at_least = refl }) further no_worse,
+        further_rises s.far (Far s.far) last heard (record { budget = refl; shortest = refl; at_least = refl }) further no_worse,
       ),
       further_keeps s.far (list_in s) heard further,
     )
 
     pub hears_still : (s : Standing) (old new : L) → Stands q b s → HearsFurther hears s.far old new → HearsOn hears q b s s old new
-    hears_still s old new stands further = hears_search s (Told s.far) old new stands further (no_worse_same (Told s.far) (Told s.far) refl refl)
+    hears_still s old new stands further = hears_search s (Far s.far) old new stands further (no_worse_same (Far s.far) (Far s.far) refl refl)
 
     pub some_further : (s : Standing) (old new : L) → Stands q b s → HearsFurther hears s.far old new → HearsSome hears q b s old new
     some_further s old new stands further =
-        let on = hears_still s old new stands further in (on.0, Told s.far, on.1, on.2)
+        let on = hears_still s old new stands further in (on.0, Far s.far, on.1, on.2)
 
     -- and then the list, where it is better
     hears_silent : (s last : Standing) (old mid new : L) → Stands q b s → Stands q b last → HearsFurther hears s.far old mid
-        → IsNoWorse (Told s.far) (Told last.far) → (limit_of last.list ≡ limit_of s.list → last.list ≡ s.list)
+        → IsNoWorse (Far s.far) (Far last.far) → (limit_of last.list ≡ limit_of s.list → last.list ≡ s.list)
         → HasNoBetter s.far last × (new ≡ mid) → HearsOn hears q b s last old new
     hears_silent s last old mid new was stands further no_worse same (none, silent) =
-        let on = hears_search s (Told last.far) old mid was further no_worse in
+        let on = hears_search s (Far last.far) old mid was further no_worse in
         subst (λ l. HearsOn hears q b s last old l) (sym silent) (on.0, on.1, on.2, on.3 ∙ still_listed s last was stands no_worse same none)
 
     hears_better : (s last : Standing) (moves : List Move) (old mid new : L) → Stands q b s → Stands q b last → HearsFurther hears s.far old mid
-        → IsNoWorse (Told s.far) (Told last.far) → last.list ≡ Some moves → hears mid (Better moves last.far.at_least) new
+        → IsNoWorse (Far s.far) (Far last.far) → last.list ≡ Some moves → hears mid (Better moves last.far.at_least) new
         → HearsOn hears q b s last old new
     hears_better s last moves old mid new was stands further no_worse some hearing =
         let better : Heard = Better moves last.far.at_least in
         let equal = list_as_told last moves stands some in
-        let up : IsNoWorse (Told last.far) better = no_worse_same (Told last.far) better (sym equal) refl in
-        let down : IsNoWorse better (Told last.far) = no_worse_same better (Told last.far) equal refl in
-        let (heard, hearing_it, (so, rises), list) = hears_search s (Told last.far) old mid was further no_worse in (
+        let up : IsNoWorse (Far last.far) better = no_worse_same (Far last.far) better (sym equal) refl in
+        let down : IsNoWorse better (Far last.far) = no_worse_same better (Far last.far) equal refl in
+        let (heard, hearing_it, (so, rises), list) = hears_search s (Far last.far) old mid was further no_worse in (
           heard ++ better ∷ [],
           hears_both hears old mid new heard (better ∷ []) hearing_it (new, hearing, refl),
           (
             All-append (IsSo q b) heard (better ∷ []) so (All-cons (IsSo q b) better [] (list_stands last moves stands some) (All-nil (IsSo q b))),
-            rises_both (Told s.far) (Told last.far) (Told last.far) heard (better ∷ []) rises (up, down),
+            rises_both (Far s.far) (Far last.far) (Far last.far) heard (better ∷ []) rises (up, down),
           ),
           last_both (list_in s) heard (better ∷ []) ∙ sym (ap (λ o. with_floor o last.far.at_least) some),
         )
 
     pub hears_listed : (s last : Standing) (old mid new : L) → Stands q b s → Stands q b last → HearsFurther hears s.far old mid
-        → IsNoWorse (Told s.far) (Told last.far) → (limit_of last.list ≡ limit_of s.list → last.list ≡ s.list) → HearsList hears s.far last mid new
+        → IsNoWorse (Far s.far) (Far last.far) → (limit_of last.list ≡ limit_of s.list → last.list ≡ s.list) → HearsList hears s.far last mid new
         → HearsOn hears q b s last old new
     hears_listed s last old mid new was stands further no_worse same told =
         ⊎_elim
@@ -259,20 +259,20 @@ module _ (q : Asked) (b : Board) where
 
     -- what was heard from the first search on
     pub some_told : (first : Standing) (old new : L) → HearsSome hears q b first old new → HearsTold hears q b old new
-    some_told first old new (heard, last, hearing, (so, rises)) = (heard, (hearing, so, rises_pairs (Told first.far) last heard rises))
+    some_told first old new (heard, last, hearing, (so, rises)) = (heard, (hearing, so, rises_pairs (Far first.far) last heard rises))
 
     -- and of the verdict last
-    pub hears_end : (first last : Standing) (old mid new : L) (verdict : Verdict) → HearsOn hears q b first last old mid → hears mid (Told last.far) new
+    pub hears_end : (first last : Standing) (old mid new : L) (verdict : Verdict) → HearsOn hears q b first last old mid → hears mid (Far last.far) new
         → first.list ≡ None → Stands q b last → IsToldOf verdict last.far → list_in last ≡ list_told verdict → HearsToEnd hears q b verdict old new
     hears_end first last old mid new verdict (heard, hearing, (so, rises), list) end none stands of_verdict listed =
-        let far : Heard = Told last.far in
+        let far : Heard = Far last.far in
         let still = no_worse_same far far refl refl in (
           heard,
           last.far,
           (
             hears_both hears old mid new heard (far ∷ []) hearing (new, end, refl),
             All-append (IsSo q b) heard (far ∷ []) so (All-cons (IsSo q b) far [] (told_stands last stands) (All-nil (IsSo q b))),
-            rises_pairs (Told first.far) far (heard ++ far ∷ []) (rises_both (Told first.far) far far heard (far ∷ []) rises (still, still)),
+            rises_pairs (Far first.far) far (heard ++ far ∷ []) (rises_both (Far first.far) far far heard (far ∷ []) rises (still, still)),
           ),
           of_verdict,
           sym (ap (λ o. last_list (with_floor o first.far.at_least) heard) none) ∙ list ∙ listed,
@@ -280,4 +280,4 @@ module _ (q : Asked) (b : Board) where
 
     -- it is of what is so, and gets no worse
     pub end_told : (old new : L) (verdict : Verdict) → HearsToEnd hears q b verdict old new → HearsTold hears q b old new
-    end_told old new verdict (heard, far, these, of_verdict, listed) = (heard ++ Told far ∷ [], these)
+    end_told old new verdict (heard, far, these, of_verdict, listed) = (heard ++ Far far ∷ [], these)

@@ -1,3 +1,4 @@
+pub mod AnsweringLemmas
 pub mod AnswerLemmas
 pub mod AttemptLemmas
 pub mod HearLemmas

@@ -4,36 +4,33 @@ use Rattle.std.specs.Prelude.{All}
 use Rattle.std.proofs.lemmas.List.Elements.{All-nil, All-cons}
 use Rattle.fc_position.specs.Board.{Board}
 use Rattle.fc_moves.specs.GameRules.{GameRules}
-use Rattle.fc_search.specs.Watch.{HearsAll, TellFloors}
+use Rattle.fc_search.specs.Watch.{Far, Heard, HearsAll, HearsFar, TellFloors}
 use Rattle.fc_search.specs.declared.listeners.Progress.{Progress}
-use Rattle.fc_best.specs.declared.listeners.BestProgress.{BestProgress}
 use Rattle.fc_best.specs.declared.relays.Relay.{Relay}
-use Rattle.fc_best.specs.Watch.{Told, Heard}
-use Rattle.fc_best.specs.inner.Watch.{HearsFurther, IsFurther, IsFurtherTold, IsJoined}
+use Rattle.fc_best.specs.inner.Watch.{HearsFurther, IsFurther, IsFurtherTold, IsJoined, Relays}
 
 -- what was told is told after itself
-pub further_same : (far : BestProgress) → IsFurther far far
+pub further_same : (far : Progress) → IsFurther far far
 further_same far = record { budget = refl; shortest = refl; at_least = refl }
 
 -- and so is what is told while a further search goes on
-further_joined : (before : BestProgress) (one : Progress) (far : BestProgress) → IsJoined before one far → IsFurther before far
+further_joined : (before : Progress) (one : Progress) (far : Progress) → IsJoined before one far → IsFurther before far
 further_joined before one far joined = record { budget = joined.budget; shortest = joined.shortest; at_least = joined.at_least }
 
 module _ {L : Type 0} (hears : L → Heard → L → Type 0) where
   -- what a relay that hears a search does
   abbrev pub relays : Relay L → Progress → Relay L → Type 0
-  relays old far new = (new.listener.ghost_name ≡ old.listener.ghost_name) × (new.before ≡ old.before)
-      × IsJoined old.before far new.last × hears old.listener.now (Told new.last) new.listener.now
+  relays = HearsFar (Relays hears)
 
   -- the relay is still of the same listener, which heard these, all told after what was told before; and so is what was told last
-  pub record Passes (before : BestProgress) (old new : Relay L) : Type 0 where
+  pub record Passes (before : Progress) (old new : Relay L) : Type 0 where
     pub name : new.listener.ghost_name ≡ old.listener.ghost_name
     pub told : List Heard
     pub hearing : HearsAll hears old.listener.now told new.listener.now
     pub further : All (IsFurtherTold before) told
     pub last : IsFurther before new.last
 
-  passes : (before : BestProgress) (old : Relay L) (heard : List Progress) (new : Relay L) → HearsAll relays old heard new
+  passes : (before : Progress) (old : Relay L) (heard : List Progress) (new : Relay L) → HearsAll relays old heard new
       → old.before ≡ before → IsFurther before old.last → Passes before old new
   passes before old [] new same kept last = record {
     name = ap (λ (r : Relay L). r.listener.ghost_name) same;
@@ -47,9 +44,9 @@ module _ {L : Type 0} (hears : L → Heard → L → Type 0) where
       let more = passes before mid later new rest (stays ∙ kept) one in
       record {
         name = more.name ∙ name;
-        told = Told mid.last ∷ more.told;
+        told = Far mid.last ∷ more.told;
         hearing = (mid.listener.now, hearing, more.hearing);
-        further = All-cons (IsFurtherTold before) (Told mid.last) more.told one more.further;
+        further = All-cons (IsFurtherTold before) (Far mid.last) more.told one more.further;
         last = more.last;
       }
 

@@ -18,10 +18,11 @@ use Rattle.fc_search.specs.Search.{State}
 use Rattle.fc_search.specs.Shown.{HasShown}
 use Rattle.fc_best.specs.declared.attempts.Attempt.{Attempt}
 use Rattle.fc_best.specs.declared.attempts.Shown.{Shown}
-use Rattle.fc_best.specs.declared.listeners.BestProgress.{BestProgress}
+use Rattle.fc_search.specs.declared.listeners.Progress.{Progress}
 use Rattle.fc_best.specs.declared.standings.Standing.{Standing}
 use Rattle.fc_best.specs.Best.{HasGivenUp, HaveGivenUp, IsListOf, of_search, of_tail, IsOfQuestion}
-use Rattle.fc_best.specs.Watch.{Told, IsNoWorse}
+use Rattle.fc_best.specs.Watch.{IsNoWorse}
+use Rattle.fc_search.specs.Watch.{Far}
 use Rattle.fc_best.specs.inner.Attempt.{IsAttempt, IsEnd, IsFoundIn, IsGivenUp, IsGoodList, IsShownIn, IsTableOf, Raises, ShowsNone, floor_of}
 use Rattle.fc_best.specs.inner.Standing.{AllGaveUp, IsLeastOf, IsShorter, IsShownBy, Stands, greater, limit_of, looked_with, newest, with_share}
 use Rattle.fc_best.specs.inner.Watch.{IsAfter, IsFurther, floor_shown}
@@ -163,9 +164,9 @@ least_after None old n new least going raises most = let same : n ≡ new = omeg
 least_after (Some end) old n new least going raises most = least_with old end.floor n new least going raises most
 
 -- what the searches tell is no worse than before
-pub rises_after : (old list : Option (List Move)) (before far : BestProgress) → before.shortest ≡ limit_of old → far.shortest ≡ limit_of list
+pub rises_after : (old list : Option (List Move)) (before far : Progress) → before.shortest ≡ limit_of old → far.shortest ≡ limit_of list
     → IfSome old (λ moves. (shorter : List Move) × (list ≡ Some shorter) × (length shorter ≤ length moves)) → before.at_least ≤ far.at_least
-    → IsNoWorse (Told before) (Told far)
+    → IsNoWorse (Far before) (Far far)
 rises_after None list before far was is kept least = record {
   listed = subst (λ o. IfSome o (λ n. (m : ℕ) × (far.shortest ≡ Some m) × (m ≤ n))) (sym was) tt;
   least = least;
@@ -175,13 +176,13 @@ rises_after (Some moves) list before far was is (shorter, same, le) least = reco
   least = least;
 }
 
-pub after_rises : (q : Asked) (b : Board) (old : Standing) (new list : Option (List Move)) (last far : BestProgress) (shown : Option ℕ) → Stands q b old
-    → IsFurther old.far last → IsShorter new old.list list → IsAfter last shown (limit_of list) far → IsNoWorse (Told old.far) (Told far)
+pub after_rises : (q : Asked) (b : Board) (old : Standing) (new list : Option (List Move)) (last far : Progress) (shown : Option ℕ) → Stands q b old
+    → IsFurther old.far last → IsShorter new old.list list → IsAfter last shown (limit_of list) far → IsNoWorse (Far old.far) (Far far)
 after_rises q b old new list last far shown (searches, tails, was) further short after =
     rises_after old.list list old.far far was.told.shortest after.shortest short.kept
     (let same = further.at_least in let most = after.at_least in omega (arith, same, most))
 
-pub after_stands : (q : Asked) (kind : BoundKind) (b : Board) (weight : Ratio) (share : ℕ) (old : Standing) (attempt : Attempt) (last new : BestProgress)
+pub after_stands : (q : Asked) (kind : BoundKind) (b : Board) (weight : Ratio) (share : ℕ) (old : Standing) (attempt : Attempt) (last new : Progress)
     (list : Option (List Move)) (shown : Option Shown) (most : Option ℕ) → Stands q b old → IsFurther old.far last
     → IsAfter last (floor_of attempt.shown) (limit_of list) new → IsShorter attempt.list old.list list → shown ≡ newest attempt.shown old.shown
     → most ≡ greater old.given_up attempt.given_up → (ShowsNone old.shown → ⊥) → share ≤ old.left → attempt.stored ≤ old.left

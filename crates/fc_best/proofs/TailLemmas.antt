@@ -17,12 +17,13 @@ use Rattle.fc_search.specs.Search.{State}
 use Rattle.fc_best.specs.declared.attempts.Attempt.{Attempt}
 use Rattle.fc_best.specs.declared.tails.Tail.{Tail}
 use Rattle.fc_best.specs.declared.standings.Standing.{Standing}
-use Rattle.fc_best.specs.declared.listeners.BestProgress.{BestProgress}
+use Rattle.fc_search.specs.declared.listeners.Progress.{Progress}
 use Rattle.fc_best.specs.Best.{IsListOf, of_search, of_tail, IsOfQuestion, IsOnTheWay}
-use Rattle.fc_best.specs.Watch.{Told, IsNoWorse}
+use Rattle.fc_best.specs.Watch.{IsNoWorse}
+use Rattle.fc_search.specs.Watch.{Far}
 use Rattle.fc_best.specs.inner.Attempt.{IsAttempt, IsFoundIn, IsGoodList}
 use Rattle.fc_best.specs.inner.Standing.{IsLeastOf, IsShorter, Stands, limit_of}
-use Rattle.fc_best.specs.inner.Watch.{IsAfter, IsFirstTold}
+use Rattle.fc_best.specs.inner.Watch.{IsAfter, IsFirst}
 use Rattle.fc_best.specs.inner.Tail.{HasTailOf, IsTail, IsTailFor, IsWithEnd}
 use Rattle.fc_best.proofs.StandingLemmas.{after_rises, first_of, if_some, rest_of, shorter_both}
 
@@ -117,7 +118,7 @@ tail_made g b n limit ended all front end (Some moves) good same long run tail (
 pub is_tail : (q : Asked) (b c : Board) (n limit : ℕ) (all front : List Move) (attempt : Attempt) (made : Option (List Move))
     → IsGoodList q.game b all → front ≡ take n all → n + limit ≡ length all → Run q.game b front c
     → IsAttempt q q.method.bound c (Some limit) attempt → IsWithEnd front attempt.list limit made
-    → (gave : Bool) (far : BestProgress) → IsTail q b all (record { list = made; stored = attempt.stored; has_given_up = gave; far = far })
+    → (gave : Bool) (far : Progress) → IsTail q b all (record { list = made; stored = attempt.stored; has_given_up = gave; far = far })
 is_tail q b c n limit all front attempt made good same long run is joined gave far =
     let there : Run q.game b front is.ended.problem.start = subst (λ x. Run q.game b front x) (sym is.asked.start) run in
     record {
@@ -154,11 +155,11 @@ list_with g b ended searches tails all moves of is =
 there : {X : Type 0} (o : Option X) (x : X) → o ≡ Some x → o ≡ None → ⊥
 there o x is none = absurd (cc)
 
-pub tail_rises : (q : Asked) (b : Board) (old : Standing) (tail : Tail) (list : Option (List Move)) (far : BestProgress) → Stands q b old
-    → IsTailFor q b old tail → IsShorter tail.list old.list list → IsAfter tail.far None (limit_of list) far → IsNoWorse (Told old.far) (Told far)
+pub tail_rises : (q : Asked) (b : Board) (old : Standing) (tail : Tail) (list : Option (List Move)) (far : Progress) → Stands q b old
+    → IsTailFor q b old tail → IsShorter tail.list old.list list → IsAfter tail.far None (limit_of list) far → IsNoWorse (Far old.far) (Far far)
 tail_rises q b old tail list far stands is short after = after_rises q b old tail.list list tail.far far None stands is.far short after
 
-pub tail_stands : (q : Asked) (b : Board) (old : Standing) (tail : Tail) (list : Option (List Move)) (new : BestProgress) → Stands q b old
+pub tail_stands : (q : Asked) (b : Board) (old : Standing) (tail : Tail) (list : Option (List Move)) (new : Progress) → Stands q b old
     → IsTailFor q b old tail → tail.stored + 1 ≤ old.left → IsShorter tail.list old.list list → IsAfter tail.far None (limit_of list) new
     → Stands q b (record {
       list = list;
@@ -200,8 +201,8 @@ tail_stands q b old tail list new (searches, tails, was) found room short after 
     )
 
 -- before the first search nothing is stored
-pub nothing_stands : (q : Asked) (b : Board) (left : ℕ) (has_table : Bool) (far : BestProgress) → left ≡ q.method.strategy.budget
-    → IsFirstTold left far → Stands q b (record { list = None; shown = None; left = left; given_up = None; has_table = has_table; open_share = 0; far = far })
+pub nothing_stands : (q : Asked) (b : Board) (left : ℕ) (has_table : Bool) (far : Progress) → left ≡ q.method.strategy.budget
+    → IsFirst left far → Stands q b (record { list = None; shown = None; left = left; given_up = None; has_table = has_table; open_share = 0; far = far })
 nothing_stands q b left has_table far whole first = (
   [],
   [],

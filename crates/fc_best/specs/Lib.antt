@@ -1,3 +1,4 @@
+pub mod Answering
 pub mod Best
 pub mod Watch
 pub mod inner

@@ -6,35 +6,30 @@ use Rattle.fc_moves.specs.Run.{Wins}
 use Rattle.fc_answers.specs.declared.answers.Verdict.{Verdict}
 use Rattle.fc_answers.specs.declared.answers.Verdict.TheVariants.{Shortest, Won, CannotWin, GaveUp}
 use Rattle.fc_best.specs.Best.{IsFloor}
-use Rattle.fc_best.specs.declared.listeners.BestProgress.{BestProgress}
+use Rattle.fc_search.specs.declared.listeners.Progress.{Progress}
 use Rattle.fc_methods.specs.Method.{Asked}
-use Rattle.fc_search.specs.Watch.{HearsAll}
+use Rattle.fc_search.specs.Watch.{Better, Far, Heard, HearsAll}
 
 -- what is told of searches of the question from the board is so: its budget; no list that wins has fewer moves than the floor; and
 -- a list that wins has as many moves as the best one so far, if there is one
-pub record IsTold (q : Asked) (b : Board) (far : BestProgress) : Type 0 where
+pub record IsTold (q : Asked) (b : Board) (far : Progress) : Type 0 where
   pub budgeted : far.budget ≡ q.method.strategy.budget
   pub least : IsFloor q.game b far.at_least
   pub listed : IfSome far.shortest (λ n. (moves : List Move) × Wins q.game b moves × (length moves ≡ n))
 
--- what a listener hears: how far the searches are; or a better list, or one with a greater floor
-pub data Heard : Type 0 where
-  Told : BestProgress → Heard
-  Better : List Move → ℕ → Heard
-
 -- what is heard is so: how far the searches are is told so; a list wins, and no list that wins has fewer moves than its floor
 abbrev pub IsSo : Asked → Board → Heard → Type 0
-IsSo q b (Told far) = IsTold q b far
+IsSo q b (Far far) = IsTold q b far
 IsSo q b (Better moves floor) = Wins q.game b moves × IsFloor q.game b floor
 
 -- how many moves the best list so far has, if there is one
 abbrev pub moves_heard : Heard → Option ℕ
-moves_heard (Told far) = far.shortest
+moves_heard (Far far) = far.shortest
 moves_heard (Better moves floor) = Some (length moves)
 
 -- and the floor
 abbrev pub floor_heard : Heard → ℕ
-floor_heard (Told far) = far.at_least
+floor_heard (Far far) = far.at_least
 floor_heard (Better moves floor) = floor
 
 -- what is heard is no worse than what was heard before it: where that told a list there still is one, and it is no longer; and the
@@ -46,7 +41,7 @@ pub record IsNoWorse (before next : Heard) : Type 0 where
 -- the list that was heard last, with its floor: the one before, where none was
 abbrev pub last_list : Option (List Move × ℕ) → List Heard → Option (List Move × ℕ)
 last_list before [] = before
-last_list before (Told far ∷ later) = last_list before later
+last_list before (Far far ∷ later) = last_list before later
 last_list before (Better moves floor ∷ later) = last_list (Some (moves, floor)) later
 
 -- how many moves the list that a verdict tells has, if it tells one
@@ -71,7 +66,7 @@ list_told CannotWin = None
 list_told (GaveUp told) = None
 
 -- what is told is of the verdict: how many moves its list has, if it tells one, and its floor, if it tells one
-pub record IsToldOf (verdict : Verdict) (far : BestProgress) : Type 0 where
+pub record IsToldOf (verdict : Verdict) (far : Progress) : Type 0 where
   pub listed : far.shortest ≡ moves_told verdict
   pub least : IfSome (floor_told verdict) (λ floor. far.at_least ≡ floor)
 
@@ -86,5 +81,5 @@ module _ {L : Type 0} (hears : L → Heard → L → Type 0) where
 
   -- and hears last of the verdict; the last list that it hears is the verdict's, with its floor, and it hears none where that has none
   abbrev pub HearsToEnd : Asked → Board → Verdict → L → L → Type 0
-  HearsToEnd q b verdict old new = (heard : List Heard) × (far : BestProgress) × HearsThese q b (heard ++ Told far ∷ []) old new
+  HearsToEnd q b verdict old new = (heard : List Heard) × (far : Progress) × HearsThese q b (heard ++ Far far ∷ []) old new
       × IsToldOf verdict far × (last_list None heard ≡ list_told verdict)

@@ -8,7 +8,7 @@ ghost use Rattle.fc_methods.specs.Method.{Asked};
 ghost use Rattle.fc_search.specs.Problem.{problem_below};
 ghost use Rattle.fc_search.specs.Search.{HasRun};
 ghost use Rattle.fc_search.specs.Shown.{BacksShown, HasShown};
-ghost use Rattle.fc_search.specs.Watch.{HearsAll, TellFloors};
+ghost use Rattle.fc_search.specs.Watch.{HearsAll, HearsFar, TellFloors};
 ghost use Rattle.fc_search.specs.declared.listeners.Progress.{Progress};
 ghost use Rattle.fc_best_first.specs.Limits.{Ratio};
 ghost use Rattle.fc_bound.specs.declared.kinds.BoundKind.TheVariants.{Plain};
@@ -100,7 +100,7 @@ impl Attempt {
         ensures raised { IfOk result (λ attempt. IfSome attempt.shown (λ end. Raises aim.least end.floor)) }
         ensures first { aim.least ≡ None → IfOk result (λ attempt. IsSome attempt.shown) }
         ensures tabled { IsTrue aim.has_table → IfOk result (λ attempt. IfSome attempt.shown (λ end. IsSome end.table)) }
-        ensures heard { (heard : List Progress) × HearsAll L.hears listener.old heard listener.new × TellFloors question.now.game position.now heard }
+        ensures heard { (heard : List Progress) × HearsAll (HearsFar L.hears) listener.old heard listener.new × TellFloors question.now.game position.now heard }
     {
         below_with::<EitherFrontier, G, L>(alloc, question, position, aim, listener)
     }
@@ -132,7 +132,7 @@ fn below_with<F: Frontier + Drop, G: Game + Drop, L: Listener>(
     ensures raised { IfOk result (λ attempt. IfSome attempt.shown (λ end. Raises aim.least end.floor)) }
     ensures first { aim.least ≡ None → IfOk result (λ attempt. IsSome attempt.shown) }
     ensures tabled { IsTrue aim.has_table → IfOk result (λ attempt. IfSome attempt.shown (λ end. IsSome end.table)) }
-    ensures heard { (heard : List Progress) × HearsAll L.hears listener.old heard listener.new × TellFloors question.now.game position.now heard }
+    ensures heard { (heard : List Progress) × HearsAll (HearsFar L.hears) listener.old heard listener.new × TellFloors question.now.game position.now heard }
 {
     let search: Search<F, G> = ended_below(alloc, question, position, aim.limit, listener)?;
     attempt_of(&search, aim)

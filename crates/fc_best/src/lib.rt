@@ -1,15 +1,16 @@
-//! The best answer that a moment's work gives of a position: searches by falling weights, each with what is left of one budget and
-//! told how long the best list so far is; the last raises the floor.
+//! The answer of a question: what one search by its method answers, or the best answer that a moment's work gives, by searches with
+//! falling weights, each with what is left of one budget and told how long the best list so far is; the last raises the floor.
 #![tactic(auto)]
 
-pub use fc_search::Unheard;
-pub use listeners::{BestListener, BestProgress};
+pub use answering::{Wants, answer};
+pub use fc_search::{Listener, Progress, Unheard};
 pub use schedule::best;
 
+mod answering;
 mod attempts;
-mod listeners;
 mod looks;
 mod plans;
+mod progress;
 mod relays;
 mod schedule;
 mod shortenings;

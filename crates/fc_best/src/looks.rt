@@ -7,20 +7,20 @@ ghost use Rattle.fc_best.specs.inner.Standing.{looked_with, Stands};
 ghost use Rattle.fc_best.specs.inner.Watch.{HearsOn, HearsSome};
 
 use crate::attempts::Aim;
-use crate::listeners::BestListener;
 use crate::plans::Plan;
 use crate::relays::attempt_after;
 use crate::standings::Standing;
 use fc_bound::BoundKind;
-use fc_methods::{Method, Question, Strategy};
+use fc_methods::{Method, Question, Sought, Strategy};
 use fc_moves::Game;
 use fc_position::Position;
+use fc_search::Listener;
 use std::alloc::{AllocError, Global};
 
 impl Standing {
     // After a look by this plan, while the question isn't settled and no list is found. Its floor isn't kept: what shows one is to be
     // by the question's own bound.
-    pub(crate) fn looked<G: Game + Drop, L: BestListener>(
+    pub(crate) fn looked<G: Game + Drop, L: Listener>(
         self,
         alloc: Global,
         question: &Question<G>,
@@ -61,5 +61,5 @@ fn looked_with<G: Game + Drop>(question: &Question<G>, plan: Plan) -> Question<G
         bound: BoundKind::Plain,
         strategy: Strategy::full(plan.weight, plan.budget),
     };
-    Question::new(question.game(), method)
+    Question::new(question.game(), Sought::ByMethod, method)
 }

@@ -3,7 +3,7 @@
 ghost use Rattle.std.specs.Prelude.{◌≡◌};
 ghost use Rattle.fc_best.specs.inner.Standing.{with_share};
 
-use fc_methods::{GreatBudget, Method, Question, Strategy, Weight};
+use fc_methods::{GreatBudget, Method, Question, Sought, Strategy, Weight};
 use fc_moves::Game;
 
 // How one more search goes.
@@ -31,6 +31,7 @@ pub(crate) fn asked_with<G: Game + Drop>(question: &Question<G>, plan: Plan) -> 
     };
     Question::new(
         question.game(),
+        Sought::ByMethod,
         Method {
             rule,
             bound,

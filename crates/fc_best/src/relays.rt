@@ -6,7 +6,8 @@ ghost use Rattle.fc_best.specs.inner.Attempt.{IsAttempt, Raises};
 ghost use Rattle.fc_best.specs.inner.Watch.{HearsFurther, IsFurther};
 
 use crate::attempts::{Aim, Attempt};
-use crate::listeners::{BestListener, BestProgress};
+use crate::progress::joined;
+use fc_answers::MoveList;
 use fc_methods::Question;
 use fc_moves::Game;
 use fc_position::Position;
@@ -15,38 +16,39 @@ use std::alloc::{AllocError, Global};
 
 // Who hears one search, and tells a listener how far all of them are.
 #[derive(Drop)]
-pub(crate) struct Relay<'a, L: BestListener> {
+pub(crate) struct Relay<'a, L: Listener> {
     listener: &'a mut L,
     // What was told before this search.
-    before: BestProgress,
+    before: Progress,
     // What was told last.
-    last: BestProgress,
+    last: Progress,
 }
 
-impl<L: BestListener> Listener for Relay<'_, L> {
-    ghost use Rattle.std.specs.Prelude.{◌≡◌};
-    ghost use Rattle.fc_best.specs.Watch.{Told};
-    ghost use Rattle.fc_best.specs.inner.Watch.{IsJoined};
+impl<L: Listener> Listener for Relay<'_, L> {
+    ghost use Rattle.fc_best.specs.inner.Watch.{Relays};
 
-    ghost hears = { λ old far new. (new.listener.ghost_name ≡ old.listener.ghost_name) × (new.before ≡ old.before)
-        × IsJoined old.before far new.last × L.hears old.listener.now (Told new.last) new.listener.now };
+    ghost hears = { Relays L.hears };
 
     fn hear(&mut self, far: Progress) {
-        let told = self.before.joined(far);
+        let told = joined(self.before, far);
         self.last = told;
         self.listener.hear(told);
+    }
+
+    fn hear_list(&mut self, moves: &MoveList, at_least: u32) {
+        self.listener.hear_list(moves, at_least);
     }
 }
 
 // A search, as `Attempt::below` makes it, after those that told this; and what is told last.
-pub(crate) fn attempt_after<G: Game + Drop, L: BestListener>(
+pub(crate) fn attempt_after<G: Game + Drop, L: Listener>(
     alloc: Global,
     question: &Question<G>,
     position: &Position,
     aim: Aim,
-    before: BestProgress,
+    before: Progress,
     listener: &mut L,
-) -> Result<(Attempt, BestProgress), AllocError>
+) -> Result<(Attempt, Progress), AllocError>
     requires fits { Fits question.now.game.cells position.now }
     ensures right { IfOk result (λ r. IsAttempt question.now question.now.method.bound position.now aim.limit r.0) }
     ensures raised { IfOk result (λ r. IfSome r.0.shown (λ end. Raises aim.least end.floor)) }

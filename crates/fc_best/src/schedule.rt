@@ -8,13 +8,13 @@ ghost use Rattle.fc_best.specs.Best.{IsBestAnswer};
 ghost use Rattle.fc_best.specs.Watch.{HearsTold, HearsToEnd};
 ghost use Rattle.fc_best.specs.inner.Watch.{HearsOn, HearsSome};
 
-use crate::listeners::BestListener;
 use crate::stages::{Stage, stages};
 use crate::standings::Standing;
 use fc_answers::Answer;
 use fc_methods::Question;
 use fc_moves::Game;
 use fc_position::Position;
+use fc_search::Listener;
 use std::alloc::{AllocError, Global};
 
 /// The best answer for a position that fits the question's game: a list that wins and a number of moves that no list that wins is
@@ -30,7 +30,7 @@ use std::alloc::{AllocError, Global};
 ///
 /// # Errors
 /// A growth was refused.
-pub fn best<G: Game + Drop, L: BestListener>(
+pub fn best<G: Game + Drop, L: Listener>(
     alloc: Global,
     question: &Question<G>,
     position: &Position,
@@ -52,7 +52,7 @@ pub fn best<G: Game + Drop, L: BestListener>(
 }
 
 // After the searches of the stages.
-fn after_stages<G: Game + Drop, L: BestListener>(
+fn after_stages<G: Game + Drop, L: Listener>(
     alloc: Global,
     question: &Question<G>,
     position: &Position,
@@ -76,7 +76,7 @@ fn after_stages<G: Game + Drop, L: BestListener>(
 }
 
 // After the searches of a stage, each for a shorter list than the one before.
-fn after_stage<G: Game + Drop, L: BestListener>(
+fn after_stage<G: Game + Drop, L: Listener>(
     alloc: Global,
     question: &Question<G>,
     position: &Position,

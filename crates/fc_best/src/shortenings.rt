@@ -5,19 +5,21 @@ ghost use Rattle.fc_answers.specs.declared.answers.TheConstants.{MOST_MOVES};
 ghost use Rattle.fc_position.specs.Board.{Board};
 ghost use Rattle.fc_position.specs.Position.{Fits};
 ghost use Rattle.fc_methods.specs.Method.{Asked};
-ghost use Rattle.fc_best.specs.Watch.{Told, IsNoWorse};
+ghost use Rattle.fc_best.specs.Watch.{IsNoWorse};
+ghost use Rattle.fc_search.specs.Watch.{Far};
 ghost use Rattle.fc_best.specs.inner.Standing.{limit_of, Stands};
 ghost use Rattle.fc_best.specs.inner.Tail.{IsTailFor};
 ghost use Rattle.fc_best.specs.inner.Watch.{HearsFurther, HearsOn, HearsSome};
 
-use crate::listeners::BestListener;
 use crate::plans::{Plan, asked_with};
+use crate::progress::progress_after;
 use crate::stages::tails_above;
 use crate::standings::{Standing, limit_of, shorter};
 use crate::tails::{Rest, Tail};
 use fc_methods::{GreatBudget, Question, Weight};
 use fc_moves::Game;
 use fc_position::Position;
+use fc_search::Listener;
 use std::alloc::{AllocError, Global};
 
 // How many moves the first tail has, and each further one more than the one before.
@@ -34,7 +36,7 @@ const TAIL_SHARE: u32 = 50;
 impl Standing {
     // After searches for shorter tails of the best list, by weight 1, each from a little earlier on its way than the one before; none
     // after one that gave up. Where the question is settled or there is no list, nothing is searched.
-    pub(crate) fn shortened<G: Game + Drop, L: BestListener>(
+    pub(crate) fn shortened<G: Game + Drop, L: Listener>(
         self,
         alloc: Global,
         question: &Question<G>,
@@ -69,7 +71,7 @@ impl Standing {
     }
 
     // What a search for a shorter tail in place of the last so many moves of the best list found, if it is to be searched for.
-    fn shorter_tail<G: Game + Drop, L: BestListener>(
+    fn shorter_tail<G: Game + Drop, L: Listener>(
         &self,
         alloc: Global,
         question: &Question<G>,
@@ -108,7 +110,7 @@ impl Standing {
         requires few_found { IfSome tail.list (λ moves. length moves ≤ MOST_MOVES) }
         requires room { tail.stored + 1 ≤ self.left }
         ensures stands { (q : Asked) (b : Board) → Stands q b self → IsTailFor q b self tail → Stands q b result }
-        ensures rises { (q : Asked) (b : Board) → Stands q b self → IsTailFor q b self tail → IsNoWorse (Told self.far) (Told result.far) }
+        ensures rises { (q : Asked) (b : Board) → Stands q b self → IsTailFor q b self tail → IsNoWorse (Far self.far) (Far result.far) }
         ensures same { limit_of result.list ≡ limit_of self.list → result.list ≡ self.list }
         ensures left { result.left + tail.stored ≡ self.left }
         ensures has_table { result.has_table ≡ self.has_table }
@@ -129,7 +131,7 @@ impl Standing {
             ..
         } = tail;
         let list = shorter(list, best);
-        let far = far.after(None, limit_of(&list));
+        let far = progress_after(far, None, limit_of(&list));
         Standing {
             list,
             shown,

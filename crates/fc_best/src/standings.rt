@@ -9,20 +9,22 @@ ghost use Rattle.fc_best_first.specs.Limits.{Ratio};
 ghost use Rattle.fc_methods.specs.Method.{Asked};
 ghost use Rattle.fc_bound.specs.declared.kinds.BoundKind.{BoundKind};
 ghost use Rattle.fc_best.specs.Best.{IsBestAnswer};
-ghost use Rattle.fc_best.specs.Watch.{Told, IsNoWorse, IsToldOf, list_told};
+ghost use Rattle.fc_best.specs.Watch.{IsNoWorse, IsToldOf, list_told};
+ghost use Rattle.fc_search.specs.Watch.{Far};
 ghost use Rattle.fc_best.specs.inner.Attempt.{floor_of, IsAttempt, Raises, ShowsNone};
 ghost use Rattle.fc_best.specs.inner.Standing.{greater, limit_of, newest, with_share, IsShorter, Stands};
 ghost use Rattle.fc_best.specs.inner.Watch.{HearsOn, HearsSome, IsFurther, list_in};
 
 use crate::attempts::{Aim, Attempt, Shown};
-use crate::listeners::{BestListener, BestProgress};
 use crate::plans::{Plan, asked_with};
+use crate::progress::{first_progress, progress_after};
 use crate::relays::attempt_after;
 use crate::stages::{Purpose, Stage};
 use fc_answers::{Answer, MoveList, Verdict};
 use fc_methods::{GreatBudget, Question, Weight};
 use fc_moves::Game;
 use fc_position::Position;
+use fc_search::{Listener, Progress};
 use std::alloc::{AllocError, Global};
 
 // What the searches so far have found and shown, within one budget.
@@ -41,7 +43,7 @@ pub(crate) struct Standing {
     // How many hundredths of its classes the last search from the board left open, at most 255.
     pub(crate) open_share: u8,
     // How far they are.
-    pub(crate) far: BestProgress,
+    pub(crate) far: Progress,
 }
 
 impl Standing {
@@ -60,13 +62,13 @@ impl Standing {
             given_up: None,
             has_table,
             open_share: 0,
-            far: BestProgress::new(left),
+            far: first_progress(left),
         }
     }
 
     // After a search of this stage, unless it is none within the budget, the question is settled, nothing of its purpose is left, or all
     // that is left is kept.
-    pub(crate) fn weighed<G: Game + Drop, L: BestListener>(
+    pub(crate) fn weighed<G: Game + Drop, L: Listener>(
         self,
         alloc: Global,
         question: &Question<G>,
@@ -139,7 +141,7 @@ impl Standing {
     }
 
     // After the last search, by weight 1 with all that is left, unless the question is settled.
-    pub(crate) fn last<G: Game + Drop, L: BestListener>(
+    pub(crate) fn last<G: Game + Drop, L: Listener>(
         self,
         alloc: Global,
         question: &Question<G>,
@@ -168,7 +170,7 @@ impl Standing {
     }
 
     // After a search by this plan for a shorter list and a greater floor, while the question isn't settled.
-    fn searched<G: Game + Drop, L: BestListener>(
+    fn searched<G: Game + Drop, L: Listener>(
         self,
         alloc: Global,
         question: &Question<G>,
@@ -222,7 +224,7 @@ impl Standing {
     }
 
     // After a search by a weight and a share of what was left, which found and showed this.
-    pub(crate) fn after(self, attempt: Attempt, far: BestProgress) -> Self
+    pub(crate) fn after(self, attempt: Attempt, far: Progress) -> Self
         requires open { ShowsNone self.shown → ⊥ }
         requires few { IfSome self.list (λ moves. length moves ≤ MOST_MOVES) }
         requires few_found { IfSome attempt.list (λ moves. length moves ≤ MOST_MOVES) }
@@ -232,7 +234,7 @@ impl Standing {
         ensures stands { (q : Asked) (kind : BoundKind) (b : Board) (weight : Ratio) (share : ℕ) → Stands q b self → share ≤ self.left
             → IsAttempt (with_share q weight share) kind b (limit_of self.list) attempt
             → IsFurther self.far far → Stands q b result }
-        ensures rises { (q : Asked) (b : Board) → Stands q b self → IsFurther self.far far → IsNoWorse (Told self.far) (Told result.far) }
+        ensures rises { (q : Asked) (b : Board) → Stands q b self → IsFurther self.far far → IsNoWorse (Far self.far) (Far result.far) }
         ensures same { limit_of result.list ≡ limit_of self.list → result.list ≡ self.list }
         ensures left { result.left + attempt.stored ≡ self.left }
         ensures shown { result.shown ≡ newest attempt.shown self.shown }
@@ -254,7 +256,7 @@ impl Standing {
             open_share,
         } = attempt;
         let list = shorter(list, best);
-        let far = far.after(floor_of(&shown), limit_of(&list));
+        let far = progress_after(far, floor_of(&shown), limit_of(&list));
         Standing {
             list,
             shown: newest(shown, before),

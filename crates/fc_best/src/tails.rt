@@ -9,12 +9,12 @@ ghost use Rattle.fc_best.specs.inner.Tail.{IsTail, IsWithEnd};
 ghost use Rattle.fc_best.specs.inner.Watch.{HearsFurther, IsFurther};
 
 use crate::attempts::Aim;
-use crate::listeners::{BestListener, BestProgress};
 use crate::relays::attempt_after;
 use fc_answers::MoveList;
 use fc_methods::Question;
 use fc_moves::{Game, Move, apply};
 use fc_position::Position;
+use fc_search::{Listener, Progress};
 use std::alloc::{AllocError, Global};
 
 // What a search for a shorter tail of a list has found.
@@ -27,7 +27,7 @@ pub(crate) struct Tail {
     // Whether it gave up.
     pub(crate) has_given_up: bool,
     // How far the searches are after it.
-    pub(crate) far: BestProgress,
+    pub(crate) far: Progress,
 }
 
 // So many moves at the end of a list.
@@ -39,12 +39,12 @@ pub(crate) struct Rest<'a> {
 
 impl Tail {
     // Searches for fewer moves than the last so many of a list that wins, after searches that told this.
-    pub(crate) fn of<G: Game + Drop, L: BestListener>(
+    pub(crate) fn of<G: Game + Drop, L: Listener>(
         alloc: Global,
         question: &Question<G>,
         position: &Position,
         rest: Rest<'_>,
-        before: BestProgress,
+        before: Progress,
         listener: &mut L,
     ) -> Result<Self, AllocError>
         requires fits { Fits question.now.game.cells position.now }

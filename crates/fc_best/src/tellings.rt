@@ -5,12 +5,12 @@ ghost use Rattle.fc_moves.specs.MoveText.{HasText};
 ghost use Rattle.fc_answers.specs.declared.answers.TheConstants.{MOST_MOVES};
 ghost use Rattle.fc_best.specs.inner.Watch.{HearsList};
 
-use crate::listeners::{BestListener, BestProgress};
 use crate::standings::Standing;
+use fc_search::{Listener, Progress};
 
 impl Standing {
     // Tells of the best list with the floor, where there is one and either is better than what was told before.
-    pub(crate) fn tell<L: BestListener>(&self, before: BestProgress, listener: &mut L)
+    pub(crate) fn tell<L: Listener>(&self, before: Progress, listener: &mut L)
         requires written { IfSome self.now.list (λ moves. All HasText moves × (length moves ≤ MOST_MOVES)) }
         ensures told { HearsList L.hears before self.now listener.old listener.new }
     {
@@ -24,7 +24,7 @@ impl Standing {
 }
 
 // Whether both tell of as long a list, or of none, and of the same floor.
-fn is_same(one: BestProgress, other: BestProgress) -> bool
+fn is_same(one: Progress, other: Progress) -> bool
     ensures same { IsTrue result → (one.shortest ≡ other.shortest) × (one.at_least ≡ other.at_least) }
 {
     one.shortest == other.shortest && one.at_least == other.at_least

@@ -9,11 +9,12 @@ use Rattle.fc_answers.specs.Table.{Listing}
 use Rattle.fc_best_first.specs.Limits.{Ratio}
 use Rattle.fc_best_first.specs.declared.strategies.Expansion.TheVariants.{Full}
 use Rattle.fc_best.specs.declared.attempts.Shown.{Shown}
-use Rattle.fc_best.specs.declared.listeners.BestProgress.{BestProgress}
+use Rattle.fc_search.specs.declared.listeners.Progress.{Progress}
 use Rattle.fc_best.specs.declared.standings.Standing.{Standing}
 use Rattle.fc_best.specs.Best.{HaveGivenUp, IsFloorOf, IsListOf, IsLostBy, IsOfQuestion, IsOnTheWay, stored_by}
 use Rattle.fc_best.specs.inner.Attempt.{IsEnd, IsGoodList, ShowsNone}
 use Rattle.fc_methods.specs.Method.{Asked}
+use Rattle.fc_methods.specs.declared.methods.Sought.TheVariants.{ByMethod}
 use Rattle.fc_search.specs.Search.{State}
 
 -- each of the searches gave up, and the greatest budget of theirs is told; or there were none, and nothing is shown
@@ -37,7 +38,7 @@ IsLeastOf (Some end) n = IfSome end.floor (λ floor. n ≡ floor)
 
 -- how far the searches are is told so: the question's budget, the floor that is shown, and how many moves the list has, if they
 -- found one
-pub record IsToldWith (q : Asked) (list : Option (List Move)) (shown : Option Shown) (far : BestProgress) : Type 0 where
+pub record IsToldWith (q : Asked) (list : Option (List Move)) (shown : Option Shown) (far : Progress) : Type 0 where
   pub budget : far.budget ≡ q.method.strategy.budget
   pub least : IsLeastOf shown far.at_least
   pub shortest : far.shortest ≡ limit_of list
@@ -66,10 +67,11 @@ pub record IsShorter (new old list : Option (List Move)) : Type 0 where
   pub same : limit_of list ≡ limit_of old → list ≡ old
   pub none : list ≡ None → (new ≡ None) × (old ≡ None)
 
--- the question with another weight, and with a share of its budget
+-- the question of one search with another weight, and with a share of its budget
 abbrev pub with_share : Asked → Ratio → ℕ → Asked
 with_share q weight share = record {
   game = q.game;
+  sought = ByMethod;
   method = record {
     rule = q.method.rule;
     bound = q.method.bound;
@@ -77,10 +79,11 @@ with_share q weight share = record {
   };
 }
 
--- the question by the plain bound and full expansion, with a weight and a share of its budget
+-- the question of one search by the plain bound and full expansion, with a weight and a share of its budget
 abbrev pub looked_with : Asked → Ratio → ℕ → Asked
 looked_with q weight share = record {
   game = q.game;
+  sought = ByMethod;
   method = record {
     rule = q.method.rule;
     bound = Plain;

@@ -2,27 +2,29 @@
 use Rattle.std.specs.Prelude.{◌≡◌, ◌⊎◌, ℕ, ◌+◌, max, min, List, [], ◌∷◌, All, Option, None, Some}
 use Rattle.fc_position.specs.Board.{Board}
 use Rattle.fc_moves.specs.declared.steps.Move.{Move}
-use Rattle.fc_best.specs.Watch.{Better, Told, Heard, IsNoWorse, IsSo, last_list}
-use Rattle.fc_best.specs.declared.listeners.BestProgress.{BestProgress}
+use Rattle.fc_best.specs.Watch.{IsNoWorse, IsSo, last_list}
+use Rattle.fc_search.specs.Watch.{Better, Far, Heard, HearsAll}
+use Rattle.fc_search.specs.declared.listeners.Progress.{Progress}
+use Rattle.fc_best.specs.declared.relays.Relay.{Relay}
 use Rattle.fc_best.specs.declared.standings.Standing.{Standing}
 use Rattle.fc_methods.specs.Method.{Asked}
-use Rattle.fc_search.specs.Watch.{HearsAll}
-use Rattle.fc_search.specs.declared.listeners.Progress.{Progress}
 
 -- before the first search nothing is told but the budget
-pub record IsFirstTold (most : ℕ) (far : BestProgress) : Type 0 where
+pub record IsFirst (most : ℕ) (far : Progress) : Type 0 where
   pub classes : far.classes ≡ 0
   pub budget : far.budget ≡ most
   pub turns : far.turns ≡ 0
+  pub opened : far.open ≡ 0
   pub most_open : far.most_open ≡ 0
   pub shortest : far.shortest ≡ None
   pub at_least : far.at_least ≡ 0
 
 -- what was told before a search, together with how far that is; what it shows is told when it has ended
-pub record IsJoined (before : BestProgress) (one : Progress) (far : BestProgress) : Type 0 where
-  pub classes : far.classes ≡ min (before.classes + one.classes) 4294967295
+pub record IsJoined (before : Progress) (one : Progress) (far : Progress) : Type 0 where
+  pub classes : far.classes ≡ min (before.classes + one.classes) 18446744073709551615
   pub budget : far.budget ≡ before.budget
   pub turns : far.turns ≡ min (before.turns + one.turns) 18446744073709551615
+  pub opened : far.open ≡ one.open
   pub most_open : far.most_open ≡ max before.most_open one.most_open
   pub shortest : far.shortest ≡ before.shortest
   pub at_least : far.at_least ≡ before.at_least
@@ -33,23 +35,24 @@ floor_shown (Some floor) = floor
 floor_shown None = 0
 
 -- what was told last of a search, once it has shown this, and the best list has so many moves
-pub record IsAfter (last : BestProgress) (shown moves : Option ℕ) (far : BestProgress) : Type 0 where
+pub record IsAfter (last : Progress) (shown moves : Option ℕ) (far : Progress) : Type 0 where
   pub classes : far.classes ≡ last.classes
   pub budget : far.budget ≡ last.budget
   pub turns : far.turns ≡ last.turns
+  pub opened : far.open ≡ last.open
   pub most_open : far.most_open ≡ last.most_open
   pub shortest : far.shortest ≡ moves
   pub at_least : far.at_least ≡ max last.at_least (floor_shown shown)
 
 -- it is told after the other while one search goes on: of the same budget, the same list and the same floor
-pub record IsFurther (before far : BestProgress) : Type 0 where
+pub record IsFurther (before far : Progress) : Type 0 where
   pub budget : far.budget ≡ before.budget
   pub shortest : far.shortest ≡ before.shortest
   pub at_least : far.at_least ≡ before.at_least
 
 -- the same of what is heard: no list is
-abbrev pub IsFurtherTold : BestProgress → Heard → Type 0
-IsFurtherTold before (Told far) = IsFurther before far
+abbrev pub IsFurtherTold : Progress → Heard → Type 0
+IsFurtherTold before (Far far) = IsFurther before far
 IsFurtherTold before (Better moves floor) = ⊥
 
 -- what is heard from the one on up to the other gets no worse
@@ -67,7 +70,7 @@ abbrev pub list_in : Standing → Option (List Move × ℕ)
 list_in s = with_floor s.list s.far.at_least
 
 -- there is no list, or it and the floor are told as before
-abbrev pub HasNoBetter : BestProgress → Standing → Type 0
+abbrev pub HasNoBetter : Progress → Standing → Type 0
 HasNoBetter before s = (s.list ≡ None) ⊎ ((s.far.shortest ≡ before.shortest) × (s.far.at_least ≡ before.at_least))
 
 -- what is heard from the one on up to the other is so of searches of the question from the board, and gets no worse
@@ -75,20 +78,27 @@ abbrev pub IsSoUp : Asked → Board → Heard → List Heard → Heard → Type 
 IsSoUp q b first heard last = All (IsSo q b) heard × Rises first heard last
 
 module _ {L : Type 0} (hears : L → Heard → L → Type 0) where
+  -- who hears one search after others tells a listener how far all of them are; a list it tells as it is
+  abbrev pub Relays : Relay L → Heard → Relay L → Type 0
+  Relays old (Far far) new = (new.listener.ghost_name ≡ old.listener.ghost_name) × (new.before ≡ old.before)
+      × IsJoined old.before far new.last × hears old.listener.now (Far new.last) new.listener.now
+  Relays old (Better moves floor) new = (new.listener.ghost_name ≡ old.listener.ghost_name) × (new.before ≡ old.before)
+      × (new.last ≡ old.last) × hears old.listener.now (Better moves floor) new.listener.now
+
   -- a listener hears how one search after what was told goes on
-  abbrev pub HearsFurther : BestProgress → L → L → Type 0
+  abbrev pub HearsFurther : Progress → L → L → Type 0
   HearsFurther before old new = (heard : List Heard) × HearsAll hears old heard new × All (IsFurtherTold before) heard
 
   -- a listener hears the list with its floor, unless it has no better one than what was told before
-  abbrev pub HearsList : BestProgress → Standing → L → L → Type 0
+  abbrev pub HearsList : Progress → Standing → L → L → Type 0
   HearsList before s old new = (HasNoBetter before s × (new ≡ old))
       ⊎ ((moves : List Move) × (s.list ≡ Some moves) × hears old (Better moves s.far.at_least) new)
 
   -- a listener hears what is so from where the searches stood so up to where they do, and the list last where it is another
   abbrev pub HearsOn : Asked → Board → Standing → Standing → L → L → Type 0
-  HearsOn q b first last old new = (heard : List Heard) × HearsAll hears old heard new × IsSoUp q b (Told first.far) heard (Told last.far)
+  HearsOn q b first last old new = (heard : List Heard) × HearsAll hears old heard new × IsSoUp q b (Far first.far) heard (Far last.far)
       × (last_list (list_in first) heard ≡ list_in last)
 
   -- the same up to where memory ended the searches
   abbrev pub HearsSome : Asked → Board → Standing → L → L → Type 0
-  HearsSome q b first old new = (heard : List Heard) × (last : Heard) × HearsAll hears old heard new × IsSoUp q b (Told first.far) heard last
+  HearsSome q b first old new = (heard : List Heard) × (last : Heard) × HearsAll hears old heard new × IsSoUp q b (Far first.far) heard last

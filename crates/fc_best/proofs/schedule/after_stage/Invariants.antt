@@ -7,4 +7,4 @@ use Rattle.fc_best.proofs.schedule.after_stage.Given as goal
 abbrev pub invariant-loop : goal.invariant-loop
 invariant-loop g l =
     Stands l.question l.position l.after × (1 ≤ l.after.left) × (l.after.has_table ≡ l.fn.standing.has_table)
-    × HearsOn g.L.BestListener.hears l.question l.position l.fn.standing l.after l.initial.listener l.listener
+    × HearsOn g.L.Listener.hears l.question l.position l.fn.standing l.after l.initial.listener l.listener

@@ -7,4 +7,4 @@ use Rattle.fc_best.proofs.schedule.after_stages.Given as goal
 abbrev pub invariant-loop-stage : goal.invariant-loop-stage
 invariant-loop-stage g l =
     Stands l.question l.position l.after × (1 ≤ l.after.left) × (l.after.has_table ≡ l.fn.standing.has_table)
-    × HearsOn g.L.BestListener.hears l.question l.position l.fn.standing l.after l.initial.listener l.listener
+    × HearsOn g.L.Listener.hears l.question l.position l.fn.standing l.after l.initial.listener l.listener

@@ -7,14 +7,14 @@ returns-clause-best g c =
 
 pub returns-in_err-standing-clause-heard : goal.returns-in_err-standing-clause-heard
 returns-in_err-standing-clause-heard g c =
-    some_told c.args.question.now c.args.position.now g.L.BestListener.hears c.new-standing.result c.args.listener.now c.after_stages.new.listener
+    some_told c.args.question.now c.args.position.now g.L.Listener.hears c.new-standing.result c.args.listener.now c.after_stages.new.listener
     c.in_err-standing.ensures.cut
 
 pub returns-in_err-standing-2-clause-heard : goal.returns-in_err-standing-2-clause-heard
 returns-in_err-standing-2-clause-heard g c =
     let q = c.args.question.now in
     let b = c.args.position.now in
-    let hears = g.L.BestListener.hears in
+    let hears = g.L.Listener.hears in
     let some = some_more q b hears c.new-standing.result c.in_ok-standing.standing c.args.listener.now c.after_stages.new.listener
     c.shortened.new.listener c.in_ok-standing.ensures.heard c.in_err-standing-2.ensures.cut in
     some_told q b hears c.new-standing.result c.args.listener.now c.shortened.new.listener some
@@ -23,7 +23,7 @@ pub returns-in_err-standing-3-clause-heard : goal.returns-in_err-standing-3-clau
 returns-in_err-standing-3-clause-heard g c =
     let q = c.args.question.now in
     let b = c.args.position.now in
-    let hears = g.L.BestListener.hears in
+    let hears = g.L.Listener.hears in
     let first = c.new-standing.result in
     let two = hears_more q b hears first c.in_ok-standing.standing c.in_ok-standing-2.standing c.args.listener.now
     c.after_stages.new.listener c.shortened.new.listener c.in_ok-standing.ensures.heard c.in_ok-standing-2.ensures.heard in
@@ -35,7 +35,7 @@ pub returns-clause-ended : goal.returns-clause-ended
 returns-clause-ended g c =
     let q = c.args.question.now in
     let b = c.args.position.now in
-    let hears = g.L.BestListener.hears in
+    let hears = g.L.Listener.hears in
     let first = c.new-standing.result in
     let last = c.in_ok-standing-3.standing in
     let two = hears_more q b hears first c.in_ok-standing.standing c.in_ok-standing-2.standing c.args.listener.now
@@ -48,5 +48,5 @@ returns-clause-ended g c =
 
 pub returns-clause-heard : goal.returns-clause-heard
 returns-clause-heard g c =
-    end_told c.args.question.now c.args.position.now g.L.BestListener.hears c.args.listener.now c.hear.new.self c.into_answer.result.verdict
+    end_told c.args.question.now c.args.position.now g.L.Listener.hears c.args.listener.now c.hear.new.self c.into_answer.result.verdict
     (returns-clause-ended g c)

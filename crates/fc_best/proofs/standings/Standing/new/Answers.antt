@@ -4,4 +4,4 @@ use Rattle.fc_best.proofs.standings.Standing.new.Goals as goal
 
 pub returns-clause-stands : goal.returns-clause-stands
 returns-clause-stands c q b same =
-    nothing_stands q b c.get-left.result c.args.has_table c.new.result (c.get-left.ensures.value ∙ sym same) c.new.ensures.first
+    nothing_stands q b c.get-left.result c.args.has_table c.first_progress.result (c.get-left.ensures.value ∙ sym same) c.first_progress.ensures.first

@@ -26,7 +26,7 @@ returns-clause-stands g c =
 
 pub returns-clause-heard : goal.returns-clause-heard
 returns-clause-heard g c =
-    hears_listed c.args.question.now c.args.position.now g.L.BestListener.hears c.args.self c.after-standing.result c.args.listener.now
+    hears_listed c.args.question.now c.args.position.now g.L.Listener.hears c.args.self c.after-standing.result c.args.listener.now
     c.attempt_after.new.listener c.tell.new.listener c.requires.stands (returns-clause-stands g c) c.attempt_after.ensures.heard
     (c.after-standing.ensures.rises c.args.question.now c.args.position.now c.requires.stands c.in_ok-attempt.ensures.far) c.after-standing.ensures.same
     c.tell.ensures.told
@@ -34,5 +34,5 @@ returns-clause-heard g c =
 pub returns-in_err-attempt-clause-cut : goal.returns-in_err-attempt-clause-cut
 returns-in_err-attempt-clause-cut g c =
     if_err c.from_residual.result _
-    (some_further c.args.question.now c.args.position.now g.L.BestListener.hears c.args.self c.args.listener.now c.attempt_after.new.listener
+    (some_further c.args.question.now c.args.position.now g.L.Listener.hears c.args.self c.args.listener.now c.attempt_after.new.listener
     c.requires.stands c.attempt_after.ensures.heard)

@@ -8,14 +8,14 @@ loop-i-init g c = (
   c.requires.stands,
   c.requires.left,
   refl,
-  hears_none c.args.question.now c.args.position.now g.L.BestListener.hears c.args.self c.args.listener.now c.args.listener.now refl,
+  hears_none c.args.question.now c.args.position.now g.L.Listener.hears c.args.self c.args.listener.now c.args.listener.now refl,
 )
 
 pub returns-in_err-tail-clause-cut : goal.returns-in_err-tail-clause-cut
 returns-in_err-tail-clause-cut g c =
     let q = c.args.question.now in
     let b = c.args.position.now in
-    let hears = g.L.BestListener.hears in
+    let hears = g.L.Listener.hears in
     if_err c.from_residual.result _
     (some_more q b hears c.args.self c.loop-i.standing c.args.listener.now c.loop-i.listener c.shorter_tail.new.listener c.loop-i.invariant.3
     (some_further q b hears c.loop-i.standing c.loop-i.listener c.shorter_tail.new.listener c.loop-i.invariant.0 c.shorter_tail.ensures.heard))
@@ -24,7 +24,7 @@ pub returns-in_default-clause-heard : goal.returns-in_default-clause-heard
 returns-in_default-clause-heard g c =
     let q = c.args.question.now in
     let b = c.args.position.now in
-    let hears = g.L.BestListener.hears in
+    let hears = g.L.Listener.hears in
     hears_more q b hears c.args.self c.loop-i.standing c.loop-i.standing c.args.listener.now c.loop-i.listener c.shorter_tail.new.listener
     c.loop-i.invariant.3
     (hears_still q b hears c.loop-i.standing c.loop-i.listener c.shorter_tail.new.listener c.loop-i.invariant.0 c.shorter_tail.ensures.heard)
@@ -40,7 +40,7 @@ pub returns-then-has_given_up-clause-heard : goal.returns-then-has_given_up-clau
 returns-then-has_given_up-clause-heard g c =
     let q = c.args.question.now in
     let b = c.args.position.now in
-    let hears = g.L.BestListener.hears in
+    let hears = g.L.Listener.hears in
     let found = found_tail q b c.loop-i.standing c.in_ok-tail.field-0 c.in-Some.tail c.in-Some.is c.in_ok-tail.ensures.right in
     hears_more q b hears c.args.self c.loop-i.standing c.with_tail-standing.result c.args.listener.now c.loop-i.listener
     c.tell.new.listener c.loop-i.invariant.3
@@ -52,7 +52,7 @@ pub loop-i-preserved : goal.loop-i-preserved
 loop-i-preserved g c =
     let q = c.args.question.now in
     let b = c.args.position.now in
-    let hears = g.L.BestListener.hears in
+    let hears = g.L.Listener.hears in
     let found = found_tail q b c.loop-i.standing c.in_ok-tail.field-0 c.in-Some.tail c.in-Some.is c.in_ok-tail.ensures.right in (
       c.with_tail-standing.ensures.stands q b c.loop-i.invariant.0 found,
       tail_left q b c.loop-i.standing c.with_tail-standing.result.left c.in-Some.tail found c.with_tail-standing.ensures.left,

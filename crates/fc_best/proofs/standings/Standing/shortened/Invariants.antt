@@ -7,4 +7,4 @@ use Rattle.fc_best.proofs.standings.Standing.shortened.Given as goal
 abbrev pub invariant-loop-i : goal.invariant-loop-i
 invariant-loop-i g l =
     Stands l.question l.position l.standing × (1 ≤ l.standing.left) × (l.standing.has_table ≡ l.fn.self.has_table)
-    × HearsOn g.L.BestListener.hears l.question l.position l.fn.self l.standing l.initial.listener l.listener
+    × HearsOn g.L.Listener.hears l.question l.position l.fn.self l.standing l.initial.listener l.listener
