@@ -8,14 +8,9 @@ use Rattle.fc_answers.specs.declared.answers.Answer.{Answer}
 use Rattle.fc_answers.specs.declared.answers.Verdict.{Verdict}
 use Rattle.fc_answers.specs.declared.answers.Verdict.TheVariants.{Shortest, Won, CannotWin, GaveUp}
 use Rattle.fc_answers.specs.Table.{Listing}
-use Rattle.fc_search.specs.Problem.{Problem, problem_of}
-use Rattle.fc_best.specs.Best.{IsBestAnswer, IsBestVerdict}
-use Rattle.fc_methods.specs.Method.{Asked}
-use Rattle.fc_position.specs.Board.{Board}
-use Rattle.fc_answers.specs.Answer.{IsBacked}
-use Rattle.fc_runs.specs.Certificates.{IsCertifiable, TellsWins}
+use Rattle.fc_search.specs.Problem.{Problem}
+use Rattle.fc_best.specs.Answering.{IsCertifiable}
 use Rattle.fc_runs.specs.inner.Certificates.{IsLong}
-use Rattle.fc_search.specs.Search.{Answers, IsVerdict}
 use Rattle.fc_cert.specs.declared.claims.Claim.{Claim}
 use Rattle.fc_cert.specs.declared.claims.Claim.TheVariants as claim
 use Rattle.fc_cert.specs.declared.certificates.TheConstants.{LONGEST_CERTIFICATE}
@@ -31,39 +26,6 @@ use Rattle.fc_board_runs.specs.declared.faults.Output.TheVariants.{Answer as of_
 use Rattle.fc_board_runs.specs.declared.faults.ProgramFault.TheVariants.{Write as unwritten}
 use Rattle.fc_answer_text.specs.AnswerText.{answer_text, status_of}
 use Rattle.fc_runs.specs.Solving.{IsAnsweredBy, IsCertificateOf, IsCertified, IsCutShort, IsUnansweredBy, TakesCertificate}
-
--- what a search answers can be certified
-wins_told : (p : Problem) (verdict : Verdict) → IsVerdict p verdict → TellsWins p.game p.start verdict
-wins_told p (Shortest moves) told = told.right.wins
-wins_told p (Won moves floor) told = told.right.wins
-wins_told p CannotWin told = tt
-wins_told p (GaveUp told) is = tt
-
-pub answer_certifiable : (p : Problem) (answered : Answer) → Answers p answered → IsCertifiable p answered
-answer_certifiable p answered answers = record {
-  wins = wins_told p answered.verdict answers.told;
-  written = answers.told.written;
-  few = answers.told.few;
-  backed = answers.backed;
-  searched = answers.searched;
-}
-
--- and so can a best answer
-best_wins : (q : Asked) (b : Board) (verdict : Verdict) → IsBestVerdict q b verdict → TellsWins q.game b verdict
-best_wins q b (Shortest moves) told = told.right.wins
-best_wins q b (Won moves floor) told = told.right.0
-best_wins q b CannotWin told = tt
-best_wins q b (GaveUp told) is = tt
-
-pub best_certifiable : (q : Asked) (b : Board) (answered : Answer) → IsBestAnswer q b answered → IsBacked q.game b answered
-    → IsCertifiable (problem_of q b) answered
-best_certifiable q b answered best backed = record {
-  wins = best_wins q b answered.verdict best.told;
-  written = best.told.written;
-  few = best.told.few;
-  backed = backed;
-  searched = best.tabled;
-}
 
 -- the form is the one of the bound that was searched by
 form_by : (kind bound : BoundKind) (c : Content) → c.head.form ≡ written_form bound c.head.kind → bound ≡ kind

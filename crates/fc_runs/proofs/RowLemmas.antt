@@ -9,63 +9,76 @@ use Rattle.fc_answers.specs.declared.answers.Outcome.TheVariants as outcome
 use Rattle.fc_answers.specs.declared.answers.Verdict.{Verdict}
 use Rattle.fc_answers.specs.declared.answers.Verdict.TheVariants as verdict
 use Rattle.fc_answers.specs.Verdict.{IsRight, outcome_of}
+use Rattle.fc_best.specs.Answering.{HearsOfThem, HearsVerdict, IsSought, IsVerdictFor}
 use Rattle.fc_best.specs.Best.{IsBest, IsFloor}
-use Rattle.fc_best.specs.Watch.{Better, Heard, IsSo, IsTold, Told}
-use Rattle.fc_best.specs.declared.listeners.BestProgress.{BestProgress}
+use Rattle.fc_best.specs.Watch.{IsSo, IsTold}
 use Rattle.fc_methods.specs.Method.{Asked}
 use Rattle.fc_search.specs.declared.listeners.Progress.{Progress}
 use Rattle.fc_search.specs.Problem.{problem_of}
-use Rattle.fc_search.specs.Watch.{HearsAll, TellFloors}
+use Rattle.fc_search.specs.Watch.{Better, Far as how_far, Heard, HearsAll, HearsFar, TellFloors}
+use Rattle.fc_search.proofs.EndLemmas.{at_most_floors}
 use Rattle.fc_board_runs.specs.Devices.{Device, IsUntouched}
 use Rattle.fc_runs.specs.declared.rows.Far.{Far}
 use Rattle.fc_runs.specs.declared.rows.Last.{Last}
 use Rattle.fc_runs.specs.declared.rows.Row.{Row}
-use Rattle.fc_runs.specs.declared.rows.Sought.{Sought}
-use Rattle.fc_runs.specs.declared.rows.Sought.TheVariants.{ByMethod, Best}
+use Rattle.fc_methods.specs.declared.methods.Sought.{Sought}
+use Rattle.fc_methods.specs.declared.methods.Sought.TheVariants.{ByMethod, Best}
 use Rattle.fc_runs.specs.Lists.{list_of}
-use Rattle.fc_runs.specs.Rows.{IsAnswerOf, IsRowOf, IsSought, IsToldIn, floor_of, told_floor}
+use Rattle.fc_runs.specs.Rows.{IsAnswerOf, IsRowOf, IsToldIn, floor_of, told_floor}
 use Rattle.fc_runs.specs.Solving.{IsCertified}
 use Rattle.fc_runs.specs.inner.Rows.{KeepsFar, far_of}
 
 -- who keeps what is told last of a board has a floor of it, if it has any
-pub last_floor : (g : GameRules) (b : Board) (old new : Last) (heard : List Progress) → HearsAll (λ _ far next. next.far ≡ Some (far_of far)) old heard new
+last_floor : (g : GameRules) (b : Board) (old new : Last) (heard : List Progress) → HearsAll (HearsFar KeepsFar) old heard new
     → TellFloors g b heard → IfSome (told_floor old.far) (IsFloor g b) → IfSome (told_floor new.far) (IsFloor g b)
 last_floor g b old new [] same floors floor = subst (λ (l : Last). IfSome (told_floor l.far) (IsFloor g b)) (sym same) floor
 last_floor g b old new (far ∷ heard) (mid, keeps, rest) (least, floors) floor =
     last_floor g b mid new heard rest floors (subst (λ o. IfSome (told_floor o) (IsFloor g b)) (sym keeps) least)
 
 -- who keeps what is told last keeps something, once something was told
-module _ {E : Type 0} (f : E → Far) where
-  kept : (old new : Last) (heard : List E) → HearsAll (λ _ far next. next.far ≡ Some (f far)) old heard new → IsSome old.far → IsSome new.far
-  kept old new [] same some = subst (λ (l : Last). IsSome l.far) (sym same) some
-  kept old new (far ∷ heard) (mid, keeps, rest) some = kept mid new heard rest (subst IsSome (sym keeps) refl)
+kept : (old new : Last) (heard : List Progress) → HearsAll (HearsFar KeepsFar) old heard new → IsSome old.far → IsSome new.far
+kept old new [] same some = subst (λ (l : Last). IsSome l.far) (sym same) some
+kept old new (far ∷ heard) (mid, keeps, rest) some = kept mid new heard rest (subst IsSome (sym keeps) refl)
 
-  pub heard_last : (old new : Last) (heard : List E) → HearsAll (λ _ far next. next.far ≡ Some (f far)) old heard new → heard ≢ [] → IsSome new.far
-  heard_last old new [] same some = absurd (some refl)
-  heard_last old new (far ∷ heard) (mid, keeps, rest) some = kept mid new heard rest (subst IsSome (sym keeps) refl)
+heard_last : (old new : Last) (heard : List Progress) → HearsAll (HearsFar KeepsFar) old heard new → heard ≢ [] → IsSome new.far
+heard_last old new [] same some = absurd (some refl)
+heard_last old new (far ∷ heard) (mid, keeps, rest) some = kept mid new heard rest (subst IsSome (sym keeps) refl)
 
 -- so does who hears of the searches for a best answer
 best_kept : (old new : Last) (heard : List Heard) → HearsAll KeepsFar old heard new → IsSome old.far → IsSome new.far
 best_kept old new [] same some = subst (λ (l : Last). IsSome l.far) (sym same) some
-best_kept old new (Told far ∷ heard) (mid, keeps, rest) some = best_kept mid new heard rest (subst IsSome (sym keeps) refl)
+best_kept old new (how_far far ∷ heard) (mid, keeps, rest) some = best_kept mid new heard rest (subst IsSome (sym keeps) refl)
 best_kept old new (Better moves floor ∷ heard) (mid, keeps, rest) some =
     best_kept mid new heard rest (subst (λ (l : Last). IsSome l.far) (sym keeps) some)
 
-pub heard_end : (old new : Last) (heard : List Heard) (far : BestProgress) → HearsAll KeepsFar old (heard ++ Told far ∷ []) new → IsSome new.far
+heard_end : (old new : Last) (heard : List Heard) (far : Progress) → HearsAll KeepsFar old (heard ++ how_far far ∷ []) new → IsSome new.far
 heard_end old new [] far (mid, keeps, rest) = best_kept mid new [] rest (subst IsSome (sym keeps) refl)
 heard_end old new (first ∷ heard) far (mid, keeps, rest) = heard_end mid new heard far rest
 
 -- and so has who keeps what is told last of the searches for a best answer
-pub best_last_floor : (q : Asked) (b : Board) (old new : Last) (heard : List Heard) → HearsAll KeepsFar old heard new → All (IsSo q b) heard
+best_last_floor : (q : Asked) (b : Board) (old new : Last) (heard : List Heard) → HearsAll KeepsFar old heard new → All (IsSo q b) heard
     → IfSome (told_floor old.far) (IsFloor q.game b) → IfSome (told_floor new.far) (IsFloor q.game b)
 best_last_floor q b old new [] same so floor = subst (λ (l : Last). IfSome (told_floor l.far) (IsFloor q.game b)) (sym same) floor
-best_last_floor q b old new (Told far ∷ heard) (mid, keeps, rest) so floor =
-    let first : IsTold q b far = so 0 (Told far) (omega arith) in
+best_last_floor q b old new (how_far far ∷ heard) (mid, keeps, rest) so floor =
+    let first : IsTold q b far = so 0 (how_far far) (omega arith) in
     best_last_floor q b mid new heard rest (λ k d within. so (suc k) d (omega (arith, within)))
     (subst (λ o. IfSome (told_floor o) (IsFloor q.game b)) (sym keeps) first.least)
 best_last_floor q b old new (Better moves least ∷ heard) (mid, keeps, rest) so floor =
     best_last_floor q b mid new heard rest (λ k d within. so (suc k) d (omega (arith, within)))
     (subst (λ (l : Last). IfSome (told_floor l.far) (IsFloor q.game b)) (sym keeps) floor)
+
+-- whatever is sought, who keeps what is told last has a floor of the board, if it has any
+pub heard_floor : (sought : Sought) (q : Asked) (b : Board) (old new : Last) → HearsOfThem KeepsFar sought q b old new
+    → IfSome (told_floor old.far) (IsFloor q.game b) → IfSome (told_floor new.far) (IsFloor q.game b)
+heard_floor ByMethod q b old new (heard, hears, before) floor =
+    last_floor q.game b old new heard hears (at_most_floors (problem_of q b) heard before) floor
+heard_floor Best q b old new (heard, (hears, so, better)) floor = best_last_floor q b old new heard hears so floor
+
+-- and keeps something, once there is a verdict
+pub heard_some : (sought : Sought) (q : Asked) (b : Board) (verdict : Verdict) (old new : Last)
+    → HearsVerdict KeepsFar sought q b verdict old new → IsSome new.far
+heard_some ByMethod q b verdict old new (heard, hears, is) = heard_last old new heard hears is.some
+heard_some Best q b verdict old new (front, far, these, told_of, listed) = heard_end old new front far these.0
 
 -- the floor that an answer tells of a board, if it tells any
 answered_floor : Outcome → Option ℕ
@@ -96,22 +109,22 @@ sought_floor ByMethod q b verdict is =
     right_floor q.game q.method.strategy.weight.parts q.method.strategy.weight.times q.method.strategy.budget b verdict is.right.right
 sought_floor Best q b verdict is = best_floor q.game q.method.strategy.budget b verdict is.right
 
-told_of_answer : (sought : Sought) (q : Asked) (b : Board) (cert : Option Device) (told : Outcome) (list : Option (List Move))
-    → IsAnswerOf sought q b cert told list → IfSome (answered_floor told) (IsFloor q.game b)
-told_of_answer sought q b cert told list is =
-    subst (λ o. IfSome (answered_floor o) (IsFloor q.game b)) (sym is.answer) (sought_floor sought q b is.verdict is.decided)
+told_of_answer : (q : Asked) (b : Board) (cert : Option Device) (told : Outcome) (list : Option (List Move))
+    → IsAnswerOf q b cert told list → IfSome (answered_floor told) (IsFloor q.game b)
+told_of_answer q b cert told list is =
+    subst (λ o. IfSome (answered_floor o) (IsFloor q.game b)) (sym is.answer) (sought_floor q.sought q b is.verdict is.decided)
 
 -- the floor of a row: what its answer tells, and else what was told last
-row_floor : (sought : Sought) (q : Asked) (b : Board) (cert : Option Device) (told : Option Outcome) (list : Option (List Move)) (far : Option Far)
-    → IsToldIn sought q b cert told list → IfSome (told_floor far) (IsFloor q.game b) → IfSome (floor_of told far) (IsFloor q.game b)
+row_floor : (q : Asked) (b : Board) (cert : Option Device) (told : Option Outcome) (list : Option (List Move)) (far : Option Far)
+    → IsToldIn q b cert told list → IfSome (told_floor far) (IsFloor q.game b) → IfSome (floor_of told far) (IsFloor q.game b)
 unfolding answered_floor
-row_floor sought q b cert None list far right floor = floor
-row_floor sought q b cert (Some (outcome.GaveUp told)) list far right floor = floor
-row_floor sought q b cert (Some outcome.CannotWin) list far right floor = tt
-row_floor sought q b cert (Some (outcome.Shortest count)) list far right floor =
-    told_of_answer sought q b cert (outcome.Shortest count) list right
-row_floor sought q b cert (Some (outcome.Won count least)) list far right floor =
-    told_of_answer sought q b cert (outcome.Won count least) list right
+row_floor q b cert None list far right floor = floor
+row_floor q b cert (Some (outcome.GaveUp told)) list far right floor = floor
+row_floor q b cert (Some outcome.CannotWin) list far right floor = tt
+row_floor q b cert (Some (outcome.Shortest count)) list far right floor =
+    told_of_answer q b cert (outcome.Shortest count) list right
+row_floor q b cert (Some (outcome.Won count least)) list far right floor =
+    told_of_answer q b cert (outcome.Won count least) list right
 
 -- a row has the question's budget, and these parts
 pub record HasParts (q : Asked) (answer : Option Outcome) (moves : Option (List Move)) (last : Option Far) (row : Row) : Type 0 where
@@ -120,31 +133,31 @@ pub record HasParts (q : Asked) (answer : Option Outcome) (moves : Option (List 
   pub list : row.list ≡ moves
   pub far : row.far ≡ last
 
-row_of_parts : (sought : Sought) (q : Asked) (b : Board) (cert : Option Device) (told : Option Outcome) (list : Option (List Move)) (far : Option Far)
-    (row : Row) → HasParts q told list far row → IsToldIn sought q b cert told list → (IsSome told → IsSome far)
-    → IfSome (told_floor far) (IsFloor q.game b) → IsRowOf sought q b cert row
-row_of_parts sought q b cert told list far row parts right searched floor =
-    let with_list : IsToldIn sought q b cert told row.list = subst (λ o. IsToldIn sought q b cert told o) (sym parts.list) right in
-    let with_told : IsToldIn sought q b cert row.told row.list = subst (λ o. IsToldIn sought q b cert o row.list) (sym parts.told) with_list in
+row_of_parts : (q : Asked) (b : Board) (cert : Option Device) (told : Option Outcome) (list : Option (List Move)) (far : Option Far)
+    (row : Row) → HasParts q told list far row → IsToldIn q b cert told list → (IsSome told → IsSome far)
+    → IfSome (told_floor far) (IsFloor q.game b) → IsRowOf q b cert row
+row_of_parts q b cert told list far row parts right searched floor =
+    let with_list : IsToldIn q b cert told row.list = subst (λ o. IsToldIn q b cert told o) (sym parts.list) right in
+    let with_told : IsToldIn q b cert row.told row.list = subst (λ o. IsToldIn q b cert o row.list) (sym parts.told) with_list in
     let with_far : IfSome (told_floor row.far) (IsFloor q.game b) = subst (λ o. IfSome (told_floor o) (IsFloor q.game b)) (sym parts.far) floor in
     record {
       budget = parts.budget;
       told = with_told;
       searched = λ some. subst IsSome (sym parts.far) (searched (subst IsSome parts.told some));
-      floor = row_floor sought q b cert row.told row.list row.far with_told with_far;
+      floor = row_floor q b cert row.told row.list row.far with_told with_far;
     }
 
 -- the row of a verdict that was sought
-pub verdict_row : (sought : Sought) (q : Asked) (b : Board) (cert : Option Device) (verdict : Verdict) (far : Option Far) (row : Row)
-    → HasParts q (Some (outcome_of verdict)) (list_of verdict) far row → IsSought sought q b verdict
-    → IfSome cert (IsCertified (problem_of q b) verdict) → IsSome far → IfSome (told_floor far) (IsFloor q.game b) → IsRowOf sought q b cert row
-verdict_row sought q b cert verdict far row parts decided certified some floor =
-    row_of_parts sought q b cert (Some (outcome_of verdict)) (list_of verdict) far row parts
+pub verdict_row : (q : Asked) (b : Board) (cert : Option Device) (verdict : Verdict) (far : Option Far) (row : Row)
+    → HasParts q (Some (outcome_of verdict)) (list_of verdict) far row → IsVerdictFor q b verdict
+    → IfSome cert (IsCertified (problem_of q b) verdict) → IsSome far → IfSome (told_floor far) (IsFloor q.game b) → IsRowOf q b cert row
+verdict_row q b cert verdict far row parts decided certified some floor =
+    row_of_parts q b cert (Some (outcome_of verdict)) (list_of verdict) far row parts
     record { verdict = verdict; decided = decided; certified = certified; answer = refl; listed = refl } (λ _. some) floor
 
 -- and that of want of memory
-pub memory_row : (sought : Sought) (q : Asked) (b : Board) (cert : Option Device) (far : Option Far) (row : Row)
-    → HasParts q None None far row → IfSome cert IsUntouched → IfSome (told_floor far) (IsFloor q.game b) → IsRowOf sought q b cert row
-memory_row sought q b cert far row parts untouched floor =
-    row_of_parts sought q b cert None None far row parts (refl, untouched)
+pub memory_row : (q : Asked) (b : Board) (cert : Option Device) (far : Option Far) (row : Row)
+    → HasParts q None None far row → IfSome cert IsUntouched → IfSome (told_floor far) (IsFloor q.game b) → IsRowOf q b cert row
+memory_row q b cert far row parts untouched floor =
+    row_of_parts q b cert None None far row parts (refl, untouched)
     (λ some. let no : false ≡ true = some in absurd (search rules)) floor

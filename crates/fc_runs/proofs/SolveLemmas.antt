@@ -5,11 +5,10 @@ use Rattle.fc_position.specs.Board.{Board}
 use Rattle.fc_moves.specs.GameRules.{GameRules}
 use Rattle.fc_best_first.specs.Limits.{IsBudget}
 use Rattle.fc_methods.specs.Method.{Asked, shortest_asked}
-use Rattle.fc_search.specs.Problem.{problem_of}
 use Rattle.fc_search.proofs.AnswerLemmas.{one_of_three}
 use Rattle.fc_board_runs.specs.declared.faults.ProgramFault.{ProgramFault}
 use Rattle.fc_board_runs.specs.Devices.{Device, GivesBoard}
-use Rattle.fc_runs.specs.Solving.{IsAnswered, IsSolved, IsSolveFault, IsUnanswered}
+use Rattle.fc_runs.specs.Solving.{IsAnsweredFor, IsSolved, IsSolveFault, IsUnansweredFor}
 
 -- something is lent, or nothing
 pub is_lent : {A : Type 0} (o : Option A) → (o ≡ None) ⊎ ((x : A) × (o ≡ Some x))
@@ -24,9 +23,9 @@ asked_by q g rule given budget known asked there value =
 
 pub solved : (g : GameRules) (rule budget : ℕ) (q : Asked) (n : ℕ) (source : Device) (cert : Option Device) (sink : Device) (start : Board)
     (result : Result ℕ ProgramFault) → q ≡ shortest_asked g rule budget → n ≡ g.cells → IsBudget budget → GivesBoard n source start
-    → IfOk result (IsAnswered (problem_of q start) cert sink) → IfOk result (IsSolved (shortest_asked g rule budget) source cert sink)
+    → IfOk result (IsAnsweredFor q start cert sink) → IfOk result (IsSolved (shortest_asked g rule budget) source cert sink)
 solved g rule budget q n source cert sink start (Ok status) asked cells budgeted given answered =
-    let own = subst (λ (x : Asked). IsAnswered (problem_of x start) cert sink status) asked answered in
+    let own = subst (λ (x : Asked). IsAnsweredFor x start cert sink status) asked answered in
     record {
       budgeted = budgeted;
       start = start;
@@ -38,7 +37,7 @@ solved g rule budget q n source cert sink start (Err fault) asked cells budgeted
 
 pub unsolved : (g : GameRules) (rule budget : ℕ) (q : Asked) (n : ℕ) (source : Device) (cert : Option Device) (sink : Device) (start : Board)
     (result : Result ℕ ProgramFault) → q ≡ shortest_asked g rule budget → n ≡ g.cells → IsBudget budget → GivesBoard n source start
-    → IfErr result (IsUnanswered (problem_of q start) cert sink) → IfErr result (IsSolveFault (shortest_asked g rule budget) source cert sink)
+    → IfErr result (IsUnansweredFor q start cert sink) → IfErr result (IsSolveFault (shortest_asked g rule budget) source cert sink)
 unsolved g rule budget q n source cert sink start (Ok status) asked cells budgeted given unanswered = tt
 unsolved g rule budget q n source cert sink start (Err fault) asked cells budgeted given unanswered =
     inr (
@@ -46,6 +45,6 @@ unsolved g rule budget q n source cert sink start (Err fault) asked cells budget
       (
         start,
         subst (λ m. GivesBoard m source start) cells given,
-        subst (λ (x : Asked). IsUnanswered (problem_of x start) cert sink fault) asked unanswered,
+        subst (λ (x : Asked). IsUnansweredFor x start cert sink fault) asked unanswered,
       ),
     )

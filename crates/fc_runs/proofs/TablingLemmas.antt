@@ -8,7 +8,6 @@ use Rattle.fc_deal.specs.Deal.{dealt_board}
 use Rattle.fc_methods.specs.Method.{Asked}
 use Rattle.fc_board_runs.specs.Devices.{Device}
 use Rattle.fc_runs.specs.declared.rows.Row.{Row}
-use Rattle.fc_runs.specs.declared.rows.Sought.{Sought}
 use Rattle.fc_runs.specs.Batches.{greatest_status}
 use Rattle.fc_answer_text.specs.AnswerText.{told_status}
 use Rattle.fc_runs.specs.Rows.{IsRowOf}
@@ -29,27 +28,27 @@ deal_row : ℕ → Row → DealRow
 deal_row deal row = record { deal = deal; row = row }
 
 -- one more row that is right
-one_more_row : (sought : Sought) (q : Asked) (from count : ℕ) (rows : List DealRow) (row : Row) → AreRows sought q from rows
-    → length rows ≡ count → IsRowOf sought q (dealt_board (from + count)) None row
-    → AreRows sought q from (rows ++ deal_row (from + count) row ∷ [])
+one_more_row : (q : Asked) (from count : ℕ) (rows : List DealRow) (row : Row) → AreRows q from rows
+    → length rows ≡ count → IsRowOf q (dealt_board (from + count)) None row
+    → AreRows q from (rows ++ deal_row (from + count) row ∷ [])
 unfolding deal_row
-one_more_row sought q from count rows row right whole told = record {
+one_more_row q from count rows row right whole told = record {
   rising = last_row rows (deal_row (from + count) row) (λ i x. x.deal ≡ from + i) right.rising (ap (λ n. from + n) (sym whole));
-  right = last_row rows (deal_row (from + count) row) (λ i x. IsRowOf sought q (dealt_board x.deal) None x.row) right.right told;
+  right = last_row rows (deal_row (from + count) row) (λ i x. IsRowOf q (dealt_board x.deal) None x.row) right.right told;
 }
 
 -- the names and so many rows were written, and this is the greatest of their statuses
-pub record RowsAreWritten (sought : Sought) (q : Asked) (from count : ℕ) (old new : Option (List ℕ)) (status : ℕ) : Type 0 where
+pub record RowsAreWritten (q : Asked) (from count : ℕ) (old new : Option (List ℕ)) (status : ℕ) : Type 0 where
   pub rows : List DealRow
-  pub right : AreRows sought q from rows
+  pub right : AreRows q from rows
   pub whole : length rows ≡ count
   pub written : TakesBytes old new (table_text rows)
   pub greatest : status ≡ greatest_status (map line_of rows)
 
 -- the names alone, and no row
-pub none_written : (sought : Sought) (q : Asked) (from : ℕ) (old new : Option (List ℕ)) (bytes : List ℕ) → bytes ≡ names_text
-    → TakesBytes old new bytes → RowsAreWritten sought q from 0 old new 0
-none_written sought q from old new bytes same taken = record {
+pub none_written : (q : Asked) (from : ℕ) (old new : Option (List ℕ)) (bytes : List ℕ) → bytes ≡ names_text
+    → TakesBytes old new bytes → RowsAreWritten q from 0 old new 0
+none_written q from old new bytes same taken = record {
   rows = [];
   right = record { rising = λ i row at. absurd (cc at); right = λ i row at. absurd (cc at) };
   whole = refl;
@@ -61,17 +60,17 @@ none_written sought q from old new bytes same taken = record {
 text_more : (rows : List DealRow) (row : DealRow) → table_text rows ++ row_text row ≡ table_text (rows ++ row ∷ [])
 text_more rows row = flat_map_more row_text names_text rows row
 
-pub one_more_written : (sought : Sought) (q : Asked) (from count : ℕ) (old mid new : Option (List ℕ)) (status next : ℕ) (row : Row)
-    → RowsAreWritten sought q from count old mid status → IsRowOf sought q (dealt_board (from + count)) None row
+pub one_more_written : (q : Asked) (from count : ℕ) (old mid new : Option (List ℕ)) (status next : ℕ) (row : Row)
+    → RowsAreWritten q from count old mid status → IsRowOf q (dealt_board (from + count)) None row
     → TakesBytes mid new (row_text (record { deal = from + count; row = row })) → next ≡ max status (told_status row.told)
-    → RowsAreWritten sought q from (count + 1) old new next
+    → RowsAreWritten q from (count + 1) old new next
 unfolding deal_row
-one_more_written sought q from count old mid new status next row so_far told taken greater =
+one_more_written q from count old mid new status next row so_far told taken greater =
     let whole = so_far.whole in
     let last = deal_row (from + count) row in
     record {
       rows = so_far.rows ++ last ∷ [];
-      right = one_more_row sought q from count so_far.rows row so_far.right whole told;
+      right = one_more_row q from count so_far.rows row so_far.right whole told;
       whole = omega (arith, whole, length-append so_far.rows (last ∷ []));
       written = subst (TakesBytes old new) (text_more so_far.rows last)
           (TakesBytes-both old mid new (table_text so_far.rows) (row_text last) so_far.written taken);
@@ -80,17 +79,17 @@ one_more_written sought q from count old mid new status next row so_far told tak
     }
 
 -- and one that was cut short
-pub row_cut_short : (sought : Sought) (q : Asked) (from count most : ℕ) (mid : Option (List ℕ)) (sink : Device) (status : ℕ) (row : Row)
-    → RowsAreWritten sought q from count sink.old mid status → IsRowOf sought q (dealt_board (from + count)) None row
+pub row_cut_short : (q : Asked) (from count most : ℕ) (mid : Option (List ℕ)) (sink : Device) (status : ℕ) (row : Row)
+    → RowsAreWritten q from count sink.old mid status → IsRowOf q (dealt_board (from + count)) None row
     → TakesFront mid sink.new (row_text (record { deal = from + count; row = row })) → count < most → IsTrue sink.failed
-    → IsTableCutShort sought q from most sink
+    → IsTableCutShort q from most sink
 unfolding deal_row
-row_cut_short sought q from count most mid sink status row so_far told front within failed =
+row_cut_short q from count most mid sink status row so_far told front within failed =
     let whole = so_far.whole in
     let last = deal_row (from + count) row in
     record {
       rows = so_far.rows ++ last ∷ [];
-      right = one_more_row sought q from count so_far.rows row so_far.right whole told;
+      right = one_more_row q from count so_far.rows row so_far.right whole told;
       some = omega (arith, whole, within, length-append so_far.rows (last ∷ []));
       front = subst (TakesFront sink.old sink.new) (text_more so_far.rows last)
           (takes_then_front sink.old mid sink.new (table_text so_far.rows) (row_text last) so_far.written front);

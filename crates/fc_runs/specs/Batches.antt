@@ -1,5 +1,5 @@
 -- What running several deals in turns promises, over any sink.
-use Rattle.std.specs.Prelude.{◌≡◌, ◌⊎◌, ℕ, ◌+◌, ◌<◌, ◌≤◌, List, [], ◌∷◌, max, length, slice_get, Option, Some, None, IsTrue}
+use Rattle.std.specs.Prelude.{◌≡◌, ◌⊎◌, ℕ, ◌+◌, ◌<◌, ◌≤◌, List, [], ◌∷◌, max, length, slice_get, Option, Some, None, IfSome, IsTrue}
 use Rattle.std.specs.List.{flat_map}
 use Rattle.fc_io.specs.Moves.{TakesBytes, TakesFront}
 use Rattle.fc_deal.specs.Deal.{IsDealNumber, dealt_board}
@@ -18,7 +18,10 @@ use Rattle.fc_board_runs.specs.declared.faults.ProgramFault.TheVariants.{Number,
 use Rattle.fc_board_runs.specs.Devices.{Device, IsUntouched}
 use Rattle.fc_runs.specs.declared.batches.TheConstants.{MOST_DEALS}
 use Rattle.fc_answer_text.specs.AnswerText.{Line, told_status, line_text}
-use Rattle.fc_runs.specs.Solving.{IsDecided}
+use Rattle.fc_best.specs.Answering.{IsDecided}
+use Rattle.fc_best.specs.Best.{IsBestVerdict}
+use Rattle.fc_methods.specs.declared.methods.Sought.{Sought}
+use Rattle.fc_methods.specs.declared.methods.Sought.TheVariants.{ByMethod, Best}
 use Rattle.fc_board_runs.specs.declared.faults.Output.TheVariants.{Answer as of_answer}
 
 -- the greatest status of some lines
@@ -73,16 +76,31 @@ pub record IsAsked (from to count : ℕ) : Type 0 where
   pub deals : AreDeals from to
   pub whole : from + count ≡ to + 1
 
--- a batch was told: it can be asked for, and each of the deals was told
-pub record IsBatchedBy (q : Asked) (from to : ℕ) (sink : Device) (status : ℕ) : Type 0 where
+-- an answer without moves is told of a deal: that of a best verdict for its board
+pub record IsBestTold (q : Asked) (deal : ℕ) (told : Outcome) : Type 0 where
+  pub verdict : Verdict
+  pub best : IsBestVerdict q (dealt_board deal) verdict
+  pub answer : told ≡ outcome_of verdict
+
+-- what a line tells of a deal is right: its best answer; of a deal for which memory was wanted nothing is promised
+abbrev pub IsBestLine : Asked → ℕ → Option Outcome → Type 0
+IsBestLine q deal told = IfSome told (IsBestTold q deal)
+
+-- what a line tells of a deal is right, by what is sought
+abbrev pub IsLineOf : Sought → Asked → ℕ → Option Outcome → Type 0
+IsLineOf ByMethod = IsRightOf
+IsLineOf Best = IsBestLine
+
+-- a batch was told, of which this is sought: it can be asked for, and each of the deals was told
+pub record IsBatchedBy (sought : Sought) (q : Asked) (from to : ℕ) (sink : Device) (status : ℕ) : Type 0 where
   pub count : ℕ
   pub asked : IsAsked from to count
-  pub told : AreTold (IsRightOf q) from count sink status
+  pub told : AreTold (IsLineOf sought q) from count sink status
 
--- and its budget is one of a single search
+-- a batch of searches by the method was told, and its budget is one of a single search
 pub record IsBatched (q : Asked) (from to : ℕ) (sink : Device) (status : ℕ) : Type 0 where
   pub budgeted : IsBudget q.method.strategy.budget
-  pub batched : IsBatchedBy q from to sink status
+  pub batched : IsBatchedBy ByMethod q from to sink status
 
 -- the sink failed while it was given the lines of at most so many deals, which are right so
 pub record AreCutShort (is_right : ℕ → Option Outcome → Type 0) (from count : ℕ) (sink : Device) : Type 0 where
@@ -101,15 +119,16 @@ IsUnasked from to Range = IsDealNumber from × IsDealNumber to × (IsRange from 
 IsUnasked from to other = ⊥
 
 -- why no batch was told, or not all of it: the deals can't be asked for, or they can and a growth was refused before the first
--- turn, and nothing is written; or the sink failed
-abbrev pub IsBatchFaultBy : Asked → ℕ → ℕ → Device → ProgramFault → Type 0
-IsBatchFaultBy q from to sink Memory = AreDeals from to × IsUntouched sink
-IsBatchFaultBy q from to sink (Write of_answer) = (count : ℕ) × IsAsked from to count × AreCutShort (IsRightOf q) from count sink
-IsBatchFaultBy q from to sink fault = IsUnasked from to fault × IsUntouched sink
+-- turn of a search by the method, and nothing is written; or the sink failed
+abbrev pub IsBatchFaultBy : Sought → Asked → ℕ → ℕ → Device → ProgramFault → Type 0
+IsBatchFaultBy ByMethod q from to sink Memory = AreDeals from to × IsUntouched sink
+IsBatchFaultBy sought q from to sink (Write of_answer) = (count : ℕ) × IsAsked from to count × AreCutShort (IsLineOf sought q) from count sink
+IsBatchFaultBy sought q from to sink fault = IsUnasked from to fault × IsUntouched sink
 
--- the same where the deals can be asked for and the budget is none, and what comes after the deals only where it is one
+-- the same of searches by the method, where the deals can be asked for and the budget is none, and what comes after the deals only
+-- where it is one
 abbrev pub IsBatchFault : Asked → ℕ → ℕ → Device → ProgramFault → Type 0
 IsBatchFault q from to sink Budget = AreDeals from to × (IsBudget q.method.strategy.budget → ⊥) × IsUntouched sink
-IsBatchFault q from to sink Memory = IsBudget q.method.strategy.budget × IsBatchFaultBy q from to sink Memory
-IsBatchFault q from to sink (Write of_answer) = IsBudget q.method.strategy.budget × IsBatchFaultBy q from to sink (Write of_answer)
-IsBatchFault q from to sink fault = IsBatchFaultBy q from to sink fault
+IsBatchFault q from to sink Memory = IsBudget q.method.strategy.budget × IsBatchFaultBy ByMethod q from to sink Memory
+IsBatchFault q from to sink (Write of_answer) = IsBudget q.method.strategy.budget × IsBatchFaultBy ByMethod q from to sink (Write of_answer)
+IsBatchFault q from to sink fault = IsBatchFaultBy ByMethod q from to sink fault

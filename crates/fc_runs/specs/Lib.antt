@@ -1,6 +1,4 @@
 pub mod Batches
-pub mod Besting
-pub mod Certificates
 pub mod Checking
 pub mod Laws
 pub mod Lists

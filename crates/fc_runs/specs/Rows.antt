@@ -7,7 +7,8 @@ use Rattle.fc_answers.specs.declared.answers.Outcome.{Outcome}
 use Rattle.fc_answers.specs.declared.answers.Outcome.TheVariants.{Shortest, Won, CannotWin, GaveUp}
 use Rattle.fc_answers.specs.declared.answers.Verdict.{Verdict}
 use Rattle.fc_answers.specs.Verdict.{outcome_of}
-use Rattle.fc_best.specs.Best.{IsBestVerdict, IsFloor}
+use Rattle.fc_best.specs.Answering.{IsVerdictFor}
+use Rattle.fc_best.specs.Best.{IsFloor}
 use Rattle.fc_search.specs.Problem.{problem_of}
 use Rattle.fc_board_runs.specs.declared.faults.Output.TheVariants.{Cert as of_certificate}
 use Rattle.fc_board_runs.specs.declared.faults.ProgramFault.{ProgramFault}
@@ -15,10 +16,8 @@ use Rattle.fc_board_runs.specs.declared.faults.ProgramFault.TheVariants.{Write}
 use Rattle.fc_board_runs.specs.Devices.{Device, IsUntouched}
 use Rattle.fc_runs.specs.declared.rows.Far.{Far}
 use Rattle.fc_runs.specs.declared.rows.Row.{Row}
-use Rattle.fc_runs.specs.declared.rows.Sought.{Sought}
-use Rattle.fc_runs.specs.declared.rows.Sought.TheVariants.{ByMethod, Best}
 use Rattle.fc_runs.specs.Lists.{list_of}
-use Rattle.fc_runs.specs.Solving.{IsCertified, IsCutShort, IsDecided}
+use Rattle.fc_runs.specs.Solving.{IsCertified, IsCutShort}
 
 -- what an answer is called in a table, or that memory was wanted
 abbrev pub answer_name : Option Outcome → List ℕ
@@ -66,36 +65,31 @@ abbrev pub cells_text : Row → List ℕ
 cells_text row = codes "\t" ++ answer_name row.told ++ codes "\t" ++ number_text (moves_of row.told) ++ codes "\t"
     ++ number_text (floor_of row.told row.far) ++ codes "\t" ++ number_text (Some row.budget) ++ codes "\t" ++ far_text row.far
 
--- a verdict is what was sought of a board: that of a search by the question's method, or a best one
-abbrev pub IsSought : Sought → Asked → Board → Verdict → Type 0
-IsSought ByMethod q b verdict = IsDecided (problem_of q b) verdict
-IsSought Best q b verdict = IsBestVerdict q b verdict
-
 -- an answer and a list are told of a board: those of a verdict that was sought, of which the sink of certificates, where there is
 -- one, took the certificate
-pub record IsAnswerOf (sought : Sought) (q : Asked) (b : Board) (cert : Option Device) (told : Outcome) (list : Option (List Move)) : Type 0 where
+pub record IsAnswerOf (q : Asked) (b : Board) (cert : Option Device) (told : Outcome) (list : Option (List Move)) : Type 0 where
   pub verdict : Verdict
-  pub decided : IsSought sought q b verdict
+  pub decided : IsVerdictFor q b verdict
   pub certified : IfSome cert (IsCertified (problem_of q b) verdict)
   pub answer : told ≡ outcome_of verdict
   pub listed : list ≡ list_of verdict
 
 -- what is told of a board: its answer and the list of it; or that memory was wanted, and then there is no list, and no certificate
 -- is written
-abbrev pub IsToldIn : Sought → Asked → Board → Option Device → Option Outcome → Option (List Move) → Type 0
-IsToldIn sought q b cert None list = (list ≡ None) × IfSome cert IsUntouched
-IsToldIn sought q b cert (Some told) list = IsAnswerOf sought q b cert told list
+abbrev pub IsToldIn : Asked → Board → Option Device → Option Outcome → Option (List Move) → Type 0
+IsToldIn q b cert None list = (list ≡ None) × IfSome cert IsUntouched
+IsToldIn q b cert (Some told) list = IsAnswerOf q b cert told list
 
 -- a row is right for a board: its budget is the question's, and what it tells is right; where memory wasn't wanted, there is what
 -- the search told last; and no list of fewer moves than its floor wins. Nothing is promised of the other numbers that a search told
-pub record IsRowOf (sought : Sought) (q : Asked) (b : Board) (cert : Option Device) (row : Row) : Type 0 where
+pub record IsRowOf (q : Asked) (b : Board) (cert : Option Device) (row : Row) : Type 0 where
   pub budget : row.budget ≡ q.method.strategy.budget
-  pub told : IsToldIn sought q b cert row.told row.list
+  pub told : IsToldIn q b cert row.told row.list
   pub searched : IsSome row.told → IsSome row.far
   pub floor : IfSome (floor_of row.told row.far) (IsFloor q.game b)
 
 -- why a board has no row: the certificate of what was sought couldn't be written, of which a front may be
-abbrev pub IsNoRow : Sought → Asked → Board → Option Device → ProgramFault → Type 0
-IsNoRow sought q b cert (Write of_certificate) = (verdict : Verdict) × IsSought sought q b verdict
+abbrev pub IsNoRow : Asked → Board → Option Device → ProgramFault → Type 0
+IsNoRow q b cert (Write of_certificate) = (verdict : Verdict) × IsVerdictFor q b verdict
     × ((lent : Device) × (cert ≡ Some lent) × IsCutShort (problem_of q b) verdict lent)
-IsNoRow sought q b cert other = ⊥
+IsNoRow q b cert other = ⊥

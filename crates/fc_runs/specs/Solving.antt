@@ -9,9 +9,9 @@ use Rattle.fc_best_first.specs.Limits.{IsBudget}
 use Rattle.fc_best_first.specs.declared.limits.TheConstants.{MOST_BUDGET}
 use Rattle.fc_methods.specs.Method.{Asked}
 use Rattle.fc_search.specs.Problem.{Problem, problem_of}
-use Rattle.fc_search.specs.Search.{IsOneOfThree, IsVerdict, IsRunToEnd}
-use Rattle.fc_search.specs.declared.listeners.Progress.{Progress}
-use Rattle.fc_search.specs.Watch.{IsHeardToEnd}
+use Rattle.fc_search.specs.Search.{IsOneOfThree}
+use Rattle.fc_search.specs.Watch.{Heard}
+use Rattle.fc_best.specs.Answering.{HearsVerdict, IsDecided, IsVerdictFor}
 use Rattle.fc_cert.specs.declared.certificates.TheConstants.{LONGEST_CERTIFICATE}
 use Rattle.fc_cert.specs.declared.claims.Claim.{Claim}
 use Rattle.fc_cert.specs.declared.claims.Claim.TheVariants as claim
@@ -23,11 +23,6 @@ use Rattle.fc_board_runs.specs.declared.faults.ProgramFault.{ProgramFault}
 use Rattle.fc_board_runs.specs.declared.faults.ProgramFault.TheVariants.{Budget, Board as bad_board, Read, Write, Memory}
 use Rattle.fc_board_runs.specs.Devices.{Device, GivesBoard, GivesFault, IsUntouched}
 use Rattle.fc_answer_text.specs.AnswerText.{answer_text, status_of}
-
--- the verdict is right for the problem, and that of a search of it that ran to its end
-pub record IsDecided (p : Problem) (verdict : Verdict) : Type 0 where
-  pub right : IsVerdict p verdict
-  pub ran : IsRunToEnd p verdict
 
 -- what a verdict claims, if anything: a search that gave up claims nothing
 abbrev pub claim_of : Verdict → Option Claim
@@ -99,6 +94,10 @@ pub record IsAnsweredBy (is_decided : Verdict → Type 0) (p : Problem) (cert : 
 abbrev pub IsAnswered : Problem → Option Device → Device → ℕ → Type 0
 IsAnswered p cert sink status = IsAnsweredBy (IsDecided p) p cert sink status
 
+-- a board was answered by a verdict that the question seeks
+abbrev pub IsAnsweredFor : Asked → Board → Option Device → Device → ℕ → Type 0
+IsAnsweredFor q b cert sink status = IsAnsweredBy (IsVerdictFor q b) (problem_of q b) cert sink status
+
 -- nothing was written, of a certificate or of an answer
 abbrev pub NothingIsWritten : Option Device → Device → Type 0
 NothingIsWritten cert sink = IfSome cert IsUntouched × IsUntouched sink
@@ -118,9 +117,15 @@ IsUnansweredBy is_decided p cert sink other = ⊥
 abbrev pub IsUnanswered : Problem → Option Device → Device → ProgramFault → Type 0
 IsUnanswered p cert sink fault = IsUnansweredBy (IsDecided p) p cert sink fault
 
--- a board was answered, and this is what was heard of the very search whose verdict was written
-abbrev pub IsHeardAnswered : Problem → Device → List Progress → Type 0
-IsHeardAnswered p sink heard = (verdict : Verdict) × IsHeardToEnd p heard verdict × TakesBytes sink.old sink.new (answer_text verdict)
+-- why a board wasn't answered by such a verdict
+abbrev pub IsUnansweredFor : Asked → Board → Option Device → Device → ProgramFault → Type 0
+IsUnansweredFor q b cert sink fault = IsUnansweredBy (IsVerdictFor q b) (problem_of q b) cert sink fault
+
+module _ {L : Type 0} (hears : L → Heard → L → Type 0) where
+  -- a board was answered, and a listener heard of the very searches whose verdict was written, to their end
+  abbrev pub HearsAnswered : Asked → Board → Device → L → L → Type 0
+  HearsAnswered q b sink old new = (verdict : Verdict) × HearsVerdict hears q.sought q b verdict old new
+      × TakesBytes sink.old sink.new (answer_text verdict)
 
 -- solving was answered: the budget is one, and the source gave the text of a position, which was answered, by one of three
 -- verdicts

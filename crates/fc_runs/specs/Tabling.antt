@@ -9,7 +9,6 @@ use Rattle.fc_board_runs.specs.declared.faults.ProgramFault.{ProgramFault}
 use Rattle.fc_board_runs.specs.declared.faults.ProgramFault.TheVariants.{Number, Range, Write}
 use Rattle.fc_board_runs.specs.Devices.{Device, IsUntouched}
 use Rattle.fc_runs.specs.declared.rows.Row.{Row}
-use Rattle.fc_runs.specs.declared.rows.Sought.{Sought}
 use Rattle.fc_runs.specs.Batches.{greatest_status}
 use Rattle.fc_runs.specs.Rows.{IsRowOf, cells_text}
 use Rattle.fc_answer_text.specs.AnswerText.{Line}
@@ -36,9 +35,9 @@ abbrev pub line_of : DealRow → Line
 line_of row = record { deal = row.deal; told = row.row.told }
 
 -- rows that are right, one a deal, rising from this one
-pub record AreRows (sought : Sought) (q : Asked) (from : ℕ) (rows : List DealRow) : Type 0 where
+pub record AreRows (q : Asked) (from : ℕ) (rows : List DealRow) : Type 0 where
   pub rising : (i : ℕ) (row : DealRow) → slice_get rows i ≡ Some row → row.deal ≡ from + i
-  pub right : (i : ℕ) (row : DealRow) → slice_get rows i ≡ Some row → IsRowOf sought q (dealt_board row.deal) None row.row
+  pub right : (i : ℕ) (row : DealRow) → slice_get rows i ≡ Some row → IsRowOf q (dealt_board row.deal) None row.row
 
 -- a table that can be asked for, of so many deals: both numbers are of deals, and they don't fall
 pub record IsTableAsked (from to count : ℕ) : Type 0 where
@@ -56,30 +55,30 @@ IsTableUnasked from to Range = IsDealNumber from × IsDealNumber to × (from ≤
 IsTableUnasked from to other = ⊥
 
 -- so many deals were told: the sink took the names and a row for each, and the status is the greatest of theirs
-pub record AreTabled (sought : Sought) (q : Asked) (from count : ℕ) (sink : Device) (status : ℕ) : Type 0 where
+pub record AreTabled (q : Asked) (from count : ℕ) (sink : Device) (status : ℕ) : Type 0 where
   pub rows : List DealRow
-  pub right : AreRows sought q from rows
+  pub right : AreRows q from rows
   pub whole : length rows ≡ count
   pub written : TakesBytes sink.old sink.new (table_text rows)
   pub sound : IsTrue sink.failed → ⊥
   pub greatest : status ≡ greatest_status (map line_of rows)
 
 -- a table was told: it can be asked for, and each of its deals was told
-pub record IsTabled (sought : Sought) (q : Asked) (from to : ℕ) (sink : Device) (status : ℕ) : Type 0 where
+pub record IsTabled (q : Asked) (from to : ℕ) (sink : Device) (status : ℕ) : Type 0 where
   pub count : ℕ
   pub asked : IsTableAsked from to count
-  pub told : AreTabled sought q from count sink status
+  pub told : AreTabled q from count sink status
 
 -- the sink failed while it was given the names and the rows of at most so many deals
-pub record IsTableCutShort (sought : Sought) (q : Asked) (from count : ℕ) (sink : Device) : Type 0 where
+pub record IsTableCutShort (q : Asked) (from count : ℕ) (sink : Device) : Type 0 where
   pub rows : List DealRow
-  pub right : AreRows sought q from rows
+  pub right : AreRows q from rows
   pub some : length rows ≤ count
   pub front : TakesFront sink.old sink.new (table_text rows)
   pub failed : IsTrue sink.failed
 
 -- why no table was told, or not all of one: it can't be asked for, and nothing is written; or the sink failed
-abbrev pub IsTableFault : Sought → Asked → ℕ → ℕ → Device → ProgramFault → Type 0
-IsTableFault sought q from to sink (Write of_answer) =
-    (count : ℕ) × IsTableAsked from to count × IsTableCutShort sought q from count sink
-IsTableFault sought q from to sink fault = IsTableUnasked from to fault × IsUntouched sink
+abbrev pub IsTableFault : Asked → ℕ → ℕ → Device → ProgramFault → Type 0
+IsTableFault q from to sink (Write of_answer) =
+    (count : ℕ) × IsTableAsked from to count × IsTableCutShort q from count sink
+IsTableFault q from to sink fault = IsTableUnasked from to fault × IsUntouched sink

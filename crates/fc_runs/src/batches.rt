@@ -2,14 +2,14 @@
 
 ghost use Rattle.std.specs.Prelude.{◌≡◌, ◌+◌, ◌<◌, ◌≤◌, ◌↔◌, ℕ, Some, IfOk, IfErr, OnErr, IsTrue, true, false};
 ghost use Rattle.fc_deal.specs.Deal.{IsDealNumber};
-ghost use Rattle.fc_methods.specs.Method.{Asked, shortest_asked};
+ghost use Rattle.fc_methods.specs.Method.{Asked};
 ghost use Rattle.fc_search.specs.Search.{State};
 ghost use Rattle.fc_batch.specs.Batch.{OthersStay, search_at, work_left};
 ghost use Rattle.fc_board_runs.specs.Devices.{change};
-ghost use Rattle.fc_runs.specs.Batches.{AreCutShort, AreTold, IsAsked, IsBatched, IsBatchedBy, IsBatchFault, IsBatchFaultBy, IsRightOf, IsUnasked};
+ghost use Rattle.fc_runs.specs.Batches.{AreCutShort, AreTold, IsAsked, IsBatchedBy, IsBatchFaultBy, IsRightOf, IsUnasked};
 ghost use Rattle.fc_runs.specs.inner.Batches.{HaveEnded, HoldsDeals, IsSearchOf};
 
-use crate::solving::shortest;
+use crate::best_batches::run_one_by_one;
 use fc_answer_text::{line_text, outcome_of, told_status};
 use fc_answers::Outcome;
 use fc_batch::Batch;
@@ -17,9 +17,8 @@ use fc_best_first::{Status, Step};
 use fc_board_runs::{Output, ProgramFault};
 use fc_deal::deal;
 use fc_frontier::EitherFrontier;
-use fc_home::GREATEST_RULE;
 use fc_io::{Failed, Sink, write_all};
-use fc_methods::{HomeRule, Question};
+use fc_methods::{Question, Sought};
 use fc_moves::Game;
 use fc_search::Search;
 use std::alloc::Global;
@@ -27,47 +26,42 @@ use std::alloc::Global;
 /// The most deals of a batch.
 pub const MOST_DEALS: u32 = 32;
 
-/// Searches the deals `from` to `to` of the game, which take turns, one turn each in rising order again and again, under a home
-/// rule of at most 2, each with at most `budget` stored classes. Writes a line for each, rising: its number, and its answer
-/// with the number of its moves, or `want of memory`. The status is the greatest of theirs: 0 for a shortest solution, 1 where
-/// a deal can't be won, 2 on giving up, 4 for want of memory.
+/// Answers the question for the deals `from` to `to`, and writes a line for each, rising: its number, and its answer with the number of
+/// its moves, which is `won N, at least L` where the list may not be a shortest one, or `want of memory`. By its method their searches
+/// take turns, one turn each in rising order again and again, and the lines come at the end. Best answers are searched for one after
+/// the other, each within the budget, a line comes as soon as its deal is answered, and where memory is wanted for one deal, the next
+/// one goes on. The status is the greatest of theirs: 0 for a solution, 1 where a deal can't be won, 2 on giving up, 4 for want of
+/// memory.
 ///
 /// # Errors
-/// In this order: a number outside 1 to 1,000,000, `from` before `to`; no deal or more than 32; a budget outside 1 to
-/// 4,000,000; want of memory before the first turn; lines that can't be written, of which a front may be. After any other
-/// fault nothing is written.
-pub fn run_batch<G: Game + Drop, K: Sink>(
-    alloc: Global,
-    game: &G,
-    rule: u8,
-    from: u32,
-    to: u32,
-    budget: u32,
-    out: &mut K,
-) -> Result<u8, ProgramFault>
-    requires rule { rule ≤ GREATEST_RULE }
-    ensures batched { IfOk result (IsBatched (shortest_asked (G.game game.now) rule budget) from to (change K.held K.has_failed out.old out.new)) }
-    ensures fault { IfErr result (IsBatchFault (shortest_asked (G.game game.now) rule budget) from to (change K.held K.has_failed out.old out.new)) }
-{
-    deals_of(from, to)?;
-    let question = shortest(game, HomeRule::new(rule).unwrap(), budget)?;
-    run_batch_by(alloc, &question, from, to, out)
-}
-
-/// Searches the deals `from` to `to` of the question's game by its method, in turns, and writes a line for each, as
-/// `run_batch` does; what is won is `won N, at least L` where the weight isn't 1.
-///
-/// # Errors
-/// Those of `run_batch` but for the budget's.
-pub fn run_batch_by<G: Game + Drop, K: Sink>(
+/// In this order: a number outside 1 to 1,000,000, `from` before `to`; no deal or more than 32; by the method, want of memory before
+/// the first turn; lines that can't be written, of which a front may be. After any other fault nothing is written.
+pub fn run_answers<G: Game + Drop, K: Sink>(
     alloc: Global,
     question: &Question<G>,
     from: u32,
     to: u32,
     out: &mut K,
 ) -> Result<u8, ProgramFault>
-    ensures batched { IfOk result (IsBatchedBy question.now from to (change K.held K.has_failed out.old out.new)) }
-    ensures fault { IfErr result (IsBatchFaultBy question.now from to (change K.held K.has_failed out.old out.new)) }
+    ensures batched { IfOk result (IsBatchedBy question.now.sought question.now from to (change K.held K.has_failed out.old out.new)) }
+    ensures fault { IfErr result (IsBatchFaultBy question.now.sought question.now from to (change K.held K.has_failed out.old out.new)) }
+{
+    match question.sought() {
+        Sought::ByMethod => run_in_turns(alloc, question, from, to, out),
+        Sought::Best => run_one_by_one(alloc, question, from, to, out),
+    }
+}
+
+// The same by the question's method, in turns.
+fn run_in_turns<G: Game + Drop, K: Sink>(
+    alloc: Global,
+    question: &Question<G>,
+    from: u32,
+    to: u32,
+    out: &mut K,
+) -> Result<u8, ProgramFault>
+    ensures batched { IfOk result (IsBatchedBy Sought.ByMethod question.now from to (change K.held K.has_failed out.old out.new)) }
+    ensures fault { IfErr result (IsBatchFaultBy Sought.ByMethod question.now from to (change K.held K.has_failed out.old out.new)) }
 {
     let count = deals_of(from, to)?;
     let mut batch = begin(alloc, question, from, count)?;

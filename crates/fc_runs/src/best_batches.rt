@@ -3,8 +3,8 @@
 ghost use Rattle.std.specs.Prelude.{◌+◌, ◌≤◌, IfOk, IfErr, OnErr};
 ghost use Rattle.fc_deal.specs.Deal.{IsDealNumber};
 ghost use Rattle.fc_board_runs.specs.Devices.{change};
-ghost use Rattle.fc_runs.specs.Batches.{AreCutShort, AreTold};
-ghost use Rattle.fc_runs.specs.Besting.{IsBestBatched, IsBestBatchFault, IsBestLine};
+ghost use Rattle.fc_methods.specs.declared.methods.Sought.{Sought};
+ghost use Rattle.fc_runs.specs.Batches.{AreCutShort, AreTold, IsBatchedBy, IsBatchFaultBy, IsBestLine};
 
 use crate::batches::deals_of;
 use fc_answer_text::{line_text, outcome_of, told_status};
@@ -17,24 +17,16 @@ use fc_methods::Question;
 use fc_moves::Game;
 use std::alloc::Global;
 
-/// Searches the deals `from` to `to` of the question's game for their best answers, one after the other, each within the
-/// question's budget and by falling weights whatever its own weight is. Writes a line for each as soon as it is answered, rising:
-/// its number, and its answer with the number of its moves, which is `won N, at least L` where the list may not be a shortest one,
-/// or `want of memory`. Where memory is wanted for one deal, the next one goes on. The status is the greatest of theirs: 0 for a
-/// solution, 1 where a deal can't be won, 2 on giving up, 4 for want of memory.
-///
-/// # Errors
-/// In this order: a number outside 1 to 1,000,000, `from` before `to`; no deal or more than 32, and nothing is written; or lines
-/// that can't be written, of which a front may be.
-pub fn run_best_batch<G: Game + Drop, K: Sink>(
+// Best answers of the deals `from` to `to`, one after the other.
+pub(crate) fn run_one_by_one<G: Game + Drop, K: Sink>(
     alloc: Global,
     question: &Question<G>,
     from: u32,
     to: u32,
     out: &mut K,
 ) -> Result<u8, ProgramFault>
-    ensures batched { IfOk result (IsBestBatched question.now from to (change K.held K.has_failed out.old out.new)) }
-    ensures fault { IfErr result (IsBestBatchFault question.now from to (change K.held K.has_failed out.old out.new)) }
+    ensures batched { IfOk result (IsBatchedBy Sought.Best question.now from to (change K.held K.has_failed out.old out.new)) }
+    ensures fault { IfErr result (IsBatchFaultBy Sought.Best question.now from to (change K.held K.has_failed out.old out.new)) }
 {
     let count = deals_of(from, to)?;
     match write_best_lines(alloc, question, from, count, out) {

@@ -16,35 +16,6 @@ use fc_moves::Game;
 use fc_position::Position;
 use std::alloc::Global;
 
-/// Reads a board of the game and a certificate, and writes the claim that the certificate proves of the board. The status
-/// is 0. Nothing is searched.
-///
-/// # Errors
-/// In this order: a board that can't be read; a text that is none of the game; a certificate that can't be read, is longer
-/// than 1 GiB, or want of memory, whichever is met first; the first thing that is asked of a certificate and doesn't hold,
-/// or want of memory; a text that can't be written, of which a front may be. After any other fault nothing is written.
-pub fn run_check<G: Game, B: Source, C: Source, K: Sink>(
-    alloc: Global,
-    game: &G,
-    board: &mut B,
-    cert: &mut C,
-    out: &mut K,
-) -> Result<u8, ProgramFault>
-    ensures checked { IfOk result (IsChecked (G.game game.now)
-        (change B.told B.has_failed board.old board.new)
-        (change C.told C.has_failed cert.old cert.new)
-        (change K.held K.has_failed out.old out.new)) }
-    ensures fault { IfErr result (IsRefusal (G.game game.now)
-        (change B.told B.has_failed board.old board.new)
-        (change C.told C.has_failed cert.old cert.new)
-        (change K.held K.has_failed out.old out.new)) }
-    ensures taken_board { GivesAtMost (B.told board.old) (B.told board.new) (LONGEST_BOARD + 1) }
-    ensures taken_cert { GivesAtMost (C.told cert.old) (C.told cert.new) (LONGEST_CERTIFICATE + 1) }
-{
-    let start = read_position(board, game.cells())?;
-    run_check_of(alloc, game, &start, cert, out)
-}
-
 /// Reads a certificate, and writes the claim that it proves of a position that fits the game. The status is 0. Nothing is
 /// searched.
 ///

@@ -9,27 +9,19 @@ ghost use Rattle.fc_answer_text.specs.AnswerText.{told_status};
 ghost use Rattle.fc_runs.specs.Lists.{list_of};
 ghost use Rattle.fc_runs.specs.Rows.{IsNoRow, IsRowOf, answer_name, cells_text, far_text, floor_of, moves_of, number_text};
 
+use crate::certifying::write_certificate;
 use crate::lists::{PrintableList, list_of};
-use crate::solving::write_certificate;
 use arrayvec::ArrayString;
 use fc_answer_text::{outcome_of, told_status};
 use fc_answers::{MoveList, Outcome, Verdict};
-use fc_best::{BestListener, BestProgress, best};
+use fc_best::{Listener, Progress, Wants, answer};
 use fc_board_runs::{Output, ProgramFault};
 use fc_io::Sink;
 use fc_methods::Question;
 use fc_moves::Game;
 use fc_position::Position;
-use fc_search::{Listener, Progress, decide_by, solve_by};
 use itoa::Buffer;
 use std::alloc::Global;
-
-/// What is sought of a board: its answer by the question's method, or its best answer within the question's budget.
-#[derive(Clone, Copy)]
-pub enum Sought {
-    ByMethod,
-    Best,
-}
 
 /// What a search, or the searches for a best answer together, told last.
 #[derive(Clone, Copy)]
@@ -161,10 +153,9 @@ struct Last {
 }
 
 impl Listener for Last {
-    ghost use Rattle.std.specs.Prelude.{◌≡◌, Some};
-    ghost use Rattle.fc_runs.specs.inner.Rows.{far_of};
+    ghost use Rattle.fc_runs.specs.inner.Rows.{KeepsFar};
 
-    ghost hears = { λ _ far new. new.far ≡ Some (far_of far) };
+    ghost hears = { KeepsFar };
 
     fn hear(&mut self, far: Progress) {
         self.far = Some(Far {
@@ -174,26 +165,11 @@ impl Listener for Last {
             at_least: far.at_least,
         });
     }
-}
-
-impl BestListener for Last {
-    ghost use Rattle.fc_runs.specs.inner.Rows.{KeepsFar};
-
-    ghost hears = { KeepsFar };
-
-    fn hear(&mut self, far: BestProgress) {
-        self.far = Some(Far {
-            classes: u64::from(far.classes),
-            turns: far.turns,
-            most_open: far.most_open,
-            at_least: far.at_least,
-        });
-    }
 
     fn hear_list(&mut self, _moves: &MoveList, _at_least: u32) {}
 }
 
-/// The row of a position of the question's game, of which this is sought. Where `cert` is given, the certificate of the answer is
+/// The row of a position of the question's game. Where `cert` is given, the certificate of the answer is
 /// written to it, whole; giving up has none, and want of memory neither. No list of moves wins in fewer than the row's floor, also
 /// where the search gave up or memory was wanted. Of the classes, the turns and the most that was open nothing is proved: these
 /// numbers are only tested.
@@ -203,18 +179,17 @@ impl BestListener for Last {
 pub fn answer_row<G: Game + Drop, C: Sink>(
     alloc: Global,
     question: &Question<G>,
-    sought: Sought,
     start: &Position,
     cert: Option<&mut C>,
 ) -> Result<Row, ProgramFault>
     requires position { IsPositionOf question.now.game start.now }
-    ensures row { IfOk result (IsRowOf sought question.now start.now (lent C.held C.has_failed cert.entry cert.exit)) }
-    ensures fault { IfErr result (IsNoRow sought question.now start.now (lent C.held C.has_failed cert.entry cert.exit)) }
+    ensures row { IfOk result (IsRowOf question.now start.now (lent C.held C.has_failed cert.entry cert.exit)) }
+    ensures fault { IfErr result (IsNoRow question.now start.now (lent C.held C.has_failed cert.entry cert.exit)) }
     ensures back { IsHandedBack cert.entry cert.exit }
 {
     match cert {
-        Some(cert) => certified_row(alloc, question, sought, start, cert),
-        None => Ok(plain_row(alloc, question, sought, start)),
+        Some(cert) => certified_row(alloc, question, start, cert),
+        None => Ok(plain_row(alloc, question, start)),
     }
 }
 
@@ -222,37 +197,13 @@ pub fn answer_row<G: Game + Drop, C: Sink>(
 pub(crate) fn plain_row<G: Game + Drop>(
     alloc: Global,
     question: &Question<G>,
-    sought: Sought,
     start: &Position,
 ) -> Row
     requires position { IsPositionOf question.now.game start.now }
-    ensures row { IsRowOf sought question.now start.now None result }
-{
-    match sought {
-        Sought::ByMethod => row_by_method(alloc, question, start),
-        Sought::Best => best_row(alloc, question, start),
-    }
-}
-
-// The row of a position that is searched by the question's method.
-fn row_by_method<G: Game + Drop>(alloc: Global, question: &Question<G>, start: &Position) -> Row
-    requires position { IsPositionOf question.now.game start.now }
-    ensures row { IsRowOf Sought.ByMethod question.now start.now None result }
+    ensures row { IsRowOf question.now start.now None result }
 {
     let mut last = Last { far: None };
-    match decide_by(alloc, question, start, &mut last) {
-        Ok(verdict) => row_of(question, verdict, last.far),
-        Err(_) => row_of_memory(question, last.far),
-    }
-}
-
-// The row of a position whose best answer is searched for.
-fn best_row<G: Game + Drop>(alloc: Global, question: &Question<G>, start: &Position) -> Row
-    requires position { IsPositionOf question.now.game start.now }
-    ensures row { IsRowOf Sought.Best question.now start.now None result }
-{
-    let mut last = Last { far: None };
-    match best(alloc, question, start, false, &mut last) {
+    match answer(alloc, question, start, Wants::Verdict, &mut last) {
         Ok(answer) => row_of(question, answer.verdict, last.far),
         Err(_) => row_of_memory(question, last.far),
     }
@@ -300,54 +251,15 @@ fn budget_of<G: Game + Drop>(question: &Question<G>) -> u32
 fn certified_row<G: Game + Drop, C: Sink>(
     alloc: Global,
     question: &Question<G>,
-    sought: Sought,
     start: &Position,
     cert: &mut C,
 ) -> Result<Row, ProgramFault>
     requires position { IsPositionOf question.now.game start.now }
-    ensures row { IfOk result (IsRowOf sought question.now start.now (Some (change C.held C.has_failed cert.old cert.new))) }
-    ensures fault { IfErr result (IsNoRow sought question.now start.now (Some (change C.held C.has_failed cert.old cert.new))) }
-{
-    match sought {
-        Sought::ByMethod => certified_row_by_method(alloc, question, start, cert),
-        Sought::Best => certified_best_row(alloc, question, start, cert),
-    }
-}
-
-// The row of a position that is searched by the question's method, once its certificate is written.
-fn certified_row_by_method<G: Game + Drop, C: Sink>(
-    alloc: Global,
-    question: &Question<G>,
-    start: &Position,
-    cert: &mut C,
-) -> Result<Row, ProgramFault>
-    requires position { IsPositionOf question.now.game start.now }
-    ensures row { IfOk result (IsRowOf Sought.ByMethod question.now start.now (Some (change C.held C.has_failed cert.old cert.new))) }
-    ensures fault { IfErr result (IsNoRow Sought.ByMethod question.now start.now (Some (change C.held C.has_failed cert.old cert.new))) }
+    ensures row { IfOk result (IsRowOf question.now start.now (Some (change C.held C.has_failed cert.old cert.new))) }
+    ensures fault { IfErr result (IsNoRow question.now start.now (Some (change C.held C.has_failed cert.old cert.new))) }
 {
     let mut last = Last { far: None };
-    let Ok(answer) = solve_by(alloc, question, start, &mut last) else {
-        return Ok(row_of_memory(question, last.far));
-    };
-    let Ok(()) = write_certificate(question.game(), &answer, cert) else {
-        return Err(ProgramFault::Write(Output::Cert));
-    };
-    Ok(row_of(question, answer.verdict, last.far))
-}
-
-// The row of a position whose best answer is searched for, once its certificate is written.
-fn certified_best_row<G: Game + Drop, C: Sink>(
-    alloc: Global,
-    question: &Question<G>,
-    start: &Position,
-    cert: &mut C,
-) -> Result<Row, ProgramFault>
-    requires position { IsPositionOf question.now.game start.now }
-    ensures row { IfOk result (IsRowOf Sought.Best question.now start.now (Some (change C.held C.has_failed cert.old cert.new))) }
-    ensures fault { IfErr result (IsNoRow Sought.Best question.now start.now (Some (change C.held C.has_failed cert.old cert.new))) }
-{
-    let mut last = Last { far: None };
-    let Ok(answer) = best(alloc, question, start, true, &mut last) else {
+    let Ok(answer) = answer(alloc, question, start, Wants::Table, &mut last) else {
         return Ok(row_of_memory(question, last.far));
     };
     let Ok(()) = write_certificate(question.game(), &answer, cert) else {

@@ -7,7 +7,7 @@ ghost use Rattle.fc_runs.specs.Rows.{IsRowOf};
 ghost use Rattle.fc_runs.specs.Tabling.{AreTabled, IsTableAsked, IsTabled, IsTableCutShort, IsTableFault, IsTableUnasked, names_text, row_text};
 
 use crate::batches::is_deal;
-use crate::rows::{Row, Sought, plain_row};
+use crate::rows::{Row, plain_row};
 use arrayvec::ArrayString;
 use fc_board_runs::{Output, ProgramFault};
 use fc_deal::deal;
@@ -24,7 +24,7 @@ pub fn table_head() -> &'static str
     "deal\tanswer\tmoves\tfloor\tbudget\tstored\tturns\topen\n"
 }
 
-/// Searches the deals `from` to `to` of the question's game, any number of them and one after the other, each for what is sought,
+/// Searches the deals `from` to `to` of the question's game, any number of them and one after the other, each for what it seeks,
 /// and writes a table parted by tabs: a line of the columns' names, and a row for each deal, rising, as soon as its search has
 /// ended. A row has the number of the deal, and the cells that `Row::cells` tells. Where memory is wanted for one deal, the next
 /// one goes on. The status is the greatest of the rows': 0 for a solution, 1 where a deal can't be won, 2 on giving up, 4 for want
@@ -36,18 +36,17 @@ pub fn table_head() -> &'static str
 pub fn run_table<G: Game + Drop, K: Sink>(
     alloc: Global,
     question: &Question<G>,
-    sought: Sought,
     from: u32,
     to: u32,
     out: &mut K,
 ) -> Result<u8, ProgramFault>
-    ensures tabled { IfOk result (IsTabled sought question.now from to
+    ensures tabled { IfOk result (IsTabled question.now from to
         (change K.held K.has_failed out.old out.new)) }
-    ensures fault { IfErr result (IsTableFault sought question.now from to
+    ensures fault { IfErr result (IsTableFault question.now from to
         (change K.held K.has_failed out.old out.new)) }
 {
     let count = table_deals(from, to)?;
-    match write_table(alloc, question, sought, from, count, out) {
+    match write_table(alloc, question, from, count, out) {
         Ok(status) => Ok(status),
         Err(_) => Err(ProgramFault::Write(Output::Answer)),
     }
@@ -77,22 +76,21 @@ pub fn table_deals(from: u32, to: u32) -> Result<u32, ProgramFault>
 fn write_table<G: Game + Drop, K: Sink>(
     alloc: Global,
     question: &Question<G>,
-    sought: Sought,
     from: u32,
     count: u32,
     out: &mut K,
 ) -> Result<u8, Failed>
     requires first { 1 ≤ from }
     requires last { from + count ≤ 1000001 }
-    ensures tabled { IfOk result (AreTabled sought question.now from count
+    ensures tabled { IfOk result (AreTabled question.now from count
         (change K.held K.has_failed out.old out.new)) }
-    ensures cut { OnErr result (IsTableCutShort sought question.now from count
+    ensures cut { OnErr result (IsTableCutShort question.now from count
         (change K.held K.has_failed out.old out.new)) }
 {
     write_all(out, table_head().as_bytes())?;
     let mut greatest = 0;
     for i in 0..count {
-        let row = deal_row(alloc, question, sought, from + i);
+        let row = deal_row(alloc, question, from + i);
         let Ok(()) = write_all(out, row_text(from + i, &row).as_bytes()) else {
             return Err(Failed);
         };
@@ -106,13 +104,12 @@ fn write_table<G: Game + Drop, K: Sink>(
 fn deal_row<G: Game + Drop>(
     alloc: Global,
     question: &Question<G>,
-    sought: Sought,
     number: u32,
 ) -> Row
     requires deal { IsDealNumber number }
-    ensures row { IsRowOf sought question.now (dealt_board number) None result }
+    ensures row { IsRowOf question.now (dealt_board number) None result }
 {
-    plain_row(alloc, question, sought, &deal(number).unwrap())
+    plain_row(alloc, question, &deal(number).unwrap())
 }
 
 // The text of a deal's row.

@@ -1,6 +1,6 @@
 use Rattle.std.proofs.Common.{rules, ◌≡◌, arith, subst, IsTrue}
 use Rattle.fc_board_runs.specs.Devices.{Device}
-use Rattle.fc_runs.specs.Besting.{IsBestLine}
+use Rattle.fc_runs.specs.Batches.{IsBestLine}
 use Rattle.fc_runs.proofs.BatchLemmas.{AreWritten, all_told, cut_short, one_more_written}
 use Rattle.fc_runs.proofs.best_batches.write_best_lines.Goals as goal
 

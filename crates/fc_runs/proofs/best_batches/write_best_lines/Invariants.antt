@@ -1,5 +1,5 @@
 use Rattle.std.proofs.Common.{◌≤◌, IsTrue}
-use Rattle.fc_runs.specs.Besting.{IsBestLine}
+use Rattle.fc_runs.specs.Batches.{IsBestLine}
 use Rattle.fc_runs.proofs.BatchLemmas.{AreWritten}
 use Rattle.fc_runs.proofs.best_batches.write_best_lines.Given as goal
 

@@ -11,7 +11,7 @@ returns-in_err-write_all-clause-cut g c =
       new = g.K.Sink.held c.write_all.new.sink;
       failed = g.K.Sink.has_failed c.write_all.new.sink;
     } in
-    let cut : OnErr c.from_residual.result (IsTableCutShort c.args.sought c.args.question.now c.args.from c.args.count sink) =
+    let cut : OnErr c.from_residual.result (IsTableCutShort c.args.question.now c.args.from c.args.count sink) =
     search rules in
     cut
 
@@ -23,20 +23,20 @@ returns-in_default-clause-cut g c =
       failed = g.K.Sink.has_failed c.write_all-in-loop-i.new.sink;
     } in
     let failed : IsTrue sink.failed = search rules in
-    row_cut_short c.args.sought c.args.question.now c.args.from c.loop-i.i c.args.count
+    row_cut_short c.args.question.now c.args.from c.loop-i.i c.args.count
     (g.K.Sink.held c.loop-i.out) sink c.loop-i.greatest c.deal_row-row.result c.loop-i.invariant.so_far c.deal_row-row.ensures.row
     (search rules) c.loop-i-test.true failed
 
 pub loop-i-init : goal.loop-i-init
 loop-i-init g c = record {
-  so_far = none_written c.args.sought c.args.question.now c.args.from (g.K.Sink.held c.args.out.now) (g.K.Sink.held c.write_all.new.sink)
+  so_far = none_written c.args.question.now c.args.from (g.K.Sink.held c.args.out.now) (g.K.Sink.held c.write_all.new.sink)
       c.as_bytes.result.now (c.as_bytes.ensures.value ∙ c.table_head.ensures.value) (search rules);
   sound = search rules;
 }
 
 pub loop-i-preserved : goal.loop-i-preserved
 loop-i-preserved g c = record {
-  so_far = one_more_written c.args.sought c.args.question.now c.args.from c.loop-i.i
+  so_far = one_more_written c.args.question.now c.args.from c.loop-i.i
       (g.K.Sink.held c.args.out.now) (g.K.Sink.held c.loop-i.out) (g.K.Sink.held c.write_all-in-loop-i.new.sink) c.loop-i.greatest c.max-greatest.result
       c.deal_row-row.result c.loop-i.invariant.so_far c.deal_row-row.ensures.row (search rules) (search rules);
   sound = search rules;

@@ -5,6 +5,6 @@ use Rattle.fc_runs.proofs.tabling.write_table.Given as goal
 -- the names and so many rows are written
 abbrev pub invariant-loop-i : goal.invariant-loop-i
 invariant-loop-i g l = record {
-  so_far : RowsAreWritten l.fn.sought l.fn.question l.fn.from l.i (g.K.Sink.held l.fn.out) (g.K.Sink.held l.out) l.greatest;
+  so_far : RowsAreWritten l.fn.question l.fn.from l.i (g.K.Sink.held l.fn.out) (g.K.Sink.held l.out) l.greatest;
   sound : IsTrue (g.K.Sink.has_failed l.out) → ⊥;
 }
