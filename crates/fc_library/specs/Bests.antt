@@ -1,15 +1,13 @@
 -- What the best answers of boards promise, told in memory.
 use Rattle.std.specs.Prelude.{ℕ, List}
 use Rattle.fc_position.specs.Board.{Board}
-use Rattle.fc_answers.specs.declared.answers.Verdict.{Verdict}
 use Rattle.fc_bound.specs.declared.kinds.BoundKind.TheVariants.{Clearing}
-use Rattle.fc_best.specs.Best.{IsBestVerdict}
 use Rattle.fc_best_first.specs.Limits.{IsGreatBudget}
 use Rattle.fc_best_first.specs.declared.strategies.Expansion.TheVariants.{Partial}
 use Rattle.fc_methods.specs.Method.{Asked}
 use Rattle.fc_methods.specs.declared.methods.Method.{Method}
-use Rattle.fc_search.specs.Problem.{problem_of}
-use Rattle.fc_library.specs.Answers.{IsVerdictCertified, IsVerdictTold}
+use Rattle.fc_methods.specs.declared.methods.Sought.TheVariants.{Best}
+use Rattle.fc_library.specs.Answers.{IsAnswerCertified, IsAnswerTold}
 use Rattle.fc_library.specs.Boards.{IsTextFault, SpellsPlainly}
 use Rattle.fc_library.specs.Games.{IsNamed, game_named}
 use Rattle.fc_library.specs.declared.games.GameName.{GameName}
@@ -24,7 +22,7 @@ best_method budget = record { rule = 2; bound = Clearing; strategy = record { we
 
 -- the question of a best answer in a game that is named
 abbrev pub asked_best : GameName → ℕ → Asked
-asked_best name budget = record { game = game_named name; method = best_method budget }
+asked_best name budget = record { game = game_named name; sought = Best; method = best_method budget }
 
 -- what is asked can be: the game is one, the budget is one, and the text spells the position
 pub record CanBeAsked (name : GameName) (text : List ℕ) (budget : ℕ) (start : Board) : Type 0 where
@@ -32,21 +30,13 @@ pub record CanBeAsked (name : GameName) (text : List ℕ) (budget : ℕ) (start 
   pub budgeted : IsGreatBudget budget
   pub spelled : SpellsPlainly name.cells text start
 
--- a best verdict for a board was told
-abbrev pub IsBestToldOf : Asked → Board → Told → Type 0
-IsBestToldOf q b told = (verdict : Verdict) × IsBestVerdict q b verdict × IsVerdictTold verdict told
-
--- and certified
-abbrev pub IsBestCertifiedOf : Asked → Board → Certified → Type 0
-IsBestCertifiedOf q b told = (verdict : Verdict) × IsBestVerdict q b verdict × IsVerdictCertified (problem_of q b) verdict told
-
 -- a board was answered, by its best verdict
 abbrev pub IsBestTold : GameName → List ℕ → ℕ → Told → Type 0
-IsBestTold name text budget told = (start : Board) × CanBeAsked name text budget start × IsBestToldOf (asked_best name budget) start told
+IsBestTold name text budget told = (start : Board) × CanBeAsked name text budget start × IsAnswerTold (asked_best name budget) start told
 
 -- and by its certificate
 abbrev pub IsBestCertified : GameName → List ℕ → ℕ → Certified → Type 0
-IsBestCertified name text budget told = (start : Board) × CanBeAsked name text budget start × IsBestCertifiedOf (asked_best name budget) start told
+IsBestCertified name text budget told = (start : Board) × CanBeAsked name text budget start × IsAnswerCertified (asked_best name budget) start told
 
 -- why a board wasn't answered, each fault only where those before it have no cause
 abbrev pub IsBestRefused : GameName → List ℕ → ℕ → Refusal → Type 0

@@ -1,12 +1,10 @@
 -- What the answers of searches by a method promise, told in memory.
 use Rattle.std.specs.Prelude.{◌≡◌, ℕ, List}
 use Rattle.fc_position.specs.Board.{Board}
-use Rattle.fc_answers.specs.declared.answers.Verdict.{Verdict}
 use Rattle.fc_methods.specs.Method.{Asked}
 use Rattle.fc_methods.specs.declared.methods.Method.{Method}
-use Rattle.fc_search.specs.Problem.{problem_of}
-use Rattle.fc_runs.specs.Solving.{IsDecided}
-use Rattle.fc_library.specs.Answers.{IsVerdictCertified, IsVerdictTold}
+use Rattle.fc_methods.specs.declared.methods.Sought.TheVariants.{ByMethod}
+use Rattle.fc_library.specs.Answers.{IsAnswerCertified, IsAnswerTold}
 use Rattle.fc_library.specs.Boards.{IsTextFault, SpellsPlainly}
 use Rattle.fc_library.specs.Games.{IsNamed, game_named}
 use Rattle.fc_library.specs.Methods.{IsMethodOf, IsMethodRefused}
@@ -17,28 +15,22 @@ use Rattle.fc_library.specs.declared.answers.Told.{Told}
 use Rattle.fc_library.specs.declared.refusals.Refusal.{Refusal}
 use Rattle.fc_library.specs.declared.refusals.Refusal.TheVariants as refused
 
--- what is asked can be, and is this: the question of the game and the method that are named, and the position that the text spells
+-- what is asked can be, and is this: the question by the method of the game and the method that are named, and the position that the
+-- text spells
 pub record CanBeSolved (name : GameName) (by : MethodName) (text : List ℕ) (q : Asked) (start : Board) : Type 0 where
   pub named : IsNamed name
   pub game : q.game ≡ game_named name
+  pub sought : q.sought ≡ ByMethod
   pub method : IsMethodOf by q.method
   pub spelled : SpellsPlainly name.cells text start
 
--- the verdict of a search of the question, which ran to its end, was told
-abbrev pub IsSolvedToldOf : Asked → Board → Told → Type 0
-IsSolvedToldOf q b told = (verdict : Verdict) × IsDecided (problem_of q b) verdict × IsVerdictTold verdict told
-
--- and certified
-abbrev pub IsSolvedCertifiedOf : Asked → Board → Certified → Type 0
-IsSolvedCertifiedOf q b told = (verdict : Verdict) × IsDecided (problem_of q b) verdict × IsVerdictCertified (problem_of q b) verdict told
-
 -- a board was answered
 abbrev pub IsSolvedTold : GameName → MethodName → List ℕ → Told → Type 0
-IsSolvedTold name method text told = (q : Asked) × (start : Board) × CanBeSolved name method text q start × IsSolvedToldOf q start told
+IsSolvedTold name method text told = (q : Asked) × (start : Board) × CanBeSolved name method text q start × IsAnswerTold q start told
 
 -- and by its certificate
 abbrev pub IsSolvedCertified : GameName → MethodName → List ℕ → Certified → Type 0
-IsSolvedCertified name method text told = (q : Asked) × (start : Board) × CanBeSolved name method text q start × IsSolvedCertifiedOf q start told
+IsSolvedCertified name method text told = (q : Asked) × (start : Board) × CanBeSolved name method text q start × IsAnswerCertified q start told
 
 -- why a board wasn't answered, each fault only where those before it have no cause
 abbrev pub IsSolveRefused : GameName → MethodName → List ℕ → Refusal → Type 0

@@ -1,16 +1,20 @@
 //! What calls hand over, and verdicts told so.
+
 ghost use Rattle.std.specs.Prelude.{◌≡◌, IfOk, IfErr};
 ghost use Rattle.fc_moves.specs.GameRules.{IsPositionOf};
 ghost use Rattle.fc_answers.specs.Verdict.{CanBeWritten};
 ghost use Rattle.fc_search.specs.Problem.{Problem};
-ghost use Rattle.fc_runs.specs.Certificates.{IsCertifiable};
-ghost use Rattle.fc_library.specs.Answers.{IsVerdictCertified, IsVerdictTold};
+ghost use Rattle.fc_best.specs.Answering.{IsCertifiable};
+ghost use Rattle.fc_library.specs.Answers.{IsAnswerCertified, IsAnswerTold, IsVerdictCertified, IsVerdictTold};
 
 use crate::refusals::Refusal;
 use crate::sinks::ToVec;
 use fc_answer_text::{outcome_of, verdict_status, verdict_text};
 use fc_answers::{Answer, Outcome, Verdict};
+use fc_best::{Unheard, Wants, answer};
+use fc_methods::Question;
 use fc_moves::Game;
+use fc_position::Position;
 use fc_runs::write_certificate;
 use std::alloc::Global;
 
@@ -30,6 +34,38 @@ pub struct Told {
 pub struct Certified {
     pub told: Told,
     pub certificate: Vec<u8>,
+}
+
+// The answer of a question for a position.
+pub(crate) fn tell<G: Game + Drop>(
+    alloc: Global,
+    question: &Question<G>,
+    start: &Position,
+) -> Result<Told, Refusal>
+    requires position { IsPositionOf question.now.game start.now }
+    ensures told { IfOk result (IsAnswerTold question.now start.now) }
+    ensures refused { IfErr result (λ refusal. refusal ≡ Refusal.Memory) }
+{
+    match answer(alloc, question, start, Wants::Verdict, &mut Unheard) {
+        Ok(answer) => told_of(alloc, &answer.verdict),
+        Err(_) => Err(Refusal::Memory),
+    }
+}
+
+// The same, with its certificate.
+pub(crate) fn certify<G: Game + Drop>(
+    alloc: Global,
+    question: &Question<G>,
+    start: &Position,
+) -> Result<Certified, Refusal>
+    requires position { IsPositionOf question.now.game start.now }
+    ensures told { IfOk result (IsAnswerCertified question.now start.now) }
+    ensures refused { IfErr result (λ refusal. refusal ≡ Refusal.Memory) }
+{
+    match answer(alloc, question, start, Wants::Table, &mut Unheard) {
+        Ok(answer) => certified_of(alloc, question.game(), &answer),
+        Err(_) => Err(Refusal::Memory),
+    }
 }
 
 // A verdict, told by its text and its numbers.

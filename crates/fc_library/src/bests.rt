@@ -1,15 +1,15 @@
 //! The best answer of a board.
 ghost use Rattle.std.specs.Prelude.{◌≡◌, ◌≢◌, IfOk, IfErr};
 ghost use Rattle.fc_moves.specs.GameRules.{IsPositionOf};
-ghost use Rattle.fc_library.specs.Bests.{CanBeAsked, IsBestCertified, IsBestCertifiedOf, IsBestRefused, IsBestTold, IsBestToldOf, asked_best, best_method};
+ghost use Rattle.fc_library.specs.Bests.{CanBeAsked, IsBestCertified, IsBestRefused, IsBestTold, asked_best, best_method};
 
-use crate::answers::{Certified, Told, certified_of, told_of};
+use crate::answers::{Certified, Told, certify, tell};
 use crate::boards::start_of;
 use crate::games::{AnyGame, GameName, game_of};
 use crate::refusals::Refusal;
-use fc_best::Unheard;
-use fc_methods::{BoundKind, Expansion, GreatBudget, HomeRule, Method, Question, Strategy, Weight};
-use fc_moves::Game;
+use fc_methods::{
+    BoundKind, Expansion, GreatBudget, HomeRule, Method, Question, Sought, Strategy, Weight,
+};
 use fc_position::Position;
 use std::alloc::Global;
 
@@ -61,7 +61,7 @@ pub(crate) fn asked(
         return Err(Refusal::Budget);
     };
     match start_of(board, name.cells) {
-        Ok(start) => Ok((Question::new(&game, best_method(budget)), start)),
+        Ok(start) => Ok((Question::new(&game, Sought::Best, best_method(budget)), start)),
         Err(fault) => Err(Refusal::Board(fault)),
     }
 }
@@ -78,37 +78,5 @@ fn best_method(budget: GreatBudget) -> Method
             expansion: Expansion::Partial,
             budget,
         },
-    }
-}
-
-// The best answer for a position.
-fn tell<G: Game + Drop>(
-    alloc: Global,
-    question: &Question<G>,
-    start: &Position,
-) -> Result<Told, Refusal>
-    requires position { IsPositionOf question.now.game start.now }
-    ensures told { IfOk result (IsBestToldOf question.now start.now) }
-    ensures refused { IfErr result (λ refusal. refusal ≡ Refusal.Memory) }
-{
-    match fc_best::best(alloc, question, start, false, &mut Unheard) {
-        Ok(answer) => told_of(alloc, &answer.verdict),
-        Err(_) => Err(Refusal::Memory),
-    }
-}
-
-// The best answer for a position, and its certificate.
-fn certify<G: Game + Drop>(
-    alloc: Global,
-    question: &Question<G>,
-    start: &Position,
-) -> Result<Certified, Refusal>
-    requires position { IsPositionOf question.now.game start.now }
-    ensures told { IfOk result (IsBestCertifiedOf question.now start.now) }
-    ensures refused { IfErr result (λ refusal. refusal ≡ Refusal.Memory) }
-{
-    match fc_best::best(alloc, question, start, true, &mut Unheard) {
-        Ok(answer) => certified_of(alloc, question.game(), &answer),
-        Err(_) => Err(Refusal::Memory),
     }
 }

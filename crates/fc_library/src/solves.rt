@@ -1,17 +1,15 @@
 //! A board, solved by a method.
 ghost use Rattle.std.specs.Prelude.{◌≡◌, ◌≢◌, IfOk, IfErr};
 ghost use Rattle.fc_moves.specs.GameRules.{IsPositionOf};
-ghost use Rattle.fc_library.specs.Solves.{CanBeSolved, IsSolvedCertified, IsSolvedCertifiedOf, IsSolvedTold, IsSolvedToldOf, IsSolveRefused};
+ghost use Rattle.fc_library.specs.Solves.{CanBeSolved, IsSolvedCertified, IsSolvedTold, IsSolveRefused};
 
-use crate::answers::{Certified, Told, certified_of, told_of};
+use crate::answers::{Certified, Told, certify, tell};
 use crate::boards::start_of;
 use crate::games::{AnyGame, GameName, game_of};
 use crate::methods::{MethodName, method_of};
 use crate::refusals::Refusal;
-use fc_methods::Question;
-use fc_moves::Game;
+use fc_methods::{Question, Sought};
 use fc_position::Position;
-use fc_search::{Unheard, decide_by, solve_by};
 use std::alloc::Global;
 
 /// The answer of one search by a method, for a board of the game of this name: the text that the program prints, and its numbers.
@@ -64,39 +62,7 @@ fn asked(
     };
     let method = method_of(method)?;
     match start_of(board, name.cells) {
-        Ok(start) => Ok((Question::new(&game, method), start)),
+        Ok(start) => Ok((Question::new(&game, Sought::ByMethod, method), start)),
         Err(fault) => Err(Refusal::Board(fault)),
-    }
-}
-
-// The answer for a position.
-fn tell<G: Game + Drop>(
-    alloc: Global,
-    question: &Question<G>,
-    start: &Position,
-) -> Result<Told, Refusal>
-    requires position { IsPositionOf question.now.game start.now }
-    ensures told { IfOk result (IsSolvedToldOf question.now start.now) }
-    ensures refused { IfErr result (λ refusal. refusal ≡ Refusal.Memory) }
-{
-    match decide_by(alloc, question, start, &mut Unheard) {
-        Ok(verdict) => told_of(alloc, &verdict),
-        Err(_) => Err(Refusal::Memory),
-    }
-}
-
-// The answer for a position, and its certificate.
-fn certify<G: Game + Drop>(
-    alloc: Global,
-    question: &Question<G>,
-    start: &Position,
-) -> Result<Certified, Refusal>
-    requires position { IsPositionOf question.now.game start.now }
-    ensures told { IfOk result (IsSolvedCertifiedOf question.now start.now) }
-    ensures refused { IfErr result (λ refusal. refusal ≡ Refusal.Memory) }
-{
-    match solve_by(alloc, question, start, &mut Unheard) {
-        Ok(answer) => certified_of(alloc, question.game(), &answer),
-        Err(_) => Err(Refusal::Memory),
     }
 }

@@ -18,7 +18,7 @@ use Rattle.fc_methods.specs.Method.{Asked}
 use Rattle.fc_search.specs.Problem.{problem_of}
 use Rattle.fc_best.specs.Best.{IsBest, IsBestAnswer, IsBestVerdict, IsFloor}
 use Rattle.fc_best.specs.Watch.{floor_told}
-use Rattle.fc_runs.specs.Certificates.{IsCertifiable, TellsWins}
+use Rattle.fc_best.specs.Answering.{IsCertifiable, TellsWins}
 use Rattle.fc_review.specs.Rating.{IsGivingUp, IsOwnVerdict}
 use Rattle.fc_review.specs.inner.Own.{SaysAbove}
 
