@@ -8,12 +8,11 @@ ghost use Rattle.fc_moves.specs.MoveText.{HasText};
 use crate::certs::CertFile;
 use fc_answer_text::{moves_text, outcome_of, verdict_status, verdict_text};
 use fc_answers::{Answer, MoveList, Outcome, Verdict};
-use fc_best::{BestListener, best};
+use fc_best::{Listener, Wants, answer};
 use fc_methods::Question;
 use fc_moves::{Game, Move};
 use fc_position::Position;
 use fc_runs::{Output, ProgramFault, write_certificate};
-use fc_search::{Listener, decide_by, solve_by};
 use std::alloc::{AllocError, Global};
 use std::marker::Model;
 
@@ -136,11 +135,11 @@ fn letters_of(alloc: Global, verdict: &Verdict) -> Result<Vec<u8>, AllocError>
     }
 }
 
-/// The best answer of a board within the question's budget. Where a file is given for it, its certificate is written there.
+/// What a question is answered of a board. Where a file is given for it, its certificate is written there.
 ///
 /// # Errors
 /// In this order: want of memory; a certificate that can't be written, of which a front may be.
-pub fn best_answer<G: Game + Drop, L: BestListener>(
+pub fn find_answer<G: Game + Drop, L: Listener>(
     alloc: Global,
     question: &Question<G>,
     start: &Position,
@@ -149,31 +148,12 @@ pub fn best_answer<G: Game + Drop, L: BestListener>(
 ) -> Result<Answered, ProgramFault>
     requires position { IsPositionOf question.now.game start.now }
 {
-    let answer = best(alloc, question, start, cert.is_some(), listener)?;
-    certified(alloc, question.game(), answer, cert)
-}
-
-/// The answer of a board by the question's method. Where a file is given for it, its certificate is written there.
-///
-/// # Errors
-/// In this order: want of memory; a certificate that can't be written, of which a front may be.
-pub fn answer_by_method<G: Game + Drop, L: Listener>(
-    alloc: Global,
-    question: &Question<G>,
-    start: &Position,
-    cert: Option<&mut CertFile>,
-    listener: &mut L,
-) -> Result<Answered, ProgramFault>
-    requires position { IsPositionOf question.now.game start.now }
-{
-    let answer = if cert.is_some() {
-        solve_by(alloc, question, start, listener)?
+    let wants = if cert.is_some() {
+        Wants::Table
     } else {
-        Answer {
-            verdict: decide_by(alloc, question, start, listener)?,
-            table: None,
-        }
+        Wants::Verdict
     };
+    let answer = answer(alloc, question, start, wants, listener)?;
     certified(alloc, question.game(), answer, cert)
 }
 

@@ -1,13 +1,13 @@
 //! `batch`: several boards are solved.
 ghost use Rattle.std.specs.Prelude.{◌≤◌};
 
-use crate::endings::{Ending, tell, tell_of_great_budget};
+use crate::endings::{Ending, no_budget, tell};
 use crate::games::InGame;
 use crate::outputs::Out;
 use crate::tables::{write_deals, write_rows};
-use fc_methods::{Method, Question};
+use fc_methods::{Method, Question, Sought};
 use fc_moves::Game;
-use fc_runs::{ProgramFault, Sought, run_batch, run_batch_by, run_best_batch, table_deals};
+use fc_runs::{ProgramFault, run_answers, run_batch, table_deals};
 use fc_words::{BatchBoards, BatchForm, BatchSearch, BatchWords};
 use std::io::IsTerminal;
 
@@ -56,16 +56,12 @@ fn write_lines<G: Game + Drop>(
         let (rule, budget) = limits_of(search);
         return match run_batch(alloc, game, rule, from, to, budget, &mut out) {
             Ok(status) => Ok(status),
-            Err(ProgramFault::Budget) => Err(no_budget(rt, search)),
+            Err(ProgramFault::Budget) => Err(no_budget(rt, sought_by(search))),
             Err(fault) => Err(unasked(rt, fault, from, to)),
         };
     };
-    let question = Question::new(game, method);
-    let ran = match search {
-        BatchSearch::By(_) => run_batch_by(alloc, &question, from, to, &mut out),
-        BatchSearch::Best(_) => run_best_batch(alloc, &question, from, to, &mut out),
-    };
-    match ran {
+    let question = Question::new(game, sought_by(search), method);
+    match run_answers(alloc, &question, from, to, &mut out) {
         Err(ProgramFault::Range) => Err(unasked(rt, ProgramFault::Range, from, to)),
         ran => out.end_of(ran),
     }
@@ -112,18 +108,14 @@ fn write_table<G: Game + Drop>(
     words: &BatchWords<'_>,
 ) -> Result<u8, Ending> {
     let Some(method) = method_of(&words.search) else {
-        return Err(no_budget(rt, &words.search));
+        return Err(no_budget(rt, sought_by(&words.search)));
     };
-    let sought = match words.search {
-        BatchSearch::By(_) => Sought::ByMethod,
-        BatchSearch::Best(_) => Sought::Best,
-    };
-    let question = Question::new(game, method);
+    let question = Question::new(game, sought_by(&words.search), method);
     match (&words.boards, words.form, words.certs, words.has_totals) {
         (BatchBoards::Deals { from, to }, BatchForm::Table, None, false) => {
-            write_deals(rt, &question, sought, *from, *to)
+            write_deals(rt, &question, *from, *to)
         }
-        _ => write_rows(rt, words, &question, sought),
+        _ => write_rows(rt, words, &question),
     }
 }
 
@@ -135,11 +127,11 @@ fn method_of(search: &BatchSearch) -> Option<Method> {
     }
 }
 
-// Ends with the range of a budget that is none.
-fn no_budget(rt: &HostRuntime, search: &BatchSearch) -> Ending {
+// What is sought of each deal.
+fn sought_by(search: &BatchSearch) -> Sought {
     match search {
-        BatchSearch::By(_) => Ending::Fault(ProgramFault::Budget),
-        BatchSearch::Best(_) => tell_of_great_budget(rt),
+        BatchSearch::By(_) => Sought::ByMethod,
+        BatchSearch::Best(_) => Sought::Best,
     }
 }
 

@@ -1,15 +1,15 @@
 //! `best --each`: each better answer is written as it comes.
 ghost use Rattle.fc_moves.specs.GameRules.{IsPositionOf};
 
-use crate::answers::{Answered, best_answer};
+use crate::answers::{Answered, find_answer};
 use crate::certs::CertFile;
 use crate::endings::Ending;
 use crate::hands::by_hand_told;
 use crate::objects::Beside;
 use crate::telling::Telling;
-use crate::watching::BestTeller;
+use crate::watching::Teller;
 use fc_answers::MoveList;
-use fc_best::{BestListener, BestProgress};
+use fc_best::{Listener, Progress};
 use fc_methods::{HomeRule, Question};
 use fc_moves::Game;
 use fc_position::Position;
@@ -23,7 +23,7 @@ pub fn answer_each<G: Game + Drop>(
     question: &Question<G>,
     start: &Position,
     cert: Option<&mut CertFile>,
-    teller: &mut BestTeller<'_>,
+    teller: &mut Teller<'_>,
 ) -> Result<u8, Ending>
     requires position { IsPositionOf question.now.game start.now }
 {
@@ -38,7 +38,7 @@ pub fn answer_each<G: Game + Drop>(
         teller,
         written: Ok(false),
     };
-    let found = best_answer(rt.alloc(), question, start, cert, &mut each);
+    let found = find_answer(rt.alloc(), question, start, cert, &mut each);
     line.clear();
     let told = each.end(&found);
     let searched = teller.searched();
@@ -61,7 +61,7 @@ struct EachTeller<'a, 'w, 't, 'b, G: Game> {
     game: &'a G,
     rule: HomeRule,
     start: &'a Position,
-    teller: &'t mut BestTeller<'b>,
+    teller: &'t mut Teller<'b>,
     // Whether the list that was heard last is written, or why no more can be.
     written: Result<bool, Ending>,
     ghost fits: { IsPositionOf (G.game game.now) start.now },
@@ -95,10 +95,10 @@ impl<G: Game> EachTeller<'_, '_, '_, '_, G> {
     }
 }
 
-impl<G: Game> BestListener for EachTeller<'_, '_, '_, '_, G> {
+impl<G: Game> Listener for EachTeller<'_, '_, '_, '_, G> {
     ghost hears = { λ _ _ _. Unit {0} };
 
-    fn hear(&mut self, far: BestProgress) {
+    fn hear(&mut self, far: Progress) {
         self.teller.hear(far);
     }
 

@@ -5,7 +5,7 @@ ghost use Rattle.std.specs.Prelude.{◌≤◌};
 
 use crate::notes::{BoardText, add_note};
 use fc_cert::LONGEST_CERTIFICATE;
-use fc_methods::MOST_GREAT_BUDGET;
+use fc_methods::{MOST_GREAT_BUDGET, Sought};
 use fc_rows::RowFault;
 use fc_runs::{Input, Output, ProgramFault};
 use fc_text::BoardFault;
@@ -57,6 +57,14 @@ pub fn tell(rt: &HostRuntime, fault: &ProgramFault) -> u8 {
 pub fn tell_of_great_budget(rt: &HostRuntime) -> Ending {
     let _told = eprintln!(rt; "fc_solve: the budget is outside 1 to {MOST_GREAT_BUDGET}");
     Ending::Told(REFUSED)
+}
+
+/// Ends with the range of a budget that is none, by what is sought.
+pub fn no_budget(rt: &HostRuntime, sought: Sought) -> Ending {
+    match sought {
+        Sought::ByMethod => Ending::Fault(ProgramFault::Budget),
+        Sought::Best => tell_of_great_budget(rt),
+    }
 }
 
 /// Says that no certificate is written, since it would have more bytes than one may have; the status.

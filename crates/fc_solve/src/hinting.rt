@@ -2,7 +2,8 @@
 ghost use Rattle.std.specs.Prelude.{All};
 ghost use Rattle.fc_moves.specs.MoveText.{HasText};
 
-use crate::answers::{Answered, best_answer};
+use crate::advice::advise_best;
+use crate::answers::{Answered, find_answer};
 use crate::boards::{find_board, read_start};
 use crate::endings::{Ending, tell_of_great_budget};
 use crate::forms::tell_whole;
@@ -12,9 +13,9 @@ use crate::links::{Link, tell_link};
 use crate::moves::push_letters;
 use crate::objects::{Beside, Name, answer_line};
 use crate::review_texts::moves_win;
-use crate::watching::{BestTeller, Line};
+use crate::watching::{Line, Teller};
 use fc_answers::Verdict;
-use fc_methods::Question;
+use fc_methods::{Question, Sought};
 use fc_moves::{Game, Move, allows, apply};
 use fc_position::Position;
 use fc_replay::ToldMove;
@@ -32,9 +33,9 @@ impl InGame for HintWords<'_> {
         };
         let start = read_start(rt, source, game.cells())?;
         let line = Line::new(rt, deal);
-        let mut teller = BestTeller::new(&line, rt.stderr().is_terminal() && !self.is_quiet);
-        let question = Question::new(game, method);
-        let answered = best_answer(rt.alloc(), &question, &start, None, &mut teller)?;
+        let mut teller = Teller::new(&line, rt.stderr().is_terminal() && !self.is_quiet);
+        let question = Question::new(game, Sought::Best, method);
+        let answered = find_answer(rt.alloc(), &question, &start, None, &mut teller)?;
         line.clear();
         if self.is_json {
             let beside = Beside {
@@ -51,7 +52,7 @@ impl InGame for HintWords<'_> {
             tell_link(rt, game, &start, &link)?;
         }
         let status = answered.status();
-        teller.advise(status);
+        advise_best(rt, &teller, status);
         Ok(status)
     }
 }

@@ -1,10 +1,11 @@
 //! The program: FreeCell boards dealt, solved with answers that are proved, and moves replayed.
 #![tactic(auto)]
 
+mod advice;
 mod answers;
 mod apart;
+mod asking;
 mod batching;
-mod besting;
 mod board_lists;
 mod boards;
 mod cert_names;
@@ -38,7 +39,6 @@ mod review_texts;
 mod reviewing;
 mod showing;
 mod shown;
-mod solving;
 mod streams;
 mod tables;
 mod tallies;

@@ -5,7 +5,7 @@ ghost use Rattle.fc_moves.specs.GameRules.{IsPositionOf};
 ghost use Rattle.fc_moves.specs.MoveText.{HasText};
 ghost use Rattle.fc_moves.specs.Run.{Run};
 
-use crate::answers::best_answer;
+use crate::answers::find_answer;
 use crate::apart::keep_apart;
 use crate::boards::{find_board, read_start};
 use crate::certs::CertFile;
@@ -24,7 +24,7 @@ use crate::written_lists::{WrittenList, list_of};
 use fc_answer_text::{moves_text, verdict_status};
 use fc_answers::Verdict;
 use fc_best::Unheard;
-use fc_methods::Question;
+use fc_methods::{Question, Sought};
 use fc_moves::{Game, Move, allows, apply};
 use fc_position::Position;
 use fc_review::{Finding, board_after, find, finding_text, known_after, run_review};
@@ -40,7 +40,7 @@ impl InGame for ReviewWords<'_> {
             ReviewLists::One { board, moves } => review_one(rt, self, game, board, moves),
             ReviewLists::Files(paths) => match self.search.method() {
                 Some(method) => {
-                    review_files(rt, self, &Question::new(game, method), paths.as_slice())
+                    review_files(rt, self, &Question::new(game, Sought::Best, method), paths.as_slice())
                 }
                 None => Err(tell_of_great_budget(rt)),
             },
@@ -73,7 +73,7 @@ fn review_one<G: Game + Drop>(
     let text = read_moves(rt, moves)?;
     let list = list_of(rt, game, &start, text.as_slice(), words.has_sequences)?;
     tell_inserted(rt, list.inserted);
-    let question = Question::new(game, method);
+    let question = Question::new(game, Sought::Best, method);
     let told = Told {
         words,
         name: Name::of(&board.word, deal),
@@ -232,7 +232,7 @@ fn write_board<G: Game + Drop>(
     }
     let path = format!(in rt.alloc(); "{folder}/{name}.cert")?;
     let mut cert = CertFile::new(rt, path.as_str())?;
-    let _answered = best_answer(rt.alloc(), question, board, Some(&mut cert), &mut Unheard)?;
+    let _answered = find_answer(rt.alloc(), question, board, Some(&mut cert), &mut Unheard)?;
     Ok(())
 }
 

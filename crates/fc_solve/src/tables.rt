@@ -17,7 +17,7 @@ use fc_methods::Question;
 use fc_moves::Game;
 use fc_position::Position;
 use fc_runs::{
-    Input, Output, ProgramFault, Row, Sought, answer_row, run_table, table_deals, table_head,
+    Input, Output, ProgramFault, Row, answer_row, run_table, table_deals, table_head,
 };
 use fc_words::{BatchBoards, BatchForm, BatchWords};
 use std::fs;
@@ -27,7 +27,6 @@ use std::io::IsTerminal;
 pub fn write_deals<G: Game + Drop>(
     rt: &HostRuntime,
     question: &Question<G>,
-    sought: Sought,
     from: u32,
     to: u32,
 ) -> Result<u8, Ending> {
@@ -35,7 +34,7 @@ pub fn write_deals<G: Game + Drop>(
     let total = table_deals(from, to)?;
     let tally = Tally::new(&line, rt.stderr().is_terminal(), Some(total));
     let mut rows = CountedRows::new(Out::after(rt, &line), tally);
-    let ran = run_table(rt.alloc(), question, sought, from, to, &mut rows);
+    let ran = run_table(rt.alloc(), question, from, to, &mut rows);
     line.clear();
     rows.out.end_of(ran)
 }
@@ -45,13 +44,12 @@ pub fn write_rows<G: Game + Drop>(
     rt: &HostRuntime,
     words: &BatchWords<'_>,
     question: &Question<G>,
-    sought: Sought,
 ) -> Result<u8, Ending> {
     let line = Line::new(rt, None);
     if let Some(folder) = words.certs {
         make_folder(rt, folder)?;
     }
-    let mut desk = Desk::new(rt, words, question, sought, &line)?;
+    let mut desk = Desk::new(rt, words, question, &line)?;
     desk.write_head()?;
     let done = match &words.boards {
         BatchBoards::Deals { from, to } => desk.answer_deals(*from, *to),
@@ -108,7 +106,6 @@ struct Desk<'a, G: Game + Drop> {
     rt: &'a HostRuntime,
     words: &'a BatchWords<'a>,
     question: &'a Question<G>,
-    sought: Sought,
     out: Out<'a>,
     tally: Tally<'a>,
     sums: Sums,
@@ -121,8 +118,7 @@ impl<'a, G: Game + Drop> Desk<'a, G> {
         rt: &'a HostRuntime,
         words: &'a BatchWords<'a>,
         question: &'a Question<G>,
-        sought: Sought,
-        line: &'a Line<'a>,
+            line: &'a Line<'a>,
     ) -> Result<Self, Ending> {
         let total = match &words.boards {
             BatchBoards::Deals { from, to } => Some(table_deals(*from, *to)?),
@@ -132,7 +128,6 @@ impl<'a, G: Game + Drop> Desk<'a, G> {
             rt,
             words,
             question,
-            sought,
             out: Out::after(rt, line),
             tally: Tally::new(line, rt.stderr().is_terminal(), total),
             sums: Sums {
@@ -232,7 +227,7 @@ impl<'a, G: Game + Drop> Desk<'a, G> {
         let (alloc, question) = (self.rt.alloc(), self.question);
         let row = match self.words.certs {
             Some(folder) => self.certified_row(folder, name, start)?,
-            None => answer_row::<G, CertFile>(alloc, question, self.sought, start, None)?,
+            None => answer_row::<G, CertFile>(alloc, question, start, None)?,
         };
         let by_hand = match (self.words.form, &row.list) {
             (BatchForm::Json, Some(list)) => {
@@ -258,7 +253,7 @@ impl<'a, G: Game + Drop> Desk<'a, G> {
         let path = format!(in alloc; "{folder}/{name}.cert")?;
         keep_apart(self.rt, path.as_str(), None)?;
         let (mut cert, part) = CertFile::part(self.rt, path.as_str())?;
-        let row = answer_row(alloc, self.question, self.sought, start, Some(&mut cert));
+        let row = answer_row(alloc, self.question, start, Some(&mut cert));
         let is_answered = row.as_ref().is_ok_and(|row| row.status() <= 1);
         if is_answered && !cert.has_bytes() {
             let status = tell_of_long_certificate(self.rt, path.as_str());

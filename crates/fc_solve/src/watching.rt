@@ -3,10 +3,8 @@
 
 use crate::objects::Searched;
 use fc_answers::MoveList;
-use fc_best::{BestListener, BestProgress};
-use fc_methods::{MOST_BUDGET, MOST_GREAT_BUDGET};
+use fc_best::{Listener, Progress};
 use fc_runs::Far;
-use fc_search::{Listener, Progress};
 use std::cell::Cell;
 
 /// After so many turns the line is written over.
@@ -76,28 +74,6 @@ impl<'a> Line<'a> {
         };
     }
 
-    // Begins a line below an answer.
-    fn begin_advice(&self) {
-        let _told = match self.deal {
-            Some(number) => eprint!(self.rt; "fc_solve: deal {number}: "),
-            None => eprint!(self.rt; "fc_solve: "),
-        };
-    }
-
-    // Says what helps below a list that may not be a shortest one.
-    fn tell_closer(&self, step: &str) {
-        self.begin_advice();
-        let _told = eprintln!(self.rt; "closer: {step}");
-    }
-
-    // Says what helps below giving up, and why fewer positions are told than the budget.
-    fn tell_more(&self, budget: u32, step: &str) {
-        self.begin_advice();
-        let _told = eprintln!(self.rt;
-            "gave up, several searches sharing the budget of {budget}: try {step}"
-        );
-    }
-
     /// Ends a run whose searches told this last with a line of numbers: with the floor that the answer tells, if it does, and how many
     /// entries of its list are left to a player's hands.
     pub fn tell_stats(&self, searched: Searched, floor: Option<u32>, by_hand: Option<u64>) {
@@ -121,12 +97,13 @@ impl<'a> Line<'a> {
     }
 }
 
-/// Tells how far a search is.
+/// Tells how far searches are.
 #[derive(Drop)]
 pub struct Teller<'a> {
     line: &'a Line<'a>,
     is_shown: bool,
-    lines: u64,
+    // What the line told last.
+    shown: Option<Progress>,
     last: Option<Progress>,
 }
 
@@ -134,54 +111,6 @@ impl<'a> Teller<'a> {
     /// One that shows the line or doesn't.
     pub fn new(line: &'a Line<'a>, is_shown: bool) -> Self {
         Teller {
-            line,
-            is_shown,
-            lines: 0,
-            last: None,
-        }
-    }
-
-    /// What was heard last.
-    pub fn searched(&self) -> Option<Searched> {
-        let far = self.last?;
-        Some(Searched {
-            budget: far.budget,
-            far: Far {
-                classes: far.classes as u64,
-                turns: far.turns,
-                most_open: far.most_open,
-                at_least: far.at_least,
-            },
-        })
-    }
-}
-
-impl Listener for Teller<'_> {
-    ghost hears = { λ _ _ _. Unit {0} };
-
-    fn hear(&mut self, far: Progress) {
-        let lines = far.turns / TURNS_A_LINE;
-        if self.is_shown && lines > self.lines {
-            self.lines = lines;
-            self.line.show_kept(far.classes, far.budget, far.at_least);
-        }
-        self.last = Some(far);
-    }
-}
-
-/// Tells how far the searches for a best answer are.
-#[derive(Drop)]
-pub struct BestTeller<'a> {
-    line: &'a Line<'a>,
-    is_shown: bool,
-    shown: Option<BestProgress>,
-    last: Option<BestProgress>,
-}
-
-impl<'a> BestTeller<'a> {
-    /// One that shows the line or doesn't.
-    pub fn new(line: &'a Line<'a>, is_shown: bool) -> Self {
-        BestTeller {
             line,
             is_shown,
             shown: None,
@@ -194,13 +123,23 @@ impl<'a> BestTeller<'a> {
         self.line
     }
 
-    /// What was heard last, of all searches together.
+    /// Whether the line is shown.
+    pub fn is_shown(&self) -> bool {
+        self.is_shown
+    }
+
+    /// What was heard last.
+    pub fn last(&self) -> Option<Progress> {
+        self.last
+    }
+
+    /// The same, in numbers for a reader.
     pub fn searched(&self) -> Option<Searched> {
         let far = self.last?;
         Some(Searched {
             budget: far.budget,
             far: Far {
-                classes: u64::from(far.classes),
+                classes: far.classes as u64,
                 turns: far.turns,
                 most_open: far.most_open,
                 at_least: far.at_least,
@@ -208,50 +147,31 @@ impl<'a> BestTeller<'a> {
         })
     }
 
-    /// Where the line is shown, says of an answer by its status what helps, if anything does and it leaves something open.
-    pub fn advise(&self, status: u8) {
-        let (true, Some(far)) = (self.is_shown, self.last) else {
-            return;
-        };
-        let Some(step) = next_step(far.budget) else {
-            return;
-        };
-        match far.shortest {
-            Some(moves) if far.at_least < moves => self.line.tell_closer(step),
-            None if status == 2 => self.line.tell_more(far.budget, step),
-            _ => {}
-        }
-    }
-
-    // Whether the line is to be written, first after so many turns: where the best list or the floor changed, or after so many
+    // Whether the line is to be written, first after so many turns: where the best list or its floor changed, or after so many
     // turns more.
-    fn is_due(&self, far: BestProgress) -> bool {
+    fn is_due(&self, far: Progress) -> bool {
         let lines = far.turns / TURNS_A_LINE;
-        match self.shown {
-            Some(shown) => {
-                shown.shortest != far.shortest
-                    || shown.at_least != far.at_least
-                    || lines > shown.turns / TURNS_A_LINE
-            }
-            None => lines > 0,
-        }
+        let Some(shown) = self.shown else {
+            return lines > 0;
+        };
+        let is_better = shown.shortest != far.shortest
+            || (far.shortest.is_some() && shown.at_least != far.at_least);
+        is_better || lines > shown.turns / TURNS_A_LINE
     }
 
     // Writes the line over.
-    fn show(&self, far: BestProgress) {
+    fn show(&self, far: Progress) {
         match far.shortest {
             Some(moves) => self.line.show_best(moves, far.at_least),
-            None => self
-                .line
-                .show_kept(far.classes as usize, far.budget, far.at_least),
+            None => self.line.show_kept(far.classes, far.budget, far.at_least),
         }
     }
 }
 
-impl BestListener for BestTeller<'_> {
+impl Listener for Teller<'_> {
     ghost hears = { λ _ _ _. Unit {0} };
 
-    fn hear(&mut self, far: BestProgress) {
+    fn hear(&mut self, far: Progress) {
         if self.is_shown && self.is_due(far) {
             self.shown = Some(far);
             self.show(far);
@@ -260,17 +180,4 @@ impl BestListener for BestTeller<'_> {
     }
 
     fn hear_list(&mut self, _moves: &MoveList, _at_least: u32) {}
-}
-
-// The next budget that is worth its time, and what the searches within it take of both where all of it is used.
-fn next_step(budget: u32) -> Option<&'static str> {
-    if budget < 250_000 {
-        Some("--budget 500k, some 3 s and 40 MB")
-    } else if budget < MOST_BUDGET {
-        Some("--budget max, some 30 s and 250 MB")
-    } else if budget < MOST_GREAT_BUDGET {
-        Some("--budget 16M, some 120 s and 950 MB")
-    } else {
-        None
-    }
 }
