@@ -1,5 +1,6 @@
 //! What a test begins with, from texts and numbers. Where a text is no such thing the test fails at once: a function that
-//! hands on a fault costs the prover many times as much.
+//! hands on a fault costs the prover many times as much. (A function that may abort is let stand in tests alone, so none of
+//! these is taken from `fc_tests`.)
 
 ghost use Rattle.std.specs.Prelude.{◌≡◌, Ok, IsTrue};
 ghost use Rattle.fc_position.specs.Position.{Fits};

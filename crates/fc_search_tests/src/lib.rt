@@ -2,48 +2,36 @@
 #![tactic(auto)]
 
 #[cfg(test)]
-mod alike;
-#[cfg(test)]
-mod batches;
-#[cfg(test)]
-mod below;
+mod batch;
 #[cfg(test)]
 mod best;
 #[cfg(test)]
 mod best_first;
 #[cfg(test)]
-mod best_runs;
+mod best_first_limits;
 #[cfg(test)]
-mod cert_checks;
+mod best_first_sums;
 #[cfg(test)]
-mod cert_contents;
+mod board_runs;
+#[cfg(test)]
+mod cert;
 #[cfg(test)]
 mod cert_given;
 #[cfg(test)]
-mod cert_runs;
-#[cfg(test)]
-mod gathers;
+mod checker;
 #[cfg(test)]
 mod given;
 #[cfg(test)]
 mod heard;
 #[cfg(test)]
-mod limits;
-#[cfg(test)]
-mod lists;
-#[cfg(test)]
-mod refusals;
-#[cfg(test)]
-mod replays;
-#[cfg(test)]
 mod rows;
 #[cfg(test)]
 mod runs;
 #[cfg(test)]
-mod searches;
+mod search;
+#[cfg(test)]
+mod search_alike;
 #[cfg(test)]
 mod shown;
 #[cfg(test)]
-mod spaces;
-#[cfg(test)]
-mod turns;
+mod space;

@@ -32,12 +32,28 @@ pub const TWO_KINGS: &str = "\
     QS KH\n\
     QH KS\n";
 
-/// The same two columns elsewhere.
-pub const TWO_KINGS_TURNED: &str = "\
+/// The same after `1a`, and after `1h` then, as a replay writes them.
+pub const TWO_BOARDS: &[u8] = b"\
     Foundations: H-J C-K D-K S-J\n\
+    Freecells: KH - - -\n\
+    : QS\n\
+    : QH KS\n\
     :\n\
-    QH KS\n\
-    QS KH\n";
+    :\n\
+    :\n\
+    :\n\
+    :\n\
+    :\n\
+    Foundations: H-J C-K D-K S-Q\n\
+    Freecells: KH - - -\n\
+    :\n\
+    : QH KS\n\
+    :\n\
+    :\n\
+    :\n\
+    :\n\
+    :\n\
+    :\n";
 
 /// A queen lies under the king of her suit, and two kings beside them.
 pub const THREE_KINGS: &str = "\
@@ -50,6 +66,14 @@ pub const FREE_KING: &str = "\
     Foundations: H-J C-K D-K S-Q\n\
     Freecells: KH\n\
     QH KS\n";
+
+/// Cards in the first cell and the third, and two columns behind an empty one.
+pub const WITH_CELLS: &str = "\
+    Foundations: H-J C-K D-K S-T\n\
+    Freecells: JS - KS\n\
+    :\n\
+    QH\n\
+    KH QS\n";
 
 /// Four kings fill the cells, and no last card may stand on another or go home.
 pub const LOCKED: &str = "\

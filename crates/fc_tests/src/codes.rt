@@ -5,7 +5,7 @@ ghost use Rattle.fc_position.specs.Position.{IsPosition};
 ghost use Rattle.fc_moves.specs.Step.{Allows};
 ghost use Rattle.fc_codes.specs.State.{IsCodeOf};
 
-use crate::boards::DEAL_ONE;
+use crate::boards::{DEAL_ONE, WITH_CELLS};
 use crate::given::{bakers_game, board, free_cell, move_of, must};
 use fc_canonical::canonical;
 use fc_codes::{Code, Layout};
@@ -35,14 +35,6 @@ fn step<G: Game>(
     must(rt, told == Some(next));
     next
 }
-
-// Cards in the first cell and the third, and two columns behind an empty one.
-const WITH_CELLS: &str = "\
-    Foundations: H-J C-K D-K S-T\n\
-    Freecells: JS - KS\n\
-    :\n\
-    QH\n\
-    KH QS\n";
 
 // The code after the moves of a text, each of which must be allowed.
 fn code_after<G: Game>(rt: &impl Abort, game: &G, text: &str, list: &[u8]) -> Code {

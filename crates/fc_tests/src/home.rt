@@ -2,19 +2,13 @@
 
 ghost use Rattle.std.specs.Prelude.{◌≤◌};
 
-use crate::boards::{ONE_COLUMN, THIRTY_MOVES};
+use crate::boards::{FREE_KING, ONE_COLUMN, THIRTY_MOVES};
 use crate::given::{bakers_game, board, card, free_cell, listed_moves, must};
 use fc_cards::{Card, Place};
 use fc_home::{HomeRule, forced, free, goes_home_from, settle};
 use fc_moves::{Game, Kings, read_move};
 use fc_position::Position;
 use std::process::Abort;
-
-// The queen of hearts and the king of spades are next, the queen under the king, on which it could stand.
-const QUEEN_BELOW_KING: &str = "\
-    Foundations: H-J C-K D-K S-Q\n\
-    Freecells: KH\n\
-    QH KS\n";
 
 // The jack of clubs, which is neither home nor next, could stand on the queen of hearts.
 const JACK_LEFT: &str = "\
@@ -90,7 +84,7 @@ static FREE: [(&[u8], bool); 3] = [(b"KS", true), (b"QH", true), (b"KH", false)]
 #[test]
 fn settles_free_cards(rt: HostRuntime) {
     let game = free_cell(&rt, 4);
-    let mut position = board(&rt, QUEEN_BELOW_KING);
+    let mut position = board(&rt, FREE_KING);
     for &(text, is_free) in &FREE {
         check_free(&rt, &game, &position, text, is_free);
     }
@@ -144,8 +138,8 @@ static PLACES: [(&str, u8, Place, bool); 8] = [
     (ONE_COLUMN, 1, Place::Column(1), false),
     (ONE_COLUMN, 1, Place::Home, false),
     (THIRTY_MOVES, 1, Place::Column(0), false),
-    (QUEEN_BELOW_KING, 1, Place::Column(0), false),
-    (QUEEN_BELOW_KING, 2, Place::Column(0), true),
+    (FREE_KING, 1, Place::Column(0), false),
+    (FREE_KING, 2, Place::Column(0), true),
     (JACK_LEFT, 2, Place::Column(0), false),
 ];
 

@@ -3,36 +3,40 @@
 
 pub mod boards;
 #[cfg(test)]
-mod bounds;
+mod bound;
 #[cfg(test)]
 mod canonical;
+#[cfg(test)]
+mod canonical_moves;
 #[cfg(test)]
 mod cards;
 #[cfg(test)]
 mod codes;
 #[cfg(test)]
-mod deals;
+mod deal;
 #[cfg(test)]
-mod devices;
-#[cfg(test)]
-mod frontiers;
+mod frontier;
 pub mod games;
 #[cfg(test)]
 mod given;
 #[cfg(test)]
 mod home;
 #[cfg(test)]
-mod moves;
+mod io;
 #[cfg(test)]
-mod objects;
+mod json;
+#[cfg(test)]
+mod moves;
 #[cfg(test)]
 mod plain;
 #[cfg(test)]
-mod positions;
+mod position;
 pub mod queues;
 #[cfg(test)]
-mod replays;
+mod replay;
 #[cfg(test)]
 mod rows;
 #[cfg(test)]
-mod texts;
+mod sequences;
+#[cfg(test)]
+mod text;

@@ -1,37 +1,15 @@
-//! Runs of the program that replay moves, over devices that fail too.
+//! Runs that replay moves, over devices that fail too; and a board that never ends.
 
 use crate::given::{free_cell, must};
 use fc_io::testing::Failing;
 use fc_io::{FromReader, FromSlice, ToArray};
 use fc_replay::ReplayFault;
-use fc_runs::{Input, Output, ProgramFault, run_replay};
-use fc_tests::boards::TWO_KINGS;
+use fc_runs::{Input, Output, ProgramFault, read_position, run_replay};
+use fc_tests::boards::{TWO_BOARDS, TWO_KINGS};
+use fc_text::BoardFault;
 use std::alloc::Global;
 use std::io;
 use std::process::Abort;
-
-// The boards of two kings after `1a` and then `1h`.
-const TWO_BOARDS: &[u8] = b"Foundations: H-J C-K D-K S-J
-Freecells: KH - - -
-: QS
-: QH KS
-:
-:
-:
-:
-:
-:
-Foundations: H-J C-K D-K S-Q
-Freecells: KH - - -
-:
-: QH KS
-:
-:
-:
-:
-:
-:
-";
 
 // After how many calls the board, the moves and the sink fail.
 #[derive(Clone, Copy)]
@@ -120,4 +98,11 @@ fn stops_moves_that_never_end(rt: HostRuntime) {
         &mut out,
     );
     must(&rt, result == Err(ProgramFault::TooLong(Input::Moves)));
+}
+
+#[test]
+fn stops_a_reader_that_never_ends(rt: HostRuntime) {
+    let mut source = FromReader::new(io::repeat(b' '));
+    let told = read_position(&mut source, 4).err();
+    must(&rt, told == Some(ProgramFault::Board(BoardFault::TooLong)));
 }

@@ -1,5 +1,5 @@
 use Rattle.fc_position.proofs.LayoutLemmas.{eight}
-use Rattle.fc_tests.proofs.positions.same_columns.Goals as goal
+use Rattle.fc_tests.proofs.position.same_columns.Goals as goal
 
 pub returns : goal.returns
 returns c =

@@ -1,6 +1,6 @@
 //! Lists of moves whose boards can't be written, and one without moves.
 
-use crate::boards::TWO_KINGS;
+use crate::boards::{TWO_BOARDS, TWO_KINGS};
 use crate::given::{board_for, free_cell, must, sure};
 use arrayvec::ArrayString;
 use fc_io::testing::Failing;
@@ -8,29 +8,6 @@ use fc_io::{Sink, ToArray};
 use fc_replay::{Ended, Page, ReplayFault, play, replay};
 use std::fmt::Write;
 use std::process::Abort;
-
-// The board of four cards after `1a`, and after `1h` then.
-const TWO_BOARDS: &[u8] = b"\
-    Foundations: H-J C-K D-K S-J\n\
-    Freecells: KH - - -\n\
-    : QS\n\
-    : QH KS\n\
-    :\n\
-    :\n\
-    :\n\
-    :\n\
-    :\n\
-    :\n\
-    Foundations: H-J C-K D-K S-Q\n\
-    Freecells: KH - - -\n\
-    :\n\
-    : QH KS\n\
-    :\n\
-    :\n\
-    :\n\
-    :\n\
-    :\n\
-    :\n";
 
 // The answer to a text of moves on the board of two kings.
 fn check_answer(

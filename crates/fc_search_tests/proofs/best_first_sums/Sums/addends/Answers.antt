@@ -1,5 +1,5 @@
 use Rattle.fc_search_tests.proofs.SumsLemmas.{sums_children}
-use Rattle.fc_search_tests.proofs.best_first.Sums.addends.Goals as goal
+use Rattle.fc_search_tests.proofs.best_first_sums.Sums.addends.Goals as goal
 
 pub returns : goal.returns
 returns c = record {

@@ -1,4 +1,5 @@
-//! Searches that are taken turn by turn, with each of the queues, one of the tests' own among them.
+//! Searches that are taken turn by turn, with each of the queues, one of the tests' own among them; those that want no list of
+//! so many moves as a limit; and budgets with which none begins.
 
 use crate::given::{board, expanded, free_cell, method, must, sure};
 use crate::shown::check_wins;
@@ -7,9 +8,13 @@ use fc_answers::Outcome;
 use fc_frontier::{BucketFrontier, EitherFrontier, Frontier, ListFrontier};
 use fc_moves::FreeCell;
 use fc_search::{
-    BoundKind, Expansion, Method, Question, Search, SearchFault, Step, Verdict, Weight,
+    BoundKind, Expansion, MOST_BUDGET, Method, Question, Search, SearchFault, Step, Verdict,
+    Weight, solve,
 };
-use fc_tests::boards::{CLASSES_495, FREE_KING, LOCKED, ONE_COLUMN, THREE_KINGS, TWO_KINGS};
+use fc_tests::boards::{
+    CLASSES_495, FREE_KING, LOCKED, ONE_COLUMN, QUEEN_UNDER_KING, THIRTY_MOVES, THREE_KINGS,
+    TWO_KINGS,
+};
 use fc_tests::queues::OldestFirst;
 use std::alloc::Global;
 use std::process::Abort;
@@ -210,5 +215,115 @@ fn known_boards_with_each_queue(rt: HostRuntime) {
         check_known::<OldestFirst>(&rt, rt.alloc(), known);
         check_known::<BucketFrontier>(&rt, rt.alloc(), known);
         check_known::<EitherFrontier>(&rt, rt.alloc(), known);
+    }
+}
+
+// A board of FreeCell with four cells, and how many moves win it at least, where it can be won.
+static BOARDS: [(&str, Option<u32>); 3] = [
+    (THIRTY_MOVES, Some(30)),
+    (TWO_KINGS, Some(5)),
+    (LOCKED, None),
+];
+
+// Limits of how many moves.
+static LIMITS: [Option<u32>; 7] = [
+    None,
+    Some(31),
+    Some(30),
+    Some(29),
+    Some(6),
+    Some(5),
+    Some(1),
+];
+
+// A search has a verdict exactly where it has no limit.
+fn has_verdict(
+    rt: &impl Abort,
+    search: &Search<EitherFrontier, FreeCell>,
+    limit: Option<u32>,
+) -> bool {
+    match search.verdict() {
+        Ok(_) => limit.is_none(),
+        Err(fault) => {
+            must(rt, fault == SearchFault::Limited);
+            limit.is_some()
+        }
+    }
+}
+
+// A shortest list is found where it is below the limit, and is as long as what is shown; else the limit is shown.
+fn finds_below(
+    rt: &impl Abort,
+    alloc: Global,
+    method: Method,
+    text: &str,
+    shortest: Option<u32>,
+    limit: Option<u32>,
+) {
+    let game = free_cell(rt, 4);
+    let start = board(rt, &game, text);
+    let question = Question::new(&game, method);
+    let mut search: Search<EitherFrontier, FreeCell> = sure(
+        rt,
+        Search::below(alloc, &question, &start, limit),
+    );
+    must(rt, search.run() == Ok(()));
+    let wanted = match (shortest, limit) {
+        (Some(moves), Some(limit)) if limit <= moves => None,
+        _ => shortest,
+    };
+    match (sure(rt, search.found()), wanted) {
+        (Some(list), Some(moves)) => {
+            check_wins(rt, &game, &start, &list);
+            must(rt, list.len() == moves as usize);
+        }
+        (None, None) => {}
+        _ => rt.panic("another list"),
+    }
+    must(rt, search.shown() == wanted.or(limit));
+    must(rt, has_verdict(rt, &search, limit));
+}
+
+// The same below each limit, by this bound and expansion.
+fn finds_below_limits(
+    rt: &impl Abort,
+    alloc: Global,
+    bound: BoundKind,
+    expansion: Expansion,
+    text: &str,
+    shortest: Option<u32>,
+) {
+    for &limit in &LIMITS {
+        let asked = expanded(method(rt, 1, 10, bound, 10_000), expansion);
+        finds_below(rt, alloc, asked, text, shortest, limit);
+    }
+}
+
+#[test]
+fn lists_below_a_limit_are_found(rt: HostRuntime) {
+    for &bound in &[BoundKind::Plain, BoundKind::Clearing] {
+        for &(text, shortest) in &BOARDS {
+            finds_below_limits(&rt, rt.alloc(), bound, Expansion::Full, text, shortest);
+            finds_below_limits(&rt, rt.alloc(), bound, Expansion::Partial, text, shortest);
+        }
+    }
+}
+
+#[test]
+fn budgets_out_of_range(rt: HostRuntime) {
+    must(&rt, MOST_BUDGET == 4_000_000);
+    let game = free_cell(&rt, 4);
+    let start = board(&rt, &game, QUEEN_UNDER_KING);
+    for budget in [0, MOST_BUDGET + 1] {
+        let fault = solve(rt.alloc(), &game, 1, &start, budget).err();
+        must(&rt, fault == Some(SearchFault::Budget));
+        let search: Result<Search<ListFrontier, FreeCell>, SearchFault> = Search::new(
+            rt.alloc(),
+            &game,
+            1,
+            &start,
+            budget,
+        );
+        must(&rt, search.err() == Some(SearchFault::Budget));
     }
 }
