@@ -3,8 +3,9 @@
 ghost use Rattle.fc_methods.specs.Method.{Asked};
 ghost use Rattle.fc_position.specs.Position.{Fits};
 
-use crate::given::{bakers_game, board, dealt, expanded, free_cell, method, must, sure};
-use crate::shown::{check_table, check_wins};
+use crate::given::{
+    bakers_game, board, check_table, check_wins, dealt, expanded, free_cell, method, must, sure,
+};
 use fc_answer_text::outcome_of;
 use fc_answers::{MoveList, Outcome};
 use fc_best::{BestListener, BestProgress, Unheard, best};

@@ -1,4 +1,5 @@
-//! What a test begins with, from texts and numbers. Where a text is no such thing the test fails at once: a function that
+//! What a test begins with, from texts and numbers, and what is seen of a search's answer beside what it tells: its moves are
+//! made, one after the other, and its table is read. Where a text is no such thing the test fails at once: a function that
 //! hands on a fault costs the prover many times as much. (A function that may abort is let stand in tests alone, so none of
 //! these is taken from `fc_tests`.)
 
@@ -9,7 +10,9 @@ use fc_deal::deal;
 use fc_methods::GreatBudget;
 use fc_moves::{BakersGame, FreeCell, Game, Move, allows, apply};
 use fc_position::Position;
-use fc_search::{BoundKind, Budget, Expansion, HomeRule, Method, Strategy, Weight};
+use fc_search::{
+    BoundKind, Budget, Expansion, HomeRule, Method, MoveList, Strategy, Table, Weight,
+};
 use fc_text::read_board;
 use std::process::Abort;
 
@@ -109,4 +112,23 @@ pub fn make<G: Game>(rt: &impl Abort, game: &G, position: &mut Position, m: Move
     } else {
         must(rt, false);
     }
+}
+
+/// The moves are allowed, one after the other, and win.
+pub fn check_wins<G: Game>(rt: &impl Abort, game: &G, start: &Position, list: &MoveList) {
+    let mut position = start.copy();
+    for m in list.as_slice() {
+        make(rt, game, &mut position, *m);
+    }
+    must(rt, position.is_won());
+    must(rt, list.is_empty() == (list.len() == 0));
+}
+
+/// The table is of this rule, and each key less than the next one.
+pub fn check_table(rt: &impl Abort, table: &Table, rule: u8) {
+    for i in 1..table.len() {
+        must(rt, table.key(i - 1) < table.key(i));
+    }
+    must(rt, table.rule() == rule);
+    must(rt, table.is_empty() == (table.len() == 0));
 }

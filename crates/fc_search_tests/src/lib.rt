@@ -22,16 +22,14 @@ mod checker;
 #[cfg(test)]
 mod given;
 #[cfg(test)]
-mod heard;
-#[cfg(test)]
-mod rows;
-#[cfg(test)]
 mod runs;
+#[cfg(test)]
+mod runs_rows;
 #[cfg(test)]
 mod search;
 #[cfg(test)]
 mod search_alike;
 #[cfg(test)]
-mod shown;
+mod search_heard;
 #[cfg(test)]
 mod space;

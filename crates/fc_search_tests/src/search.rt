@@ -1,8 +1,7 @@
 //! Searches that are taken turn by turn, with each of the queues, one of the tests' own among them; those that want no list of
 //! so many moves as a limit; and budgets with which none begins.
 
-use crate::given::{board, expanded, free_cell, method, must, sure};
-use crate::shown::check_wins;
+use crate::given::{board, check_wins, expanded, free_cell, method, must, sure};
 use fc_answer_text::outcome_of;
 use fc_answers::Outcome;
 use fc_frontier::{BucketFrontier, EitherFrontier, Frontier, ListFrontier};
