@@ -35,11 +35,7 @@ pub(crate) fn joined(before: Progress, far: Progress) -> Progress
 }
 
 // Once a search that told this last has shown so much, and the best list has so many moves.
-pub(crate) fn progress_after(
-    last: Progress,
-    shown: Option<u32>,
-    shortest: Option<u32>,
-) -> Progress
+pub(crate) fn progress_after(last: Progress, shown: Option<u32>, shortest: Option<u32>) -> Progress
     ensures after { IsAfter last shown shortest result }
 {
     Progress {

@@ -61,7 +61,10 @@ pub(crate) fn asked(
         return Err(Refusal::Budget);
     };
     match start_of(board, name.cells) {
-        Ok(start) => Ok((Question::new(&game, Sought::Best, best_method(budget)), start)),
+        Ok(start) => Ok((
+            Question::new(&game, Sought::Best, best_method(budget)),
+            start,
+        )),
         Err(fault) => Err(Refusal::Board(fault)),
     }
 }

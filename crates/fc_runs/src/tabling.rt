@@ -101,11 +101,7 @@ fn write_table<G: Game + Drop, K: Sink>(
 
 // The row of a deal.
 #[tactic(auto, using(fc_deal::proofs::DealLemmas::dealt_fits))]
-fn deal_row<G: Game + Drop>(
-    alloc: Global,
-    question: &Question<G>,
-    number: u32,
-) -> Row
+fn deal_row<G: Game + Drop>(alloc: Global, question: &Question<G>, number: u32) -> Row
     requires deal { IsDealNumber number }
     ensures row { IsRowOf question.now (dealt_board number) None result }
 {

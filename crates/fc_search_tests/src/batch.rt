@@ -10,7 +10,7 @@ use fc_batch::Batch;
 use fc_bound::BoundKind;
 use fc_frontier::{BucketFrontier, EitherFrontier, Frontier};
 use fc_moves::FreeCell;
-use fc_search::{Answer, Expansion, Question, Search, SearchFault, Step};
+use fc_search::{Answer, Expansion, Question, Search, SearchFault, Sought, Step};
 use fc_tests::boards::{LOCKED, QUEEN_UNDER_KING, THREE_KINGS, TWO_KINGS};
 use std::alloc::Global;
 use std::process::Abort;
@@ -210,7 +210,7 @@ const KINDS: [(BoundKind, Expansion); 3] = [
 fn question_of(rt: &impl Abort, wanted: usize) -> Question<FreeCell> {
     let (bound, expansion) = KINDS[wanted % KINDS.len()];
     let asked = expanded(method(rt, 1, 10, bound, 100), expansion);
-    Question::new(&free_cell(rt, 4), asked)
+    Question::new(&free_cell(rt, 4), Sought::ByMethod, asked)
 }
 
 // The search of a board that is to have this number, if need be at the second try.

@@ -8,10 +8,10 @@ use crate::given::{
 };
 use fc_answer_text::outcome_of;
 use fc_answers::{MoveList, Outcome};
-use fc_best::{BestListener, BestProgress, Unheard, best};
+use fc_best::{Listener, Progress, Unheard, best};
 use fc_moves::{Game, Kings};
 use fc_position::Position;
-use fc_search::{BoundKind, Expansion, Question, Verdict};
+use fc_search::{BoundKind, Expansion, Question, Sought, Verdict};
 use fc_tests::boards::{
     ALL_HOME, CLASSES_495, FREE_KING, LOCKED, ONE_COLUMN, ONE_KING, QUEEN_UNDER_KING, THIRTY_MOVES,
     THREE_KINGS, THREE_SPADES, TWO_KINGS,
@@ -55,7 +55,7 @@ fn check_rule<G: Game + Drop>(
     for &bound in &[BoundKind::Plain, BoundKind::Clearing] {
         for &expansion in &[Expansion::Full, Expansion::Partial] {
             let asked = expanded(method(rt, rule, 30, bound, 10_000), expansion);
-            let question = Question::new(game, asked);
+            let question = Question::new(game, Sought::Best, asked);
             check_best(rt, alloc, &question, start, known, true);
             check_best(rt, alloc, &question, start, known, false);
         }
@@ -111,15 +111,15 @@ fn known_boards(rt: HostRuntime) {
 // Keeps what it heard last, of which list and floor, and whether a floor or the length of a list got worse.
 #[derive(Drop)]
 struct Ear {
-    last: Option<BestProgress>,
+    last: Option<Progress>,
     listed: Option<(u32, u32)>,
     has_got_worse: bool,
 }
 
-impl BestListener for Ear {
+impl Listener for Ear {
     ghost hears = { λ _ _ _. Unit {0} };
 
-    fn hear(&mut self, far: BestProgress) {
+    fn hear(&mut self, far: Progress) {
         if let Some(last) = self.last {
             let is_shorter = far.shortest.unwrap_or(u32::MAX) <= last.shortest.unwrap_or(u32::MAX);
             let is_worse = far.at_least < last.at_least || !is_shorter;
@@ -135,10 +135,14 @@ impl BestListener for Ear {
 
 // What is heard last of a search of FreeCell by the clearing bound within so many classes; nothing heard before was better, and
 // the list that is heard last is as long.
-fn heard_last(rt: &impl Abort, alloc: Global, start: &Position, classes: u32) -> BestProgress {
+fn heard_last(rt: &impl Abort, alloc: Global, start: &Position, classes: u32) -> Progress {
     let game = free_cell(rt, 4);
     must(rt, start.fits(game.cells()));
-    let question = Question::new(&game, method(rt, 2, 10, BoundKind::Clearing, classes));
+    let question = Question::new(
+        &game,
+        Sought::Best,
+        method(rt, 2, 10, BoundKind::Clearing, classes),
+    );
     let mut ear = Ear {
         last: None,
         listed: None,

@@ -8,8 +8,8 @@ use fc_best::Unheard;
 use fc_checker::CheckFault;
 use fc_io::testing::Failing;
 use fc_io::{FromSlice, ToArray};
-use fc_runs::{Input, Output, ProgramFault, run_best, run_check, run_check_of, run_solve};
-use fc_search::Question;
+use fc_runs::{Input, Output, ProgramFault, run_answer, run_check, run_check_of, run_solve};
+use fc_search::{Method, Question, Sought};
 use fc_tests::boards::{DEAL_ONE, LOCKED, ONE_KING, QUEEN_UNDER_KING, THIRTY_MOVES, TWO_KINGS};
 use fc_text::BoardFault;
 use std::alloc::Global;
@@ -212,13 +212,14 @@ const CLAIMS: [(&str, u32, &[u8]); 5] = [
 fn is_accepted(rt: &impl Abort, alloc: Global, text: &str, classes: u32, claim: &[u8]) {
     let game = free_cell(rt, 4);
     let start = board(rt, &game, text);
-    let question = Question::shortest(&game, home_rule(rt, 1), budget(rt, classes));
+    let method = Method::shortest(home_rule(rt, 1), budget(rt, classes));
+    let question = Question::new(&game, Sought::Best, method);
     let mut out = ToArray::<600>::new();
     let mut cert = ToArray::<4000>::new();
     let sink = Some(&mut cert);
     must(
         rt,
-        run_best(alloc, &question, &start, &mut out, sink, &mut Unheard).is_ok(),
+        run_answer(alloc, &question, &start, &mut out, sink, &mut Unheard).is_ok(),
     );
     let mut source = FromSlice::new(cert.held());
     let mut told = ToArray::<40>::new();

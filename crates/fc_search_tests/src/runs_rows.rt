@@ -4,19 +4,20 @@ use crate::given::{board, budget, free_cell, home_rule, must};
 use fc_answers::Outcome;
 use fc_io::ToArray;
 use fc_io::testing::Failing;
-use fc_runs::{Far, Output, ProgramFault, Row, Sought, answer_row};
-use fc_search::Question;
+use fc_runs::{Far, Output, ProgramFault, Row, answer_row};
+use fc_search::{Method, Question, Sought};
 use fc_tests::boards::TWO_KINGS;
 use std::process::Abort;
 
 #[test]
 fn certificates_that_cant_be_written_end_a_row(rt: HostRuntime) {
     let game = free_cell(&rt, 4);
-    let question = Question::shortest(&game, home_rule(&rt, 2), budget(&rt, 100));
+    let method = Method::shortest(home_rule(&rt, 2), budget(&rt, 100));
     let start = board(&rt, &game, TWO_KINGS);
     for sought in [Sought::ByMethod, Sought::Best] {
+        let question = Question::new(&game, sought, method);
         let mut cert = Failing::new(ToArray::<40>::new(), 3);
-        let row = answer_row(rt.alloc(), &question, sought, &start, Some(&mut cert));
+        let row = answer_row(rt.alloc(), &question, &start, Some(&mut cert));
         must(&rt, row.err() == Some(ProgramFault::Write(Output::Cert)));
         must(&rt, cert.device.held() == b"FCC".as_slice());
     }

@@ -7,8 +7,8 @@ use fc_answers::Outcome;
 use fc_frontier::{BucketFrontier, EitherFrontier, Frontier, ListFrontier};
 use fc_moves::FreeCell;
 use fc_search::{
-    BoundKind, Expansion, MOST_BUDGET, Method, Question, Search, SearchFault, Step, Verdict,
-    Weight, solve,
+    BoundKind, Expansion, MOST_BUDGET, Method, Question, Search, SearchFault, Sought, Step,
+    Verdict, Weight, solve,
 };
 use fc_tests::boards::{
     CLASSES_495, FREE_KING, LOCKED, ONE_COLUMN, QUEEN_UNDER_KING, THIRTY_MOVES, THREE_KINGS,
@@ -181,7 +181,7 @@ fn check_search<F: Frontier + Drop>(
 ) {
     let game = free_cell(rt, 4);
     let start = board(rt, &game, known.text);
-    let question = Question::new(&game, method);
+    let question = Question::new(&game, Sought::ByMethod, method);
     let weight = question.method().strategy.weight;
     let mut search: Search<F, FreeCell> = sure(rt, Search::new_by(alloc, &question, &start));
     must(rt, search.at_least() == least);
@@ -261,7 +261,7 @@ fn finds_below(
 ) {
     let game = free_cell(rt, 4);
     let start = board(rt, &game, text);
-    let question = Question::new(&game, method);
+    let question = Question::new(&game, Sought::ByMethod, method);
     let mut search: Search<EitherFrontier, FreeCell> = sure(
         rt,
         Search::below(alloc, &question, &start, limit),

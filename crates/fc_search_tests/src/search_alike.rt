@@ -11,8 +11,10 @@ use fc_cert::{certificate_length, write_answer};
 use fc_io::{FromSlice, ToArray};
 use fc_moves::FreeCell;
 use fc_position::Position;
-use fc_runs::{ProgramFault, run_solve, run_solve_by};
-use fc_search::{Answer, BoundKind, Question, Unheard, Verdict, decide_by, solve, solve_by};
+use fc_runs::{ProgramFault, run_answer, run_solve};
+use fc_search::{
+    Answer, BoundKind, Question, Sought, Unheard, Verdict, decide_by, solve, solve_by,
+};
 use fc_tests::boards::{ALL_HOME, FREE_KING, LOCKED, QUEEN_UNDER_KING, THREE_KINGS, TWO_KINGS};
 use std::alloc::Global;
 use std::process::Abort;
@@ -61,7 +63,7 @@ fn solved_alike(
     let mut out = ToArray::<200>::new();
     let mut cert = ToArray::<800>::new();
     let sink = Some(&mut cert);
-    let status = run_solve_by(alloc, question, start, &mut out, sink, &mut Unheard);
+    let status = run_answer(alloc, question, start, &mut out, sink, &mut Unheard);
     must(rt, status.is_ok() && status == left.status);
     must(rt, out.held() == left.out.held());
     must(rt, cert.held() == left.cert.held());
@@ -128,7 +130,11 @@ fn asked_by_method(rt: &impl Abort, alloc: Global, rule: u8, text: &str, classes
     let left = read_and_solved(rt, alloc, rule, text, classes);
     let game = free_cell(rt, 4);
     let start = board(rt, &game, text);
-    let question = Question::new(&game, method(rt, rule, 10, BoundKind::Plain, classes));
+    let question = Question::new(
+        &game,
+        Sought::ByMethod,
+        method(rt, rule, 10, BoundKind::Plain, classes),
+    );
     asked_alike(rt, alloc, &question, &start, &left);
 }
 

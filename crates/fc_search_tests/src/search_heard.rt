@@ -2,10 +2,10 @@
 
 use crate::given::{board, budget, free_cell, home_rule, must, sure};
 use fc_answer_text::outcome_of;
-use fc_answers::Outcome;
+use fc_answers::{MoveList, Outcome};
 use fc_io::ToArray;
 use fc_moves::FreeCell;
-use fc_runs::{ProgramFault, run_solve_by};
+use fc_runs::{ProgramFault, run_answer};
 use fc_search::{Listener, Progress, Question, decide_by, solve_by};
 use fc_tests::boards::{LOCKED, TWO_KINGS};
 use std::process::Abort;
@@ -24,6 +24,8 @@ impl Listener for Ear {
         self.times = self.times.saturating_add(1);
         self.last = Some(far);
     }
+
+    fn hear_list(&mut self, _moves: &MoveList, _at_least: u32) {}
 }
 
 // Nothing heard yet.
@@ -62,7 +64,7 @@ fn a_run_is_heard(rt: HostRuntime) {
     let mut out = ToArray::<100>::new();
     let mut listener = nothing_heard();
     let none: Option<&mut ToArray<1>> = None;
-    let status: Result<u8, ProgramFault> = run_solve_by(
+    let status: Result<u8, ProgramFault> = run_answer(
         rt.alloc(),
         &question,
         &start,

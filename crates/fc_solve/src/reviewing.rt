@@ -40,7 +40,12 @@ impl InGame for ReviewWords<'_> {
             ReviewLists::One { board, moves } => review_one(rt, self, game, board, moves),
             ReviewLists::Files(paths) => match self.search.method() {
                 Some(method) => {
-                    review_files(rt, self, &Question::new(game, Sought::Best, method), paths.as_slice())
+                    review_files(
+                        rt,
+                        self,
+                        &Question::new(game, Sought::Best, method),
+                        paths.as_slice(),
+                    )
                 }
                 None => Err(tell_of_great_budget(rt)),
             },

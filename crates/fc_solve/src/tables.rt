@@ -16,9 +16,7 @@ use fc_io::write_all;
 use fc_methods::Question;
 use fc_moves::Game;
 use fc_position::Position;
-use fc_runs::{
-    Input, Output, ProgramFault, Row, answer_row, run_table, table_deals, table_head,
-};
+use fc_runs::{Input, Output, ProgramFault, Row, answer_row, run_table, table_deals, table_head};
 use fc_words::{BatchBoards, BatchForm, BatchWords};
 use std::fs;
 use std::io::IsTerminal;
@@ -118,7 +116,7 @@ impl<'a, G: Game + Drop> Desk<'a, G> {
         rt: &'a HostRuntime,
         words: &'a BatchWords<'a>,
         question: &'a Question<G>,
-            line: &'a Line<'a>,
+        line: &'a Line<'a>,
     ) -> Result<Self, Ending> {
         let total = match &words.boards {
             BatchBoards::Deals { from, to } => Some(table_deals(*from, *to)?),
