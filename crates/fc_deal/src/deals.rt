@@ -1,4 +1,4 @@
-ghost use Rattle.std.specs.Prelude.{◌≡◌, ℕ, ◌↔◌, [], IsSome, IfSome, map, replicate};
+ghost use Rattle.std.specs.Prelude.{◌≡◌, ℕ, ◌↔◌, [], IsSome, IsTrue, IfSome, map, replicate};
 ghost use Rattle.fc_position.specs.Position.{IsPosition};
 ghost use Rattle.fc_deal.specs.Deal.{IsDealNumber, dealt_columns, dealt_board};
 
@@ -8,6 +8,16 @@ use arrayvec::ArrayVec;
 use fc_cards::Card;
 use fc_position::Position;
 
+/// The greatest number of a deal; the least one is 1.
+pub const MOST_DEAL: u32 = 1_000_000;
+
+/// Whether a deal has this number.
+pub fn is_deal_number(n: u32) -> bool
+    ensures value { IsTrue result ↔ IsDealNumber n }
+{
+    (1..=MOST_DEAL).contains(&n)
+}
+
 /// Deal `n`, 1 to 1,000,000: the 52 cards in eight columns, of which the first four have seven cards and the others
 /// six. `None` for any other number. Up to 32000 it is Microsoft FreeCell's deal of that number, by Jim Horne's
 /// algorithm; above, the same algorithm goes on, which is this project's own.
@@ -16,7 +26,7 @@ pub fn deal(n: u32) -> Option<Position>
     ensures value { IfSome result (λ p. p ≡ dealt_board n) }
     ensures whole { IfSome result IsPosition }
 {
-    if !(1..=1_000_000).contains(&n) {
+    if !is_deal_number(n) {
         return None;
     }
     // Each card is dealt once, so the parts have no fault.

@@ -4,7 +4,7 @@
 //! algorithm goes on, which is this project's own. No call allocates.
 #![tactic(auto)]
 
-pub use deals::deal;
+pub use deals::{MOST_DEAL, deal, is_deal_number};
 pub use generator::Draws;
 pub use texts::deal_text;
 

@@ -1,6 +1,6 @@
 //! Several numbered deals, whose searches take turns, over any sink.
 
-ghost use Rattle.std.specs.Prelude.{◌≡◌, ◌+◌, ◌<◌, ◌≤◌, ◌↔◌, ℕ, Some, IfOk, IfErr, OnErr, IsTrue, true, false};
+ghost use Rattle.std.specs.Prelude.{◌≡◌, ◌+◌, ◌<◌, ◌≤◌, ℕ, Some, IfOk, IfErr, OnErr, true, false};
 ghost use Rattle.fc_deal.specs.Deal.{IsDealNumber};
 ghost use Rattle.fc_methods.specs.Method.{Asked};
 ghost use Rattle.fc_search.specs.Search.{State};
@@ -15,7 +15,7 @@ use fc_answers::Outcome;
 use fc_batch::Batch;
 use fc_best_first::{Status, Step};
 use fc_board_runs::{Output, ProgramFault};
-use fc_deal::deal;
+use fc_deal::{deal, is_deal_number};
 use fc_frontier::EitherFrontier;
 use fc_io::{Failed, Sink, write_all};
 use fc_methods::{Question, Sought};
@@ -77,23 +77,16 @@ pub(crate) fn deals_of(from: u32, to: u32) -> Result<u32, ProgramFault>
     ensures asked { IfOk result (IsAsked from to) }
     ensures fault { IfErr result (IsUnasked from to) }
 {
-    if !is_deal(from) {
+    if !is_deal_number(from) {
         return Err(ProgramFault::Number(from));
     }
-    if !is_deal(to) {
+    if !is_deal_number(to) {
         return Err(ProgramFault::Number(to));
     }
     if from > to || to - from >= MOST_DEALS {
         return Err(ProgramFault::Range);
     }
     Ok(to - from + 1)
-}
-
-// Whether a deal has this number.
-pub(crate) fn is_deal(n: u32) -> bool
-    ensures value { IsTrue result ↔ IsDealNumber n }
-{
-    (1..=1_000_000).contains(&n)
 }
 
 // A batch of the searches of so many deals, rising from this one, which have had no turn.

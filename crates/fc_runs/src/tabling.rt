@@ -6,11 +6,10 @@ ghost use Rattle.fc_board_runs.specs.Devices.{change};
 ghost use Rattle.fc_runs.specs.Rows.{IsRowOf};
 ghost use Rattle.fc_runs.specs.Tabling.{AreTabled, IsTableAsked, IsTabled, IsTableCutShort, IsTableFault, IsTableUnasked, names_text, row_text};
 
-use crate::batches::is_deal;
 use crate::rows::{Row, plain_row};
 use arrayvec::ArrayString;
 use fc_board_runs::{Output, ProgramFault};
-use fc_deal::deal;
+use fc_deal::{deal, is_deal_number};
 use fc_io::{Failed, Sink, write_all};
 use fc_methods::Question;
 use fc_moves::Game;
@@ -60,10 +59,10 @@ pub fn table_deals(from: u32, to: u32) -> Result<u32, ProgramFault>
     ensures asked { IfOk result (IsTableAsked from to) }
     ensures fault { IfErr result (IsTableUnasked from to) }
 {
-    if !is_deal(from) {
+    if !is_deal_number(from) {
         return Err(ProgramFault::Number(from));
     }
-    if !is_deal(to) {
+    if !is_deal_number(to) {
         return Err(ProgramFault::Number(to));
     }
     if from > to {

@@ -11,7 +11,7 @@ use crate::lengths::{note_lengths, note_reversed, note_rows};
 use crate::notes::BoardText;
 use crate::shown::{front_of, rest_of};
 use arrayvec::ArrayVec;
-use fc_deal::deal;
+use fc_deal::{MOST_DEAL, deal};
 use fc_io::{FromReader, FromSlice, ReadFault, Source, read_up_to};
 use fc_plain::{GuessedText, MOST_BYTES, PlainText, Title};
 use fc_position::Position;
@@ -120,7 +120,7 @@ fn number_of(rt: &HostRuntime, word: &str) -> Result<u32, Ending> {
         Ok(number) => Ok(number),
         Err(_) => {
             // (as of a number that is no deal's)
-            let _told = eprintln!(rt; "fc_solve: deal number {word} is outside 1 to 1000000");
+            let _told = eprintln!(rt; "fc_solve: deal number {word} is outside 1 to {MOST_DEAL}");
             Err(Ending::Told(REFUSED))
         }
     }

@@ -2,7 +2,7 @@
 ghost use Rattle.std.specs.Prelude.{◌<◌, ◌≤◌};
 
 use fc_cards::{Card, Suit};
-use fc_deal::{Draws, deal};
+use fc_deal::{Draws, MOST_DEAL, deal};
 use fc_io::FromSlice;
 use fc_position::Position;
 use fc_rows::columns_of_rows;
@@ -90,9 +90,6 @@ pub fn note_reversed(rt: &HostRuntime, start: &Position) {
         }
     }
 }
-
-// The greatest number of a deal.
-const MOST_DEAL: u32 = 1_000_000;
 
 // Whether the first two cards that are dealt are the last ones of the first two columns, as the draws tell before anything is dealt:
 // of a deck in order, in which the last card fills the gap of the first that is drawn.
