@@ -1,25 +1,27 @@
 -- The rows of cards that moved, over those of the others.
-use Rattle.std.proofs.Common.{◌≡◌, ℕ, ◌+◌, ◌-◌, ◌<◌, ◌≤◌, Bool, true, false, cond, Some, List, [], length, get_or, take, refl, sym, ◌∙◌, ap, subst, ⊎_elim, true≢false, arith}
+use Rattle.std.proofs.Common.{◌≡◌, ℕ, ◌+◌, ◌-◌, ◌<◌, ◌≤◌, Bool, true, false, cond, bit_and, Some, List, [], length, get_or, take, refl, sym, ◌∙◌, ap, subst, ⊎_elim, true≢false, arith}
 use Rattle.std.specs.Prelude.{◌==◌, ◌&&◌, ◌||◌, not}
 use Rattle.std.specs.Int.{bit_at}
 use Rattle.std.specs.List.{list_any}
 use Rattle.std.proofs.lemmas.Bool.{cases_lt, cases_Bool, eq-eqb}
 use Rattle.std.proofs.lemmas.List.{get_or-take, length-take-le, take-take, take_all, take_more}
 use Rattle.std.proofs.lemmas.List.Folds.{list_any_at}
-use Rattle.std.proofs.lemmas.Nat.Bits.{bit_at_ones}
+use Rattle.std.proofs.lemmas.Nat.Bits.{bit_at_ones, bit_at-lt}
 use Rattle.std.proofs.lemmas.Option.{slice_get-get_or}
 use Rattle.fc_position.specs.Board.{Board, column, last_of}
 use Rattle.fc_position.specs.Position.{IsPosition}
 use Rattle.fc_bound.specs.Bound.{stands_in, is_above_lower}
 use Rattle.fc_bound.specs.declared.rows.Row.{Row}
-use Rattle.fc_bound.specs.Rows.{AreRowsOf, IsRow, MoveAbove, no_row, stands_among}
+use Rattle.fc_bound.specs.Knots.{ends_with}
+use Rattle.fc_bound.specs.Rows.{AreBits, AreRowsOf, IsRow, MoveAbove, no_row, stands_among}
 use Rattle.fc_bound.specs.inner.Rows.{is_set, stands_above}
 use Rattle.fc_bound.proofs.AboveLemmas.{and-false, and-true, above-one, contains-stands, stands-contains}
-use Rattle.fc_bound.proofs.BitLemmas.{last_of-push}
+use Rattle.fc_bound.proofs.BitLemmas.{last_of-push, no_bits}
 use Rattle.fc_bound.proofs.FamilyRows.{stands_below}
 use Rattle.fc_bound.proofs.FillLemmas.{stands_take}
 use Rattle.fc_bound.proofs.HeldLemmas.{found}
 use Rattle.fc_bound.proofs.LeftLemmas.{last_stands, stands_inside}
+use Rattle.fc_bound.proofs.TiedLemmas.{in_both}
 
 pub taken_last : (xs : List ℕ) (i : ℕ) → i < length xs → last_of (take (i + 1) xs) ≡ Some (get_or xs i 0)
 taken_last xs i inside = ap last_of (take_more xs i 0 inside) ∙ last_of-push (take i xs) (get_or xs i 0)
@@ -163,6 +165,15 @@ pub none_moved : (bits front : ℕ) (cards : List ℕ) → front ≡ length card
 none_moved bits front cards is last above c stands =
     let whole : take front cards ≡ cards = take_all front cards (omega (arith, is)) in
     first_still bits front cards (omega (arith, is)) last above c (ap (λ x. stands_in x c) whole ∙ stands)
+
+-- where the last card of a column is no one of those that moved, its last bit is none of theirs
+pub still_last : (bits last : ℕ) (cards : List ℕ) → AreBits last (λ c. ends_with c (last_of cards)) → bit_and last bits ≡ 0
+    → 0 < length cards → bit_at bits (get_or cards (length cards - 1) 0) ≡ 0
+still_last bits last cards ends none some =
+    let u = get_or cards (length cards - 1) 0 in
+    let is : last_of cards ≡ Some u = slice_get-get_or cards (length cards - 1) 0 (omega (arith, some)) in
+    let own : bit_at last u ≡ 1 = ends u ∙ ap (λ t. cond t 1 0) (ap (ends_with u) is ∙ eq-eqb u u refl) in
+    omega (arith, bit_at-lt bits u, λ (set : bit_at bits u ≡ 1). no_bits (bit_and last bits) u none (in_both last bits u own set))
 
 pub none_set : (bits c : ℕ) (test : Bool) → (test ≡ true → bit_at bits c ≡ 0) → ◌≡◌ {A = ℕ} 0 (cond (test && is_set bits c) 1 0)
 none_set bits c true still = ap (λ n. cond (n == 1) 1 0) (sym (still refl))

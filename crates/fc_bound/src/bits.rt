@@ -83,6 +83,15 @@ pub(crate) fn remove(bits: u64, c: u8) -> u64
     bits & !(1 << c)
 }
 
+// The bits without the least of them: fewer steps than to remove it.
+#[inline]
+pub(crate) fn but_least(bits: u64) -> u64
+    requires some { 0 < bits }
+    ensures less { result < bits }
+{
+    bits & (bits - 1)
+}
+
 // The bits of the higher cards of the suit of the card with this number.
 #[inline]
 pub(crate) fn higher_cards(index: u8) -> u64

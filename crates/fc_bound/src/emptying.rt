@@ -4,7 +4,7 @@ ghost use Rattle.std.specs.Prelude.{◌≡◌, ◌<◌, ◌^◌, bit_and};
 ghost use Rattle.std.specs.Int.{bit_at};
 ghost use Rattle.fc_bound.specs.inner.Tied.{AreTiedIn};
 
-use crate::bits::{above, remove, suit_cards};
+use crate::bits::{above, but_least, remove, suit_cards};
 use crate::ring_search::{CARDS, least_card, long_ring_through, pair};
 use crate::rows::{Marks, Rows};
 
@@ -68,7 +68,7 @@ impl Emptying {
         while rest != 0 {
             let card = least_card(rest);
             self.take(rows, card);
-            rest = remove(rest, card);
+            rest = but_least(rest);
         }
     }
 

@@ -39,6 +39,7 @@ impl BoundKind {
     }
 
     /// What is shown of the position without the playable card of a place, by what is shown with it.
+    #[inline(always)]
     pub fn lifted(
         self,
         position: &Position,
@@ -90,6 +91,7 @@ impl BoundKind {
 
     /// What is shown of a position whose playable card of a place, of a column or a cell, was put there last, by what is shown
     /// without it. Where that is more than `most` already, nothing is looked for.
+    #[inline(always)]
     pub fn landed(
         self,
         position: &Position,
@@ -166,6 +168,7 @@ impl BoundKind {
 
     /// What is shown of where a move leads, where nothing more has to be looked for, without a table: `None` where the move's card is
     /// noted, or goes onto another one, where it may be on a ring more.
+    #[inline(always)]
     pub fn known_after(self, position: &Position, m: Move, shown: Shown) -> Option<Shown>
         requires shown { IsShown self position.now shown.number shown.note }
         ensures known { IfSome result (λ known. (g : GameRules) (z : Board) → Step g position.now m z → IsShown self z known.number known.note) }

@@ -5,7 +5,7 @@ ghost use Rattle.std.specs.Int.{bit_at};
 ghost use Rattle.fc_bound.specs.Rings.{IsAmong};
 ghost use Rattle.fc_bound.specs.inner.Tied.{IsTied, AreTiedBy, AreTiedIn, IsCard, IsWithin};
 
-use crate::bits::{least, remove};
+use crate::bits::{but_least, least, remove};
 use crate::rows::Rows;
 
 // The bits of all cards.
@@ -46,6 +46,25 @@ pub(crate) fn tied(rows: &Rows, cards: u64) -> u64
     hosts & waiting
 }
 
+// Whether each of these cards waits beneath one of them, and one of them beneath it.
+#[inline]
+fn are_tied(rows: &Rows, cards: u64) -> bool
+    requires below { cards < 2 ^ 52 }
+{
+    let mut waiting = 0;
+    let mut rest = cards;
+    while rest != 0 {
+        let card = least_card(rest);
+        let guests = rows[card as usize].waiting & cards;
+        if guests == 0 {
+            return false;
+        }
+        waiting |= guests;
+        rest = but_least(rest);
+    }
+    waiting == cards
+}
+
 // What is left of these cards where those that aren't tied go, again and again: the cards of each ring among them are.
 #[inline]
 pub(crate) fn pruned(rows: &Rows, cards: u64) -> u64
@@ -54,6 +73,9 @@ pub(crate) fn pruned(rows: &Rows, cards: u64) -> u64
     ensures most { result ≤ cards }
     ensures rings { (ring : List ℕ) → AreTiedBy rows.now ring → IsAmong cards ring → IsAmong result ring }
 {
+    if are_tied(rows, cards) {
+        return cards;
+    }
     let mut left = cards;
     let mut next = tied(rows, left);
     while next != left {

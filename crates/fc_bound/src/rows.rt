@@ -123,15 +123,16 @@ fn fill_column(rows: &mut Rows, cards: &[Card], moved: u64) -> Marks
     ensures lasts { AreBits result.lasts (λ c. ends_with c (last_of cards.now)) }
     ensures held { AreBits result.held (λ c. is_above_lower c cards.now && is_set moved c) }
 {
-    let front = unmoved(cards, moved);
-    // Of most columns no card has moved.
-    if front == cards.len() {
+    let last = last_bit(cards);
+    // Of most columns no card has moved, and so not the last one.
+    if last & moved == 0 {
         return Marks {
             all: 0,
-            lasts: last_bit(cards),
+            lasts: last,
             held: 0,
         };
     }
+    let front = unmoved(cards, moved);
     fill_above(rows, cards, front)
 }
 

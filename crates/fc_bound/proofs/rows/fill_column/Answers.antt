@@ -1,8 +1,8 @@
-use Rattle.std.proofs.Common.{◌∙◌, cond, take, ap}
+use Rattle.std.proofs.Common.{◌∙◌, cond, length, refl, take, ap}
 use Rattle.std.proofs.lemmas.Nat.Bits.{bit_at-zero}
 use Rattle.fc_bound.specs.Bound.{is_above_lower, stands_in}
 use Rattle.fc_bound.specs.inner.Rows.{is_set, stands_above}
-use Rattle.fc_bound.proofs.OverLemmas.{above_moved, first_still, held_moved, none_moved, none_set, rows_moved}
+use Rattle.fc_bound.proofs.OverLemmas.{above_moved, first_still, held_moved, none_moved, none_set, rows_moved, still_last}
 use Rattle.fc_bound.proofs.AboveLemmas.{above-one}
 use Rattle.fc_bound.proofs.FillLemmas.{stands_take}
 use Rattle.fc_bound.proofs.LeftLemmas.{last_stands}
@@ -35,22 +35,22 @@ fill_above-requires-clause-row c = λ u last.
     c.requires.others c.unmoved-front.result u last
     (first_still c.args.moved c.unmoved-front.result cards front.most front.last c.requires.above u (last_stands (take c.unmoved-front.result cards) u last))
 
-pub returns-then-front-cards-clause-rows : goal.returns-then-front-cards-clause-rows
-returns-then-front-cards-clause-rows c = λ h u last.
+pub returns-then-last-moved-eq0-clause-rows : goal.returns-then-last-moved-eq0-clause-rows
+returns-then-last-moved-eq0-clause-rows c = λ h u last.
     let cards = c.args.cards.now in
     c.requires.others h u last
-    (none_moved c.args.moved c.unmoved-front.result cards c.if-front-cards.true c.unmoved-front.ensures.last c.requires.above u
+    (none_moved c.args.moved (length cards) cards refl (still_last c.args.moved c.last_bit-last.result c.args.cards.now c.last_bit-last.ensures.value c.if-last-moved-eq0.true) c.requires.above u
     (stands_take h cards u (last_stands (take h cards) u last)))
 
-pub returns-then-front-cards-clause-all : goal.returns-then-front-cards-clause-all
-returns-then-front-cards-clause-all c = λ x.
+pub returns-then-last-moved-eq0-clause-all : goal.returns-then-last-moved-eq0-clause-all
+returns-then-last-moved-eq0-clause-all c = λ x.
     let cards = c.args.cards.now in
     bit_at-zero x ∙ none_set c.args.moved x (stands_in cards x)
-    (none_moved c.args.moved c.unmoved-front.result cards c.if-front-cards.true c.unmoved-front.ensures.last c.requires.above x)
+    (none_moved c.args.moved (length cards) cards refl (still_last c.args.moved c.last_bit-last.result c.args.cards.now c.last_bit-last.ensures.value c.if-last-moved-eq0.true) c.requires.above x)
 
-pub returns-then-front-cards-clause-held : goal.returns-then-front-cards-clause-held
-returns-then-front-cards-clause-held c = λ x.
+pub returns-then-last-moved-eq0-clause-held : goal.returns-then-last-moved-eq0-clause-held
+returns-then-last-moved-eq0-clause-held c = λ x.
     let cards = c.args.cards.now in
     bit_at-zero x ∙ none_set c.args.moved x (is_above_lower x cards) (λ above.
-    none_moved c.args.moved c.unmoved-front.result cards c.if-front-cards.true c.unmoved-front.ensures.last c.requires.above x
+    none_moved c.args.moved (length cards) cards refl (still_last c.args.moved c.last_bit-last.result c.args.cards.now c.last_bit-last.ensures.value c.if-last-moved-eq0.true) c.requires.above x
     (above-one x cards above).stands)
