@@ -148,7 +148,7 @@ fn source_of(lasts: &Lasts, from: Place, card: Card) -> Source
 }
 
 // Lists the moves of the card, behind what is in the list.
-#[inline]
+#[inline(always)]
 fn list_card<G: Game>(
     game: &G,
     position: &Position,
