@@ -77,7 +77,7 @@ enum luffaknife_status {
     LUFFAKNIFE_BAD_WEIGHT = 27,  /* so many tenths are no weight */
     LUFFAKNIFE_BAD_EXPANSION = 28, /* no expansion has this number */
 
-    LUFFAKNIFE_BOARD_TOO_LONG = 32,   /* a board's text of more than 16384 bytes, or 4096 once it is plain */
+    LUFFAKNIFE_BOARD_TOO_LONG = 32,   /* a board's text of more than 16384 bytes, or 4096 once it is tidy */
     LUFFAKNIFE_NOT_A_CARD = 33,       /* a token of the line `place`, from 1, is no card */
     LUFFAKNIFE_NOT_A_FOUNDATION = 34, /* a token of the line is no foundation, or tells of a suit again */
     LUFFAKNIFE_TOO_MANY_CELLS = 35,   /* the line has more tokens than the game has cells */

@@ -6,7 +6,7 @@ use Rattle.fc_position.specs.Board.{Board}
 use Rattle.fc_moves.specs.GameRules.{GameRules}
 use Rattle.fc_text.proofs.PartLemmas.{length-tokens_between}
 use Rattle.fc_replay.specs.Played.{StopsAt}
-use Rattle.fc_replay.specs.Token.{is_gap, move_tokens}
+use Rattle.fc_replay.specs.Token.{is_move_gap, move_tokens}
 
 -- as many tokens stand at the front as are wanted
 pub front_done : (front rest all : List (List ℕ)) (n : ℕ) → front ++ rest ≡ all → n ≤ length front → length front ≤ n → take n all ≡ front
@@ -67,7 +67,7 @@ pub counted_more : (text rest : List ℕ) (more : List (List ℕ)) (count : ℕ)
 counted_more text rest more count token so first =
     let size = ap length so.parts in
     let left = ap length first in
-    omega (arith, so.size, size, left, length-append so.front (move_tokens rest), length-tokens_between is_gap text)
+    omega (arith, so.size, size, left, length-append so.front (move_tokens rest), length-tokens_between is_move_gap text)
 
 pub counted_all : (text rest : List ℕ) (count : ℕ) → Counted text rest count → move_tokens rest ≡ [] → count ≡ length (move_tokens text)
 counted_all text rest count so none =

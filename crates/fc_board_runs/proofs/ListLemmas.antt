@@ -12,7 +12,7 @@ use Rattle.fc_moves.proofs.StepLemmas.{allowed_has_text, step_keeps, step_once}
 use Rattle.fc_text.proofs.PartLemmas.{length-tokens_between}
 use Rattle.fc_sequences.proofs.RunLemmas.{expands_run}
 use Rattle.fc_replay.specs.Played.{Plays, StopsAt}
-use Rattle.fc_replay.specs.Token.{is_gap, move_tokens, SpellsMove}
+use Rattle.fc_replay.specs.Token.{is_move_gap, move_tokens, SpellsMove}
 use Rattle.fc_replay.proofs.PlayLemmas.{played_tokens_run, spelled_length}
 use Rattle.fc_replay.proofs.ReplayLoop.{Course, Spelled, course_none, course_next, spelled_none, spelled_next, stops_here}
 use Rattle.fc_replay.specs.Played.{SpellMoves}
@@ -20,9 +20,9 @@ use Rattle.fc_board_runs.specs.declared.faults.Input.TheVariants.{Board as of_bo
 use Rattle.fc_board_runs.specs.declared.faults.Output.TheVariants.{Answer as of_answer, Cert as certificate_out}
 use Rattle.fc_board_runs.specs.declared.faults.ProgramFault.{ProgramFault}
 use Rattle.fc_board_runs.specs.declared.faults.ProgramFault.TheVariants.{Number, Range, Budget, Board as bad_board, TooLong, Moves, TooManyWays, ListEnds, Cert, Read, Write, Memory}
-use Rattle.fc_board_runs.specs.declared.lists.ListQuestion.{ListQuestion}
+use Rattle.fc_board_runs.specs.declared.list_questions.ListQuestion.{ListQuestion}
 use Rattle.fc_board_runs.specs.Devices.{Device, GivesWhole}
-use Rattle.fc_board_runs.specs.Lists.{AreMoves, ComeTo, ComeToNone, HasEntries, IsLeftOpen, IsNotAnswered, IsUnanswered, asked_of}
+use Rattle.fc_board_runs.specs.Lists.{AreMoves, ComeTo, ComeToNone, HasEntries, IsLeftOpen, IsNotAnswered, IsListUnanswered, wanted_tokens}
 use Rattle.fc_board_runs.proofs.FrontLemmas.{front_all, front_done, stops_in_front}
 
 -- the moves so far were made, which the tokens at the front of a text spell, and the others are left
@@ -57,7 +57,7 @@ pub made_few : (g : GameRules) (start : Board) (text rest : List ℕ) (moves : L
 made_few g start text rest moves here made =
     let size = ap length made.spelled.parts in
     let count = spelled_length made.spelled.front moves made.spelled.spelled in
-    omega (arith, count, size, length-append made.spelled.front (move_tokens rest), length-tokens_between is_gap text)
+    omega (arith, count, size, length-append made.spelled.front (move_tokens rest), length-tokens_between is_move_gap text)
 
 module _ (g : GameRules) (start : Board) (text rest : List ℕ) (moves : List Move) (here : Board) (n : ℕ) (made : Made g start text rest moves here) where
   -- they run
@@ -166,9 +166,9 @@ never_unwritten true g b tokens why = why
 never_unwritten false g b tokens why = why
 
 -- where there are as many tokens as are asked of, that these come to no moves is why there is no answer
-pub unanswered : (q : ListQuestion) (g : GameRules) (b : Board) (tokens : List (List ℕ)) (fault : ProgramFault) → HasEntries q.asked tokens
-    → ComeToNone q.has_sequences g b (asked_of q.asked tokens) fault → IsUnanswered q g b tokens fault
-unanswered q g b tokens (ListEnds count) there why = absurd (never_ends q.has_sequences g b (asked_of q.asked tokens) count why)
+pub unanswered : (q : ListQuestion) (g : GameRules) (b : Board) (tokens : List (List ℕ)) (fault : ProgramFault) → HasEntries q.wants tokens
+    → ComeToNone q.has_sequences g b (wanted_tokens q.wants tokens) fault → IsListUnanswered q g b tokens fault
+unanswered q g b tokens (ListEnds count) there why = absurd (never_ends q.has_sequences g b (wanted_tokens q.wants tokens) count why)
 unanswered q g b tokens (Number n) there why = (there, why)
 unanswered q g b tokens Range there why = (there, why)
 unanswered q g b tokens Budget there why = (there, why)
@@ -183,19 +183,19 @@ unanswered q g b tokens Memory there why = (there, why)
 
 -- a text was given for which there is no answer, and nothing was written
 module _ (q : ListQuestion) (g : GameRules) (start : Board) (moves sink : Device) (text : List ℕ) (read : GivesWhole moves text) (unwritten : Stays sink.old sink.new) where
-  open_left : (fault : ProgramFault) → IsUnanswered q g start (move_tokens text) fault → IsLeftOpen q g start moves sink fault
+  open_left : (fault : ProgramFault) → IsListUnanswered q g start (move_tokens text) fault → IsLeftOpen q g start moves sink fault
   open_left fault why = record { text = text; read = read; why = why; unwritten = unwritten }
 
   -- and so the question wasn't answered
-  pub open_for : (fault : ProgramFault) → IsUnanswered q g start (move_tokens text) fault → IsNotAnswered q g start moves sink fault
+  pub open_for : (fault : ProgramFault) → IsListUnanswered q g start (move_tokens text) fault → IsNotAnswered q g start moves sink fault
   open_for (Read of_board) why = open_left (Read of_board) why
-  open_for (Read of_moves) why = absurd (never_unread q.has_sequences g start (asked_of q.asked (move_tokens text)) why.1)
+  open_for (Read of_moves) why = absurd (never_unread q.has_sequences g start (wanted_tokens q.wants (move_tokens text)) why.1)
   open_for (Read of_certificate) why = open_left (Read of_certificate) why
   open_for (TooLong of_board) why = open_left (TooLong of_board) why
   open_for (TooLong of_moves) why = inr (open_left (TooLong of_moves) why)
   open_for (TooLong of_certificate) why = open_left (TooLong of_certificate) why
   open_for Memory why = (unwritten, read.sound)
-  open_for (Write of_answer) why = absurd (never_unwritten q.has_sequences g start (asked_of q.asked (move_tokens text)) why.1)
+  open_for (Write of_answer) why = absurd (never_unwritten q.has_sequences g start (wanted_tokens q.wants (move_tokens text)) why.1)
   open_for (Write certificate_out) why = open_left (Write certificate_out) why
   open_for (Number n) why = open_left (Number n) why
   open_for Range why = open_left Range why

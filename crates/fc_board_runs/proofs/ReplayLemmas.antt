@@ -8,7 +8,7 @@ use Rattle.fc_replay.specs.declared.faults.ReplayFault.{ReplayFault}
 use Rattle.fc_replay.specs.declared.faults.ReplayFault.TheVariants.{BadMove, NotAllowed, Write as unwritten}
 use Rattle.fc_replay.specs.declared.pages.Page.TheVariants.{Board as printed}
 use Rattle.fc_replay.specs.declared.replays.Ended.{Ended}
-use Rattle.fc_replay.specs.Played.{SpellMoves, Passes, Plays, BeginsWithStep, counted}
+use Rattle.fc_replay.specs.Played.{SpellMoves, Passes, Plays, BeginsWithStep, replay_count}
 use Rattle.fc_replay.proofs.PageLemmas.{replays_printed}
 use Rattle.fc_board_runs.specs.declared.faults.Input.TheVariants.{Board as of_board, Moves as of_moves, Cert as of_certificate}
 use Rattle.fc_board_runs.specs.declared.faults.Output.TheVariants.{Answer as of_answer, Cert as certificate_out}
@@ -33,7 +33,7 @@ none_played g b (token ∷ tokens) boards plays never = absurd (never (begins g 
 module _ (g : GameRules) (board moves sink : Device) (start : Board) (given : GivesBoard g.cells board start) where
   -- where it writes pages of printed boards it writes printed boards
   abbrev replay_printed : (result : Result Ended ReplayFault) → IsReplayAs printed g start moves sink result
-      → IsReplayOf g board moves sink (counted result)
+      → IsReplayOf g board moves sink (replay_count result)
   replay_printed result replay = record {
     start = start;
     given = given;

@@ -9,14 +9,14 @@ use Rattle.fc_moves.specs.declared.steps.Move.{Move}
 use Rattle.fc_moves.specs.GameRules.{GameRules}
 use Rattle.std.proofs.lemmas.List.{take_all}
 use Rattle.fc_text.proofs.PartLemmas.{length-tokens_between}
-use Rattle.fc_sequences.specs.declared.lists.ListFault.{ListFault}
-use Rattle.fc_sequences.specs.declared.lists.ListFault.TheVariants.{Refused, TooMany, Memory as wanting}
+use Rattle.fc_sequences.specs.declared.list_expansions.ListFault.{ListFault}
+use Rattle.fc_sequences.specs.declared.list_expansions.ListFault.TheVariants.{Refused, TooMany, Memory as wanting}
 use Rattle.fc_sequences.specs.declared.pairs.Pair.{Pair}
 use Rattle.fc_sequences.specs.Following.{Expands, Follows, IsListFault, LeadsToMany}
 use Rattle.fc_sequences.specs.Pair.{SpellsPair, IsNoPair}
 use Rattle.fc_replay.specs.declared.pages.Page.{Page}
 use Rattle.fc_replay.specs.declared.replays.Ended.{Ended}
-use Rattle.fc_replay.specs.Token.{is_gap, move_tokens}
+use Rattle.fc_replay.specs.Token.{is_move_gap, move_tokens}
 use Rattle.fc_board_runs.specs.declared.faults.Input.TheVariants.{Board as of_board, Moves as of_moves, Cert as of_certificate}
 use Rattle.fc_board_runs.specs.declared.faults.ProgramFault.{ProgramFault}
 use Rattle.fc_board_runs.specs.declared.faults.ProgramFault.TheVariants.{Number, Range, Budget, Board as bad_board, TooLong, Moves, TooManyWays, ListEnds, Cert, Read, Write, Memory}
@@ -24,7 +24,7 @@ use Rattle.fc_replay.specs.declared.faults.ReplayFault.TheVariants.{BadMove, Not
 use Rattle.fc_board_runs.specs.Devices.{Device, GivesWhole}
 use Rattle.fc_board_runs.specs.inner.Fault.{list_fault}
 use Rattle.fc_board_runs.proofs.FrontLemmas.{front_all, front_done, front_on}
-use Rattle.fc_board_runs.specs.Sequences.{IsExpanded, IsFirstNoPair, IsLeft, IsListFaultAs, IsUnplayed, SpellPairs}
+use Rattle.fc_board_runs.specs.Sequences.{IsExpanded, IsFirstNoPair, IsListLeft, IsListFaultAs, IsUnplayed, SpellPairs}
 
 -- one more token that spells an entry
 spell_pair : (tokens : List (List ℕ)) (pairs : List Pair) (token : List ℕ) (pair : Pair) → SpellPairs tokens pairs → SpellsPair token pair
@@ -58,7 +58,7 @@ pub listed_few : (text rest : List ℕ) (pairs : List Pair) → Listed text rest
 listed_few text rest pairs so =
     let size = ap length so.parts in
     let count = pairs_length so.front pairs so.spelled in
-    omega (arith, count, size, length-append so.front (move_tokens rest), length-tokens_between is_gap text)
+    omega (arith, count, size, length-append so.front (move_tokens rest), length-tokens_between is_move_gap text)
 
 -- as many entries as are wanted
 pub listed_done : (text rest : List ℕ) (pairs : List Pair) (n : ℕ) → Listed text rest pairs → n ≤ length pairs → length pairs ≤ n
@@ -95,11 +95,11 @@ listed_bad text rest more pairs token n so first none less =
 
 -- a text has no more tokens than its longest has bytes
 pub whole_front : (text : List ℕ) (n : ℕ) → length text ≤ n → take n (move_tokens text) ≡ move_tokens text
-whole_front text n short = take_all n (move_tokens text) (omega (arith, length-tokens_between is_gap text, short))
+whole_front text n short = take_all n (move_tokens text) (omega (arith, length-tokens_between is_move_gap text, short))
 
 -- a text of entries that was given and isn't played from a position, where nothing was written
 module _ (page : Page) (g : GameRules) (start : Board) (moves sink : Device) (text : List ℕ) (read : GivesWhole moves text) (unwritten : Stays sink.old sink.new) where
-  left : (fault : ProgramFault) → IsUnplayed g start (move_tokens text) fault → IsLeft g start moves sink fault
+  left : (fault : ProgramFault) → IsUnplayed g start (move_tokens text) fault → IsListLeft g start moves sink fault
   left fault why = record { text = text; read = read; why = why; unwritten = unwritten }
 
   -- and so a list wasn't played to its end

@@ -47,10 +47,10 @@ pub record GivesWhole (source : Device) (bytes : List ℕ) : Type 0 where
   pub sound : IsTrue source.failed → ⊥
 
 -- why no board was read: the source failed, or its text has a fault
-abbrev pub IsReadFault : ℕ → Device → ProgramFault → Type 0
-IsReadFault n source (Read of_board) = IsTrue source.failed
-IsReadFault n source (bad_board fault) = GivesFault n source fault
-IsReadFault n source other = ⊥
+abbrev pub IsInputFault : ℕ → Device → ProgramFault → Type 0
+IsInputFault n source (Read of_board) = IsTrue source.failed
+IsInputFault n source (bad_board fault) = GivesFault n source fault
+IsInputFault n source other = ⊥
 
 -- a device that is lent or not, as it was handed in and as it was left
 module _ {C : Type 0} where

@@ -17,9 +17,9 @@ use Rattle.fc_board_runs.specs.declared.faults.Input.TheVariants.{Moves as of_mo
 use Rattle.fc_board_runs.specs.declared.faults.Output.TheVariants.{Answer as of_answer}
 use Rattle.fc_board_runs.specs.declared.faults.ProgramFault.{ProgramFault}
 use Rattle.fc_board_runs.specs.declared.faults.ProgramFault.TheVariants.{TooLong, Moves, ListEnds, Read, Write, Memory}
-use Rattle.fc_board_runs.specs.declared.lists.Asked.{Asked}
-use Rattle.fc_board_runs.specs.declared.lists.Asked.TheVariants.{Line, BoardAfter}
-use Rattle.fc_board_runs.specs.declared.lists.ListQuestion.{ListQuestion}
+use Rattle.fc_board_runs.specs.declared.list_questions.ListWants.{ListWants}
+use Rattle.fc_board_runs.specs.declared.list_questions.ListWants.TheVariants.{Line, BoardAfter}
+use Rattle.fc_board_runs.specs.declared.list_questions.ListQuestion.{ListQuestion}
 use Rattle.fc_board_runs.specs.Devices.{Device, GivesWhole}
 use Rattle.fc_board_runs.specs.Sequences.{IsExpanded, IsUnplayed}
 
@@ -35,51 +35,51 @@ ComeTo true g b tokens moves = IsExpanded g b tokens moves
 ComeTo false g b tokens moves = AreMoves g b tokens moves
 
 -- why tokens aren't such moves: that of a step is none, or isn't allowed, where those before it are; or memory was wanted
-abbrev pub IsStopped : GameRules → Board → List (List ℕ) → ProgramFault → Type 0
-IsStopped g b tokens (Moves (BadMove step)) = (boards : List Board) × StopsAt (λ _ token. IsNoMove token) g b tokens boards step
-IsStopped g b tokens (Moves (NotAllowed step)) = (boards : List Board) × StopsAt (IsNotAllowed g) g b tokens boards step
-IsStopped g b tokens Memory = Unit {0}
-IsStopped g b tokens other = ⊥
+abbrev pub IsListStop : GameRules → Board → List (List ℕ) → ProgramFault → Type 0
+IsListStop g b tokens (Moves (BadMove step)) = (boards : List Board) × StopsAt (λ _ token. IsNoMove token) g b tokens boards step
+IsListStop g b tokens (Moves (NotAllowed step)) = (boards : List Board) × StopsAt (IsNotAllowed g) g b tokens boards step
+IsListStop g b tokens Memory = Unit {0}
+IsListStop g b tokens other = ⊥
 
 -- why tokens come to no moves
 abbrev pub ComeToNone : Bool → GameRules → Board → List (List ℕ) → ProgramFault → Type 0
 ComeToNone true g b tokens fault = IsUnplayed g b tokens fault
-ComeToNone false g b tokens fault = IsStopped g b tokens fault
+ComeToNone false g b tokens fault = IsListStop g b tokens fault
 
 -- the tokens that are asked of: all, or so many of the first
-abbrev pub asked_of : Asked → List (List ℕ) → List (List ℕ)
-asked_of Line tokens = tokens
-asked_of (BoardAfter n) tokens = take n tokens
+abbrev pub wanted_tokens : ListWants → List (List ℕ) → List (List ℕ)
+wanted_tokens Line tokens = tokens
+wanted_tokens (BoardAfter n) tokens = take n tokens
 
 -- there are as many tokens as are asked of
-abbrev pub HasEntries : Asked → List (List ℕ) → Type 0
+abbrev pub HasEntries : ListWants → List (List ℕ) → Type 0
 HasEntries Line tokens = Unit {0}
 HasEntries (BoardAfter n) tokens = n ≤ length tokens
 
 -- what is asked, in a game with so many cells: the line of the moves, or the text of the board to which they lead
-abbrev pub asked_text : Asked → ℕ → List Move → Board → List ℕ
-asked_text Line cells moves last = moves_line moves
-asked_text (BoardAfter n) cells moves last = board_text cells last
+abbrev pub wanted_text : ListWants → ℕ → List Move → Board → List ℕ
+wanted_text Line cells moves last = moves_line moves
+wanted_text (BoardAfter n) cells moves last = board_text cells last
 
 -- why there is no answer: the list ends before the entries that are asked of do, or these come to no moves
-abbrev pub IsUnanswered : ListQuestion → GameRules → Board → List (List ℕ) → ProgramFault → Type 0
-IsUnanswered q g b tokens (ListEnds count) = (count ≡ length tokens) × ((n : ℕ) × (q.asked ≡ BoardAfter n) × (length tokens < n))
-IsUnanswered q g b tokens fault = HasEntries q.asked tokens × ComeToNone q.has_sequences g b (asked_of q.asked tokens) fault
+abbrev pub IsListUnanswered : ListQuestion → GameRules → Board → List (List ℕ) → ProgramFault → Type 0
+IsListUnanswered q g b tokens (ListEnds count) = (count ≡ length tokens) × ((n : ℕ) × (q.wants ≡ BoardAfter n) × (length tokens < n))
+IsListUnanswered q g b tokens fault = HasEntries q.wants tokens × ComeToNone q.has_sequences g b (wanted_tokens q.wants tokens) fault
 
 -- a text was given whose entries that are asked of come to these one-card moves, which lead to this board
 pub record IsPlayedTo (q : ListQuestion) (g : GameRules) (start : Board) (moves : Device) (steps : List Move) (last : Board) : Type 0 where
   pub text : List ℕ
   pub read : GivesWhole moves text
-  pub there : HasEntries q.asked (move_tokens text)
-  pub come : ComeTo q.has_sequences g start (asked_of q.asked (move_tokens text)) steps
+  pub there : HasEntries q.wants (move_tokens text)
+  pub come : ComeTo q.has_sequences g start (wanted_tokens q.wants (move_tokens text)) steps
   pub run : Run g start steps last
 
 -- a question was answered: the sink took what is asked, and it is told how many moves were made, and whether the board is won
-pub record IsAnsweredBy (q : ListQuestion) (g : GameRules) (start : Board) (moves sink : Device) (ended : Ended) : Type 0 where
+pub record IsListAnswered (q : ListQuestion) (g : GameRules) (start : Board) (moves sink : Device) (ended : Ended) : Type 0 where
   pub steps : List Move
   pub last : Board
   pub played : IsPlayedTo q g start moves steps last
-  pub written : TakesBytes sink.old sink.new (asked_text q.asked g.cells steps last)
+  pub written : TakesBytes sink.old sink.new (wanted_text q.wants g.cells steps last)
   pub sound : IsTrue sink.failed → ⊥
   pub count : ended.moves ≡ length steps
   pub won : IsTrue ended.is_won ↔ IsWon last
@@ -89,14 +89,14 @@ pub record IsCutOff (q : ListQuestion) (g : GameRules) (start : Board) (moves si
   pub steps : List Move
   pub last : Board
   pub played : IsPlayedTo q g start moves steps last
-  pub front : TakesFront sink.old sink.new (asked_text q.asked g.cells steps last)
+  pub front : TakesFront sink.old sink.new (wanted_text q.wants g.cells steps last)
   pub failed : IsTrue sink.failed
 
 -- a text was given for which there is no answer, and nothing was written
 pub record IsLeftOpen (q : ListQuestion) (g : GameRules) (start : Board) (moves sink : Device) (fault : ProgramFault) : Type 0 where
   pub text : List ℕ
   pub read : GivesWhole moves text
-  pub why : IsUnanswered q g start (move_tokens text) fault
+  pub why : IsListUnanswered q g start (move_tokens text) fault
   pub unwritten : Stays sink.old sink.new
 
 -- why a question wasn't answered, each fault only where those before it have no cause

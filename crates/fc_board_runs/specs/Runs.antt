@@ -65,21 +65,21 @@ pub record IsReplayedAs (page : Page) (g : GameRules) (start : Board) (moves sin
 
 -- why moves weren't replayed to their end, each fault only where those before it have no cause: `Unread` holds where the moves
 -- weren't read, and what holds where the replay itself ended with a fault is told of that fault
-abbrev pub IsFaultOfMoves : Type 0 → (ReplayFault → Type 0) → Device → Device → ProgramFault → Type 0
-IsFaultOfMoves Unread Of moves sink (Read of_moves) = Unread × IsTrue moves.failed
-IsFaultOfMoves Unread Of moves sink (TooLong of_moves) = Unread × TellsAtLeast moves.old (LONGEST_MOVES + 1) × (IsTrue moves.failed → ⊥)
-IsFaultOfMoves Unread Of moves sink Memory = Unread × TellsAtLeast moves.old 1 × (IsTrue moves.failed → ⊥)
-IsFaultOfMoves Unread Of moves sink (Moves (BadMove step)) = Of (BadMove step)
-IsFaultOfMoves Unread Of moves sink (Moves (NotAllowed step)) = Of (NotAllowed step)
-IsFaultOfMoves Unread Of moves sink (Write of_answer) = Of unwritten × IsTrue sink.failed
-IsFaultOfMoves Unread Of moves sink other = ⊥
+abbrev pub IsMovesFault : Type 0 → (ReplayFault → Type 0) → Device → Device → ProgramFault → Type 0
+IsMovesFault Unread Of moves sink (Read of_moves) = Unread × IsTrue moves.failed
+IsMovesFault Unread Of moves sink (TooLong of_moves) = Unread × TellsAtLeast moves.old (LONGEST_MOVES + 1) × (IsTrue moves.failed → ⊥)
+IsMovesFault Unread Of moves sink Memory = Unread × TellsAtLeast moves.old 1 × (IsTrue moves.failed → ⊥)
+IsMovesFault Unread Of moves sink (Moves (BadMove step)) = Of (BadMove step)
+IsMovesFault Unread Of moves sink (Moves (NotAllowed step)) = Of (NotAllowed step)
+IsMovesFault Unread Of moves sink (Write of_answer) = Of unwritten × IsTrue sink.failed
+IsMovesFault Unread Of moves sink other = ⊥
 
 -- why a replay from a board that is read didn't run to its end; before the moves are replayed nothing is written
 abbrev pub IsReplayFault : GameRules → Device → Device → Device → ProgramFault → Type 0
 IsReplayFault g board moves sink (Read of_board) = IsTrue board.failed × Stays moves.old moves.new × Stays sink.old sink.new
 IsReplayFault g board moves sink (bad_board fault) = GivesFault g.cells board fault × Stays moves.old moves.new × Stays sink.old sink.new
-IsReplayFault g board moves sink fault = IsFaultOfMoves (IsBoardAlone g board sink) (λ e. IsReplayOf g board moves sink (Err e)) moves sink fault
+IsReplayFault g board moves sink fault = IsMovesFault (IsBoardAlone g board sink) (λ e. IsReplayOf g board moves sink (Err e)) moves sink fault
 
 -- why a replay from a position didn't run to its end; before the moves are replayed nothing is written
 abbrev pub IsReplayFaultAs : Page → GameRules → Board → Device → Device → ProgramFault → Type 0
-IsReplayFaultAs page g start moves sink fault = IsFaultOfMoves (Stays sink.old sink.new) (λ e. IsReplayAs page g start moves sink (Err e)) moves sink fault
+IsReplayFaultAs page g start moves sink fault = IsMovesFault (Stays sink.old sink.new) (λ e. IsReplayAs page g start moves sink (Err e)) moves sink fault

@@ -6,8 +6,8 @@ use Rattle.fc_position.specs.Board.{Board}
 use Rattle.fc_position.specs.Position.{IsWon}
 use Rattle.fc_moves.specs.declared.steps.Move.{Move}
 use Rattle.fc_moves.specs.GameRules.{GameRules}
-use Rattle.fc_sequences.specs.declared.lists.ListFault.{ListFault}
-use Rattle.fc_sequences.specs.declared.lists.ListFault.TheVariants.{Refused, TooMany}
+use Rattle.fc_sequences.specs.declared.list_expansions.ListFault.{ListFault}
+use Rattle.fc_sequences.specs.declared.list_expansions.ListFault.TheVariants.{Refused, TooMany}
 use Rattle.fc_sequences.specs.declared.pairs.Pair.{Pair}
 use Rattle.fc_sequences.specs.Following.{Expands, Follows, IsListFault, LeadsToMany}
 use Rattle.fc_sequences.specs.Pair.{SpellsPair, IsNoPair}
@@ -84,7 +84,7 @@ pub record IsPlayed (page : Page) (g : GameRules) (start : Board) (moves sink : 
   pub sound : IsTrue sink.failed → play.steps ≡ []
 
 -- a text of entries was given that aren't played from a position, and nothing was written
-pub record IsLeft (g : GameRules) (start : Board) (moves sink : Device) (fault : ProgramFault) : Type 0 where
+pub record IsListLeft (g : GameRules) (start : Board) (moves sink : Device) (fault : ProgramFault) : Type 0 where
   pub text : List ℕ
   pub read : GivesWhole moves text
   pub why : IsUnplayed g start (move_tokens text) fault
@@ -94,7 +94,7 @@ pub record IsLeft (g : GameRules) (start : Board) (moves sink : Device) (fault :
 abbrev pub IsListFaultAs : Page → GameRules → Board → Device → Device → ProgramFault → Type 0
 IsListFaultAs page g start moves sink (Read of_moves) = Stays sink.old sink.new × IsTrue moves.failed
 IsListFaultAs page g start moves sink (TooLong of_moves) =
-    (Stays sink.old sink.new × TellsAtLeast moves.old (LONGEST_MOVES + 1) × (IsTrue moves.failed → ⊥)) ⊎ IsLeft g start moves sink (TooLong of_moves)
+    (Stays sink.old sink.new × TellsAtLeast moves.old (LONGEST_MOVES + 1) × (IsTrue moves.failed → ⊥)) ⊎ IsListLeft g start moves sink (TooLong of_moves)
 IsListFaultAs page g start moves sink Memory = Stays sink.old sink.new × (IsTrue moves.failed → ⊥)
 IsListFaultAs page g start moves sink (Write of_answer) = ((failed : Failed) × IsPlayOf page g start moves sink (Err failed)) × IsTrue sink.failed
-IsListFaultAs page g start moves sink fault = IsLeft g start moves sink fault
+IsListFaultAs page g start moves sink fault = IsListLeft g start moves sink fault

@@ -12,18 +12,18 @@ use Rattle.fc_board_runs.specs.declared.faults.ProgramFault.TheVariants.{Write}
 use Rattle.fc_board_runs.specs.Devices.{Device}
 
 -- what shows a board of a game with n cells: its drawing, without or with colours, or its text
-abbrev pub shown : Look → ℕ → Board → List ℕ
-shown Drawn n b = drawing (unmarked false) n b
-shown Coloured n b = drawing (unmarked true) n b
-shown Text n b = board_text n b
+abbrev pub look_text : Look → ℕ → Board → List ℕ
+look_text Drawn n b = drawing (unmarked false) n b
+look_text Coloured n b = drawing (unmarked true) n b
+look_text Text n b = board_text n b
 
 -- the sink took what shows a board
-pub record IsShown (look : Look) (n : ℕ) (b : Board) (sink : Device) (status : ℕ) : Type 0 where
-  pub written : TakesBytes sink.old sink.new (shown look n b)
+pub record IsLookWritten (look : Look) (n : ℕ) (b : Board) (sink : Device) (status : ℕ) : Type 0 where
+  pub written : TakesBytes sink.old sink.new (look_text look n b)
   pub sound : IsTrue sink.failed → ⊥
   pub told : status ≡ 0
 
 -- why not all that shows a board was written: the sink failed
 abbrev pub IsShowFault : Look → ℕ → Board → Device → ProgramFault → Type 0
-IsShowFault look n b sink (Write of_answer) = TakesFront sink.old sink.new (shown look n b) × IsTrue sink.failed
+IsShowFault look n b sink (Write of_answer) = TakesFront sink.old sink.new (look_text look n b) × IsTrue sink.failed
 IsShowFault look n b sink other = ⊥

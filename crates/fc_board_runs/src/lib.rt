@@ -3,14 +3,14 @@
 #![tactic(auto)]
 
 pub use faults::{Input, Output, ProgramFault, read_fault};
-pub use lists::{Asked, ListQuestion, run_list};
+pub use list_questions::{ListWants, ListQuestion, run_list};
 pub use runs::{LONGEST_BOARD, LONGEST_MOVES, read_position, run_deal, run_replay, run_replay_as};
 pub use sequences::run_replay_sequences;
 pub use showing::{Look, run_show};
 
 mod faults;
 pub mod laws;
-mod lists;
+mod list_questions;
 mod runs;
 mod sequences;
 mod showing;

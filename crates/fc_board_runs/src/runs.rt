@@ -3,7 +3,7 @@
 ghost use Rattle.std.specs.Prelude.{◌≡◌, ◌+◌, ◌≤◌, IfOk, IfErr};
 ghost use Rattle.fc_io.specs.Moves.{GivesAtMost};
 ghost use Rattle.fc_position.specs.Position.{Fits};
-ghost use Rattle.fc_board_runs.specs.Devices.{change, GivesBoard, IsReadFault};
+ghost use Rattle.fc_board_runs.specs.Devices.{change, GivesBoard, IsInputFault};
 ghost use Rattle.fc_board_runs.specs.inner.Fault.{replay_fault};
 ghost use Rattle.fc_board_runs.specs.Runs.{IsDealt, IsDealFault, IsReplayed, IsReplayFault, IsReplayedAs, IsReplayFaultAs};
 
@@ -30,7 +30,7 @@ pub fn read_position<S: Source>(board: &mut S, cells: u8) -> Result<Position, Pr
     requires game { cells ≤ 4 }
     ensures read { IfOk result (GivesBoard cells (change S.told S.has_failed board.old board.new)) }
     ensures fits { IfOk result (Fits cells) }
-    ensures fault { IfErr result (IsReadFault cells (change S.told S.has_failed board.old board.new)) }
+    ensures fault { IfErr result (IsInputFault cells (change S.told S.has_failed board.old board.new)) }
     ensures taken { GivesAtMost (S.told board.old) (S.told board.new) (LONGEST_BOARD + 1) }
 {
     let mut room = [0; LONGEST_BOARD + 1];

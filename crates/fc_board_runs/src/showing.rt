@@ -5,7 +5,7 @@ ghost use Rattle.fc_io.specs.Moves.{TakesBytes, TakesFront};
 ghost use Rattle.fc_position.specs.Position.{Fits};
 ghost use Rattle.fc_board_runs.specs.Devices.{change};
 ghost use Rattle.fc_show.specs.Drawing.{drawing, unmarked};
-ghost use Rattle.fc_board_runs.specs.Showing.{IsShown, IsShowFault, shown};
+ghost use Rattle.fc_board_runs.specs.Showing.{IsLookWritten, IsShowFault, look_text};
 
 use crate::faults::{Output, ProgramFault};
 use fc_io::{Failed, Sink, write_all};
@@ -36,7 +36,7 @@ pub fn run_show<G: Game, K: Sink>(
     out: &mut K,
 ) -> Result<u8, ProgramFault>
     requires fits { Fits (G.game game.now).cells start.now }
-    ensures shown { IfOk result (IsShown look (G.game game.now).cells start.now
+    ensures look_text { IfOk result (IsLookWritten look (G.game game.now).cells start.now
         (change K.held K.has_failed out.old out.new)) }
     ensures fault { IfErr result (IsShowFault look (G.game game.now).cells start.now
         (change K.held K.has_failed out.old out.new)) }
@@ -56,8 +56,8 @@ fn write_look<K: Sink>(
 ) -> Result<(), Failed>
     requires game { cells ≤ 4 }
     requires fits { Fits cells position.now }
-    ensures front { TakesFront (K.held out.old) (K.held out.new) (shown look cells position.now) }
-    ensures whole { OnOk result (TakesBytes (K.held out.old) (K.held out.new) (shown look cells position.now)) }
+    ensures front { TakesFront (K.held out.old) (K.held out.new) (look_text look cells position.now) }
+    ensures whole { OnOk result (TakesBytes (K.held out.old) (K.held out.new) (look_text look cells position.now)) }
     ensures fault { IsErr result ↔ IsTrue (K.has_failed out.new) }
 {
     match look {

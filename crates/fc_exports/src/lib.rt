@@ -5,17 +5,17 @@
 
 ghost use Rattle.std.specs.Prelude.{Result, MatchResult};
 ghost use Rattle.fc_library.specs.Bests.{IsBestCertified, IsBestRefused, IsBestTold};
-ghost use Rattle.fc_library.specs.Checks.{IsAccepted, IsCheckRefused};
+ghost use Rattle.fc_library.specs.Checks.{IsCheckTold, IsCheckRefused};
 ghost use Rattle.fc_library.specs.Deals.{IsDealRefused, IsDealTold};
-ghost use Rattle.fc_library.specs.Keeps.{IsKept, IsKeptBoth};
+ghost use Rattle.fc_library.specs.Keeps.{IsTextKept, AreBothKept};
 ghost use Rattle.fc_library.specs.Replays.{IsReplayRefused, IsReplayTold};
 ghost use Rattle.fc_library.specs.Reviews.{IsReviewRefused, IsReviewTold};
 ghost use Rattle.fc_library.specs.Rooms.{IsHandedOver, IsHandedOverBoth};
 ghost use Rattle.fc_library.specs.Sequences.{IsSequencesRefused, IsSequencesTold};
 ghost use Rattle.fc_library.specs.Solves.{IsSolvedCertified, IsSolvedTold, IsSolveRefused};
-ghost use Rattle.fc_library.specs.declared.answers.Certified.{Certified};
-ghost use Rattle.fc_library.specs.declared.answers.Told.{Told};
-ghost use Rattle.fc_library.specs.declared.refusals.Refusal.{Refusal};
+ghost use Rattle.fc_library.specs.declared.told_answers.Certified.{Certified};
+ghost use Rattle.fc_library.specs.declared.told_answers.Told.{Told};
+ghost use Rattle.fc_library.specs.declared.call_refusals.CallRefusal.{CallRefusal};
 
 use fc_library::{
     Call, GameName, MethodName, best, best_certified, check_bytes, deal_of, hand_over,
@@ -27,7 +27,7 @@ use std::alloc::Global;
 /// The columns of a numbered deal, 1 to 1,000,000, a line each: at most 200 bytes.
 #[unsafe(no_mangle)]
 pub extern "C" fn luffaknife_deal(alloc: Global, number: u32, text: &mut [u8]) -> Call
-    ensures handed { (told : Result Told Refusal) × MatchResult told (IsDealTold number) (IsDealRefused number)
+    ensures handed { (told : Result Told CallRefusal) × MatchResult told (IsDealTold number) (IsDealRefused number)
         × IsHandedOver told text.old text.new result }
 {
     hand_over(&deal_of(alloc, number), text)
@@ -42,7 +42,7 @@ pub extern "C" fn luffaknife_best(
     board: &[u8],
     text: &mut [u8],
 ) -> Call
-    ensures handed { (told : Result Told Refusal) × MatchResult told (IsBestTold name board.now budget) (IsBestRefused name board.now budget)
+    ensures handed { (told : Result Told CallRefusal) × MatchResult told (IsBestTold name board.now budget) (IsBestRefused name board.now budget)
         × IsHandedOver told text.old text.new result }
 {
     hand_over(&best(alloc, name, board, budget), text)
@@ -58,7 +58,7 @@ pub extern "C" fn luffaknife_best_certified(
     text: &mut [u8],
     certificate: &mut [u8],
 ) -> Call
-    ensures handed { (told : Result Certified Refusal) × MatchResult told (IsBestCertified name board.now budget) (IsBestRefused name board.now budget)
+    ensures handed { (told : Result Certified CallRefusal) × MatchResult told (IsBestCertified name board.now budget) (IsBestRefused name board.now budget)
         × IsHandedOverBoth told (text.old, certificate.old) (text.new, certificate.new) result }
 {
     hand_over_certified(
@@ -77,8 +77,8 @@ pub extern "C" fn luffaknife_keep_best(
     board: &[u8],
     text: &mut &'static [u8],
 ) -> Call
-    ensures kept { (told : Result Told Refusal) × MatchResult told (IsBestTold name board.now budget) (IsBestRefused name board.now budget)
-        × IsKept told text.old.now text.new.now result }
+    ensures kept { (told : Result Told CallRefusal) × MatchResult told (IsBestTold name board.now budget) (IsBestRefused name board.now budget)
+        × IsTextKept told text.old.now text.new.now result }
 {
     keep(best(alloc, name, board, budget), text)
 }
@@ -93,8 +93,8 @@ pub extern "C" fn luffaknife_keep_best_certified(
     text: &mut &'static [u8],
     certificate: &mut &'static [u8],
 ) -> Call
-    ensures kept { (told : Result Certified Refusal) × MatchResult told (IsBestCertified name board.now budget) (IsBestRefused name board.now budget)
-        × IsKeptBoth told (text.old.now, certificate.old.now) (text.new.now, certificate.new.now) result }
+    ensures kept { (told : Result Certified CallRefusal) × MatchResult told (IsBestCertified name board.now budget) (IsBestRefused name board.now budget)
+        × AreBothKept told (text.old.now, certificate.old.now) (text.new.now, certificate.new.now) result }
 {
     keep_certified(
         best_certified(alloc, name, board, budget),
@@ -112,7 +112,7 @@ pub extern "C" fn luffaknife_solve(
     board: &[u8],
     text: &mut [u8],
 ) -> Call
-    ensures handed { (told : Result Told Refusal) × MatchResult told (IsSolvedTold name method board.now) (IsSolveRefused name method board.now)
+    ensures handed { (told : Result Told CallRefusal) × MatchResult told (IsSolvedTold name method board.now) (IsSolveRefused name method board.now)
         × IsHandedOver told text.old text.new result }
 {
     hand_over(&solve(alloc, name, method, board), text)
@@ -128,7 +128,7 @@ pub extern "C" fn luffaknife_solve_certified(
     text: &mut [u8],
     certificate: &mut [u8],
 ) -> Call
-    ensures handed { (told : Result Certified Refusal) × MatchResult told (IsSolvedCertified name method board.now) (IsSolveRefused name method board.now)
+    ensures handed { (told : Result Certified CallRefusal) × MatchResult told (IsSolvedCertified name method board.now) (IsSolveRefused name method board.now)
         × IsHandedOverBoth told (text.old, certificate.old) (text.new, certificate.new) result }
 {
     hand_over_certified(
@@ -147,8 +147,8 @@ pub extern "C" fn luffaknife_keep_solve(
     board: &[u8],
     text: &mut &'static [u8],
 ) -> Call
-    ensures kept { (told : Result Told Refusal) × MatchResult told (IsSolvedTold name method board.now) (IsSolveRefused name method board.now)
-        × IsKept told text.old.now text.new.now result }
+    ensures kept { (told : Result Told CallRefusal) × MatchResult told (IsSolvedTold name method board.now) (IsSolveRefused name method board.now)
+        × IsTextKept told text.old.now text.new.now result }
 {
     keep(solve(alloc, name, method, board), text)
 }
@@ -163,8 +163,8 @@ pub extern "C" fn luffaknife_keep_solve_certified(
     text: &mut &'static [u8],
     certificate: &mut &'static [u8],
 ) -> Call
-    ensures kept { (told : Result Certified Refusal) × MatchResult told (IsSolvedCertified name method board.now) (IsSolveRefused name method board.now)
-        × IsKeptBoth told (text.old.now, certificate.old.now) (text.new.now, certificate.new.now) result }
+    ensures kept { (told : Result Certified CallRefusal) × MatchResult told (IsSolvedCertified name method board.now) (IsSolveRefused name method board.now)
+        × AreBothKept told (text.old.now, certificate.old.now) (text.new.now, certificate.new.now) result }
 {
     keep_certified(
         solve_certified(alloc, name, method, board),
@@ -182,7 +182,7 @@ pub extern "C" fn luffaknife_check(
     certificate: &[u8],
     text: &mut [u8],
 ) -> Call
-    ensures handed { (told : Result Told Refusal) × MatchResult told (IsAccepted name board.now certificate.now) (IsCheckRefused name board.now certificate.now)
+    ensures handed { (told : Result Told CallRefusal) × MatchResult told (IsCheckTold name board.now certificate.now) (IsCheckRefused name board.now certificate.now)
         × IsHandedOver told text.old text.new result }
 {
     hand_over(&check_bytes(alloc, name, board, certificate), text)
@@ -197,7 +197,7 @@ pub extern "C" fn luffaknife_replay(
     list: &[u8],
     text: &mut [u8],
 ) -> Call
-    ensures handed { (told : Result Told Refusal) × MatchResult told (IsReplayTold name board.now list.now) (IsReplayRefused name board.now list.now)
+    ensures handed { (told : Result Told CallRefusal) × MatchResult told (IsReplayTold name board.now list.now) (IsReplayRefused name board.now list.now)
         × IsHandedOver told text.old text.new result }
 {
     hand_over(&replay_list(alloc, name, board, list), text)
@@ -212,7 +212,7 @@ pub extern "C" fn luffaknife_replay_sequences(
     list: &[u8],
     text: &mut [u8],
 ) -> Call
-    ensures handed { (told : Result Told Refusal) × MatchResult told (IsSequencesTold name board.now list.now) (IsSequencesRefused name board.now list.now)
+    ensures handed { (told : Result Told CallRefusal) × MatchResult told (IsSequencesTold name board.now list.now) (IsSequencesRefused name board.now list.now)
         × IsHandedOver told text.old text.new result }
 {
     hand_over(&replay_sequences(alloc, name, board, list), text)
@@ -228,7 +228,7 @@ pub extern "C" fn luffaknife_review(
     list: &[u8],
     text: &mut [u8],
 ) -> Call
-    ensures handed { (told : Result Told Refusal) × MatchResult told (IsReviewTold name board.now list.now budget) (IsReviewRefused name board.now list.now budget)
+    ensures handed { (told : Result Told CallRefusal) × MatchResult told (IsReviewTold name board.now list.now budget) (IsReviewRefused name board.now list.now budget)
         × IsHandedOver told text.old text.new result }
 {
     hand_over(&review(alloc, name, board, list, budget), text)
@@ -244,8 +244,8 @@ pub extern "C" fn luffaknife_keep_review(
     list: &[u8],
     text: &mut &'static [u8],
 ) -> Call
-    ensures kept { (told : Result Told Refusal) × MatchResult told (IsReviewTold name board.now list.now budget) (IsReviewRefused name board.now list.now budget)
-        × IsKept told text.old.now text.new.now result }
+    ensures kept { (told : Result Told CallRefusal) × MatchResult told (IsReviewTold name board.now list.now budget) (IsReviewRefused name board.now list.now budget)
+        × IsTextKept told text.old.now text.new.now result }
 {
     keep(review(alloc, name, board, list, budget), text)
 }

@@ -4,9 +4,9 @@ use Rattle.std.specs.Borrow.{Bor}
 use Rattle.std.specs.Ordering.{match_ordering}
 use Rattle.serde_json.specs.Data.{Data, Members, no_members, member, members_depth, depth, number, put, string, unsigned}
 use Rattle.serde_json.specs.Written.{has_float, members_have_float}
-use Rattle.fc_json.specs.declared.objects.Told.{Told}
-use Rattle.fc_json.specs.declared.reviews.Reviewed.{Reviewed}
-use Rattle.fc_json.specs.Objects.{members_of, members_of_review, with_number, with_text}
+use Rattle.fc_json.specs.declared.objects.ToldBoard.{ToldBoard}
+use Rattle.fc_json.specs.declared.reviews.ToldList.{ToldList}
+use Rattle.fc_json.specs.Objects.{board_members, list_members, with_number, with_text}
 
 flat_by : (o : Ordering) (a b c : Members) → members_depth a ≤ 0 → members_depth b ≤ 0 → members_depth c ≤ 0
     → members_depth (match_ordering o a b c) ≤ 0
@@ -62,7 +62,7 @@ text_flat name (Some text) ms all = (put_flat name (string text.now) ms (omega a
 text_flat name None ms all = all
 
 -- an object of what is told has nothing but numbers and texts
-pub told_flat : (told : Told) → IsFlat (members_of told)
+pub told_flat : (told : ToldBoard) → IsFlat (board_members told)
 told_flat told =
     let turns = with_number (codes "turns") told.turns no_members in
     let flat_turns = number_flat (codes "turns") told.turns no_members (omega arith, refl) in
@@ -90,7 +90,7 @@ told_flat told =
     let flat_board = text_flat (codes "board") told.board budget flat_budget in
     text_flat (codes "answer") (Some told.answer) board flat_board
 
-pub review_flat : (told : Reviewed) → IsFlat (members_of_review told)
+pub review_flat : (told : ToldList) → IsFlat (list_members told)
 review_flat told =
     let review = with_text (codes "review") (Some told.review) no_members in
     let flat_review = text_flat (codes "review") (Some told.review) no_members (omega arith, refl) in

@@ -1,8 +1,8 @@
 //! What is told of a board, or of a list of moves, as a JSON object for other programs.
 #![tactic(auto)]
 
-pub use objects::{Told, object_text};
-pub use reviews::{Reviewed, review_object_text};
+pub use objects::{ToldBoard, object_text};
+pub use reviews::{ToldList, review_object_text};
 
 mod objects;
 mod reviews;

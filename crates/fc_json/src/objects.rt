@@ -3,14 +3,14 @@ ghost use Rattle.serde_json.specs.Data.{object};
 ghost use Rattle.serde_json.specs.Read.{read};
 ghost use Rattle.serde_json.specs.View.{members_view};
 ghost use Rattle.serde_json.specs.Written.{compact_text};
-ghost use Rattle.fc_json.specs.Objects.{members_of, with_number, with_text};
+ghost use Rattle.fc_json.specs.Objects.{board_members, with_number, with_text};
 
 use serde_json::{Map, Value, put};
 use std::alloc::{AllocError, Global};
 
 /// What is told of a board; what isn't there is left out.
 #[derive(Clone, Copy)]
-pub struct Told<'a> {
+pub struct ToldBoard<'a> {
     /// The number of the deal, of a numbered one.
     pub deal: Option<u32>,
     /// What the board is called, of another one.
@@ -39,12 +39,12 @@ pub struct Told<'a> {
     pub fault: Option<&'a str>,
 }
 
-impl<'a> Told<'a> {
+impl<'a> ToldBoard<'a> {
     /// An answer of this name, and nothing else.
     pub fn new(answer: &'a str) -> Self
         ensures value { result ≡ record { deal = None; board = None; answer = answer.entry; moves = None; floor = None; list = None; hint = None; by_hand = None; budget = None; stored = None; turns = None; most_open = None; fault = None } }
     {
-        Told {
+        ToldBoard {
             deal: None,
             board: None,
             answer,
@@ -67,17 +67,17 @@ impl<'a> Told<'a> {
 ///
 /// # Errors
 /// A growth of memory was refused.
-pub fn object_text(alloc: Global, told: &Told<'_>) -> Result<String, AllocError>
-    ensures text { IfOk result (λ s. string_bytes s ≡ compact_text (object (members_of told.now))) }
-    ensures reads { IfOk result (λ s. read (string_bytes s) ≡ Some (object (members_of told.now))) }
+pub fn object_text(alloc: Global, told: &ToldBoard<'_>) -> Result<String, AllocError>
+    ensures text { IfOk result (λ s. string_bytes s ≡ compact_text (object (board_members told.now))) }
+    ensures reads { IfOk result (λ s. read (string_bytes s) ≡ Some (object (board_members told.now))) }
 {
-    let members = told_members(alloc, told)?;
+    let members = board_members(alloc, told)?;
     Value::Object(members).to_string(alloc)
 }
 
 // A member for each thing that is told.
-fn told_members(alloc: Global, told: &Told<'_>) -> Result<Map<String, Value>, AllocError>
-    ensures members { IfOk result (λ map. members_view map.entries ≡ members_of told.now) }
+fn board_members(alloc: Global, told: &ToldBoard<'_>) -> Result<Map<String, Value>, AllocError>
+    ensures members { IfOk result (λ map. members_view map.entries ≡ board_members told.now) }
 {
     let mut map = Map::new(alloc);
     put_number(alloc, &mut map, "turns", told.turns)?;

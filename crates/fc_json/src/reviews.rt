@@ -3,7 +3,7 @@ ghost use Rattle.serde_json.specs.Data.{object};
 ghost use Rattle.serde_json.specs.Read.{read};
 ghost use Rattle.serde_json.specs.View.{members_view};
 ghost use Rattle.serde_json.specs.Written.{compact_text};
-ghost use Rattle.fc_json.specs.Objects.{members_of_review};
+ghost use Rattle.fc_json.specs.Objects.{list_members};
 
 use crate::objects::{put_count, put_number, put_text};
 use serde_json::{Map, Value};
@@ -11,7 +11,7 @@ use std::alloc::{AllocError, Global};
 
 /// What is told of a list of moves; what isn't there is left out.
 #[derive(Clone, Copy)]
-pub struct Reviewed<'a> {
+pub struct ToldList<'a> {
     /// The number of the deal, of a numbered one.
     pub deal: Option<u32>,
     /// What the board is called, of another one.
@@ -38,12 +38,12 @@ pub struct Reviewed<'a> {
     pub lost_after: Option<u64>,
 }
 
-impl<'a> Reviewed<'a> {
+impl<'a> ToldList<'a> {
     /// A review of this name, and nothing else.
     pub fn new(review: &'a str) -> Self
         ensures value { result ≡ record { deal = None; board = None; review = review.entry; list = None; moves = None; inserted = None; by_hand = None; after = None; best = None; floor = None; losing = None; lost_after = None } }
     {
-        Reviewed {
+        ToldList {
             deal: None,
             board: None,
             review,
@@ -65,17 +65,17 @@ impl<'a> Reviewed<'a> {
 ///
 /// # Errors
 /// A growth of memory was refused.
-pub fn review_object_text(alloc: Global, told: &Reviewed<'_>) -> Result<String, AllocError>
-    ensures text { IfOk result (λ s. string_bytes s ≡ compact_text (object (members_of_review told.now))) }
-    ensures reads { IfOk result (λ s. read (string_bytes s) ≡ Some (object (members_of_review told.now))) }
+pub fn review_object_text(alloc: Global, told: &ToldList<'_>) -> Result<String, AllocError>
+    ensures text { IfOk result (λ s. string_bytes s ≡ compact_text (object (list_members told.now))) }
+    ensures reads { IfOk result (λ s. read (string_bytes s) ≡ Some (object (list_members told.now))) }
 {
-    let members = review_members(alloc, told)?;
+    let members = list_members(alloc, told)?;
     Value::Object(members).to_string(alloc)
 }
 
 // A member for each thing that is told.
-fn review_members(alloc: Global, told: &Reviewed<'_>) -> Result<Map<String, Value>, AllocError>
-    ensures members { IfOk result (λ map. members_view map.entries ≡ members_of_review told.now) }
+fn list_members(alloc: Global, told: &ToldList<'_>) -> Result<Map<String, Value>, AllocError>
+    ensures members { IfOk result (λ map. members_view map.entries ≡ list_members told.now) }
 {
     let mut map = Map::new(alloc);
     put_text(alloc, &mut map, "review", Some(told.review))?;

@@ -4,7 +4,7 @@ use Rattle.std.proofs.lemmas.List.{append-nil}
 use Rattle.fc_moves.specs.declared.steps.Move.{Move}
 use Rattle.fc_text.proofs.PartLemmas.{length-tokens_between}
 use Rattle.fc_replay.specs.Played.{SpellMoves}
-use Rattle.fc_replay.specs.Token.{IsNoMove, SpellsMove, is_gap, move_tokens}
+use Rattle.fc_replay.specs.Token.{IsNoMove, SpellsMove, is_move_gap, move_tokens}
 use Rattle.fc_library.specs.Lists.{IsFirstNoMove}
 
 -- one more token that spells a move
@@ -39,7 +39,7 @@ pub spelled_few : (text rest : List ℕ) (moves : List Move) → Spelled text re
 spelled_few text rest moves so =
     let size = ap length so.parts in
     let count = moves_length so.front moves so.spelled in
-    omega (arith, count, size, length-append so.front (move_tokens rest), length-tokens_between is_gap text)
+    omega (arith, count, size, length-append so.front (move_tokens rest), length-tokens_between is_move_gap text)
 
 -- all moves
 pub spelled_all : (text rest : List ℕ) (moves : List Move) → Spelled text rest moves → move_tokens rest ≡ [] → SpellMoves (move_tokens text) moves

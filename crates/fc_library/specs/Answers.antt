@@ -9,12 +9,12 @@ use Rattle.fc_position.specs.Board.{Board}
 use Rattle.fc_search.specs.Problem.{Problem, problem_of}
 use Rattle.fc_best.specs.Answering.{IsVerdictFor}
 use Rattle.fc_runs.specs.Solving.{IsCertified}
-use Rattle.fc_library.specs.declared.answers.Certified.{Certified}
-use Rattle.fc_library.specs.declared.answers.Told.{Told}
+use Rattle.fc_library.specs.declared.told_answers.Certified.{Certified}
+use Rattle.fc_library.specs.declared.told_answers.Told.{Told}
 
 -- a sink that held nothing, and holds these bytes now
-abbrev pub holding : List ℕ → Device
-holding bytes = record { old = Some []; new = Some bytes; failed = false }
+abbrev pub sink_holding : List ℕ → Device
+sink_holding bytes = record { old = Some []; new = Some bytes; failed = false }
 
 -- a verdict was told: its text, how many moves its list has and the floor, and its status
 pub record IsVerdictTold (verdict : Verdict) (told : Told) : Type 0 where
@@ -26,7 +26,7 @@ pub record IsVerdictTold (verdict : Verdict) (told : Told) : Type 0 where
 -- and what there is of certificates of it
 pub record IsVerdictCertified (p : Problem) (verdict : Verdict) (both : Certified) : Type 0 where
   pub told : IsVerdictTold verdict both.told
-  pub certificate : IsCertified p verdict (holding both.certificate.items)
+  pub certificate : IsCertified p verdict (sink_holding both.certificate.items)
 
 -- a verdict that answers a question for a board was told
 abbrev pub IsAnswerTold : Asked → Board → Told → Type 0

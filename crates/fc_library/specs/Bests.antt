@@ -8,27 +8,27 @@ use Rattle.fc_methods.specs.Method.{Asked}
 use Rattle.fc_methods.specs.declared.methods.Method.{Method}
 use Rattle.fc_methods.specs.declared.methods.Sought.TheVariants.{Best}
 use Rattle.fc_library.specs.Answers.{IsAnswerCertified, IsAnswerTold}
-use Rattle.fc_library.specs.Boards.{IsTextFault, SpellsPlainly}
+use Rattle.fc_library.specs.Boards.{IsTextFault, SpellsOnceTidy}
 use Rattle.fc_library.specs.Games.{IsNamed, game_named}
-use Rattle.fc_library.specs.declared.games.GameName.{GameName}
-use Rattle.fc_library.specs.declared.answers.Certified.{Certified}
-use Rattle.fc_library.specs.declared.answers.Told.{Told}
-use Rattle.fc_library.specs.declared.refusals.Refusal.{Refusal}
-use Rattle.fc_library.specs.declared.refusals.Refusal.TheVariants as refused
+use Rattle.fc_library.specs.declared.game_names.GameName.{GameName}
+use Rattle.fc_library.specs.declared.told_answers.Certified.{Certified}
+use Rattle.fc_library.specs.declared.told_answers.Told.{Told}
+use Rattle.fc_library.specs.declared.call_refusals.CallRefusal.{CallRefusal}
+use Rattle.fc_library.specs.declared.call_refusals.CallRefusal.TheVariants as refused
 
 -- a search by home rule 2, the clearing bound and partial expansion, within a budget
-abbrev pub best_method : ℕ → Method
-best_method budget = record { rule = 2; bound = Clearing; strategy = record { weight = record { parts = 1; times = 1 }; expansion = Partial; budget = budget } }
+abbrev pub usual_best_method : ℕ → Method
+usual_best_method budget = record { rule = 2; bound = Clearing; strategy = record { weight = record { parts = 1; times = 1 }; expansion = Partial; budget = budget } }
 
 -- the question of a best answer in a game that is named
 abbrev pub asked_best : GameName → ℕ → Asked
-asked_best name budget = record { game = game_named name; sought = Best; method = best_method budget }
+asked_best name budget = record { game = game_named name; sought = Best; method = usual_best_method budget }
 
 -- what is asked can be: the game is one, the budget is one, and the text spells the position
 pub record CanBeAsked (name : GameName) (text : List ℕ) (budget : ℕ) (start : Board) : Type 0 where
   pub named : IsNamed name
   pub budgeted : IsGreatBudget budget
-  pub spelled : SpellsPlainly name.cells text start
+  pub spelled : SpellsOnceTidy name.cells text start
 
 -- a board was answered, by its best verdict
 abbrev pub IsBestTold : GameName → List ℕ → ℕ → Told → Type 0
@@ -39,7 +39,7 @@ abbrev pub IsBestCertified : GameName → List ℕ → ℕ → Certified → Typ
 IsBestCertified name text budget told = (start : Board) × CanBeAsked name text budget start × IsAnswerCertified (asked_best name budget) start told
 
 -- why a board wasn't answered, each fault only where those before it have no cause
-abbrev pub IsBestRefused : GameName → List ℕ → ℕ → Refusal → Type 0
+abbrev pub IsBestRefused : GameName → List ℕ → ℕ → CallRefusal → Type 0
 IsBestRefused name text budget refused.Game = IsNamed name → ⊥
 IsBestRefused name text budget refused.Budget = IsNamed name × (IsGreatBudget budget → ⊥)
 IsBestRefused name text budget (refused.Board fault) = IsNamed name × IsGreatBudget budget × IsTextFault name.cells text fault

@@ -1,7 +1,7 @@
 -- Games as other programs name them.
 use Rattle.std.specs.Prelude.{◌<◌, ◌≤◌, ◌==◌, cond}
 use Rattle.fc_moves.specs.GameRules.{GameRules, bakers_game, free_cell, kings}
-use Rattle.fc_library.specs.declared.games.GameName.{GameName}
+use Rattle.fc_library.specs.declared.game_names.GameName.{GameName}
 
 -- a game has this name
 abbrev pub IsNamed : GameName → Type 0

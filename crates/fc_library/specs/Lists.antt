@@ -4,8 +4,8 @@ use Rattle.fc_moves.specs.declared.steps.Move.{Move}
 use Rattle.fc_replay.specs.Played.{SpellMoves}
 use Rattle.fc_replay.specs.Token.{IsNoMove}
 use Rattle.fc_replay.specs.declared.faults.ReplayFault.TheVariants.{BadMove}
-use Rattle.fc_library.specs.declared.refusals.Refusal.{Refusal}
-use Rattle.fc_library.specs.declared.refusals.Refusal.TheVariants as refused
+use Rattle.fc_library.specs.declared.call_refusals.CallRefusal.{CallRefusal}
+use Rattle.fc_library.specs.declared.call_refusals.CallRefusal.TheVariants as refused
 
 -- the token of a step, which counts from 1, is the first that spells no move
 pub record IsFirstNoMove (tokens : List (List ℕ)) (step : ℕ) : Type 0 where
@@ -19,7 +19,7 @@ pub record IsFirstNoMove (tokens : List (List ℕ)) (step : ℕ) : Type 0 where
   pub none : IsNoMove token
 
 -- why tokens weren't read as moves: one is none, or memory was wanted
-abbrev pub IsMisspelled : List (List ℕ) → Refusal → Type 0
+abbrev pub IsMisspelled : List (List ℕ) → CallRefusal → Type 0
 IsMisspelled tokens (refused.Moves (BadMove step)) = IsFirstNoMove tokens step
 IsMisspelled tokens refused.Memory = Unit {0}
 IsMisspelled tokens other = ⊥

@@ -8,9 +8,9 @@ use Rattle.fc_best_first.specs.declared.limits.TheConstants.{MOST_WEIGHT, TENTHS
 use Rattle.fc_best_first.specs.declared.strategies.Expansion.{Expansion}
 use Rattle.fc_best_first.specs.declared.strategies.Expansion.TheVariants.{Full, Partial}
 use Rattle.fc_methods.specs.declared.methods.Method.{Method}
-use Rattle.fc_library.specs.declared.methods.MethodName.{MethodName}
-use Rattle.fc_library.specs.declared.refusals.Refusal.{Refusal}
-use Rattle.fc_library.specs.declared.refusals.Refusal.TheVariants as refused
+use Rattle.fc_library.specs.declared.method_names.MethodName.{MethodName}
+use Rattle.fc_library.specs.declared.call_refusals.CallRefusal.{CallRefusal}
+use Rattle.fc_library.specs.declared.call_refusals.CallRefusal.TheVariants as refused
 
 -- so many tenths are a weight: from as much as a cost to the greatest
 abbrev pub AreTenths : ℕ → Type 0
@@ -42,7 +42,7 @@ pub record IsMethodOf (name : MethodName) (method : Method) : Type 0 where
   pub budget : method.strategy.budget ≡ name.budget
 
 -- why it is none, each fault only where those before it have no cause
-abbrev pub IsMethodRefused : MethodName → Refusal → Type 0
+abbrev pub IsMethodRefused : MethodName → CallRefusal → Type 0
 IsMethodRefused name refused.Rule = name.rule ≤ GREATEST_RULE → ⊥
 IsMethodRefused name refused.Bound = (name.rule ≤ GREATEST_RULE) × (name.bound < 2 → ⊥)
 IsMethodRefused name refused.Weight = (name.rule ≤ GREATEST_RULE) × (name.bound < 2) × (AreTenths name.tenths → ⊥)

@@ -8,8 +8,8 @@ use Rattle.fc_checker.specs.declared.faults.CheckFault.{CheckFault}
 use Rattle.fc_checker.specs.declared.faults.CheckFault.TheVariants as checked
 use Rattle.fc_cert.specs.declared.faults.CertFault.{CertFault}
 use Rattle.fc_cert.specs.declared.faults.CertFault.TheVariants as formed
-use Rattle.fc_library.specs.declared.refusals.Refusal.{Refusal}
-use Rattle.fc_library.specs.declared.refusals.Refusal.TheVariants as refused
+use Rattle.fc_library.specs.declared.call_refusals.CallRefusal.{CallRefusal}
+use Rattle.fc_library.specs.declared.call_refusals.CallRefusal.TheVariants as refused
 use Rattle.fc_library.specs.declared.numbers.TheConstants.{BAD_GAME, BAD_DEAL, BAD_BUDGET, BAD_RULE, BAD_BOUND, BAD_WEIGHT, BAD_EXPANSION, NO_MEMORY, TOO_LONG, NOT_A_MOVE, NOT_ALLOWED, TOO_MANY_WAYS, BOARD_TOO_LONG, NOT_A_CARD, NOT_A_FOUNDATION, TOO_MANY_CELLS, TOO_MANY_COLUMNS, REPEATED_LINE, REPEATED_CARD, MISSING_CARD, CERT_SHORT, CERT_BAD_MAGIC, CERT_BAD_CELLS, CERT_BAD_RULE, CERT_BAD_BOUND, CERT_BAD_KIND, CERT_BAD_FLOOR, CERT_BAD_MOVE, CERT_BAD_RECORD, CERT_ORDER, CERT_LABEL, CERT_TRAILING, CERT_OTHER_GAME, CERT_NOT_ALLOWED, CERT_NOT_HOME, CERT_START_OPEN, CERT_WON_LISTED, CERT_OPEN}
 
 -- of a fault of a board's text
@@ -89,25 +89,25 @@ check_place (checked.Open i) = i
 check_place other = 0
 
 -- of a refusal
-abbrev pub number_of : Refusal → ℕ
-number_of refused.Game = BAD_GAME
-number_of refused.Deal = BAD_DEAL
-number_of refused.Budget = BAD_BUDGET
-number_of refused.Rule = BAD_RULE
-number_of refused.Bound = BAD_BOUND
-number_of refused.Weight = BAD_WEIGHT
-number_of refused.Expansion = BAD_EXPANSION
-number_of (refused.Board fault) = board_number fault
-number_of refused.TooLong = TOO_LONG
-number_of (refused.Moves fault) = replay_number fault
-number_of (refused.TooManyWays step) = TOO_MANY_WAYS
-number_of (refused.Certificate fault) = check_number fault
-number_of refused.Memory = NO_MEMORY
+abbrev pub refusal_number : CallRefusal → ℕ
+refusal_number refused.Game = BAD_GAME
+refusal_number refused.Deal = BAD_DEAL
+refusal_number refused.Budget = BAD_BUDGET
+refusal_number refused.Rule = BAD_RULE
+refusal_number refused.Bound = BAD_BOUND
+refusal_number refused.Weight = BAD_WEIGHT
+refusal_number refused.Expansion = BAD_EXPANSION
+refusal_number (refused.Board fault) = board_number fault
+refusal_number refused.TooLong = TOO_LONG
+refusal_number (refused.Moves fault) = replay_number fault
+refusal_number (refused.TooManyWays step) = TOO_MANY_WAYS
+refusal_number (refused.Certificate fault) = check_number fault
+refusal_number refused.Memory = NO_MEMORY
 
 -- where it lies, 0 where it lies nowhere
-abbrev pub place_of : Refusal → ℕ
-place_of (refused.Board fault) = board_place fault
-place_of (refused.Moves fault) = replay_place fault
-place_of (refused.TooManyWays step) = step
-place_of (refused.Certificate fault) = check_place fault
-place_of other = 0
+abbrev pub refusal_place : CallRefusal → ℕ
+refusal_place (refused.Board fault) = board_place fault
+refusal_place (refused.Moves fault) = replay_place fault
+refusal_place (refused.TooManyWays step) = step
+refusal_place (refused.Certificate fault) = check_place fault
+refusal_place other = 0

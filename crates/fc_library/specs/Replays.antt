@@ -6,17 +6,17 @@ use Rattle.fc_replay.specs.Token.{move_tokens}
 use Rattle.fc_replay.specs.declared.pages.Page.TheVariants as page
 use Rattle.fc_replay.specs.declared.replays.Ended.{Ended}
 use Rattle.fc_board_runs.specs.declared.runs.TheConstants.{LONGEST_MOVES}
-use Rattle.fc_library.specs.Boards.{IsTextFault, SpellsPlainly}
+use Rattle.fc_library.specs.Boards.{IsTextFault, SpellsOnceTidy}
 use Rattle.fc_library.specs.Games.{IsNamed, game_named}
-use Rattle.fc_library.specs.declared.games.GameName.{GameName}
-use Rattle.fc_library.specs.declared.answers.Told.{Told}
-use Rattle.fc_library.specs.declared.refusals.Refusal.{Refusal}
-use Rattle.fc_library.specs.declared.refusals.Refusal.TheVariants as refused
+use Rattle.fc_library.specs.declared.game_names.GameName.{GameName}
+use Rattle.fc_library.specs.declared.told_answers.Told.{Told}
+use Rattle.fc_library.specs.declared.call_refusals.CallRefusal.{CallRefusal}
+use Rattle.fc_library.specs.declared.call_refusals.CallRefusal.TheVariants as refused
 
 -- a board of a game was given, and no more bytes than a list may have
 pub record CanBeReplayed (name : GameName) (text list : List ℕ) (start : Board) : Type 0 where
   pub named : IsNamed name
-  pub spelled : SpellsPlainly name.cells text start
+  pub spelled : SpellsOnceTidy name.cells text start
   pub short : length list ≤ LONGEST_MOVES
 
 -- every token is an allowed move, the text is that of the boards after each, and the status tells whether the last is won
@@ -31,11 +31,11 @@ pub record IsReplayTold (name : GameName) (text list : List ℕ) (told : Told) :
 
 -- why a list wasn't played to its end, each fault only where those before it have no cause: what stood written when it
 -- stopped is told of the fault
-abbrev pub IsReplayRefused : GameName → List ℕ → List ℕ → Refusal → Type 0
+abbrev pub IsReplayRefused : GameName → List ℕ → List ℕ → CallRefusal → Type 0
 IsReplayRefused name text list refused.Game = IsNamed name → ⊥
 IsReplayRefused name text list (refused.Board fault) = IsNamed name × IsTextFault name.cells text fault
 IsReplayRefused name text list refused.TooLong =
-    IsNamed name × ((start : Board) × SpellsPlainly name.cells text start) × (LONGEST_MOVES < length list)
+    IsNamed name × ((start : Board) × SpellsOnceTidy name.cells text start) × (LONGEST_MOVES < length list)
 IsReplayRefused name text list (refused.Moves fault) = (start : Board) × CanBeReplayed name text list start
     × ((written : List ℕ) × ReplaysAs page.Board (game_named name) start (move_tokens list) (sink_change (Some []) (Some written)) (Err fault))
 IsReplayRefused name text list other = ⊥

@@ -15,42 +15,42 @@ use Rattle.fc_replay.specs.declared.faults.ReplayFault.TheVariants.{NotAllowed}
 use Rattle.fc_review.specs.Finding.{IsFinding, TellsFinding, finding_status}
 use Rattle.fc_review.specs.Review.{Loses}
 use Rattle.fc_review.specs.Texts.{losing_of}
-use Rattle.fc_review.specs.Weaving.{IsRefused, IsWoven}
-use Rattle.fc_review.specs.declared.boards.Known.{Known}
+use Rattle.fc_review.specs.Weaving.{IsRefusedMove, IsWoven}
+use Rattle.fc_review.specs.declared.known_boards.KnownBoard.{KnownBoard}
 use Rattle.fc_review.specs.declared.findings.Finding.{Finding}
 use Rattle.fc_review.specs.declared.findings.Finding.TheVariants.{Rated, Traced}
 use Rattle.fc_library.specs.Bests.{CanBeAsked, IsBestRefused, asked_best}
 use Rattle.fc_library.specs.Games.{game_named}
 use Rattle.fc_library.specs.Lists.{IsMisspelled}
-use Rattle.fc_library.specs.declared.games.GameName.{GameName}
-use Rattle.fc_library.specs.declared.answers.Told.{Told}
-use Rattle.fc_library.specs.declared.refusals.Refusal.{Refusal}
-use Rattle.fc_library.specs.declared.refusals.Refusal.TheVariants as refused
+use Rattle.fc_library.specs.declared.game_names.GameName.{GameName}
+use Rattle.fc_library.specs.declared.told_answers.Told.{Told}
+use Rattle.fc_library.specs.declared.call_refusals.CallRefusal.{CallRefusal}
+use Rattle.fc_library.specs.declared.call_refusals.CallRefusal.TheVariants as refused
 
 -- the moves are those that the tokens spell, with the moves home that these leave out
 abbrev pub IsWovenFrom : GameRules → Board → List (List ℕ) → List Move → Type 0
 IsWovenFrom g b tokens moves = (given : List Move) × SpellMoves tokens given × IsWoven g b given moves
 
 -- why tokens aren't played: one spells no move, a move that they spell isn't allowed, or memory was wanted
-abbrev pub IsUnwoven : GameRules → Board → List (List ℕ) → Refusal → Type 0
-IsUnwoven g b tokens (refused.Moves (NotAllowed step)) = (given : List Move) × SpellMoves tokens given × IsRefused g b given step
+abbrev pub IsUnwoven : GameRules → Board → List (List ℕ) → CallRefusal → Type 0
+IsUnwoven g b tokens (refused.Moves (NotAllowed step)) = (given : List Move) × SpellMoves tokens given × IsRefusedMove g b given step
 IsUnwoven g b tokens other = IsMisspelled tokens other
 
 -- a number of four bytes: the greatest one for any that is greater
-abbrev pub capped : ℕ → ℕ
-capped number = min number 4294967295
+abbrev pub capped_number : ℕ → ℕ
+capped_number number = min number 4294967295
 
 -- a verdict without its moves
 abbrev pub capped_outcome : Verdict → Outcome
-capped_outcome (Shortest moves) = outcome.Shortest (capped (length moves))
-capped_outcome (Won moves floor) = outcome.Won (capped (length moves)) floor
+capped_outcome (Shortest moves) = outcome.Shortest (capped_number (length moves))
+capped_outcome (Won moves floor) = outcome.Won (capped_number (length moves)) floor
 capped_outcome CannotWin = outcome.CannotWin
 capped_outcome (GaveUp budget) = outcome.GaveUp budget
 
 -- the number of the move behind so many
 abbrev pub place_behind : Option ℕ → ℕ
 place_behind None = 0
-place_behind (Some before) = capped (before + 1)
+place_behind (Some before) = capped_number (before + 1)
 
 -- how many moves stand before the one that loses, if it is known which
 abbrev pub losing_before : Finding → Option ℕ
@@ -67,7 +67,7 @@ own_outcome (Some own) best = capped_outcome own
 own_outcome None best = capped_outcome best
 
 -- what is told from the last board from which a list is told
-abbrev pub won_outcome : Option Known → Option Outcome
+abbrev pub won_outcome : Option KnownBoard → Option Outcome
 won_outcome (Some won) = Some (capped_outcome won.verdict)
 won_outcome None = None
 
@@ -98,7 +98,7 @@ IsReviewTold name text list budget told = (start : Board) × CanBeReviewed name 
     × ((moves : List Move) × IsWovenFrom (game_named name) start (move_tokens list) moves × IsFoundTold (asked_best name budget) start moves told)
 
 -- why it wasn't, each fault only where those before it have no cause
-abbrev pub IsReviewRefused : GameName → List ℕ → List ℕ → ℕ → Refusal → Type 0
+abbrev pub IsReviewRefused : GameName → List ℕ → List ℕ → ℕ → CallRefusal → Type 0
 IsReviewRefused name text list budget refused.TooLong = (start : Board) × CanBeAsked name text budget start × (LONGEST_MOVES < length list)
 IsReviewRefused name text list budget (refused.Moves fault) = (start : Board) × CanBeReviewed name text list budget start
     × IsUnwoven (game_named name) start (move_tokens list) (refused.Moves fault)

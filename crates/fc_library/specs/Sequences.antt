@@ -11,13 +11,13 @@ use Rattle.fc_board_runs.specs.declared.faults.Input.TheVariants.{Moves as of_mo
 use Rattle.fc_board_runs.specs.declared.faults.ProgramFault.{ProgramFault}
 use Rattle.fc_board_runs.specs.declared.faults.ProgramFault.TheVariants as program
 use Rattle.fc_board_runs.specs.declared.runs.TheConstants.{LONGEST_MOVES}
-use Rattle.fc_library.specs.Boards.{IsTextFault, SpellsPlainly}
+use Rattle.fc_library.specs.Boards.{IsTextFault, SpellsOnceTidy}
 use Rattle.fc_library.specs.Games.{IsNamed, game_named}
 use Rattle.fc_library.specs.Replays.{CanBeReplayed}
-use Rattle.fc_library.specs.declared.games.GameName.{GameName}
-use Rattle.fc_library.specs.declared.answers.Told.{Told}
-use Rattle.fc_library.specs.declared.refusals.Refusal.{Refusal}
-use Rattle.fc_library.specs.declared.refusals.Refusal.TheVariants as refused
+use Rattle.fc_library.specs.declared.game_names.GameName.{GameName}
+use Rattle.fc_library.specs.declared.told_answers.Told.{Told}
+use Rattle.fc_library.specs.declared.call_refusals.CallRefusal.{CallRefusal}
+use Rattle.fc_library.specs.declared.call_refusals.CallRefusal.TheVariants as refused
 
 -- the tokens spell entries that these one-card moves play, the text is that of the boards after each, and the status tells whether
 -- the last is won
@@ -37,11 +37,11 @@ abbrev pub IsUnplayedList : GameName → List ℕ → List ℕ → ProgramFault 
 IsUnplayedList name text list fault = (start : Board) × CanBeReplayed name text list start × IsUnplayed (game_named name) start (move_tokens list) fault
 
 -- why a list wasn't played to its end, each fault only where those before it have no cause
-abbrev pub IsSequencesRefused : GameName → List ℕ → List ℕ → Refusal → Type 0
+abbrev pub IsSequencesRefused : GameName → List ℕ → List ℕ → CallRefusal → Type 0
 IsSequencesRefused name text list refused.Game = IsNamed name → ⊥
 IsSequencesRefused name text list (refused.Board fault) = IsNamed name × IsTextFault name.cells text fault
 IsSequencesRefused name text list refused.TooLong =
-    (IsNamed name × ((start : Board) × SpellsPlainly name.cells text start) × (LONGEST_MOVES < length list))
+    (IsNamed name × ((start : Board) × SpellsOnceTidy name.cells text start) × (LONGEST_MOVES < length list))
     ⊎ IsUnplayedList name text list (program.TooLong of_moves)
 IsSequencesRefused name text list (refused.Moves fault) = IsUnplayedList name text list (program.Moves fault)
 IsSequencesRefused name text list (refused.TooManyWays step) = IsUnplayedList name text list (program.TooManyWays step)

@@ -5,15 +5,15 @@ use Rattle.fc_methods.specs.Method.{Asked}
 use Rattle.fc_methods.specs.declared.methods.Method.{Method}
 use Rattle.fc_methods.specs.declared.methods.Sought.TheVariants.{ByMethod}
 use Rattle.fc_library.specs.Answers.{IsAnswerCertified, IsAnswerTold}
-use Rattle.fc_library.specs.Boards.{IsTextFault, SpellsPlainly}
+use Rattle.fc_library.specs.Boards.{IsTextFault, SpellsOnceTidy}
 use Rattle.fc_library.specs.Games.{IsNamed, game_named}
 use Rattle.fc_library.specs.Methods.{IsMethodOf, IsMethodRefused}
-use Rattle.fc_library.specs.declared.games.GameName.{GameName}
-use Rattle.fc_library.specs.declared.methods.MethodName.{MethodName}
-use Rattle.fc_library.specs.declared.answers.Certified.{Certified}
-use Rattle.fc_library.specs.declared.answers.Told.{Told}
-use Rattle.fc_library.specs.declared.refusals.Refusal.{Refusal}
-use Rattle.fc_library.specs.declared.refusals.Refusal.TheVariants as refused
+use Rattle.fc_library.specs.declared.game_names.GameName.{GameName}
+use Rattle.fc_library.specs.declared.method_names.MethodName.{MethodName}
+use Rattle.fc_library.specs.declared.told_answers.Certified.{Certified}
+use Rattle.fc_library.specs.declared.told_answers.Told.{Told}
+use Rattle.fc_library.specs.declared.call_refusals.CallRefusal.{CallRefusal}
+use Rattle.fc_library.specs.declared.call_refusals.CallRefusal.TheVariants as refused
 
 -- what is asked can be, and is this: the question by the method of the game and the method that are named, and the position that the
 -- text spells
@@ -22,7 +22,7 @@ pub record CanBeSolved (name : GameName) (by : MethodName) (text : List ℕ) (q 
   pub game : q.game ≡ game_named name
   pub sought : q.sought ≡ ByMethod
   pub method : IsMethodOf by q.method
-  pub spelled : SpellsPlainly name.cells text start
+  pub spelled : SpellsOnceTidy name.cells text start
 
 -- a board was answered
 abbrev pub IsSolvedTold : GameName → MethodName → List ℕ → Told → Type 0
@@ -33,7 +33,7 @@ abbrev pub IsSolvedCertified : GameName → MethodName → List ℕ → Certifie
 IsSolvedCertified name method text told = (q : Asked) × (start : Board) × CanBeSolved name method text q start × IsAnswerCertified q start told
 
 -- why a board wasn't answered, each fault only where those before it have no cause
-abbrev pub IsSolveRefused : GameName → MethodName → List ℕ → Refusal → Type 0
+abbrev pub IsSolveRefused : GameName → MethodName → List ℕ → CallRefusal → Type 0
 IsSolveRefused name by text refused.Game = IsNamed name → ⊥
 IsSolveRefused name by text (refused.Board fault) = IsNamed name × ((method : Method) × IsMethodOf by method) × IsTextFault name.cells text fault
 IsSolveRefused name by text refused.Memory = (q : Asked) × (start : Board) × CanBeSolved name by text q start

@@ -1,12 +1,12 @@
 //! The best answer of a board.
 ghost use Rattle.std.specs.Prelude.{◌≡◌, ◌≢◌, IfOk, IfErr};
 ghost use Rattle.fc_moves.specs.GameRules.{IsPositionOf};
-ghost use Rattle.fc_library.specs.Bests.{CanBeAsked, IsBestCertified, IsBestRefused, IsBestTold, asked_best, best_method};
+ghost use Rattle.fc_library.specs.Bests.{CanBeAsked, IsBestCertified, IsBestRefused, IsBestTold, asked_best, usual_best_method};
 
-use crate::answers::{Certified, Told, certify, tell};
-use crate::boards::start_of;
-use crate::games::{AnyGame, GameName, game_of};
-use crate::refusals::Refusal;
+use crate::told_answers::{Certified, Told, certify, tell};
+use crate::typed_boards::start_of;
+use crate::game_names::{AnyGame, GameName, game_of};
+use crate::call_refusals::CallRefusal;
 use fc_methods::{
     BoundKind, Expansion, GreatBudget, HomeRule, Method, Question, Sought, Strategy, Weight,
 };
@@ -18,7 +18,7 @@ use std::alloc::Global;
 ///
 /// # Errors
 /// In this order: `Game`, `Budget`, `Board`, `Memory`.
-pub fn best(alloc: Global, name: GameName, board: &[u8], budget: u32) -> Result<Told, Refusal>
+pub fn best(alloc: Global, name: GameName, board: &[u8], budget: u32) -> Result<Told, CallRefusal>
     ensures told { IfOk result (IsBestTold name board.now budget) }
     ensures refused { IfErr result (IsBestRefused name board.now budget) }
 {
@@ -35,7 +35,7 @@ pub fn best_certified(
     name: GameName,
     board: &[u8],
     budget: u32,
-) -> Result<Certified, Refusal>
+) -> Result<Certified, CallRefusal>
     ensures told { IfOk result (IsBestCertified name board.now budget) }
     ensures refused { IfErr result (IsBestRefused name board.now budget) }
 {
@@ -48,30 +48,30 @@ pub(crate) fn asked(
     name: GameName,
     board: &[u8],
     budget: u32,
-) -> Result<(Question<AnyGame>, Position), Refusal>
+) -> Result<(Question<AnyGame>, Position), CallRefusal>
     ensures asked { IfOk result (λ asked. CanBeAsked name board.now budget asked.1 × (asked.0 ≡ asked_best name budget)) }
     ensures position { IfOk result (λ asked. IsPositionOf asked.0.game asked.1) }
     ensures refused { IfErr result (IsBestRefused name board.now budget) }
-    ensures given { IfErr result (λ refusal. refusal ≢ Refusal.Memory) }
+    ensures given { IfErr result (λ refusal. refusal ≢ CallRefusal.Memory) }
 {
     let Some(game) = game_of(name) else {
-        return Err(Refusal::Game);
+        return Err(CallRefusal::Game);
     };
     let Some(budget) = GreatBudget::new(budget) else {
-        return Err(Refusal::Budget);
+        return Err(CallRefusal::Budget);
     };
     match start_of(board, name.cells) {
         Ok(start) => Ok((
-            Question::new(&game, Sought::Best, best_method(budget)),
+            Question::new(&game, Sought::Best, usual_best_method(budget)),
             start,
         )),
-        Err(fault) => Err(Refusal::Board(fault)),
+        Err(fault) => Err(CallRefusal::Board(fault)),
     }
 }
 
 // How a best answer is searched for, as the program does by default.
-fn best_method(budget: GreatBudget) -> Method
-    ensures value { result ≡ best_method budget }
+fn usual_best_method(budget: GreatBudget) -> Method
+    ensures value { result ≡ usual_best_method budget }
 {
     Method {
         rule: HomeRule::FREE,

@@ -1,14 +1,14 @@
 //! What a call hands over, left in memory that is the caller's from then on.
-ghost use Rattle.fc_library.specs.Keeps.{IsKept, IsKeptBoth};
+ghost use Rattle.fc_library.specs.Keeps.{IsTextKept, AreBothKept};
 
-use crate::answers::{Certified, Told};
-use crate::refusals::Refusal;
+use crate::told_answers::{Certified, Told};
+use crate::call_refusals::CallRefusal;
 use crate::rooms::{Call, refused, told_call};
 
 /// Points the caller's slice at the text, which nothing of this library changes or frees from then on; at a refusal it stays as it
 /// was.
-pub fn keep(told: Result<Told, Refusal>, text: &mut &'static [u8]) -> Call
-    ensures kept { IsKept told text.old.now text.new.now result }
+pub fn keep(told: Result<Told, CallRefusal>, text: &mut &'static [u8]) -> Call
+    ensures kept { IsTextKept told text.old.now text.new.now result }
 {
     let told = match told {
         Ok(told) => told,
@@ -27,11 +27,11 @@ pub fn keep(told: Result<Told, Refusal>, text: &mut &'static [u8]) -> Call
 
 /// The same of a text and a certificate.
 pub fn keep_certified(
-    told: Result<Certified, Refusal>,
+    told: Result<Certified, CallRefusal>,
     text: &mut &'static [u8],
     certificate: &mut &'static [u8],
 ) -> Call
-    ensures kept { IsKeptBoth told (text.old.now, certificate.old.now) (text.new.now, certificate.new.now) result }
+    ensures kept { AreBothKept told (text.old.now, certificate.old.now) (text.new.now, certificate.new.now) result }
 {
     let Certified {
         told,

@@ -2,10 +2,10 @@
 ghost use Rattle.std.specs.Prelude.{◌≡◌};
 ghost use Rattle.fc_library.specs.Rooms.{IsHandedOver, IsHandedOverBoth, refused_call, told_call};
 
-use crate::answers::{Certified, Told};
+use crate::told_answers::{Certified, Told};
 use crate::figures::{Figures, figures_of};
 use crate::numbers::NO_ROOM;
-use crate::refusals::Refusal;
+use crate::call_refusals::CallRefusal;
 
 /// How a call ended.
 #[repr(C)]
@@ -24,7 +24,7 @@ pub struct Call {
 }
 
 /// Puts the text into the front of the room, where it fits; else the room stays as it was, as at a refusal.
-pub fn hand_over(told: &Result<Told, Refusal>, room: &mut [u8]) -> Call
+pub fn hand_over(told: &Result<Told, CallRefusal>, room: &mut [u8]) -> Call
     ensures handed { IsHandedOver told.now room.old room.new result }
 {
     let told = match told {
@@ -43,7 +43,7 @@ pub fn hand_over(told: &Result<Told, Refusal>, room: &mut [u8]) -> Call
 
 /// The same of a text and a certificate: both fit their rooms, or neither is put there.
 pub fn hand_over_certified(
-    told: &Result<Certified, Refusal>,
+    told: &Result<Certified, CallRefusal>,
     room: &mut [u8],
     certificate_room: &mut [u8],
 ) -> Call
@@ -79,7 +79,7 @@ pub(crate) fn told_call(told: &Told, certificate_len: usize) -> Call
 }
 
 // How a call ended that was refused.
-pub(crate) fn refused(refusal: &Refusal) -> Call
+pub(crate) fn refused(refusal: &CallRefusal) -> Call
     ensures value { result ≡ refused_call refusal.now }
 {
     Call {

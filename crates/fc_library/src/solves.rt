@@ -3,11 +3,11 @@ ghost use Rattle.std.specs.Prelude.{◌≡◌, ◌≢◌, IfOk, IfErr};
 ghost use Rattle.fc_moves.specs.GameRules.{IsPositionOf};
 ghost use Rattle.fc_library.specs.Solves.{CanBeSolved, IsSolvedCertified, IsSolvedTold, IsSolveRefused};
 
-use crate::answers::{Certified, Told, certify, tell};
-use crate::boards::start_of;
-use crate::games::{AnyGame, GameName, game_of};
-use crate::methods::{MethodName, method_of};
-use crate::refusals::Refusal;
+use crate::told_answers::{Certified, Told, certify, tell};
+use crate::typed_boards::start_of;
+use crate::game_names::{AnyGame, GameName, game_of};
+use crate::method_names::{MethodName, method_of};
+use crate::call_refusals::CallRefusal;
 use fc_methods::{Question, Sought};
 use fc_position::Position;
 use std::alloc::Global;
@@ -21,7 +21,7 @@ pub fn solve(
     name: GameName,
     method: MethodName,
     board: &[u8],
-) -> Result<Told, Refusal>
+) -> Result<Told, CallRefusal>
     ensures told { IfOk result (IsSolvedTold name method board.now) }
     ensures refused { IfErr result (IsSolveRefused name method board.now) }
 {
@@ -38,7 +38,7 @@ pub fn solve_certified(
     name: GameName,
     method: MethodName,
     board: &[u8],
-) -> Result<Certified, Refusal>
+) -> Result<Certified, CallRefusal>
     ensures told { IfOk result (IsSolvedCertified name method board.now) }
     ensures refused { IfErr result (IsSolveRefused name method board.now) }
 {
@@ -51,18 +51,18 @@ fn asked(
     name: GameName,
     method: MethodName,
     board: &[u8],
-) -> Result<(Question<AnyGame>, Position), Refusal>
+) -> Result<(Question<AnyGame>, Position), CallRefusal>
     ensures asked { IfOk result (λ asked. CanBeSolved name method board.now asked.0 asked.1) }
     ensures position { IfOk result (λ asked. IsPositionOf asked.0.game asked.1) }
     ensures refused { IfErr result (IsSolveRefused name method board.now) }
-    ensures given { IfErr result (λ refusal. refusal ≢ Refusal.Memory) }
+    ensures given { IfErr result (λ refusal. refusal ≢ CallRefusal.Memory) }
 {
     let Some(game) = game_of(name) else {
-        return Err(Refusal::Game);
+        return Err(CallRefusal::Game);
     };
     let method = method_of(method)?;
     match start_of(board, name.cells) {
         Ok(start) => Ok((Question::new(&game, Sought::ByMethod, method), start)),
-        Err(fault) => Err(Refusal::Board(fault)),
+        Err(fault) => Err(CallRefusal::Board(fault)),
     }
 }

@@ -12,7 +12,7 @@ use Rattle.fc_replay.specs.declared.pages.Page.{Page}
 use Rattle.fc_replay.specs.declared.pages.Page.TheVariants.{Board as printed}
 use Rattle.fc_replay.specs.declared.replays.Ended.{Ended}
 use Rattle.fc_replay.specs.Page.{page_text, pages_text}
-use Rattle.fc_replay.specs.Played.{Passes, Replays, ReplaysAs, Writes, board_after, boards_text, counted, sink_change}
+use Rattle.fc_replay.specs.Played.{Passes, Replays, ReplaysAs, Writes, board_after, boards_text, replay_count, sink_change}
 use Rattle.fc_replay.specs.Telling.{told_move}
 use Rattle.fc_replay.specs.declared.tellings.ToldMove.{ToldMove}
 
@@ -61,11 +61,11 @@ writes_same old new result text other same = subst (λ t. Writes old new t resul
 
 -- a replay that writes pages of printed boards is one that writes printed boards
 pub replays_printed : (g : GameRules) (b : Board) (tokens : List (List ℕ)) (old new : Option (List ℕ)) (result : Result Ended ReplayFault)
-    → ReplaysAs printed g b tokens (sink_change old new) result → Replays g b tokens old new (counted result)
+    → ReplaysAs printed g b tokens (sink_change old new) result → Replays g b tokens old new (replay_count result)
 replays_printed g b tokens old new result replayed = record {
   boards = replayed.boards;
   ends = replayed.ends;
-  written = writes_same old new (counted result) (pages_text printed g.cells 1 b replayed.moves replayed.boards)
+  written = writes_same old new (replay_count result) (pages_text printed g.cells 1 b replayed.moves replayed.boards)
       (boards_text g.cells replayed.boards) (pages_printed g b g.cells 1 replayed.moves replayed.boards replayed.passed)
       replayed.written;
 }

@@ -16,7 +16,7 @@ use Rattle.fc_replay.specs.declared.pages.Page.{Page}
 use Rattle.fc_replay.specs.declared.replays.Ended.{Ended}
 use Rattle.fc_replay.specs.Page.{page_text, pages_text}
 use Rattle.fc_replay.specs.Telling.{told_move}
-use Rattle.fc_replay.specs.Token.{is_gap, move_tokens, SpellsMove, IsNoMove}
+use Rattle.fc_replay.specs.Token.{is_move_gap, move_tokens, SpellsMove, IsNoMove}
 use Rattle.fc_replay.specs.Played.{Passes, Plays, SpellMoves, StopsAt, IsNotAllowed, ReplaysAs, BeginsWithStep, board_after, sink_change}
 use Rattle.fc_text.proofs.PartLemmas.{length-tokens_between}
 use Rattle.fc_replay.proofs.PageLemmas.{pages_text-append}
@@ -147,7 +147,7 @@ step_fits g start text rest more moves boards steps here token course so first =
     let size = ap length so.parts in
     let left = ap length first in
     let count = front_length g start text rest moves boards steps here course so in
-    omega (arith, count, size, left, length-append so.front (move_tokens rest), length-tokens_between is_gap text)
+    omega (arith, count, size, left, length-append so.front (move_tokens rest), length-tokens_between is_move_gap text)
 
 -- the next token fails where the others led
 pub stops_here : (Fails : Board → List ℕ → Type 0) (g : GameRules) (start : Board) (text rest : List ℕ) (more : List (List ℕ)) (moves : List Move) (boards : List Board) (steps : ℕ) (here : Board) (token : List ℕ)

@@ -7,9 +7,9 @@ use Rattle.fc_text.specs.Printed.{board_text}
 use Rattle.fc_show.specs.Drawing.{drawing}
 use Rattle.fc_show.specs.declared.styles.Style.{Style}
 use Rattle.fc_replay.specs.declared.pages.Page.{Page}
-use Rattle.fc_replay.specs.declared.pages.Page.TheVariants.{Board as printed, Numbered, Words, Drawn}
+use Rattle.fc_replay.specs.declared.pages.Page.TheVariants.{Board as printed, Numbered, InWords, Drawn}
 use Rattle.fc_replay.specs.declared.tellings.ToldMove.{ToldMove}
-use Rattle.fc_replay.specs.Telling.{told_move, words_line}
+use Rattle.fc_replay.specs.Telling.{told_move, phrase_line}
 
 -- the line of a step: its number and its move
 abbrev pub header : ℕ → Move → List ℕ
@@ -23,8 +23,8 @@ style_behind is_coloured told = record { is_coloured = is_coloured; marked = tol
 abbrev pub page_text : Page → ℕ → ToldMove → Board → List ℕ
 page_text printed n told b = board_text n b
 page_text Numbered n told b = header told.number told.m ++ board_text n b
-page_text (Words is_coloured) n told b = words_line is_coloured told
-page_text (Drawn is_coloured) n told b = words_line is_coloured told ++ drawing (style_behind is_coloured told) n b ++ codes "\n"
+page_text (InWords is_coloured) n told b = phrase_line is_coloured told
+page_text (Drawn is_coloured) n told b = phrase_line is_coloured told ++ drawing (style_behind is_coloured told) n b ++ codes "\n"
 
 -- what is written of moves from a board and the boards after them, one straight after the other, the moves numbered from this
 -- one on

@@ -99,9 +99,9 @@ abbrev pub sink_change : Option (List ℕ) → Option (List ℕ) → SinkChange
 sink_change old new = record { old = old; new = new }
 
 -- what a replay answers, by the number of its moves alone
-abbrev pub counted : Result Ended ReplayFault → Result ℕ ReplayFault
-counted (Ok ended) = Ok ended.moves
-counted (Err fault) = Err fault
+abbrev pub replay_count : Result Ended ReplayFault → Result ℕ ReplayFault
+replay_count (Ok ended) = Ok ended.moves
+replay_count (Err fault) = Err fault
 
 -- the exit status that tells how a list ended: 1 where it had to win and didn't
 abbrev pub ended_status : Bool → Ended → ℕ
@@ -114,8 +114,8 @@ pub record ReplaysAs (page : Page) (g : GameRules) (b : Board) (tokens : List (L
   pub boards : List Board
   pub spelled : SpellMoves (take (length moves) tokens) moves
   pub passed : Passes g b moves boards
-  pub ends : Ends g b tokens boards (counted result)
-  pub written : Writes sink.old sink.new (pages_text page g.cells 1 b moves boards) (counted result)
+  pub ends : Ends g b tokens boards (replay_count result)
+  pub written : Writes sink.old sink.new (pages_text page g.cells 1 b moves boards) (replay_count result)
   pub won : IfOk result (λ ended. IsTrue ended.is_won ↔ IsWon (board_after b boards))
 
 -- the moves were made: the boards after them, that their pages were written, or a front of them where the sink failed,

@@ -6,12 +6,12 @@ use Rattle.fc_moves.specs.MoveText.{HasText, move_text}
 use Rattle.fc_text.specs.Line.{parts_of, is_token, is_blank, is_line_end}
 
 -- moves are parted by spaces, tabs, CR and LF
-abbrev pub is_gap : ℕ → Bool
-is_gap b = is_blank b || (b == 13) || is_line_end b
+abbrev pub is_move_gap : ℕ → Bool
+is_move_gap b = is_blank b || (b == 13) || is_line_end b
 
 -- the tokens of a text of moves: what stands between gaps
 abbrev pub move_tokens : List ℕ → List (List ℕ)
-move_tokens text = filter is_token (parts_of is_gap text)
+move_tokens text = filter is_token (parts_of is_move_gap text)
 
 -- the token is the move's text, in either case
 abbrev pub SpellsMove : List ℕ → Move → Type 0

@@ -8,7 +8,7 @@ pub use plays::play;
 pub use replays::{Ended, replay, replay_as};
 pub use stops::{RefusedMove, Stop, first_stop};
 pub use tellings::ToldMove;
-pub use tokens::{MoveGaps, read_token};
+pub use move_tokens::{MoveGaps, read_token};
 
 mod faults;
 pub mod laws;
@@ -17,4 +17,4 @@ mod plays;
 mod replays;
 mod stops;
 mod tellings;
-mod tokens;
+mod move_tokens;

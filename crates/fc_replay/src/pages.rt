@@ -5,7 +5,7 @@ ghost use Rattle.fc_moves.specs.MoveText.{HasText};
 ghost use Rattle.fc_replay.specs.Page.{header, page_text};
 ghost use Rattle.fc_replay.specs.declared.pages.Page.TheVariants.{Drawn};
 
-use crate::tellings::{ToldMove, words_line};
+use crate::tellings::{ToldMove, phrase_line};
 use arrayvec::ArrayVec;
 use fc_io::{Failed, Sink, write_all};
 use fc_moves::{Move, move_text};
@@ -22,7 +22,7 @@ pub enum Page {
     /// A line with its number and its letters, and the same text.
     Numbered,
     /// A line with its number and the move in words; red suits in red, as terminals show it, or not.
-    Words(bool),
+    InWords(bool),
     /// The same line, the drawing of the board after it, in which the card that moved is marked, and an empty line.
     Drawn(bool),
 }
@@ -51,7 +51,7 @@ pub(crate) fn write_page<K: Sink>(
             let header = header(told.number, told.m);
             write_both(sink, &header, print_board(position, cells).as_bytes())
         }
-        Page::Words(is_coloured) => write_all(sink, &words_line(told, is_coloured)),
+        Page::InWords(is_coloured) => write_all(sink, &phrase_line(told, is_coloured)),
         Page::Drawn(is_coloured) => write_drawn(is_coloured, cells, told, position, sink),
     }
 }
@@ -77,7 +77,7 @@ fn write_drawn<K: Sink>(
         is_coloured,
         marked: told.card,
     };
-    let line = words_line(told, is_coloured);
+    let line = phrase_line(told, is_coloured);
     write_drawing(sink, &line, &draw(position, cells, &style))
 }
 

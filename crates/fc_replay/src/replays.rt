@@ -7,7 +7,7 @@ ghost use Rattle.fc_replay.specs.Played.{Replays, ReplaysAs, BeginsWithStep, end
 use crate::faults::ReplayFault;
 use crate::pages::{Page, write_page};
 use crate::tellings::ToldMove;
-use crate::tokens::{MoveGaps, read_token};
+use crate::move_tokens::{MoveGaps, read_token};
 use fc_io::Sink;
 use fc_moves::{Game, allows, apply};
 use fc_position::Position;

@@ -4,7 +4,7 @@ ghost use Rattle.fc_replay.specs.Played.{IsFirstStop, PlayAll};
 ghost use Rattle.fc_replay.specs.Token.{move_tokens};
 
 use crate::tellings::ToldMove;
-use crate::tokens::{MoveGaps, read_token};
+use crate::move_tokens::{MoveGaps, read_token};
 use fc_moves::{Game, Refusal, apply, refusal_of};
 use fc_position::Position;
 use fc_text::Tokens;

@@ -2,7 +2,7 @@
 
 ghost use Rattle.std.specs.Prelude.{◌≡◌, ◌≤◌, ◌+◌, ◌++◌, length};
 ghost use Rattle.fc_moves.specs.MoveText.{HasText};
-ghost use Rattle.fc_replay.specs.Telling.{card_words, move_words, onto_words, source_words, target_words, told_move, words_line};
+ghost use Rattle.fc_replay.specs.Telling.{card_phrase, move_phrase, onto_phrase, source_phrase, target_phrase, told_move, phrase_line};
 
 use arrayvec::ArrayVec;
 use fc_cards::{Card, Place};
@@ -39,9 +39,9 @@ impl ToldMove {
 
     /// The move in words: its card, where that comes from, and where it goes, as in `KC from column 3 to cell c`. Red suits are
     /// in red, as terminals show it, or not.
-    pub fn words(&self, is_coloured: bool) -> ArrayVec<u8, 128>
+    pub fn phrase(&self, is_coloured: bool) -> ArrayVec<u8, 128>
         requires has_text { HasText self.now.m }
-        ensures text { result.items ≡ move_words is_coloured self.now }
+        ensures text { result.items ≡ move_phrase is_coloured self.now }
         ensures within { length result.items ≤ 56 }
     {
         let mut line = ArrayVec::new();
@@ -53,24 +53,24 @@ impl ToldMove {
 }
 
 // A line of words, with room for the longest.
-pub(crate) type WordsLine = ArrayVec<u8, 128>;
+pub(crate) type PhraseLine = ArrayVec<u8, 128>;
 
 /// The line of a move in words, behind its number.
-pub(crate) fn words_line(told: &ToldMove, is_coloured: bool) -> WordsLine
+pub(crate) fn phrase_line(told: &ToldMove, is_coloured: bool) -> PhraseLine
     requires has_text { HasText told.now.m }
-    ensures text { result.items ≡ words_line is_coloured told.now }
+    ensures text { result.items ≡ phrase_line is_coloured told.now }
 {
     let mut buffer = Buffer::new();
     let mut line = ArrayVec::new();
     push(&mut line, buffer.format(told.number).as_bytes());
     push(&mut line, b". ");
-    push(&mut line, &told.words(is_coloured));
+    push(&mut line, &told.phrase(is_coloured));
     push(&mut line, b"\n");
     line
 }
 
 // Appends a text.
-fn push(line: &mut WordsLine, piece: &[u8])
+fn push(line: &mut PhraseLine, piece: &[u8])
     requires room { length line.old.items + length piece.now ≤ 128 }
     ensures text { line.new.items ≡ line.old.items ++ piece.now }
 {
@@ -78,9 +78,9 @@ fn push(line: &mut WordsLine, piece: &[u8])
 }
 
 // Appends a card, if there is one.
-fn push_card(line: &mut WordsLine, card: Option<Card>, is_coloured: bool)
+fn push_card(line: &mut PhraseLine, card: Option<Card>, is_coloured: bool)
     requires room { length line.old.items + 11 ≤ 128 }
-    ensures text { line.new.items ≡ line.old.items ++ card_words is_coloured card }
+    ensures text { line.new.items ≡ line.old.items ++ card_phrase is_coloured card }
     ensures within { length line.new.items ≤ length line.old.items + 11 }
 {
     if let Some(card) = card {
@@ -89,10 +89,10 @@ fn push_card(line: &mut WordsLine, card: Option<Card>, is_coloured: bool)
 }
 
 // Appends where the card of a move comes from.
-fn push_source(line: &mut WordsLine, m: Move)
+fn push_source(line: &mut PhraseLine, m: Move)
     requires has_text { HasText m }
     requires room { length line.old.items + 14 ≤ 128 }
-    ensures text { line.new.items ≡ line.old.items ++ source_words m.from }
+    ensures text { line.new.items ≡ line.old.items ++ source_phrase m.from }
     ensures within { length line.new.items ≤ length line.old.items + 14 }
 {
     let [letter, _] = move_text(m);
@@ -105,10 +105,10 @@ fn push_source(line: &mut WordsLine, m: Move)
 }
 
 // Appends where the card of a move goes.
-fn push_target(line: &mut WordsLine, told: &ToldMove, is_coloured: bool)
+fn push_target(line: &mut PhraseLine, told: &ToldMove, is_coloured: bool)
     requires has_text { HasText told.now.m }
     requires room { length line.old.items + 31 ≤ 128 }
-    ensures text { line.new.items ≡ line.old.items ++ target_words is_coloured told.now.m.to told.now.beneath }
+    ensures text { line.new.items ≡ line.old.items ++ target_phrase is_coloured told.now.m.to told.now.beneath }
     ensures within { length line.new.items ≤ length line.old.items + 31 }
 {
     let [_, letter] = move_text(told.m);
@@ -121,9 +121,9 @@ fn push_target(line: &mut WordsLine, told: &ToldMove, is_coloured: bool)
 }
 
 // Appends that a card goes to a column, on the card at its end, if there is one; the column's number is to follow.
-fn push_onto(line: &mut WordsLine, beneath: Option<Card>, is_coloured: bool)
+fn push_onto(line: &mut PhraseLine, beneath: Option<Card>, is_coloured: bool)
     requires room { length line.old.items + 30 ≤ 128 }
-    ensures text { line.new.items ≡ line.old.items ++ onto_words is_coloured beneath }
+    ensures text { line.new.items ≡ line.old.items ++ onto_phrase is_coloured beneath }
     ensures within { length line.new.items ≤ length line.old.items + 30 }
 {
     if beneath.is_none() {

@@ -7,21 +7,21 @@ use Rattle.fc_moves.specs.GameRules.{GameRules}
 use Rattle.fc_methods.specs.Method.{Asked}
 use Rattle.fc_board_runs.specs.declared.faults.ProgramFault.{ProgramFault}
 use Rattle.fc_board_runs.specs.Devices.{Device}
-use Rattle.fc_review.specs.Finding.{IsFinding, IsReviewed, IsTold, IsUnreviewed, IsUntold}
+use Rattle.fc_review.specs.Finding.{IsFinding, IsReviewed, IsFindingTold, IsUnreviewed, IsFindingUntold}
 use Rattle.fc_review.specs.declared.findings.Finding.{Finding}
 
 -- what is told was found
 pub reviewed : (q : Asked) (g : GameRules) (b : Board) (moves : List Move) (cert : Option Device) (sink : Device) (finding : Finding)
-    (r : Result ℕ ProgramFault) → g ≡ q.game → IsFinding q b moves cert finding → IfOk r (IsTold g b moves finding sink)
+    (r : Result ℕ ProgramFault) → g ≡ q.game → IsFinding q b moves cert finding → IfOk r (IsFindingTold g b moves finding sink)
     → IfOk r (IsReviewed q b moves cert sink)
 reviewed q g b moves cert sink finding (Ok status) same found told =
-    (finding, found, subst (λ game. IsTold game b moves finding sink status) same told)
+    (finding, found, subst (λ game. IsFindingTold game b moves finding sink status) same told)
 reviewed q g b moves cert sink finding (Err fault) same found told = told
 
 -- and so was what isn't told
 pub unreviewed : (q : Asked) (g : GameRules) (b : Board) (moves : List Move) (cert : Option Device) (sink : Device) (finding : Finding)
-    (r : Result ℕ ProgramFault) → g ≡ q.game → IsFinding q b moves cert finding → IfErr r (IsUntold g b moves finding sink)
+    (r : Result ℕ ProgramFault) → g ≡ q.game → IsFinding q b moves cert finding → IfErr r (IsFindingUntold g b moves finding sink)
     → IfErr r (IsUnreviewed q b moves cert sink)
 unreviewed q g b moves cert sink finding (Ok status) same found untold = untold
 unreviewed q g b moves cert sink finding (Err fault) same found untold =
-    inr (finding, found, subst (λ game. IsUntold game b moves finding sink fault) same untold)
+    inr (finding, found, subst (λ game. IsFindingUntold game b moves finding sink fault) same untold)

@@ -13,12 +13,12 @@ use Rattle.fc_answers.specs.declared.answers.Verdict.{Verdict}
 use Rattle.fc_answers.specs.declared.answers.Verdict.TheVariants.{Shortest, Won, CannotWin, GaveUp}
 use Rattle.fc_methods.specs.Method.{Asked}
 use Rattle.fc_best.specs.Best.{IsBestVerdict}
-use Rattle.fc_review.specs.Review.{IsAfter, IsKnown, IsLostAfter, IsOpenAfter, IsReview, IsUnsettled, IsWonAfter, Loses, TellsList, first_behind}
-use Rattle.fc_review.specs.declared.boards.Known.{Known}
+use Rattle.fc_review.specs.Review.{IsBoardAfter, IsKnownAlong, IsLostAfter, IsOpenAfter, IsReview, IsUnsettled, IsWonAfter, Loses, TellsList, first_behind}
+use Rattle.fc_review.specs.declared.known_boards.KnownBoard.{KnownBoard}
 use Rattle.fc_review.specs.declared.edges.Edge.{Edge}
 use Rattle.fc_review.specs.declared.edges.Wanted.TheVariants.{List as OfLists, NotLost}
 use Rattle.fc_review.specs.declared.reviews.Review.{Review}
-use Rattle.fc_review.specs.inner.Edge.{Holds, IsEdge, IsLostBehind, IsNoLoss, IsOpenUpTo}
+use Rattle.fc_review.specs.inner.Edge.{IsAsWanted, IsEdge, IsLostBehind, IsNoLoss, IsOpenUpTo}
 
 -- a front of a list that runs does so
 front_runs : (g : GameRules) (b d : Board) (ms ns : List Move) → Run g b (ms ++ ns) d → (c : Board) × Run g b ms c
@@ -33,13 +33,13 @@ front_of_run h g b n all front game (d, run) same =
     (on.0, subst (λ x. Run x b front on.0) (sym game) (subst (λ l. Run g b l on.0) (sym same) on.1))
 
 -- a best verdict that none wins says so
-lost_known : (q : Asked) (b : Board) (moves : List Move) (known : Known) → IsKnown q b moves known → known.verdict ≡ CannotWin
+lost_known : (q : Asked) (b : Board) (moves : List Move) (known : KnownBoard) → IsKnownAlong q b moves known → known.verdict ≡ CannotWin
     → IsLostAfter q.game b moves known.after
 lost_known q b moves known is lost =
     let best = subst (λ v. IsBestVerdict q is.board v) lost is.best in (is.board, is.after, best.right)
 
 -- and one that gave up
-open_known : (q : Asked) (b : Board) (moves : List Move) (known : Known) (told : ℕ) → IsKnown q b moves known → known.verdict ≡ GaveUp told
+open_known : (q : Asked) (b : Board) (moves : List Move) (known : KnownBoard) (told : ℕ) → IsKnownAlong q b moves known → known.verdict ≡ GaveUp told
     → IsOpenAfter q b moves known.after
 open_known q b moves known told is up = (is.board, is.after, (told, subst (λ v. IsBestVerdict q is.board v) up is.best))
 
@@ -65,18 +65,18 @@ wins_told q b CannotWin best told = absurd told
 wins_told q b (GaveUp up) best told = absurd told
 
 -- a board that isn't lost and from which no list is told gave up
-pub open_up_to : (q : Asked) (b : Board) (moves : List Move) (known : Known) (lost : Option ℕ) → IsKnown q b moves known → IsNoLoss known.verdict
+pub open_up_to : (q : Asked) (b : Board) (moves : List Move) (known : KnownBoard) (lost : Option ℕ) → IsKnownAlong q b moves known → IsNoLoss known.verdict
     → (TellsList known.verdict → ⊥) → IsLostBehind q.game b moves known.after lost → IsOpenUpTo q b moves lost
 open_up_to q b moves known lost is fine none behind =
     let up = gave_up known.verdict fine none in (known.after, behind, open_known q b moves known up.0 is up.1)
 
 -- where lists cease to be told
-edge_won : (q : Asked) (b : Board) (moves : List Move) (edge : Edge) (before : Option Known) → edge.before ≡ before → IsEdge q b moves OfLists edge
+edge_won : (q : Asked) (b : Board) (moves : List Move) (edge : Edge) (before : Option KnownBoard) → edge.before ≡ before → IsEdge q b moves OfLists edge
     → IfSome before (IsWonAfter q b moves) × (edge.behind.after ≡ first_behind before)
 edge_won q b moves edge None same is =
-    (tt, subst (λ o. MatchOption o (edge.behind.after ≡ 0) (λ k. IsKnown q b moves k × Holds OfLists k.verdict × (edge.behind.after ≡ k.after + 1))) same is.before)
+    (tt, subst (λ o. MatchOption o (edge.behind.after ≡ 0) (λ k. IsKnownAlong q b moves k × IsAsWanted OfLists k.verdict × (edge.behind.after ≡ k.after + 1))) same is.before)
 edge_won q b moves edge (Some known) same is =
-    let on = subst (λ o. MatchOption o (edge.behind.after ≡ 0) (λ k. IsKnown q b moves k × Holds OfLists k.verdict × (edge.behind.after ≡ k.after + 1))) same is.before in
+    let on = subst (λ o. MatchOption o (edge.behind.after ≡ 0) (λ k. IsKnownAlong q b moves k × IsAsWanted OfLists k.verdict × (edge.behind.after ≡ k.after + 1))) same is.before in
     ((on.0, on.1), on.2)
 
 pub review_lost : (q : Asked) (b : Board) (moves : List Move) (edge : Edge) → IsEdge q b moves OfLists edge → edge.behind.verdict ≡ CannotWin
@@ -101,7 +101,7 @@ lost_up_to : (q : Asked) (b : Board) (moves : List Move) (lost : Option ℕ) →
 lost_up_to q b moves None up = tt
 lost_up_to q b moves (Some n) (after, (place, lost), up) = lost
 
-before_up_to : (q : Asked) (b : Board) (moves : List Move) (won : Option Known) (lost : Option ℕ) → IsOpenUpTo q b moves lost
+before_up_to : (q : Asked) (b : Board) (moves : List Move) (won : Option KnownBoard) (lost : Option ℕ) → IsOpenUpTo q b moves lost
     → MatchOption lost ((first_behind won ≡ length moves + 1) ⊎ IsOpenAfter q b moves (length moves))
     (λ n. (n ≡ first_behind won) ⊎ ((count : ℕ) × (n ≡ count + 1) × IsOpenAfter q b moves count))
 before_up_to q b moves won None (after, last, up) = inr (subst (IsOpenAfter q b moves) last up)
@@ -120,7 +120,7 @@ review_open q b moves edge lost is fine up =
     }
 
 -- the move between a board from which a list wins and a lost one loses
-pub loses : (q : Asked) (b : Board) (moves : List Move) (known : Known) (n : ℕ) → IsWonAfter q b moves known → IsLostAfter q.game b moves n
+pub loses : (q : Asked) (b : Board) (moves : List Move) (known : KnownBoard) (n : ℕ) → IsWonAfter q b moves known → IsLostAfter q.game b moves n
     → n ≡ known.after + 1 → Loses q.game b moves known.after
 loses q b moves known n (is, tells) lost place = record {
   before = is.board;
@@ -133,10 +133,10 @@ zero_past : (n : ℕ) → 0 ≡ n + 1 → ⊥
 zero_past n same = omega (arith, same)
 
 -- it isn't known which move loses, by the board behind the last won one
-at_behind : (q : Asked) (b : Board) (moves : List Move) (won : Option Known) (lost : Option ℕ) → IfSome won (IsWonAfter q b moves)
+at_behind : (q : Asked) (b : Board) (moves : List Move) (won : Option KnownBoard) (lost : Option ℕ) → IfSome won (IsWonAfter q b moves)
     → IfSome lost (IsLostAfter q.game b moves)
     → (lost ≡ Some (first_behind won)) ⊎ ((first_behind won ≡ length moves + 1) ⊎ IsOpenAfter q b moves (first_behind won))
-    → ((known : Known) → won ≡ Some known → lost ≡ Some (known.after + 1) → ⊥) → IsUnsettled q b moves
+    → ((known : KnownBoard) → won ≡ Some known → lost ≡ Some (known.after + 1) → ⊥) → IsUnsettled q b moves
 at_behind q b moves None lost is none (inl first) fine = inr (inl (subst (λ l. IfSome l (IsLostAfter q.game b moves)) first none))
 at_behind q b moves None lost is none (inr (inl past)) fine = absurd (zero_past (length moves) past)
 at_behind q b moves won lost is none (inr (inr up)) fine = inr (inr (first_behind won, up))
@@ -144,8 +144,8 @@ at_behind q b moves (Some known) lost is none (inl next) fine = absurd (fine kno
 at_behind q b moves (Some known) lost is none (inr (inl last)) fine = inl (known, is, omega (arith, last))
 
 -- where it isn't known which move loses
-pub unsettled : (q : Asked) (b : Board) (moves : List Move) (review : Review) (won : Option Known) (lost : Option ℕ) → review.won ≡ won → review.lost ≡ lost
-    → IsReview q b moves review → ((known : Known) → won ≡ Some known → lost ≡ Some (known.after + 1) → ⊥) → IsUnsettled q b moves
+pub unsettled : (q : Asked) (b : Board) (moves : List Move) (review : Review) (won : Option KnownBoard) (lost : Option ℕ) → review.won ≡ won → review.lost ≡ lost
+    → IsReview q b moves review → ((known : KnownBoard) → won ≡ Some known → lost ≡ Some (known.after + 1) → ⊥) → IsUnsettled q b moves
 unsettled q b moves review won lost same-won same-lost is none = at_behind q b moves won lost
     (subst (λ w. IfSome w (IsWonAfter q b moves)) same-won is.won)
     (subst (λ l. IfSome l (IsLostAfter q.game b moves)) same-lost is.lost)
@@ -154,7 +154,7 @@ unsettled q b moves review won lost same-won same-lost is none = at_behind q b m
     none
 
 -- it isn't known, as the last won board isn't the one before the first lost one, or there is none
-after_or : Option Known → ℕ
+after_or : Option KnownBoard → ℕ
 after_or None = 0
 after_or (Some known) = known.after
 
@@ -162,7 +162,7 @@ count_or : Option ℕ → ℕ
 count_or None = 0
 count_or (Some n) = n
 
-same_after : (k l : Known) → Some k ≡ Some l → k.after ≡ l.after
+same_after : (k l : KnownBoard) → Some k ≡ Some l → k.after ≡ l.after
 unfolding after_or
 same_after k l same = ap after_or same
 
@@ -170,12 +170,12 @@ same_count : (m n : ℕ) → Some m ≡ Some n → m ≡ n
 unfolding count_or
 same_count m n same = ap count_or same
 
-pub unsettled_between : (q : Asked) (b : Board) (moves : List Move) (review : Review) (won : Known) (n : ℕ) → review.won ≡ Some won
+pub unsettled_between : (q : Asked) (b : Board) (moves : List Move) (review : Review) (won : KnownBoard) (n : ℕ) → review.won ≡ Some won
     → review.lost ≡ Some n → (n ≡ won.after + 1 → ⊥) → IsReview q b moves review → IsUnsettled q b moves
 unsettled_between q b moves review won n same-won same-lost apart is = unsettled q b moves review (Some won) (Some n) same-won same-lost is
     (λ known same next. apart (same_count n (known.after + 1) next ∙ ap (λ a. a + 1) (sym (same_after won known same))))
 
-pub unsettled_won : (q : Asked) (b : Board) (moves : List Move) (review : Review) (won : Known) → review.won ≡ Some won → review.lost ≡ None
+pub unsettled_won : (q : Asked) (b : Board) (moves : List Move) (review : Review) (won : KnownBoard) → review.won ≡ Some won → review.lost ≡ None
     → IsReview q b moves review → IsUnsettled q b moves
 unsettled_won q b moves review won same-won same-lost is = unsettled q b moves review (Some won) None same-won same-lost is
     (λ known same next. none-some (known.after + 1) next)
@@ -190,5 +190,5 @@ wins_by g b c moves t run won = (λ yes. (c, run, won.0 yes), λ wins. won.1 (su
 
 -- the board after a front of a list
 pub is_after : (g : GameRules) (b c : Board) (moves front : List Move) (count : ℕ) → count ≤ length moves → front ≡ take count moves → Run g b front c
-    → IsAfter g b moves count c
+    → IsBoardAfter g b moves count c
 is_after g b c moves front count within same run = record { within = within; run = subst (λ l. Run g b l c) same run }

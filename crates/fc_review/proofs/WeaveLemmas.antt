@@ -19,10 +19,10 @@ use Rattle.fc_classes.proofs.PathLemmas.{run_on}
 use Rattle.fc_search.proofs.AnswerLemmas.{run_texts}
 use Rattle.fc_home.proofs.SettleLemmas.{total, total-most, total-next}
 use Rattle.fc_position.specs.Position.{IsWon}
-use Rattle.fc_review.specs.Weaving.{EndsAtHome, GoesHome, IsRefused, IsWoven, NoneGoesHome, Weaves, begins, goes_on, sends_home, IsWayHome, MakesWay}
+use Rattle.fc_review.specs.Weaving.{EndsAtHome, IsMoveHome, IsRefusedMove, IsWoven, AllowsNoMoveHome, Weaves, begins, goes_on, sends_home, IsWayHome, MakesWay}
 
 -- a move home has one card more home, of 52
-pub home_more : (g : GameRules) (b c : Board) (m : Move) → IsPositionOf g b → GoesHome m → Step g b m c
+pub home_more : (g : GameRules) (b c : Board) (m : Move) → IsPositionOf g b → IsMoveHome m → Step g b m c
     → (total c.homes ≡ total b.homes + 1) × (total b.homes < 52)
 home_more g b c m p home step =
     let takes : IsNext b.homes step.card = subst (λ to. Takes g b step.card to) home step.takes in
@@ -34,10 +34,10 @@ home_more g b c m p home step =
     (more, omega (arith, more, most))
 
 -- moves home behind moves home
-pub homes_on : (g : GameRules) (b c d : Board) (homes : List Move) (m : Move) → All GoesHome homes → Run g b homes c → GoesHome m → Step g c m d
-    → All GoesHome (homes ++ m ∷ []) × Run g b (homes ++ m ∷ []) d
+pub homes_on : (g : GameRules) (b c d : Board) (homes : List Move) (m : Move) → All IsMoveHome homes → Run g b homes c → IsMoveHome m → Step g c m d
+    → All IsMoveHome (homes ++ m ∷ []) × Run g b (homes ++ m ∷ []) d
 homes_on g b c d homes m all run home step = (
-  All-append GoesHome homes (m ∷ []) all (All-cons GoesHome m [] home (All-nil GoesHome)),
+  All-append IsMoveHome homes (m ∷ []) all (All-cons IsMoveHome m [] home (All-nil IsMoveHome)),
   run_on g b c d homes (m ∷ []) run (d, step, refl),
 )
 
@@ -48,26 +48,26 @@ is_none (Some m) same some = none-some m (sym same)
 
 -- so far no move home was met, nor is this one
 pub met_none : (list : List Move) (i k : ℕ) (before result : Option Move) (d e : Move) → i < length list
-    → ((result ≡ before) × (GoesHome (get_or list i e) → IsSome before)) ⊎ ((result ≡ Some (get_or list i e)) × GoesHome (get_or list i e))
-    → (before ≡ None → (j : ℕ) (f : Move) → j < i → GoesHome (get_or list j f) → ⊥) → result ≡ None → k < i + 1 → GoesHome (get_or list k d) → ⊥
+    → ((result ≡ before) × (IsMoveHome (get_or list i e) → IsSome before)) ⊎ ((result ≡ Some (get_or list i e)) × IsMoveHome (get_or list i e))
+    → (before ≡ None → (j : ℕ) (f : Move) → j < i → IsMoveHome (get_or list j f) → ⊥) → result ≡ None → k < i + 1 → IsMoveHome (get_or list k d) → ⊥
 met_none list i k before result d e within (inr (some, home)) none same below goes = none-some (get_or list i e) (sym same ∙ some)
 met_none list i k before result d e within (inl (kept, first)) none same below goes =
     let empty : before ≡ None = sym kept ∙ same in
-    let last : k ≡ i → ⊥ = λ e'. is_none before empty (first (subst (λ n. GoesHome (get_or list n e)) e' (subst GoesHome (get_or_default list k d e (omega (arith, e', within))) goes))) in
+    let last : k ≡ i → ⊥ = λ e'. is_none before empty (first (subst (λ n. IsMoveHome (get_or list n e)) e' (subst IsMoveHome (get_or_default list k d e (omega (arith, e', within))) goes))) in
     none empty k d (omega (arith, below, last)) goes
 
 -- no move home was met among all that are allowed
 pub left_none : (g : GameRules) (b : Board) (list : List Move) (i : ℕ) (chosen : Option Move) → ListsMoves g b list → length list ≤ i
-    → (chosen ≡ None → (j : ℕ) (f : Move) → j < i → GoesHome (get_or list j f) → ⊥) → IfNone chosen (NoneGoesHome g b)
+    → (chosen ≡ None → (j : ℕ) (f : Move) → j < i → IsMoveHome (get_or list j f) → ⊥) → IfNone chosen (AllowsNoMoveHome g b)
 left_none g b list i None lists all none = λ m home allowed.
     let there = lists.complete m allowed in
     let low = there.1 in
-    none refl there.0 m (omega (arith, low, all)) (subst GoesHome (sym there.2) home)
+    none refl there.0 m (omega (arith, low, all)) (subst IsMoveHome (sym there.2) home)
 left_none g b list i (Some m) lists all none = tt
 
 -- a move of the list that isn't allowed, and before which no card can go home
 pub refused_at : (g : GameRules) (b : Board) (list : List Move) (i : ℕ) (m : Move) (moves : List Move) (here : Board) → i < length list
-    → Weaves g b list (m ∷ drop (i + 1) list) moves here → (Allows g here m → ⊥) → Allows g here m ⊎ NoneGoesHome g here → IsRefused g b list (i + 1)
+    → Weaves g b list (m ∷ drop (i + 1) list) moves here → (Allows g here m → ⊥) → Allows g here m ⊎ AllowsNoMoveHome g here → IsRefusedMove g b list (i + 1)
 refused_at g b list i m moves here within woven refused (inl allowed) = absurd (refused allowed)
 refused_at g b list i m moves here within woven refused (inr stuck) = record {
   m = m;
@@ -86,10 +86,10 @@ begins_at g b list moves here none same = subst (λ l. Weaves g b list list l he
 
 -- the chosen move stays one home that is allowed
 pub chosen_on : (g : GameRules) (b : Board) (before result : Option Move) (m : Move) → Allows g b m
-    → ((result ≡ before) × (GoesHome m → IsSome before)) ⊎ ((result ≡ Some m) × GoesHome m) → IfSome before (λ x. GoesHome x × Allows g b x)
-    → IfSome result (λ x. GoesHome x × Allows g b x)
-chosen_on g b before result m allowed (inl (kept, first)) good = subst (λ o. IfSome o (λ x. GoesHome x × Allows g b x)) (sym kept) good
-chosen_on g b before result m allowed (inr (new, home)) good = subst (λ o. IfSome o (λ x. GoesHome x × Allows g b x)) (sym new) (home, allowed)
+    → ((result ≡ before) × (IsMoveHome m → IsSome before)) ⊎ ((result ≡ Some m) × IsMoveHome m) → IfSome before (λ x. IsMoveHome x × Allows g b x)
+    → IfSome result (λ x. IsMoveHome x × Allows g b x)
+chosen_on g b before result m allowed (inl (kept, first)) good = subst (λ o. IfSome o (λ x. IsMoveHome x × Allows g b x)) (sym kept) good
+chosen_on g b before result m allowed (inr (new, home)) good = subst (λ o. IfSome o (λ x. IsMoveHome x × Allows g b x)) (sym new) (home, allowed)
 
 -- what stands at a place of a list is in it
 pub is_in : (all list : List Move) (i : ℕ) (d : Move) → all ≡ list → i < length all → Contains list (get_or all i d)
@@ -135,22 +135,22 @@ woven_at g b list front homes part moves here i all woven ended parts same = rec
 
 -- where a move home among those so far makes way, the chosen one does
 pub way_on : (g : GameRules) (b : Board) (list : List Move) (i k : ℕ) (before result : Option Move) (d e w : Move) → i < length list
-    → (IsSomeAnd before (λ home. MakesWay g b home w) ⊎ (GoesHome (get_or list i e) × MakesWay g b (get_or list i e) w)
+    → (IsSomeAnd before (λ home. MakesWay g b home w) ⊎ (IsMoveHome (get_or list i e) × MakesWay g b (get_or list i e) w)
     → IsSomeAnd result (λ home. MakesWay g b home w))
-    → ((j : ℕ) (f : Move) → j < i → GoesHome (get_or list j f) → MakesWay g b (get_or list j f) w → IsSomeAnd before (λ home. MakesWay g b home w))
-    → k < i + 1 → GoesHome (get_or list k d) → MakesWay g b (get_or list k d) w → IsSomeAnd result (λ home. MakesWay g b home w)
+    → ((j : ℕ) (f : Move) → j < i → IsMoveHome (get_or list j f) → MakesWay g b (get_or list j f) w → IsSomeAnd before (λ home. MakesWay g b home w))
+    → k < i + 1 → IsMoveHome (get_or list k d) → MakesWay g b (get_or list k d) w → IsSomeAnd result (λ home. MakesWay g b home w)
 way_on g b list i k before result d e w within next so below goes makes =
     ⊎_elim (λ less. next (inl (so k d less goes makes)))
     (λ more.
     let last : k ≡ i = omega (arith, below, more) in
     let same : get_or list k d ≡ get_or list i e = get_or_default list k d e (omega (arith, last, within)) ∙ ap (λ n. get_or list n e) last in
-    next (inr (subst GoesHome same goes, subst (λ x. MakesWay g b x w) same makes)))
+    next (inr (subst IsMoveHome same goes, subst (λ x. MakesWay g b x w) same makes)))
     (cases_lt k i)
 
 -- where any move home makes way, the chosen one does
 pub way_left : (g : GameRules) (b : Board) (list : List Move) (i : ℕ) (chosen : Option Move) (w : Move) → ListsMoves g b list → length list ≤ i
-    → IfSome chosen (λ m. GoesHome m × Allows g b m)
-    → ((j : ℕ) (f : Move) → j < i → GoesHome (get_or list j f) → MakesWay g b (get_or list j f) w → IsSomeAnd chosen (λ home. MakesWay g b home w))
+    → IfSome chosen (λ m. IsMoveHome m × Allows g b m)
+    → ((j : ℕ) (f : Move) → j < i → IsMoveHome (get_or list j f) → MakesWay g b (get_or list j f) w → IsSomeAnd chosen (λ home. MakesWay g b home w))
     → IfSome chosen (IsWayHome g b w)
 way_left g b list i None w lists all good so = tt
 way_left g b list i (Some m) w lists all good so = (
@@ -158,5 +158,5 @@ way_left g b list i (Some m) w lists all good so = (
   λ other goes makes.
       let there = lists.complete other (makes.0, makes.1) in
       let low = there.1 in
-      so there.0 other (omega (arith, low, all)) (subst GoesHome (sym there.2) goes) (subst (λ x. MakesWay g b x w) (sym there.2) makes),
+      so there.0 other (omega (arith, low, all)) (subst IsMoveHome (sym there.2) goes) (subst (λ x. MakesWay g b x w) (sym there.2) makes),
 )

@@ -8,18 +8,18 @@ use Rattle.fc_answers.specs.declared.answers.Verdict.{Verdict}
 use Rattle.fc_answers.specs.declared.answers.Verdict.TheVariants.{Shortest, Won, CannotWin, GaveUp}
 use Rattle.fc_methods.specs.Method.{Asked}
 use Rattle.fc_best.specs.Best.{IsBestVerdict}
-use Rattle.fc_review.specs.declared.boards.Known.{Known}
+use Rattle.fc_review.specs.declared.known_boards.KnownBoard.{KnownBoard}
 use Rattle.fc_review.specs.declared.reviews.Review.{Review}
 
 -- the board is the one after so many moves of the list
-pub record IsAfter (g : GameRules) (b : Board) (moves : List Move) (count : ℕ) (c : Board) : Type 0 where
+pub record IsBoardAfter (g : GameRules) (b : Board) (moves : List Move) (count : ℕ) (c : Board) : Type 0 where
   pub within : count ≤ length moves
   pub run : Run g b (take count moves) c
 
 -- what is known of a board along the list is its best verdict
-pub record IsKnown (q : Asked) (b : Board) (moves : List Move) (known : Known) : Type 0 where
+pub record IsKnownAlong (q : Asked) (b : Board) (moves : List Move) (known : KnownBoard) : Type 0 where
   pub board : Board
-  pub after : IsAfter q.game b moves known.after board
+  pub after : IsBoardAfter q.game b moves known.after board
   pub best : IsBestVerdict q board known.verdict
 
 -- the verdict tells a list that wins
@@ -30,19 +30,19 @@ TellsList CannotWin = ⊥
 TellsList (GaveUp told) = ⊥
 
 -- a list that is told wins from the board after so many moves
-abbrev pub IsWonAfter : Asked → Board → List Move → Known → Type 0
-IsWonAfter q b moves known = IsKnown q b moves known × TellsList known.verdict
+abbrev pub IsWonAfter : Asked → Board → List Move → KnownBoard → Type 0
+IsWonAfter q b moves known = IsKnownAlong q b moves known × TellsList known.verdict
 
 -- no list wins from the board after so many moves
 abbrev pub IsLostAfter : GameRules → Board → List Move → ℕ → Type 0
-IsLostAfter g b moves count = (c : Board) × IsAfter g b moves count c × NoneWins g c
+IsLostAfter g b moves count = (c : Board) × IsBoardAfter g b moves count c × NoneWins g c
 
 -- the searches from the board after so many moves gave up
 abbrev pub IsOpenAfter : Asked → Board → List Move → ℕ → Type 0
-IsOpenAfter q b moves count = (c : Board) × IsAfter q.game b moves count c × ((told : ℕ) × IsBestVerdict q c (GaveUp told))
+IsOpenAfter q b moves count = (c : Board) × IsBoardAfter q.game b moves count c × ((told : ℕ) × IsBestVerdict q c (GaveUp told))
 
 -- how many moves lead to the board behind the last one from which a list is told, or to the first board where none is
-abbrev pub first_behind : Option Known → ℕ
+abbrev pub first_behind : Option KnownBoard → ℕ
 first_behind None = 0
 first_behind (Some won) = won.after + 1
 
@@ -68,11 +68,11 @@ pub record IsReview (q : Asked) (b : Board) (moves : List Move) (review : Review
 -- the move behind so many loses: some list wins from the board before it, and none from the board after it
 pub record Loses (g : GameRules) (b : Board) (moves : List Move) (count : ℕ) : Type 0 where
   pub before : Board
-  pub there : IsAfter g b moves count before
+  pub there : IsBoardAfter g b moves count before
   pub won : (list : List Move) × Wins g before list
   pub lost : IsLostAfter g b moves (count + 1)
 
 -- it isn't known which move loses: a list wins behind the last move; or none from the start; or the searches gave up behind some moves
 abbrev pub IsUnsettled : Asked → Board → List Move → Type 0
-IsUnsettled q b moves = ((known : Known) × IsWonAfter q b moves known × (known.after ≡ length moves))
+IsUnsettled q b moves = ((known : KnownBoard) × IsWonAfter q b moves known × (known.after ≡ length moves))
     ⊎ (IsLostAfter q.game b moves 0 ⊎ ((count : ℕ) × IsOpenAfter q b moves count))

@@ -11,12 +11,12 @@ use Rattle.fc_review.specs.declared.weaving.WeaveFault.{WeaveFault}
 use Rattle.fc_review.specs.declared.weaving.WeaveFault.TheVariants.{Refused, Memory}
 
 -- the move goes home
-abbrev pub GoesHome : Move → Type 0
-GoesHome m = m.to ≡ Home
+abbrev pub IsMoveHome : Move → Type 0
+IsMoveHome m = m.to ≡ Home
 
 -- no card of the board can go home
-abbrev pub NoneGoesHome : GameRules → Board → Type 0
-NoneGoesHome g b = (m : Move) → GoesHome m → Allows g b m → ⊥
+abbrev pub AllowsNoMoveHome : GameRules → Board → Type 0
+AllowsNoMoveHome g b = (m : Move) → IsMoveHome m → Allows g b m → ⊥
 
 -- the one move makes way for the other, which is allowed behind it
 abbrev pub MakesWay : GameRules → Board → Move → Move → Type 0
@@ -24,7 +24,7 @@ MakesWay g b first m = (c : Board) × Step g b first c × Allows g c m
 
 -- the move home makes way for a move, where any move home does
 abbrev pub IsWayHome : GameRules → Board → Move → Move → Type 0
-IsWayHome g b m home = GoesHome home × ((other : Move) → GoesHome other → MakesWay g b other m → MakesWay g b home m)
+IsWayHome g b m home = IsMoveHome home × ((other : Move) → IsMoveHome other → MakesWay g b other m → MakesWay g b home m)
 
 -- the moves lead from the board to another: they are those of a list before its rest, in their order, each as soon as it is
 -- allowed; and before one that isn't moves home, one that makes way for it where there is such a one
@@ -38,10 +38,10 @@ pub data Weaves (g : GameRules) (b : Board) (list : List Move) : List Move → L
 -- moves home behind a list: where cards go home from the board until none can, and that wins, all of these moves, and else none
 pub record EndsAtHome (g : GameRules) (b : Board) (homes : List Move) : Type 0 where
   pub all : List Move
-  pub home : All GoesHome all
+  pub home : All IsMoveHome all
   pub end : Board
   pub run : Run g b all end
-  pub stuck : NoneGoesHome g end
+  pub stuck : AllowsNoMoveHome g end
   pub kept : (IsWon end × (homes ≡ all)) ⊎ ((IsWon end → ⊥) × (homes ≡ []))
 
 -- the moves are those of the list, in their order, with moves home where it goes on only with them, and behind it where they win
@@ -54,17 +54,17 @@ pub record IsWoven (g : GameRules) (b : Board) (list moves : List Move) : Type 0
   pub ended : EndsAtHome g here homes
 
 -- a move of the list, by its step, isn't allowed, and no card can go home before it
-pub record IsRefused (g : GameRules) (b : Board) (list : List Move) (step : ℕ) : Type 0 where
+pub record IsRefusedMove (g : GameRules) (b : Board) (list : List Move) (step : ℕ) : Type 0 where
   pub m : Move
   pub rest : List Move
   pub moves : List Move
   pub here : Board
   pub woven : Weaves g b list (m ∷ rest) moves here
   pub refused : Allows g here m → ⊥
-  pub stuck : NoneGoesHome g here
+  pub stuck : AllowsNoMoveHome g here
   pub place : step + length rest ≡ length list
 
 -- why a list isn't woven: a move that isn't allowed; or a growth was refused
 abbrev pub IsWeaveFault : GameRules → Board → List Move → WeaveFault → Type 0
-IsWeaveFault g b list (Refused step) = IsRefused g b list step
+IsWeaveFault g b list (Refused step) = IsRefusedMove g b list step
 IsWeaveFault g b list Memory = Unit {0}

@@ -4,10 +4,10 @@ ghost use Rattle.std.specs.Prelude.{◌≡◌, ◌↔◌, IfOk, IsTrue};
 ghost use Rattle.fc_position.specs.Board.{Board};
 ghost use Rattle.fc_moves.specs.GameRules.{IsPositionOf};
 ghost use Rattle.fc_moves.specs.Run.{Run};
-ghost use Rattle.fc_review.specs.Review.{IsKnown};
-ghost use Rattle.fc_review.specs.inner.Edge.{Holds, IsEdge};
+ghost use Rattle.fc_review.specs.Review.{IsKnownAlong};
+ghost use Rattle.fc_review.specs.inner.Edge.{IsAsWanted, IsEdge};
 
-use crate::boards::{Known, known_after};
+use crate::known_boards::{KnownBoard, known_after};
 use fc_answers::Verdict;
 use fc_methods::Question;
 use fc_moves::{Game, Move};
@@ -33,7 +33,7 @@ pub(crate) enum Wanted {
 impl Wanted {
     // Whether a verdict is as it is wanted.
     pub(crate) fn holds(self, verdict: &Verdict) -> bool
-        ensures value { IsTrue result ↔ Holds self verdict.now }
+        ensures value { IsTrue result ↔ IsAsWanted self verdict.now }
     {
         match (self, verdict) {
             (_, Verdict::Shortest(_) | Verdict::Won { .. }) => true,
@@ -48,8 +48,8 @@ impl Wanted {
 #[derive(Drop)]
 pub(crate) struct Edge {
     // The one that is as it is wanted, unless the second is the first of all.
-    pub(crate) before: Option<Known>,
-    pub(crate) behind: Known,
+    pub(crate) before: Option<KnownBoard>,
+    pub(crate) behind: KnownBoard,
 }
 
 // Two boards, one behind the other, up to one that isn't as it is wanted.
@@ -58,12 +58,12 @@ pub(crate) fn edge_before<G: Game + Drop>(
     question: &Question<G>,
     way: Way<'_>,
     wanted: Wanted,
-    last: Known,
+    last: KnownBoard,
 ) -> Result<Edge, AllocError>
     requires position { IsPositionOf question.now.game way.start.now }
     requires run { (c : Board) × Run question.now.game way.start.now way.moves.now c }
-    requires known { IsKnown question.now way.start.now way.moves.now last }
-    requires turned { Holds wanted last.verdict → ⊥ }
+    requires known { IsKnownAlong question.now way.start.now way.moves.now last }
+    requires turned { IsAsWanted wanted last.verdict → ⊥ }
     ensures edge { IfOk result (IsEdge question.now way.entry.start.now way.entry.moves.now wanted) }
 {
     let Way { start, moves } = way;

@@ -6,15 +6,15 @@ ghost use Rattle.fc_moves.specs.GameRules.{IsPositionOf};
 ghost use Rattle.fc_moves.specs.MoveText.{HasText};
 ghost use Rattle.fc_moves.specs.Run.{Run};
 ghost use Rattle.fc_board_runs.specs.Devices.{IsHandedBack, change, lent};
-ghost use Rattle.fc_review.specs.Finding.{IsFinding, IsReviewed, IsTold, IsUnreviewed, IsUntold, NamesLosing, TellsFinding, finding_status, named_text};
+ghost use Rattle.fc_review.specs.Finding.{IsFinding, IsReviewed, IsFindingTold, IsUnreviewed, IsFindingUntold, NamesLosing, TellsFinding, finding_status, named_text};
 ghost use Rattle.fc_review.specs.Hands.{IsByHand};
 ghost use Rattle.fc_review.specs.Rating.{IsUnrated};
 
-use crate::boards::{board_after, wins};
+use crate::known_boards::{board_after, wins};
 use crate::hands::count_by_hand;
 use crate::ratings::{Rating, certify, rate_alone};
 use crate::reviews::{Review, review_of};
-use crate::texts::{rating_status, rating_text, review_status, review_text};
+use crate::review_lines::{rating_status, rating_text, review_status, review_text};
 use fc_answers::MOST_MOVES;
 use fc_io::{Sink, write_all};
 use fc_methods::Question;
@@ -186,7 +186,7 @@ fn named_text(alloc: Global, before: &Position, m: Move) -> Result<Vec<u8>, Allo
 {
     let mut text = Vec::from_slice(alloc, &move_text(m))?;
     text.extend_from_slice(b" (")?;
-    text.extend_from_slice(&ToldMove::of(1, before, m).words(false))?;
+    text.extend_from_slice(&ToldMove::of(1, before, m).phrase(false))?;
     text.extend_from_slice(b")")?;
     Ok(text)
 }
@@ -273,8 +273,8 @@ fn write_finding<G: Game, K: Sink>(
     requires position { IsPositionOf (G.game game.now) start.now }
     requires run { (c : Board) × Run (G.game game.now) start.now moves.now c }
     requires texts { All HasText moves.now }
-    ensures told { IfOk result (IsTold (G.game game.now) start.now moves.now finding.now (change K.held K.has_failed out.old out.new)) }
-    ensures fault { IfErr result (IsUntold (G.game game.now) start.now moves.now finding.now (change K.held K.has_failed out.old out.new)) }
+    ensures told { IfOk result (IsFindingTold (G.game game.now) start.now moves.now finding.now (change K.held K.has_failed out.old out.new)) }
+    ensures fault { IfErr result (IsFindingUntold (G.game game.now) start.now moves.now finding.now (change K.held K.has_failed out.old out.new)) }
 {
     let text = finding_text(alloc, game, start, moves, finding)?;
     match write_all(out, text.as_slice()) {

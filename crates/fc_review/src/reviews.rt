@@ -6,12 +6,12 @@ ghost use Rattle.fc_moves.specs.GameRules.{IsPositionOf};
 ghost use Rattle.fc_moves.specs.Run.{Run};
 ghost use Rattle.fc_methods.specs.Method.{Asked};
 ghost use Rattle.fc_moves.specs.declared.steps.Move.{Move};
-ghost use Rattle.fc_review.specs.Review.{IsKnown, IsReview, IsUnsettled, Loses};
+ghost use Rattle.fc_review.specs.Review.{IsKnownAlong, IsReview, IsUnsettled, Loses};
 ghost use Rattle.fc_review.specs.Texts.{losing_of};
 ghost use Rattle.fc_review.specs.inner.Edge.{IsEdge, IsLostBehind, IsNoLoss, IsOpenUpTo};
 ghost use Rattle.fc_review.specs.declared.edges.Wanted.TheVariants as wanted;
 
-use crate::boards::{Known, known_after};
+use crate::known_boards::{KnownBoard, known_after};
 use crate::edges::{Edge, Wanted, Way, edge_before};
 use fc_answers::Verdict;
 use fc_methods::Question;
@@ -23,7 +23,7 @@ use std::alloc::{AllocError, Global};
 #[derive(Drop)]
 pub struct Review {
     /// The last board from which a list is told that wins.
-    pub won: Option<Known>,
+    pub won: Option<KnownBoard>,
     /// How many moves lead to the first board from which none does.
     pub lost: Option<usize>,
 }
@@ -77,12 +77,12 @@ fn won_up_to<G: Game + Drop>(
     alloc: Global,
     question: &Question<G>,
     way: Way<'_>,
-    known: Known,
+    known: KnownBoard,
     lost: Option<usize>,
 ) -> Result<Review, AllocError>
     requires position { IsPositionOf question.now.game way.start.now }
     requires run { (c : Board) × Run question.now.game way.start.now way.moves.now c }
-    requires known { IsKnown question.now way.start.now way.moves.now known }
+    requires known { IsKnownAlong question.now way.start.now way.moves.now known }
     requires no_loss { IsNoLoss known.verdict }
     requires lost { IsLostBehind question.now.game way.start.now way.moves.now known.after lost }
     ensures review { IfOk result (IsReview question.now way.entry.start.now way.entry.moves.now) }

@@ -7,7 +7,7 @@ ghost use Rattle.fc_moves.specs.GameRules.{IsPositionOf};
 ghost use Rattle.fc_moves.specs.MoveText.{HasText};
 ghost use Rattle.fc_moves.specs.Run.{Run};
 ghost use Rattle.fc_moves.specs.Step.{Allows};
-ghost use Rattle.fc_review.specs.Weaving.{EndsAtHome, GoesHome, IsWayHome, IsWeaveFault, IsWoven, MakesWay, NoneGoesHome, Weaves};
+ghost use Rattle.fc_review.specs.Weaving.{EndsAtHome, IsMoveHome, IsWayHome, IsWeaveFault, IsWoven, MakesWay, AllowsNoMoveHome, Weaves};
 
 use fc_cards::Place;
 use fc_moves::{Game, Move, allows, apply, moves};
@@ -86,7 +86,7 @@ fn send_home_for<G: Game>(
     ensures position { IsPositionOf (G.game game.now) board.new }
     ensures woven { OnOk result ((b : Board) (list rest : List Move) → Weaves (G.game game.now) b list (m ∷ rest) woven.old.items board.old
         → Weaves (G.game game.now) b list (m ∷ rest) woven.new.items board.new) }
-    ensures end { OnOk result (Allows (G.game game.now) board.new m ⊎ NoneGoesHome (G.game game.now) board.new) }
+    ensures end { OnOk result (Allows (G.game game.now) board.new m ⊎ AllowsNoMoveHome (G.game game.now) board.new) }
 {
     while !allows(game, board, m) {
         let Some(home) = home_move(game, board, Some(m)) else {
@@ -121,9 +121,9 @@ fn homes_to_end<G: Game>(
 
 // A move home, if there is any: one behind which the wanted move is allowed, where there is such a one.
 fn home_move<G: Game>(game: &G, position: &Position, wanted: Option<Move>) -> Option<Move>
-    ensures home { IfSome result (λ m. GoesHome m × Allows (G.game game.now) position.now m) }
+    ensures home { IfSome result (λ m. IsMoveHome m × Allows (G.game game.now) position.now m) }
     ensures way { (m : Move) → wanted ≡ Some m → IfSome result (IsWayHome (G.game game.now) position.now m) }
-    ensures none { IfNone result (NoneGoesHome (G.game game.now) position.now) }
+    ensures none { IfNone result (AllowsNoMoveHome (G.game game.now) position.now) }
 {
     let list = moves(game, position);
     let mut chosen = None;
@@ -142,9 +142,9 @@ fn home_of<G: Game>(
     wanted: Option<Move>,
 ) -> Option<Move>
     requires allowed { Allows (G.game game.now) position.now m }
-    ensures chosen { ((result ≡ before) × (GoesHome m → IsSome before)) ⊎ ((result ≡ Some m) × GoesHome m) }
+    ensures chosen { ((result ≡ before) × (IsMoveHome m → IsSome before)) ⊎ ((result ≡ Some m) × IsMoveHome m) }
     ensures way { (w : Move) → wanted ≡ Some w
-        → IsSomeAnd before (λ home. MakesWay (G.game game.now) position.now home w) ⊎ (GoesHome m × MakesWay (G.game game.now) position.now m w)
+        → IsSomeAnd before (λ home. MakesWay (G.game game.now) position.now home w) ⊎ (IsMoveHome m × MakesWay (G.game game.now) position.now m w)
         → IsSomeAnd result (λ home. MakesWay (G.game game.now) position.now home w) }
 {
     let Place::Home = m.to else {

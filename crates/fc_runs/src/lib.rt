@@ -7,7 +7,7 @@ pub use certifying::write_certificate;
 pub use checking::run_check_of;
 pub use delivering::run_answer;
 pub use fc_board_runs::{
-    Asked, Input, LONGEST_BOARD, LONGEST_MOVES, ListQuestion, Look, Output, ProgramFault,
+    ListWants, Input, LONGEST_BOARD, LONGEST_MOVES, ListQuestion, Look, Output, ProgramFault,
     read_position, run_deal, run_list, run_replay, run_replay_as, run_replay_sequences, run_show,
 };
 pub use lists::{PrintableList, list_text};

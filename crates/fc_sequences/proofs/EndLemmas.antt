@@ -9,8 +9,8 @@ use Rattle.fc_position.specs.Board.{Board}
 use Rattle.fc_position.specs.Position.{IsWon}
 use Rattle.fc_moves.specs.GameRules.{GameRules, IsPositionOf}
 use Rattle.fc_sequences.specs.declared.layers.Layer.{Layer}
-use Rattle.fc_sequences.specs.declared.lists.TheConstants.{MOST_BOARDS}
-use Rattle.fc_sequences.specs.declared.lists.ListFault.TheVariants.{Refused, TooMany}
+use Rattle.fc_sequences.specs.declared.list_expansions.TheConstants.{MOST_BOARDS}
+use Rattle.fc_sequences.specs.declared.list_expansions.ListFault.TheVariants.{Refused, TooMany}
 use Rattle.fc_sequences.specs.declared.pairs.Pair.{Pair}
 use Rattle.fc_sequences.specs.Following.{Follows, LeadsToMany, LeadToFewBefore, IsListFault}
 use Rattle.fc_sequences.specs.inner.Layers.{AreLinked, IsGrown, IsLinked, IsNext, link_at}

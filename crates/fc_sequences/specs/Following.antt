@@ -4,9 +4,9 @@ use Rattle.fc_position.specs.Board.{Board}
 use Rattle.fc_moves.specs.declared.steps.Move.{Move}
 use Rattle.fc_moves.specs.GameRules.{GameRules}
 use Rattle.fc_moves.specs.Run.{Run}
-use Rattle.fc_sequences.specs.declared.lists.ListFault.{ListFault}
-use Rattle.fc_sequences.specs.declared.lists.ListFault.TheVariants.{Refused, TooMany, Memory}
-use Rattle.fc_sequences.specs.declared.lists.TheConstants.{MOST_BOARDS}
+use Rattle.fc_sequences.specs.declared.list_expansions.ListFault.{ListFault}
+use Rattle.fc_sequences.specs.declared.list_expansions.ListFault.TheVariants.{Refused, TooMany, Memory}
+use Rattle.fc_sequences.specs.declared.list_expansions.TheConstants.{MOST_BOARDS}
 use Rattle.fc_sequences.specs.declared.pairs.Pair.{Pair}
 use Rattle.fc_sequences.specs.Pair.{PlaysBy, PlaysPair, moves_for}
 

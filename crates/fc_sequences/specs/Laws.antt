@@ -4,13 +4,13 @@ use Rattle.fc_position.specs.Board.{Board}
 use Rattle.fc_moves.specs.declared.steps.Move.{Move}
 use Rattle.fc_moves.specs.GameRules.{GameRules, IsPositionOf}
 use Rattle.fc_moves.specs.Run.{Run}
-use Rattle.fc_sequences.specs.declared.lists.ListFault.{ListFault}
-use Rattle.fc_sequences.specs.declared.lists.ListFault.TheVariants.{Memory}
+use Rattle.fc_sequences.specs.declared.list_expansions.ListFault.{ListFault}
+use Rattle.fc_sequences.specs.declared.list_expansions.ListFault.TheVariants.{Memory}
 use Rattle.fc_sequences.specs.declared.pairs.Pair.{Pair}
 use Rattle.fc_sequences.specs.Following.{Expands, Follows, IsListFault}
 use Rattle.fc_sequences.specs.Gathering.{Gathers}
 use Rattle.fc_sequences.specs.Pair.{SpellsPair}
-use Rattle.fc_sequences.specs.declared.lists.TheConstants.{MOST_BOARDS}
+use Rattle.fc_sequences.specs.declared.list_expansions.TheConstants.{MOST_BOARDS}
 use Rattle.fc_sequences.specs.declared.gathers.TheConstants.{MOST_AHEAD}
 
 -- entries to which moves are gathered lead to the board to which the moves run, and to no other

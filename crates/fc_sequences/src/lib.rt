@@ -4,17 +4,17 @@
 
 pub use carries::{carry, may_carry};
 pub use gathers::{GatherFault, MOST_AHEAD, gather};
-pub use lists::{ListFault, MOST_BOARDS, expand};
+pub use list_expansions::{ListFault, MOST_BOARDS, expand};
 pub use pairs::{Pair, read_pair};
 pub use sayings::read_saying;
-pub use texts::print_pair;
+pub use pair_texts::print_pair;
 
 mod carries;
 mod gathers;
 pub mod laws;
 mod layers;
-mod lists;
+mod list_expansions;
 mod pairs;
 mod sayings;
 mod spaces;
-mod texts;
+mod pair_texts;

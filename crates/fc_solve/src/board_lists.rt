@@ -1,6 +1,6 @@
 //! Files of several boards, or of several lists of moves.
 
-use crate::boards::open;
+use crate::board_sources::open;
 use crate::endings::{Ending, tell, tell_of_reading};
 use fc_io::{FromReader, ReadFault, read_to_vec};
 use fc_runs::{Input, ProgramFault};

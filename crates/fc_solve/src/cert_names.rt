@@ -1,6 +1,6 @@
 //! What the certificates of a table's boards are called.
 
-use crate::objects::Name;
+use crate::answer_objects::Name;
 use std::alloc::{AllocError, Global};
 
 /// The name of a board's certificate, without its ending: the number of a deal; else the board's own name, its file and its place

@@ -6,7 +6,7 @@ ghost use Rattle.std.specs.Prelude.{◌≤◌};
 use crate::notes::{BoardText, add_note};
 use fc_cert::LONGEST_CERTIFICATE;
 use fc_methods::{MOST_GREAT_BUDGET, Sought};
-use fc_rows::RowFault;
+use fc_row_text::RowTextFault;
 use fc_runs::{Input, Output, ProgramFault};
 use fc_text::BoardFault;
 use std::alloc::AllocError;
@@ -105,7 +105,7 @@ pub fn tell_of_reading(rt: &HostRuntime, input: Input, path: &str) -> Ending {
 pub fn tell_of_length(rt: &HostRuntime) -> Ending {
     let status = tell(rt, &ProgramFault::Board(BoardFault::TooLong));
     let none = BoardText {
-        plain: &[],
+        tidy: &[],
         typed: &[],
     };
     add_note(rt, BoardFault::TooLong, none, 0);
@@ -126,7 +126,7 @@ pub fn tell_of_board(
 {
     let status = tell(rt, &fault);
     if let ProgramFault::Board(fault) = fault {
-        if text.plain.iter().all(|byte| byte.is_ascii_whitespace()) {
+        if text.tidy.iter().all(|byte| byte.is_ascii_whitespace()) {
             let _told = eprintln!(rt; "fc_solve: {NO_BOARD}");
         } else {
             add_note(rt, fault, text, cells);
@@ -136,10 +136,10 @@ pub fn tell_of_board(
 }
 
 /// Says what is wrong with a board's text in rows.
-pub fn tell_of_rows(rt: &HostRuntime, fault: RowFault) -> Ending {
+pub fn tell_of_row_text(rt: &HostRuntime, fault: RowTextFault) -> Ending {
     match fault {
-        RowFault::TooLong => tell_of_length(rt),
-        RowFault::BadHead(_) | RowFault::LongRow(_) | RowFault::ShortRow(_) => {
+        RowTextFault::TooLong => tell_of_length(rt),
+        RowTextFault::BadHead(_) | RowTextFault::LongRow(_) | RowTextFault::ShortRow(_) => {
             let _told = eprintln!(rt; "fc_solve: board: {fault}");
             Ending::Told(REFUSED)
         }

@@ -1,9 +1,9 @@
 //! Links to the page that shows a board with a list of moves and plays it.
 ghost use Rattle.fc_position.specs.Position.{Fits};
 
-use crate::answers::Answered;
+use crate::found_answers::Answered;
 use crate::endings::Ending;
-use crate::forms::tell_whole;
+use crate::answer_forms::tell_whole;
 use fc_moves::Game;
 use fc_position::Position;
 use fc_text::print_board;
@@ -13,7 +13,7 @@ use std::env;
 
 /// What a link shows beside the board.
 #[derive(Clone, Copy)]
-pub struct Link<'a> {
+pub struct PageLink<'a> {
     pub game: GameWords,
     /// The number of the deal, where the board is one.
     pub deal: Option<u32>,
@@ -25,14 +25,14 @@ pub struct Link<'a> {
     pub answer: Option<&'a str>,
 }
 
-impl<'a> Link<'a> {
+impl<'a> PageLink<'a> {
     /// A link to an answer.
-    pub fn of_answer(game: GameWords, deal: Option<u32>, answered: &'a Answered) -> Link<'a> {
+    pub fn of_answer(game: GameWords, deal: Option<u32>, answered: &'a Answered) -> PageLink<'a> {
         let answer = match answered.count() {
             Some(_) => None,
             None => Some(answered.name()),
         };
-        Link {
+        PageLink {
             game,
             deal,
             list: answered.letters(),
@@ -50,7 +50,7 @@ pub fn tell_link<G: Game>(
     rt: &HostRuntime,
     game: &G,
     start: &Position,
-    link: &Link<'_>,
+    link: &PageLink<'_>,
 ) -> Result<(), Ending>
     requires fits { Fits (G.game game.now).cells start.now }
 {
@@ -68,7 +68,7 @@ fn link_text(
     alloc: Global,
     page: &str,
     board: &[u8],
-    link: &Link<'_>,
+    link: &PageLink<'_>,
 ) -> Result<Vec<u8>, AllocError> {
     let mut text = Vec::from_slice(alloc, b"file://")?;
     push_coded(&mut text, page.as_bytes(), b"%20")?;
@@ -116,8 +116,8 @@ fn push_game(alloc: Global, text: &mut Vec<u8>, game: GameWords) -> Result<(), A
 }
 
 // Appends a text as links have it: letters, digits and a few signs as they are, a blank as this, and others by two digits.
-fn push_coded(text: &mut Vec<u8>, plain: &[u8], blank: &[u8]) -> Result<(), AllocError> {
-    for byte in plain {
+fn push_coded(text: &mut Vec<u8>, bytes: &[u8], blank: &[u8]) -> Result<(), AllocError> {
+    for byte in bytes {
         match *byte {
             b' ' => text.extend_from_slice(blank)?,
             b'0'..=b'9' | b'A'..=b'Z' | b'a'..=b'z' | b'-' | b'.' | b'_' | b'/' | b':' => {

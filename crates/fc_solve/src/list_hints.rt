@@ -1,7 +1,7 @@
 //! What helps where a list is refused for what it is, and not for a move of it.
 ghost use Rattle.fc_moves.specs.GameRules.{IsPositionOf};
 
-use crate::lists::plain_list;
+use crate::printed_lists::entries_alone;
 use crate::pair_lists::expand_list;
 use fc_moves::Game;
 use fc_position::Position;
@@ -46,7 +46,7 @@ fn plays_in_sequences<G: Game>(rt: &HostRuntime, game: &G, start: &Position, tex
     if text.len() > LONGEST_MOVES {
         return false;
     }
-    match plain_list(rt.alloc(), text, true) {
+    match entries_alone(rt.alloc(), text, true) {
         Ok(list) => expand_list(rt.alloc(), game, start, list.as_slice()).is_ok(),
         Err(_) => false,
     }

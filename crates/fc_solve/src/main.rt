@@ -2,58 +2,58 @@
 #![tactic(auto)]
 
 mod advice;
-mod answers;
+mod found_answers;
 mod apart;
 mod asking;
-mod batching;
+mod batch_task;
 mod board_lists;
-mod boards;
+mod board_sources;
 mod cert_names;
 mod certs;
-mod checking;
-mod dealing;
+mod check_task;
+mod deal_task;
 mod each;
 mod endings;
-mod entries;
+mod hand_entries;
 mod entry_pages;
-mod forms;
-mod games;
-mod hands;
-mod hinting;
-mod lengths;
+mod answer_forms;
+mod command_games;
+mod hand_counts;
+mod hint_task;
+mod column_lengths;
 mod links;
 mod list_hints;
-mod lists;
+mod printed_lists;
 mod moves;
 mod notes;
-mod objects;
+mod answer_objects;
 mod others;
 mod outputs;
 mod pair_lists;
-mod refusals;
+mod refused_entries;
 mod replay_objects;
-mod replaying;
+mod replay_task;
 mod review_objects;
-mod review_tables;
+mod review_listings;
 mod review_texts;
-mod reviewing;
-mod showing;
-mod shown;
+mod review_task;
+mod show_task;
+mod token_fronts;
 mod streams;
-mod tables;
-mod tallies;
+mod listings;
+mod listing_tallies;
 mod telling;
 mod watching;
 mod written_lists;
 
-ghost use Rattle.fc_words.specs.Sound.{IsSound};
+ghost use Rattle.fc_words.specs.Sound.{IsSoundCommand};
 
-use boards::listed_board;
+use board_sources::listed_board;
 use clap::error::ErrorKind;
 use endings::{Ending, REFUSED, tell};
 use fc_runs::ProgramFault;
 use fc_words::{Command, WordsFault, is_number, is_subcommand, mean_board, read};
-use games::in_game;
+use command_games::in_game;
 use std::fs::exists;
 use std::process::ExitCode;
 use std::{env, io};
@@ -136,10 +136,10 @@ fn refuse(rt: &HostRuntime, reason: &str) -> u8 {
 
 // Does what a command line asks for.
 fn follow(rt: &HostRuntime, command: &Command<'_>) -> Result<u8, Ending>
-    requires sound { IsSound command.now }
+    requires sound { IsSoundCommand command.now }
 {
     match command {
-        Command::Deal(words) => dealing::deal(rt, words),
+        Command::Deal(words) => deal_task::deal(rt, words),
         Command::Show(words) => in_game(rt, &words.game, words),
         Command::Best(words) => in_game(rt, &words.game, words),
         Command::Hint(words) => in_game(rt, &words.game, words),

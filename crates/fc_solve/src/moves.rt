@@ -1,7 +1,7 @@
 //! What is read beside a board, lists of moves and certificates: where it comes from, how a list is read, and what is said at its
 //! end.
 
-use crate::boards::open;
+use crate::board_sources::open;
 use crate::endings::Ending;
 use fc_cards::Place;
 use fc_io::{FromReader, ReadFault, read_to_vec};

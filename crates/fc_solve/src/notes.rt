@@ -2,15 +2,15 @@
 
 ghost use Rattle.std.specs.Prelude.{◌≤◌};
 
-use crate::shown::{front_of, rest_of};
+use crate::token_fronts::{front_of, rest_of};
 use fc_cards::Card;
-use fc_plain::{GuessedText, missing_cards, typed_word};
+use fc_typed::{GuessedText, missing_cards, typed_word};
 use fc_text::{BoardFault, Spot, first_spot_of, last_spot_of, spot_of};
 
-/// A board's text, made plain, and as it was typed, or nothing where that has other lines.
+/// A board's text, made tidy, and as it was typed, or nothing where that has other lines.
 #[derive(Clone, Copy)]
 pub struct BoardText<'a> {
-    pub plain: &'a [u8],
+    pub tidy: &'a [u8],
     pub typed: &'a [u8],
 }
 
@@ -29,8 +29,8 @@ pub fn add_note(rt: &HostRuntime, fault: BoardFault, text: BoardText<'_>, cells:
                 "fc_solve: line {line}: a line above tells it already: keep one board alone"
             );
         }
-        BoardFault::RepeatedCard(card) => note_places(rt, text.plain, card),
-        BoardFault::MissingCard(_) => note_missing(rt, text.plain, cells),
+        BoardFault::RepeatedCard(card) => note_places(rt, text.tidy, card),
+        BoardFault::MissingCard(_) => note_missing(rt, text.tidy, cells),
         BoardFault::BadCard(_)
         | BoardFault::BadFoundation(_)
         | BoardFault::TooManyCells(_)
@@ -64,7 +64,7 @@ fn note_missing(rt: &HostRuntime, text: &[u8], cells: u8)
 
 // Says where the fault of a line lies.
 fn note_spot(rt: &HostRuntime, text: BoardText<'_>, cells: u8, fault: BoardFault) {
-    if let Some(spot) = spot_of(text.plain, cells, fault) {
+    if let Some(spot) = spot_of(text.tidy, cells, fault) {
         note_token(rt, text.typed, &spot, reason_of(&fault, &spot));
     }
 }

@@ -2,9 +2,9 @@
 
 use crate::endings::Ending;
 use crate::moves::letters_at;
-use crate::objects::Name;
+use crate::answer_objects::Name;
 use fc_answers::Verdict;
-use fc_json::{Reviewed, review_object_text};
+use fc_json::{ToldList, review_object_text};
 use fc_review::{Finding, Rating, Review};
 use std::alloc::{AllocError, Global};
 
@@ -25,7 +25,7 @@ pub struct FoundList {
 
 impl FoundList {
     /// All that is told of it and of its board's name.
-    pub fn reviewed<'a>(&'a self, name: Name<'a>) -> Reviewed<'a> {
+    pub fn reviewed<'a>(&'a self, name: Name<'a>) -> ToldList<'a> {
         let count = (self.letters.len() / 3) as u64;
         let mut told = match &self.finding {
             Finding::Rated { rating, .. } => reviewed_of_rating(rating, count),
@@ -42,8 +42,8 @@ impl FoundList {
 }
 
 // What is told of a list of so many moves that wins: `best` and `floor` are those of its first board.
-fn reviewed_of_rating(rating: &Rating, count: u64) -> Reviewed<'static> {
-    let mut told = Reviewed::new("won");
+fn reviewed_of_rating(rating: &Rating, count: u64) -> ToldList<'static> {
+    let mut told = ToldList::new("won");
     told.after = Some(0);
     let (found, _) = numbers_of(&rating.best);
     told.best = Some(found.map_or(count, |best| best.min(count)));
@@ -55,9 +55,9 @@ fn reviewed_of_rating(rating: &Rating, count: u64) -> Reviewed<'static> {
 }
 
 // What is told of a list that doesn't win: `best` and `floor` are those of the last board that is known to be won.
-fn reviewed_of_review<'a>(review: &Review, letters: &'a [u8]) -> Reviewed<'a> {
+fn reviewed_of_review<'a>(review: &Review, letters: &'a [u8]) -> ToldList<'a> {
     let losing = review.losing_move();
-    let mut told = Reviewed::new(match (losing, &review.won, review.lost) {
+    let mut told = ToldList::new(match (losing, &review.won, review.lost) {
         (Some(_), ..) => "loses",
         (None, None, Some(0)) => "can't be won",
         (None, Some(won), None) if won.after >= letters.len() / 3 => "not lost",
@@ -87,7 +87,7 @@ fn numbers_of(verdict: &Verdict) -> (Option<u64>, Option<u64>) {
 }
 
 /// The object of a list, on a line.
-pub fn review_line(alloc: Global, told: &Reviewed<'_>) -> Result<String, Ending> {
+pub fn review_line(alloc: Global, told: &ToldList<'_>) -> Result<String, Ending> {
     let mut text = review_object_text(alloc, told)?;
     text.push_str("\n")?;
     Ok(text)
@@ -98,10 +98,10 @@ pub const REVIEW_HEAD: &str =
     "board\treview\tmoves\tinserted\tby_hand\tafter\tbest\tfloor\tlosing\tlost_after\n";
 
 /// The row of a list.
-pub fn review_row(alloc: Global, told: &Reviewed<'_>) -> Result<String, AllocError> {
+pub fn review_row(alloc: Global, told: &ToldList<'_>) -> Result<String, AllocError> {
     let mut row = match told.deal {
         Some(number) => format!(in alloc; "{number}")?,
-        None => plain_name(alloc, told.board.unwrap_or(""))?,
+        None => name_in_row(alloc, told.board.unwrap_or(""))?,
     };
     row.push('\t')?;
     row.push_str(told.review)?;
@@ -123,7 +123,7 @@ pub fn review_row(alloc: Global, told: &Reviewed<'_>) -> Result<String, AllocErr
 }
 
 // A name in which nothing parts cells or rows.
-fn plain_name(alloc: Global, name: &str) -> Result<String, AllocError> {
+fn name_in_row(alloc: Global, name: &str) -> Result<String, AllocError> {
     let mut text = String::new(alloc);
     for c in name.chars() {
         text.push(if c.is_control() { '?' } else { c })?;

@@ -17,10 +17,10 @@ pub fn told_move(alloc: Global, board: &Position, m: Move) -> Result<String, All
     requires text { HasText m }
 {
     let (letters, told) = (move_text(m), ToldMove::of(1, board, m));
-    let words = told.words(false);
+    let phrase = told.phrase(false);
     let letters = std::str::from_utf8(&letters).unwrap_or("");
-    let words = std::str::from_utf8(&words).unwrap_or("");
-    format!(in alloc; "{letters} ({words})")
+    let phrase = std::str::from_utf8(&phrase).unwrap_or("");
+    format!(in alloc; "{letters} ({phrase})")
 }
 
 /// The line of the board after so many moves: their number, the last of them, and the answer.

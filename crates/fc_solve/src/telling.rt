@@ -1,12 +1,12 @@
 //! How `solve` and `best` tell an answer that isn't written as it is found.
 ghost use Rattle.fc_moves.specs.GameRules.{IsPositionOf};
 
-use crate::answers::Answered;
+use crate::found_answers::Answered;
 use crate::endings::Ending;
-use crate::forms::{Manner, tell_in_form, tell_whole};
-use crate::hands::by_hand_told;
-use crate::links::{Link, tell_link};
-use crate::objects::{Beside, Name, Searched, answer_line};
+use crate::answer_forms::{Manner, tell_in_form, tell_whole};
+use crate::hand_counts::by_hand_told;
+use crate::links::{PageLink, tell_link};
+use crate::answer_objects::{Beside, Name, Searched, answer_line};
 use crate::watching::Line;
 use fc_methods::Question;
 use fc_moves::Game;
@@ -66,7 +66,7 @@ impl Telling<'_> {
         self.tell_stats(line, searched, answered.floor(), by_hand);
         told?;
         if self.has_link {
-            let link = Link::of_answer(self.game, self.name.deal(), &answered);
+            let link = PageLink::of_answer(self.game, self.name.deal(), &answered);
             tell_link(rt, game, start, &link)?;
         }
         Ok(answered.status())

@@ -1,7 +1,7 @@
 //! How far a search is, told on standard error: on a terminal by one line that is written over, and at the end, where it is
 //! asked for, by a line of numbers. Where a line can't be written, the search goes on.
 
-use crate::objects::Searched;
+use crate::answer_objects::Searched;
 use fc_answers::MoveList;
 use fc_best::{Listener, Progress};
 use fc_runs::Far;

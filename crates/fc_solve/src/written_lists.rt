@@ -1,4 +1,4 @@
-//! Lists of moves as people and other programs write them: what they leave out and how they name moves is made plain.
+//! Lists of moves as people and other programs write them: what they leave out and how they name moves is made good.
 ghost use Rattle.std.specs.Prelude.{All, IfOk};
 ghost use Rattle.fc_position.specs.Board.{Board};
 ghost use Rattle.fc_moves.specs.GameRules.{IsPositionOf};
@@ -6,15 +6,15 @@ ghost use Rattle.fc_moves.specs.MoveText.{HasText};
 ghost use Rattle.fc_moves.specs.Run.{Run};
 
 use crate::endings::{Ending, tell};
-use crate::lists::plain_list;
-use crate::refusals::tell_sequence;
+use crate::printed_lists::entries_alone;
+use crate::refused_entries::tell_sequence;
 use fc_cards::{Card, Place};
 use fc_io::{FromSlice, ToArray};
 use fc_moves::{Game, Move, read_move};
 use fc_position::Position;
 use fc_replay::{MoveGaps, ReplayFault, read_token};
 use fc_review::{WeaveFault, board_after, weave};
-use fc_runs::{Asked, ListQuestion, ProgramFault, run_list};
+use fc_runs::{ListWants, ListQuestion, ProgramFault, run_list};
 use fc_text::Tokens;
 use std::alloc::{AllocError, Global};
 
@@ -51,11 +51,11 @@ pub fn list_of<G: Game>(
     ensures texts { IfOk result (λ list. All HasText list.moves.items) }
 {
     let alloc = rt.alloc();
-    let plain = plain_list(alloc, text, has_sequences)?;
+    let bare = entries_alone(alloc, text, has_sequences)?;
     let given = if has_sequences {
-        expanded(rt, game, start, plain.as_slice())?
+        expanded(rt, game, start, bare.as_slice())?
     } else {
-        let entries = entries_of(alloc, plain.as_slice())?;
+        let entries = entries_of(alloc, bare.as_slice())?;
         moves_of(alloc, game, start, entries.as_slice())?
     };
     if given.len() > u32::MAX as usize {
@@ -86,7 +86,7 @@ fn expanded<G: Game>(
     requires position { IsPositionOf (G.game game.now) start.now }
 {
     let question = ListQuestion {
-        asked: Asked::Line,
+        wants: ListWants::Line,
         has_sequences: true,
     };
     let mut line = ToArray::<LONGEST_LINE>::new();

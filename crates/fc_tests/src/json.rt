@@ -1,12 +1,12 @@
 //! What is told of a board, as JSON.
 
 use crate::given::{must, sure};
-use fc_json::{Reviewed, Told, object_text, review_object_text};
+use fc_json::{ToldList, ToldBoard, object_text, review_object_text};
 use std::alloc::Global;
 use std::process::Abort;
 
 // All that can be told of a board.
-const FULL: Told<'static> = Told {
+const FULL: ToldBoard<'static> = ToldBoard {
     deal: Some(617),
     board: Some("a \"board\"\n\u{2663}"),
     answer: "won",
@@ -23,7 +23,7 @@ const FULL: Told<'static> = Told {
 };
 
 // What is told makes this object.
-fn check_object(rt: &impl Abort, alloc: Global, told: &Told<'_>, text: &str) {
+fn check_object(rt: &impl Abort, alloc: Global, told: &ToldBoard<'_>, text: &str) {
     let object = sure(rt, object_text(alloc, told));
     must(rt, object.as_str() == text);
 }
@@ -34,9 +34,9 @@ const FULL_TEXT: &str =
 
 #[test]
 fn objects_have_what_is_told(rt: HostRuntime) {
-    let told = Told::new("gave up");
+    let told = ToldBoard::new("gave up");
     check_object(&rt, rt.alloc(), &told, "{\"answer\":\"gave up\"}");
-    let mut told = Told::new("can't be won");
+    let mut told = ToldBoard::new("can't be won");
     told.deal = Some(11_982);
     let object = "{\"answer\":\"can't be won\",\"deal\":11982}";
     check_object(&rt, rt.alloc(), &told, object);
@@ -44,7 +44,7 @@ fn objects_have_what_is_told(rt: HostRuntime) {
 }
 
 // All that can be told of a list of moves.
-const FULL_REVIEW: Reviewed<'static> = Reviewed {
+const FULL_REVIEW: ToldList<'static> = ToldList {
     deal: Some(617),
     board: Some("mine"),
     review: "loses",
@@ -67,7 +67,7 @@ const FULL_REVIEW_TEXT: &str =
 fn objects_have_what_is_told_of_lists(rt: HostRuntime) {
     let object = sure(
         &rt,
-        review_object_text(rt.alloc(), &Reviewed::new("gave up")),
+        review_object_text(rt.alloc(), &ToldList::new("gave up")),
     );
     must(&rt, object.as_str() == "{\"review\":\"gave up\"}");
     let object = sure(&rt, review_object_text(rt.alloc(), &FULL_REVIEW));

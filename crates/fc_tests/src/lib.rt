@@ -28,7 +28,7 @@ mod json;
 #[cfg(test)]
 mod moves;
 #[cfg(test)]
-mod plain;
+mod tidy;
 #[cfg(test)]
 mod position;
 pub mod queues;

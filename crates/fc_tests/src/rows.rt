@@ -1,12 +1,12 @@
 //! Boards typed in rows.
 
 use crate::given::{must, sure};
-use fc_rows::{MOST_BYTES, RowFault, columns_of_rows};
+use fc_row_text::{MOST_BYTES, RowTextFault, columns_of_row_text};
 use std::process::Abort;
 
 // A text in rows stands for this one in columns.
 fn check_columns(rt: &impl Abort, rows: &[u8], columns: &[u8]) {
-    let made = sure(rt, columns_of_rows(rows));
+    let made = sure(rt, columns_of_row_text(rows));
     must(rt, made.bytes() == columns);
 }
 
@@ -72,9 +72,9 @@ fn rows_are_put_into_columns(rt: HostRuntime) {
 
 // A text in rows is too long, and without its first byte it is not.
 fn check_longest(rt: &impl Abort, text: &[u8]) {
-    must(rt, columns_of_rows(text).err() == Some(RowFault::TooLong));
+    must(rt, columns_of_row_text(text).err() == Some(RowTextFault::TooLong));
     let shorter = text.get(1..).expect(rt, "a byte");
-    must(rt, columns_of_rows(shorter).is_ok());
+    must(rt, columns_of_row_text(shorter).is_ok());
 }
 
 #[test]

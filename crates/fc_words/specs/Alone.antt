@@ -11,24 +11,24 @@ abbrev pub has_option : List ℕ → List (List ℕ) → Bool
 has_option name words = list_any (is_option name) words
 
 -- a word put before the others, behind the program's name
-abbrev pub put : List ℕ → List (List ℕ) → List (List ℕ)
-put word words = take 1 words ++ word ∷ drop 1 words
+abbrev pub with_word : List ℕ → List (List ℕ) → List (List ℕ)
+with_word word words = take 1 words ++ word ∷ drop 1 words
 
 -- where the words don't have the option, it is put there with a value
 abbrev pub with_option : List ℕ → List ℕ → List (List ℕ) → List (List ℕ)
-with_option name value words = cond (has_option name words) words (put (codes "--" ++ name ++ codes "=" ++ value) words)
+with_option name value words = cond (has_option name words) words (with_word (codes "--" ++ name ++ codes "=" ++ value) words)
 
 -- an option that only `solve` has stands among the words
 abbrev pub asks_to_solve : List (List ℕ) → Bool
 asks_to_solve words = has_option (codes "within") words || (has_option (codes "bound") words || has_option (codes "expand") words)
 
 -- the words that solve a board: where they don't tell these, within twice the fewest moves, by the clearing bound
-abbrev pub solving : List (List ℕ) → List (List ℕ)
-solving words = put (codes "solve") (with_option (codes "bound") (codes "clearing") (with_option (codes "within") (codes "2") words))
+abbrev pub solve_words : List (List ℕ) → List (List ℕ)
+solve_words words = with_word (codes "solve") (with_option (codes "bound") (codes "clearing") (with_option (codes "within") (codes "2") words))
 
 -- the words that stand for those of a board alone: it is solved where they have such an option, and else its best answer is asked for
-abbrev pub meant : List (List ℕ) → List (List ℕ)
-meant words = cond (asks_to_solve words) (solving words) (put (codes "best") words)
+abbrev pub meant_words : List (List ℕ) → List (List ℕ)
+meant_words words = cond (asks_to_solve words) (solve_words words) (with_word (codes "best") words)
 
 -- digits alone, at least one
 abbrev pub IsNumber : List ℕ → Type 0

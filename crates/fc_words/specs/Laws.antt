@@ -4,7 +4,7 @@ use Rattle.fc_bound.specs.declared.kinds.BoundKind.{BoundKind}
 use Rattle.fc_best_first.specs.declared.strategies.Expansion.{Expansion}
 use Rattle.fc_words.specs.Names.{bound_name, colours_name, expansion_name, game_name, task_name}
 use Rattle.fc_words.specs.declared.forms.Colours.{Colours}
-use Rattle.fc_words.specs.declared.games.GameName.{GameName}
+use Rattle.fc_words.specs.declared.game_names.GameName.{GameName}
 use Rattle.fc_words.specs.declared.tasks.Task.{Task}
 use Rattle.fc_words.specs.declared.options.TheConstants.{MOST_CELLS}
 

@@ -6,8 +6,8 @@ use Rattle.fc_best_first.specs.declared.strategies.Expansion.{Expansion}
 use Rattle.fc_best_first.specs.declared.strategies.Expansion.TheVariants.{Full, Partial}
 use Rattle.fc_words.specs.declared.forms.Colours.{Colours}
 use Rattle.fc_words.specs.declared.forms.Colours.TheVariants.{Auto, Always, Never}
-use Rattle.fc_words.specs.declared.games.GameName.{GameName}
-use Rattle.fc_words.specs.declared.games.GameName.TheVariants.{FreeCell, Bakers}
+use Rattle.fc_words.specs.declared.game_names.GameName.{GameName}
+use Rattle.fc_words.specs.declared.game_names.GameName.TheVariants.{FreeCell, Bakers}
 use Rattle.fc_words.specs.declared.tasks.Task.{Task}
 use Rattle.fc_words.specs.declared.tasks.Task.TheVariants.{Deal, Show, Best, Hint, Solve, Check, Replay, Review, Batch}
 

@@ -35,16 +35,16 @@ ReviewsInputOnce (One board moves) = HasOneInput board.word moves
 ReviewsInputOnce (lists.Files paths) = HasInputOnce paths.items
 
 -- a game has four cells at most, and no command reads two things from standard input
-abbrev pub IsSound : Command → Type 0
-IsSound (Deal _) = Unit
-IsSound (Show words) = words.game.cells ≤ MOST_CELLS
-IsSound (Best words) = words.game.cells ≤ MOST_CELLS
-IsSound (Hint words) = words.game.cells ≤ MOST_CELLS
-IsSound (Solve words) = words.game.cells ≤ MOST_CELLS
-IsSound (Check words) = (words.game.cells ≤ MOST_CELLS) × HasOneInput words.board.word words.cert
-IsSound (Replay words) = (words.game.cells ≤ MOST_CELLS) × HasOneInput words.board.word words.moves
-IsSound (Review words) = (words.game.cells ≤ MOST_CELLS) × ReviewsInputOnce words.lists
-IsSound (Batch words) = (words.game.cells ≤ MOST_CELLS) × ReadsInputOnce words.boards
+abbrev pub IsSoundCommand : Command → Type 0
+IsSoundCommand (Deal _) = Unit
+IsSoundCommand (Show words) = words.game.cells ≤ MOST_CELLS
+IsSoundCommand (Best words) = words.game.cells ≤ MOST_CELLS
+IsSoundCommand (Hint words) = words.game.cells ≤ MOST_CELLS
+IsSoundCommand (Solve words) = words.game.cells ≤ MOST_CELLS
+IsSoundCommand (Check words) = (words.game.cells ≤ MOST_CELLS) × HasOneInput words.board.word words.cert
+IsSoundCommand (Replay words) = (words.game.cells ≤ MOST_CELLS) × HasOneInput words.board.word words.moves
+IsSoundCommand (Review words) = (words.game.cells ≤ MOST_CELLS) × ReviewsInputOnce words.lists
+IsSoundCommand (Batch words) = (words.game.cells ≤ MOST_CELLS) × ReadsInputOnce words.boards
 
 -- the name of a task's subcommand, or of clap's own
 abbrev pub IsSubcommand : List ℕ → Type 0

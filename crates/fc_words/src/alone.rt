@@ -1,8 +1,8 @@
 ghost use Rattle.std.specs.Prelude.{◌≡◌, ◌↔◌, ◌++◌, IsTrue, IfOk, map, codes, string_bytes};
-ghost use Rattle.fc_words.specs.Alone.{IsNumber, has_option, is_option, meant, put, solving, asks_to_solve, with_option};
+ghost use Rattle.fc_words.specs.Alone.{IsNumber, has_option, is_option, meant_words, with_word, solve_words, asks_to_solve, with_option};
 ghost use Rattle.fc_words.specs.Sound.{IsSubcommand};
 
-use crate::bounds::bound_name;
+use crate::bound_names::bound_name;
 use crate::options::{BOUND, EXPAND, WITHIN};
 use crate::tasks::Task;
 use fc_methods::BoundKind;
@@ -30,7 +30,7 @@ pub fn is_number(word: &str) -> bool
 /// Want of memory; some of the words may have been put there.
 #[tactic(auto, using(crate::proofs::AloneLemmas::best_meant, crate::proofs::AloneLemmas::solving_meant))]
 pub fn mean_board(alloc: Global, words: &mut Vec<String>) -> Result<(), AllocError>
-    ensures meant { IfOk result (λ _. map (λ s. string_bytes s) words.new.items ≡ meant (map (λ s. string_bytes s) words.old.items)) }
+    ensures meant_words { IfOk result (λ _. map (λ s. string_bytes s) words.new.items ≡ meant_words (map (λ s. string_bytes s) words.old.items)) }
 {
     if asks_to_solve(words.as_slice()) {
         return mean_solving(alloc, words);
@@ -51,7 +51,7 @@ fn asks_to_solve(words: &[String]) -> bool
 // Puts the words before a board that solve it, as the other words say, and by what is meant where they don't say.
 #[tactic(auto, using(crate::proofs::AloneLemmas::all_meant))]
 fn mean_solving(alloc: Global, words: &mut Vec<String>) -> Result<(), AllocError>
-    ensures solving { IfOk result (λ _. map (λ s. string_bytes s) words.new.items ≡ solving (map (λ s. string_bytes s) words.old.items)) }
+    ensures solve_words { IfOk result (λ _. map (λ s. string_bytes s) words.new.items ≡ solve_words (map (λ s. string_bytes s) words.old.items)) }
 {
     mean_option(alloc, words, WITHIN.name, "2")?;
     mean_option(alloc, words, BOUND.name, bound_name(BoundKind::Clearing))?;
@@ -67,7 +67,7 @@ fn mean_option(
     name: &str,
     value: &str,
 ) -> Result<(), AllocError>
-    ensures meant { IfOk result (λ _. map (λ s. string_bytes s) words.new.items ≡ with_option name.now value.now (map (λ s. string_bytes s) words.old.items)) }
+    ensures meant_words { IfOk result (λ _. map (λ s. string_bytes s) words.new.items ≡ with_option name.now value.now (map (λ s. string_bytes s) words.old.items)) }
 {
     if has_option(words.as_slice(), name) {
         return Ok(());
@@ -98,7 +98,7 @@ fn is_option(word: &str, name: &str) -> bool
 
 // Puts a word before the others, behind the program's name.
 fn put_first(words: &mut Vec<String>, word: String) -> Result<(), AllocError>
-    ensures put { IfOk result (λ _. map (λ s. string_bytes s) words.new.items ≡ put (string_bytes word) (map (λ s. string_bytes s) words.old.items)) }
+    ensures with_word { IfOk result (λ _. map (λ s. string_bytes s) words.new.items ≡ with_word (string_bytes word) (map (λ s. string_bytes s) words.old.items)) }
 {
     let place = words.len().min(1);
     words.insert(place, word)?;

@@ -4,7 +4,7 @@ ghost use Rattle.fc_best_first.specs.Limits.{IsBudget, IsGreatBudget};
 ghost use Rattle.fc_words.specs.Best.{best_method};
 
 use crate::forms::{Colours, MovesForm, ReplayForm};
-use crate::games::GameName;
+use crate::game_names::GameName;
 use fc_methods::{BoundKind, Budget, Expansion, GreatBudget, HomeRule, Method, Strategy, Weight};
 
 /// What a command line asks for.

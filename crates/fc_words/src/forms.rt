@@ -2,7 +2,7 @@ ghost use Rattle.std.specs.Prelude.{◌≡◌, IfSome, IfNone};
 ghost use Rattle.fc_words.specs.Names.{are_shown, colours_name};
 ghost use Rattle.fc_words.specs.declared.forms.Colours.{Colours};
 
-use crate::places::place_of;
+use crate::name_places::place_of;
 
 /// How the moves of an answer are told.
 #[derive(Clone, Copy)]
@@ -10,7 +10,7 @@ pub enum MovesForm {
     /// By two letters each, in one line.
     Letters,
     /// In words, a line each.
-    Words,
+    InWords,
     /// In words, with the board drawn after each.
     Boards,
     /// As entries that may move several cards.
@@ -25,7 +25,7 @@ pub enum EntriesForm {
     /// By two letters each, and how many cards where that isn't plain, in one line.
     Letters,
     /// In words, a line each.
-    Words,
+    InWords,
     /// In words, with the board drawn after each.
     Boards,
 }

@@ -3,38 +3,38 @@
 #![tactic(auto)]
 
 pub use alone::{is_number, is_subcommand, mean_board};
-pub use bounds::{bound_name, bound_of_name};
+pub use bound_names::{bound_name, bound_of_name};
 pub use commands::{
     BatchBoards, BatchForm, BatchSearch, BatchWords, BestSearchWords, BestWords, BoardWord,
     BoardWords, CheckWords, Command, DealWords, FileWord, GameWords, HintWords, ReplayWords,
     ReviewLists, ReviewWords, SearchWords, ShowWords, SolveWords, TextWords,
 };
-pub use expansions::{expansion_name, expansion_of_name, usual_expansion};
+pub use expansion_names::{expansion_name, expansion_of_name, usual_expansion};
 pub use faults::WordsFault;
 pub use forms::{Colours, EntriesForm, MovesForm, ReplayForm};
-pub use games::GameName;
+pub use game_names::GameName;
 pub use reading::read;
 pub use tasks::Task;
 pub use weights::weight_of;
 
 mod alone;
-mod batching;
+mod batch_words;
 mod board_words;
-mod bounds;
+mod bound_names;
 mod commands;
-mod expansions;
+mod expansion_names;
 mod faults;
 mod forms;
-mod games;
+mod game_names;
 mod hint_words;
 pub mod laws;
 mod link_words;
 mod options;
-mod places;
+mod name_places;
 mod reading;
-mod replays;
+mod replay_words;
 mod review_words;
 mod subcommands;
-mod table;
+mod clap_commands;
 mod tasks;
 mod weights;

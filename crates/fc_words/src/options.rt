@@ -3,17 +3,17 @@
 
 ghost use Rattle.std.specs.Prelude.{◌≤◌, IfSome};
 
-use crate::bounds::{BOUND_NAMES, bound_of_name};
+use crate::bound_names::{BOUND_NAMES, bound_of_name};
 use crate::commands::{BestSearchWords, FileWord, GameWords, SearchWords};
-use crate::expansions::{EXPANSION_NAMES, expansion_of_name, usual_expansion};
+use crate::expansion_names::{EXPANSION_NAMES, expansion_of_name, usual_expansion};
 use crate::faults::WordsFault;
 use crate::forms::{COLOURS_NAMES, Colours, EntriesForm, MovesForm};
-use crate::games::GameName;
+use crate::game_names::GameName;
 use crate::weights::weight_of;
 use clap::ArgMatches;
 use fc_home::GREATEST_RULE;
 use fc_methods::{BoundKind, Expansion, HomeRule, MOST_BUDGET, Weight};
-use fc_plain::read_count;
+use fc_typed::read_count;
 
 /// What a word of a subcommand is.
 #[derive(Clone, Copy)]
@@ -270,7 +270,7 @@ pub(crate) fn form(words: &ArgMatches<'_>) -> MovesForm {
     } else if words.get_flag(BOARDS.name) {
         MovesForm::Boards
     } else if words.get_flag(WORDS.name) {
-        MovesForm::Words
+        MovesForm::InWords
     } else if words.get_flag(IN_JSON.name) {
         MovesForm::Json
     } else {
@@ -283,7 +283,7 @@ fn entries_form(words: &ArgMatches<'_>) -> EntriesForm {
     if words.get_flag(BOARDS.name) {
         EntriesForm::Boards
     } else if words.get_flag(WORDS.name) {
-        EntriesForm::Words
+        EntriesForm::InWords
     } else {
         EntriesForm::Letters
     }

@@ -1,14 +1,14 @@
 ghost use Rattle.std.specs.Prelude.{IfOk};
-ghost use Rattle.fc_words.specs.Sound.{IsSound};
+ghost use Rattle.fc_words.specs.Sound.{IsSoundCommand};
 
-use crate::batching::batch;
+use crate::batch_words::batch;
 use crate::commands::Command;
 use crate::faults::WordsFault;
 use crate::hint_words::hint;
-use crate::replays::replay;
+use crate::replay_words::replay;
 use crate::review_words::review;
 use crate::subcommands::{best, check, deal, show, solve};
-use crate::table;
+use crate::clap_commands;
 use crate::tasks::Task;
 use clap::ArgMatches;
 use std::alloc::Global;
@@ -20,9 +20,9 @@ use std::alloc::Global;
 /// no number; a certificate that is to go to standard output; a board and moves, or boards or lists twice, that are to be read from
 /// standard input; or want of memory.
 pub fn read<'a>(alloc: Global, words: &'a [String]) -> Result<Command<'a>, WordsFault>
-    ensures sound { IfOk result IsSound }
+    ensures sound { IfOk result IsSoundCommand }
 {
-    let matches = match table::command(alloc)?.try_get_matches_from(words) {
+    let matches = match clap_commands::command(alloc)?.try_get_matches_from(words) {
         Ok(matches) => matches,
         Err(error) => return Err(WordsFault::from(error)),
     };
@@ -41,7 +41,7 @@ fn read_task<'a>(
     task: Task,
     words: &ArgMatches<'a>,
 ) -> Result<Command<'a>, WordsFault>
-    ensures sound { IfOk result IsSound }
+    ensures sound { IfOk result IsSoundCommand }
 {
     match task {
         Task::Deal => match deal(words) {

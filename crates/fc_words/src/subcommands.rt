@@ -4,7 +4,7 @@ ghost use Rattle.std.specs.Prelude.{◌≤◌, IfOk, IfSome};
 ghost use Rattle.fc_words.specs.Sound.{HasOneInput};
 ghost use Rattle.fc_words.specs.declared.options.TheConstants.{MOST_CELLS};
 
-use crate::batching::BATCHING;
+use crate::batch_words::BATCHING;
 use crate::board_words::{
     DEAL, GUESS, NEEDED_BOARD, OPTIONAL_BOARD, ROWS, needed_board, optional_board,
 };
@@ -18,7 +18,7 @@ use crate::options::{
     BEST_BUDGET, BOARDS, BOUND, BUDGET, CELLS, COLOR, EXPAND, GAME, IN_JSON, IN_SEQUENCES, KINGS,
     Kind, QUIET, RULE, WITHIN, WORDS, Word, best_search, colours, file, form, game, search,
 };
-use crate::replays::REPLAYING;
+use crate::replay_words::REPLAYING;
 use crate::review_words::REVIEWING;
 use crate::tasks::Task;
 use clap::ArgMatches;

@@ -2,7 +2,7 @@ ghost use Rattle.std.specs.Prelude.{◌≡◌, IfSome, IfNone};
 ghost use Rattle.fc_words.specs.Names.{task_name};
 ghost use Rattle.fc_words.specs.declared.tasks.Task.{Task};
 
-use crate::places::place_of;
+use crate::name_places::place_of;
 
 /// What the program can be asked to do: a subcommand each.
 #[derive(Clone, Copy)]

@@ -1,8 +1,8 @@
 -- How the faults of the program end it, within the crate.
 use Rattle.fc_replay.specs.declared.faults.ReplayFault.{ReplayFault}
 use Rattle.fc_replay.specs.declared.faults.ReplayFault.TheVariants.{BadMove, NotAllowed, Write as unwritten}
-use Rattle.fc_sequences.specs.declared.lists.ListFault.{ListFault}
-use Rattle.fc_sequences.specs.declared.lists.ListFault.TheVariants.{Refused, TooMany, Memory as no_room}
+use Rattle.fc_sequences.specs.declared.list_expansions.ListFault.{ListFault}
+use Rattle.fc_sequences.specs.declared.list_expansions.ListFault.TheVariants.{Refused, TooMany, Memory as no_room}
 use Rattle.fc_board_runs.specs.declared.faults.ProgramFault.{ProgramFault}
 use Rattle.fc_board_runs.specs.declared.faults.ProgramFault.TheVariants.{Moves, TooManyWays, Write, Memory}
 use Rattle.fc_board_runs.specs.declared.faults.Output.TheVariants.{Answer as of_answer}

@@ -6,7 +6,7 @@ use Rattle.fc_moves.specs.GameRules.{GameRules}
 use Rattle.fc_answers.specs.declared.answers.Verdict.{Verdict}
 use Rattle.fc_answers.specs.declared.answers.Verdict.TheVariants.{Shortest, Won, CannotWin, GaveUp}
 use Rattle.fc_methods.specs.Method.{Asked}
-use Rattle.fc_review.specs.Review.{IsKnown, IsLostAfter, IsOpenAfter, TellsList}
+use Rattle.fc_review.specs.Review.{IsKnownAlong, IsLostAfter, IsOpenAfter, TellsList}
 use Rattle.fc_review.specs.declared.edges.Edge.{Edge}
 use Rattle.fc_review.specs.declared.edges.Wanted.{Wanted}
 use Rattle.fc_review.specs.declared.edges.Wanted.TheVariants.{List as OfLists, NotLost}
@@ -19,16 +19,16 @@ IsNoLoss CannotWin = ⊥
 IsNoLoss (GaveUp told) = Unit {0}
 
 -- the verdict is as it is wanted
-abbrev pub Holds : Wanted → Verdict → Type 0
-Holds OfLists verdict = TellsList verdict
-Holds NotLost verdict = IsNoLoss verdict
+abbrev pub IsAsWanted : Wanted → Verdict → Type 0
+IsAsWanted OfLists verdict = TellsList verdict
+IsAsWanted NotLost verdict = IsNoLoss verdict
 
 -- the board behind isn't as it is wanted; the one before it is, unless it is the first board of all
 pub record IsEdge (q : Asked) (b : Board) (moves : List Move) (wanted : Wanted) (edge : Edge) : Type 0 where
-  pub behind : IsKnown q b moves edge.behind
-  pub turned : Holds wanted edge.behind.verdict → ⊥
+  pub behind : IsKnownAlong q b moves edge.behind
+  pub turned : IsAsWanted wanted edge.behind.verdict → ⊥
   pub before : MatchOption edge.before (edge.behind.after ≡ 0)
-      (λ known. IsKnown q b moves known × Holds wanted known.verdict × (edge.behind.after ≡ known.after + 1))
+      (λ known. IsKnownAlong q b moves known × IsAsWanted wanted known.verdict × (edge.behind.after ≡ known.after + 1))
 
 -- a board behind so many moves is followed by a lost one, or is the last one
 abbrev pub IsLostBehind : GameRules → Board → List Move → ℕ → Option ℕ → Type 0

@@ -5,14 +5,14 @@ use Rattle.serde_json.specs.View.{view, members_view}
 use Rattle.serde_json.specs.Written.{compact_text, has_float}
 use Rattle.serde_json.specs.declared.value.Value.{Object}
 use Rattle.serde_json.proofs.Views.{view-Object}
-use Rattle.fc_json.specs.Objects.{members_of_review}
+use Rattle.fc_json.specs.Objects.{list_members}
 use Rattle.fc_json.proofs.JsonLemmas.{review_flat}
 use Rattle.fc_json.proofs.reviews.review_object_text.Goals as goal
 
 pub returns : goal.returns
 returns c =
     let map = c.in_ok-members.members in
-    let seen : view (Object map) ≡ object (members_of_review c.args.told.now) =
+    let seen : view (Object map) ≡ object (list_members c.args.told.now) =
     view-Object map ∙ ap object c.in_ok-members.ensures.members in
     let flat : members_depth (members_view map.entries) ≤ 0 =
     subst (λ ms. members_depth ms ≤ 0) (sym c.in_ok-members.ensures.members) (review_flat c.args.told.now).0 in

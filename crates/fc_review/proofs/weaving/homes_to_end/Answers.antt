@@ -2,7 +2,7 @@ use Rattle.std.proofs.Common.{sym, subst, arith}
 use Rattle.std.specs.Prelude.{All}
 use Rattle.fc_moves.specs.Run.{Run}
 use Rattle.fc_moves.proofs.StepLemmas.{step_keeps}
-use Rattle.fc_review.specs.Weaving.{GoesHome}
+use Rattle.fc_review.specs.Weaving.{IsMoveHome}
 use Rattle.fc_review.proofs.WeaveLemmas.{home_more, homes_on}
 use Rattle.fc_review.proofs.weaving.homes_to_end.Goals as goal
 
@@ -17,6 +17,6 @@ loop-home-preserved g c =
     c.in-Some.ensures.home.0 c.apply.ensures.step in
     record {
       position = step_keeps _ _ _ _ c.loop-home.invariant.position c.apply.ensures.step;
-      home = subst (All GoesHome) (sym c.in_ok-push.ensures.items) on.0;
+      home = subst (All IsMoveHome) (sym c.in_ok-push.ensures.items) on.0;
       run = subst (λ l. Run game c.args.position.now l c.apply.new.position) (sym c.in_ok-push.ensures.items) on.1;
     }

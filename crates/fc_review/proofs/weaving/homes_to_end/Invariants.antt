@@ -3,14 +3,14 @@ use Rattle.std.specs.Prelude.{All}
 use Rattle.fc_moves.specs.GameRules.{IsPositionOf}
 use Rattle.fc_moves.specs.Run.{Run}
 use Rattle.fc_home.proofs.SettleLemmas.{total}
-use Rattle.fc_review.specs.Weaving.{GoesHome}
+use Rattle.fc_review.specs.Weaving.{IsMoveHome}
 use Rattle.fc_review.proofs.weaving.homes_to_end.Given as goal
 
 -- the moves so far are moves home, and lead to the board
 abbrev pub invariant-loop-home : goal.invariant-loop-home
 invariant-loop-home g l = record {
   position : IsPositionOf (g.G.Game.game l.game) l.board;
-  home : All GoesHome l.homes.items;
+  home : All IsMoveHome l.homes.items;
   run : Run (g.G.Game.game l.game) l.position l.homes.items l.board;
 }
 

@@ -3,7 +3,7 @@ use Rattle.std.proofs.lemmas.Bool.{false≢true}
 use Rattle.fc_best.proofs.TailLemmas.{moves_from}
 use Rattle.fc_moves.specs.GameRules.{IsPositionOf}
 use Rattle.fc_moves.proofs.StepLemmas.{step_keeps}
-use Rattle.fc_review.specs.Weaving.{IsRefused, Weaves, goes_on}
+use Rattle.fc_review.specs.Weaving.{IsRefusedMove, Weaves, goes_on}
 use Rattle.fc_review.proofs.WeaveLemmas.{begins_at, refused_at, woven_at, woven_run, woven_texts}
 use Rattle.fc_review.proofs.weaving.weave.Goals as goal
 
@@ -21,7 +21,7 @@ returns-then-not-allows-clause-fault g c =
     let list = c.args.list.now in
     let before = subst (λ l. Weaves game start list l c.loop-m.woven.items c.loop-m.board) (moves_from _ _ _ c.loop-m-test.true) c.loop-m.invariant.woven in
     let sent = c.in_ok-send_home_for.ensures in
-    subst (λ n. IsRefused game start list (n + 1)) (sym c.loop-m.invariant.count)
+    subst (λ n. IsRefusedMove game start list (n + 1)) (sym c.loop-m.invariant.count)
     (refused_at game start list c.loop-m.m-index _ c.send_home_for.new.woven.items c.send_home_for.new.board c.loop-m-test.true (sent.woven start list _ before)
     (λ allowed. false≢true (c.if-not-allows.ensures.value.1 allowed)) sent.end)
 

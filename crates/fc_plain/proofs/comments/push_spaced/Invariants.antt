@@ -1,7 +1,0 @@
-use Rattle.std.proofs.Common.{◌≡◌, ◌++◌, map, take}
-use Rattle.fc_plain.specs.Comment.{comma_blank}
-use Rattle.fc_plain.proofs.comments.push_spaced.Given as goal
-
--- the bytes so far are pushed
-abbrev pub invariant-loop-byte : goal.invariant-loop-byte
-invariant-loop-byte l = l.plain.items ≡ l.fn.plain.items ++ map comma_blank (take l.byte-index l.piece)

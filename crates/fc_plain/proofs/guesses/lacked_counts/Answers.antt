@@ -1,6 +1,0 @@
-use Rattle.fc_plain.proofs.GuessLemmas.{each_lacks}
-use Rattle.fc_plain.proofs.guesses.lacked_counts.Goals as goal
-
-pub returns : goal.returns
-returns c =
-    each_lacks c.args.text.now _ _ _ _ c.lacked_count.ensures c.lacked_count-2.ensures c.lacked_count-3.ensures c.lacked_count-4.ensures

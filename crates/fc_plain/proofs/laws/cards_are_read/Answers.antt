@@ -1,5 +1,0 @@
-use Rattle.fc_plain.proofs.OrderLemmas.{cards_are_read}
-use Rattle.fc_plain.proofs.laws.cards_are_read.Goals as goal
-
-pub returns : goal.returns
-returns c = cards_are_read

@@ -1,5 +1,0 @@
-use Rattle.fc_plain.proofs.OrderLemmas.{homes_are_read}
-use Rattle.fc_plain.proofs.laws.homes_are_read.Goals as goal
-
-pub returns : goal.returns
-returns c = homes_are_read

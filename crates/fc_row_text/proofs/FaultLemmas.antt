@@ -1,0 +1,80 @@
+-- What a line tells by itself, and what the look for the first fault keeps.
+use Rattle.std.proofs.Common.{◌≡◌, ℕ, ◌+◌, ◌<◌, ◌≤◌, Bool, true, false, cond, Option, Some, None, List, [], ◌∷◌, length, refl, sym, ◌∙◌, ap, arith}
+use Rattle.std.proofs.lemmas.List.{length-map}
+use Rattle.std.specs.Prelude.{codes}
+use Rattle.std.specs.Option.{option_or}
+use Rattle.std.proofs.lemmas.Bool.{cond-false, cond-true, le-ltb, lt-ltb}
+use Rattle.fc_text.specs.Line.{is_line_end, line_of, lines_of, parts_of, without_return}
+use Rattle.fc_text.specs.Spelling.{is_column}
+use Rattle.fc_text.proofs.PartLemmas.{length-parts_of}
+use Rattle.fc_row_text.specs.RowText.{RowLine, are_letters, are_numbers, cells_named, text_in_columns, fault_of, first_fault, kind_below, length_fault, most_bytes, named_or_row, names_below, own_kind, row_text_fault, short_below, row_lines_below, row_lines, words_of}
+use Rattle.fc_row_text.specs.declared.faults.RowTextFault.{RowTextFault}
+use Rattle.fc_row_text.specs.declared.faults.RowTextFault.TheVariants.{TooLong}
+use Rattle.fc_row_text.specs.declared.row_lines.RowLineKind.TheVariants.{Kept, Numbers, Row}
+
+-- a line that isn't kept and has no names is the numbers of the columns, or a row
+own_unnamed : (line : List ℕ) (is_numbers : Bool) → is_column (line_of (without_return line)).kind ≡ true
+    → cells_named (words_of line) ≡ None → are_letters (words_of line) (codes "12345678") ≡ is_numbers
+    → own_kind line ≡ cond is_numbers Numbers Row
+unfolding are_numbers
+own_unnamed line is_numbers column none is =
+    cond-true _ (named_or_row (cells_named (words_of line)) (are_numbers (words_of line))) Kept column
+    ∙ ap (λ n. named_or_row n (are_numbers (words_of line))) none ∙ ap (λ t. cond t Numbers Row) is
+
+pub own_numbers : (line : List ℕ) → is_column (line_of (without_return line)).kind ≡ true → cells_named (words_of line) ≡ None
+    → are_letters (words_of line) (codes "12345678") ≡ true → Numbers ≡ own_kind line
+own_numbers line column none is = sym (own_unnamed line true column none is)
+
+pub own_row : (line : List ℕ) → is_column (line_of (without_return line)).kind ≡ true → cells_named (words_of line) ≡ None
+    → are_letters (words_of line) (codes "12345678") ≡ false → Row ≡ own_kind line
+own_row line column none is = sym (own_unnamed line false column none is)
+
+-- there are no more lines than bytes
+length-told : (names : Option ℕ) (lines : List (List ℕ)) → length (row_lines_below names lines) ≡ length lines
+length-told names [] = refl
+length-told names (line ∷ lines) =
+    let more = length-told (names_below names (kind_below names line)) lines in omega (arith, more)
+
+pub told_few : (text : List ℕ) → length (row_lines text) ≤ length text
+told_few text =
+    omega (arith, length-told None (lines_of text), length-map (parts_of is_line_end text) without_return, length-parts_of is_line_end text)
+
+-- a line without a fault
+pub fault_next : (whole : Option RowTextFault) (next short : Option (ℕ × ℕ)) (number : ℕ) (lines others : List RowLine) (told : RowLine) → lines ≡ told ∷ others
+    → fault_of short number told ≡ None → next ≡ short_below short number told → first_fault short number lines ≡ whole
+    → first_fault next (number + 1) others ≡ whole
+fault_next whole next short number lines others told steps sound below so =
+    ap (λ s. first_fault s (number + 1) others) below
+    ∙ sym (ap (first_fault short number) steps ∙ ap (λ f. option_or f (first_fault (short_below short number told) (number + 1) others)) sound)
+    ∙ so
+
+-- a line with a fault
+pub fault_here : (whole : Option RowTextFault) (short : Option (ℕ × ℕ)) (number : ℕ) (lines others : List RowLine) (told : RowLine) (fault : RowTextFault)
+    → lines ≡ told ∷ others → fault_of short number told ≡ Some fault → first_fault short number lines ≡ whole → whole ≡ Some fault
+fault_here whole short number lines others told fault steps is so =
+    sym so ∙ ap (first_fault short number) steps
+    ∙ ap (λ f. option_or f (first_fault (short_below short number told) (number + 1) others)) is
+
+-- no line is left
+pub fault_none : (whole : Option RowTextFault) (short : Option (ℕ × ℕ)) (number : ℕ) (lines : List RowLine) → lines ≡ []
+    → first_fault short number lines ≡ whole → whole ≡ None
+fault_none whole short number lines none so = sym so ∙ ap (first_fault short number) none
+
+-- what is wrong with a text, by its parts
+short_text : (text : List ℕ) → length text ≤ most_bytes → length_fault text ≡ None
+short_text text short = cond-false _ (Some TooLong) None (le-ltb most_bytes (length text) short)
+
+long_text : (text : List ℕ) → most_bytes < length text → length_fault text ≡ Some TooLong
+long_text text long = cond-true _ (Some TooLong) None (lt-ltb most_bytes (length text) long)
+
+pub rows_sound : (text : List ℕ) → length text ≤ most_bytes → first_fault None 1 (row_lines text) ≡ None
+    → length (text_in_columns text) ≤ most_bytes → row_text_fault text ≡ None
+rows_sound text short sound fits =
+    ap (λ f. option_or f (option_or (first_fault None 1 (row_lines text)) (length_fault (text_in_columns text)))) (short_text text short)
+    ∙ ap (λ f. option_or f (length_fault (text_in_columns text))) sound ∙ short_text (text_in_columns text) fits
+
+pub rows_full : (text : List ℕ) (fault : RowTextFault) → length text ≤ most_bytes → first_fault None 1 (row_lines text) ≡ None
+    → (fault ≡ TooLong) × (most_bytes < length (text_in_columns text)) → row_text_fault text ≡ Some fault
+rows_full text fault short sound full =
+    ap (λ f. option_or f (option_or (first_fault None 1 (row_lines text)) (length_fault (text_in_columns text)))) (short_text text short)
+    ∙ ap (λ f. option_or f (length_fault (text_in_columns text))) sound ∙ long_text (text_in_columns text) full.1 ∙ ap (λ f. Some f) (sym full.0)

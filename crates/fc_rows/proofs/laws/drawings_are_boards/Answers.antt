@@ -1,5 +1,0 @@
-use Rattle.fc_rows.proofs.DrawnBoards.{drawings_are}
-use Rattle.fc_rows.proofs.laws.drawings_are_boards.Goals as goal
-
-pub returns : goal.returns
-returns c = drawings_are

@@ -1,2 +1,0 @@
--- What this crate's own functions and proofs speak of, and no public promise.
-pub mod Told

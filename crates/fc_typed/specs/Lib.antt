@@ -1,0 +1,10 @@
+pub mod Comment
+pub mod Count
+pub mod Guess
+pub mod Laws
+pub mod Tidy
+pub mod Respelled
+pub mod Title
+pub mod Typed
+pub mod Unit
+pub mod inner
