@@ -1,8 +1,8 @@
 //! How answers, claims and the lines of batches are printed, and the exit statuses that go with them.
 #![tactic(auto)]
 
-pub use answers::{
+pub use answer_lines::{
     accepted_text, line_text, moves_text, outcome_of, told_status, verdict_status, verdict_text,
 };
 
-mod answers;
+mod answer_lines;

@@ -12,7 +12,7 @@ use Rattle.std.proofs.lemmas.List.Sums.{length-filter, count_by-le-length}
 use Rattle.fc_moves.specs.inner.GameLaws.{Contains-filter, Contains-from_filter}
 use Rattle.fc_position.specs.Board.{Board}
 use Rattle.fc_canonical.specs.Spelled.{spelled}
-use Rattle.fc_answers.specs.declared.rows.Row.{Row}
+use Rattle.fc_answers.specs.declared.table_rows.Row.{Row}
 use Rattle.fc_answers.specs.Table.{HaveKeysOnce, key_by, pairs_by}
 use Rattle.fc_answers.specs.inner.Table.{at_no_cost, inside}
 

@@ -7,7 +7,7 @@ use Rattle.fc_canonical.specs.Spelled.{spelled}
 use Rattle.fc_answers.specs.declared.answers.Answer.{Answer}
 use Rattle.fc_answers.specs.Answer.{HasGivenUp, IsBacked}
 use Rattle.fc_answers.specs.Table.{AreClasses, HaveKeysOnce, IsRising}
-use Rattle.fc_answers.specs.declared.tables.TheConstants.{MOST_CLASSES}
+use Rattle.fc_answers.specs.declared.closed_tables.TheConstants.{MOST_CLASSES}
 use Rattle.fc_answers.specs.declared.answers.TheConstants.{MOST_MOVES}
 
 -- no two of the rows' keys spell boards of one class, where the rows rise and are of classes of the game

@@ -10,8 +10,8 @@ use Rattle.fc_codes.specs.Spelled.{board_of_code}
 use Rattle.fc_codes.specs.State.{IsCodeOf}
 use Rattle.fc_home.specs.declared.settling.TheConstants.{GREATEST_RULE}
 use Rattle.fc_bound.specs.declared.kinds.BoundKind.{BoundKind}
-use Rattle.fc_answers.specs.declared.tables.TheConstants.{MOST_CLASSES}
-use Rattle.fc_answers.specs.declared.rows.Row.{Row}
+use Rattle.fc_answers.specs.declared.closed_tables.TheConstants.{MOST_CLASSES}
+use Rattle.fc_answers.specs.declared.table_rows.Row.{Row}
 
 -- rows, each a key and a cost in moves from the start, under a home rule and a kind of bound
 pub record Listing : Type 0 where

@@ -1,6 +1,6 @@
 ghost use Rattle.std.specs.Prelude.{◌≡◌, ◌<◌, ◌↔◌, [], length, Some, slice_get, IsTrue};
 
-use crate::tables::{MOST_CLASSES, Table};
+use crate::closed_tables::{MOST_CLASSES, Table};
 use fc_moves::Move;
 use std::marker::Model;
 

@@ -3,11 +3,11 @@
 #![tactic(auto)]
 
 pub use answers::{Answer, MOST_MOVES, MoveList, Outcome, Verdict};
-pub use rows::Row;
-pub use tables::{MOST_CLASSES, Table};
+pub use table_rows::Row;
+pub use closed_tables::{MOST_CLASSES, Table};
 
 mod answers;
 pub mod laws;
-mod rows;
+mod table_rows;
 mod sorting;
-mod tables;
+mod closed_tables;

@@ -10,7 +10,7 @@ mod answering;
 mod attempts;
 mod looks;
 mod plans;
-mod progress;
+mod joint_progress;
 mod relays;
 mod schedule;
 mod shortenings;

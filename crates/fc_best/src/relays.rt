@@ -6,7 +6,7 @@ ghost use Rattle.fc_best.specs.inner.Attempt.{IsAttempt, Raises};
 ghost use Rattle.fc_best.specs.inner.Watch.{HearsFurther, IsFurther};
 
 use crate::attempts::{Aim, Attempt};
-use crate::progress::joined;
+use crate::joint_progress::joined;
 use fc_answers::MoveList;
 use fc_methods::Question;
 use fc_moves::Game;

@@ -17,7 +17,7 @@ ghost use Rattle.fc_best.specs.inner.Watch.{HearsOn, HearsSome, IsFurther, list_
 
 use crate::attempts::{Aim, Attempt, Shown};
 use crate::plans::{Plan, asked_with};
-use crate::progress::{first_progress, progress_after};
+use crate::joint_progress::{first_progress, progress_after};
 use crate::relays::attempt_after;
 use crate::stages::{Purpose, Stage};
 use fc_answers::{Answer, MoveList, Verdict};

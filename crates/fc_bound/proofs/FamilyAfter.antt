@@ -17,7 +17,7 @@ use Rattle.fc_moves.specs.GameRules.{GameRules}
 use Rattle.fc_moves.specs.Step.{Step, Takes}
 use Rattle.fc_bound.specs.declared.kinds.BoundKind.{BoundKind}
 use Rattle.fc_bound.specs.declared.kinds.BoundKind.TheVariants.{Plain, Clearing}
-use Rattle.fc_bound.specs.declared.rows.ColumnTable.{ColumnTable}
+use Rattle.fc_bound.specs.declared.waiting_rows.ColumnTable.{ColumnTable}
 use Rattle.fc_bound.specs.Bound.{bound, is_away, is_held_back, is_lower}
 use Rattle.fc_bound.specs.Kinds.{IsShown}
 use Rattle.fc_bound.specs.Rows.{IsTableOf, no_row}

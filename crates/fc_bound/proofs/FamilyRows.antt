@@ -8,7 +8,7 @@ use Rattle.std.proofs.lemmas.List.Folds.{list_any_at}
 use Rattle.std.proofs.lemmas.List.Sums.{get_or-le-sum_by}
 use Rattle.fc_position.specs.Board.{Board, last_of, count_in_column}
 use Rattle.fc_position.specs.Position.{IsPosition}
-use Rattle.fc_bound.specs.declared.rows.ColumnTable.{ColumnTable}
+use Rattle.fc_bound.specs.declared.waiting_rows.ColumnTable.{ColumnTable}
 use Rattle.fc_bound.specs.Bound.{is_lower, stands_in}
 use Rattle.fc_bound.specs.Rings.{is_at_or_beneath, waits_beneath, IsRing}
 use Rattle.fc_bound.specs.Rows.{IsTableOf, no_row, stands_among}

@@ -11,7 +11,7 @@ use Rattle.fc_position.specs.Board.{Board}
 use Rattle.fc_position.specs.Position.{IsPosition}
 use Rattle.fc_bound.specs.declared.kinds.BoundKind.{BoundKind}
 use Rattle.fc_bound.specs.declared.kinds.BoundKind.TheVariants.{Plain, Clearing}
-use Rattle.fc_bound.specs.declared.rows.ColumnTable.{ColumnTable}
+use Rattle.fc_bound.specs.declared.waiting_rows.ColumnTable.{ColumnTable}
 use Rattle.fc_bound.specs.Bound.{bound, is_above_lower, is_away, is_held_back, stands_in}
 use Rattle.fc_bound.specs.Kinds.{IsShown}
 use Rattle.fc_bound.specs.Rings.{IsAmong, IsFamily}

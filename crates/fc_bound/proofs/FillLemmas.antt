@@ -11,7 +11,7 @@ use Rattle.std.proofs.lemmas.List.Sums.{sum_by_push}
 use Rattle.std.proofs.lemmas.Nat.Bits.{bit_at_and, bit_at_or, bit_at-lt}
 use Rattle.fc_position.specs.Board.{last_of, front_of, count_in_column}
 use Rattle.fc_bound.specs.Bound.{is_lower, stands_in, is_above_lower}
-use Rattle.fc_bound.specs.declared.rows.Row.{Row}
+use Rattle.fc_bound.specs.declared.waiting_rows.Row.{Row}
 use Rattle.fc_bound.specs.Rows.{AreBits, AreWaiting, IsRow, no_row}
 use Rattle.fc_bound.specs.inner.Rows.{stands_above}
 use Rattle.fc_bound.specs.Knots.{ends_with}

@@ -15,7 +15,7 @@ use Rattle.fc_position.specs.Position.{IsPosition}
 use Rattle.fc_position.proofs.BoardLemmas.{front_last, last_counted, places_most}
 use Rattle.fc_bound.specs.Bound.{is_lower, stands_in, is_above_lower}
 use Rattle.fc_bound.specs.Clearing.{waits}
-use Rattle.fc_bound.specs.declared.rows.Row.{Row}
+use Rattle.fc_bound.specs.declared.waiting_rows.Row.{Row}
 use Rattle.fc_bound.specs.Rows.{AreWaiting, stands_among}
 use Rattle.fc_bound.specs.inner.Rows.{AreLow, left_of, left_in, Mark, IsLeft, ends_in}
 use Rattle.fc_bound.specs.Knots.{has_last, waits_in, waits_above, is_loose, ends_among}

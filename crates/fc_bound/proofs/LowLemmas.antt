@@ -12,7 +12,7 @@ use Rattle.fc_cards.specs.Card.{suit}
 use Rattle.fc_position.specs.Board.{Board, last_of, front_of, count_in_column}
 use Rattle.fc_position.specs.Position.{IsPosition}
 use Rattle.fc_position.proofs.BoardLemmas.{front_last}
-use Rattle.fc_bound.specs.declared.rows.Row.{Row}
+use Rattle.fc_bound.specs.declared.waiting_rows.Row.{Row}
 use Rattle.fc_bound.specs.Bound.{is_lower, stands_in}
 use Rattle.fc_bound.specs.Clearing.{waits, without}
 use Rattle.fc_bound.specs.Knots.{has_last, waits_above}

@@ -15,7 +15,7 @@ use Rattle.fc_position.specs.Board.{Board, last_of, count_in_column}
 use Rattle.fc_position.specs.Position.{IsPosition}
 use Rattle.fc_position.proofs.BoardLemmas.{places_most}
 use Rattle.fc_bound.specs.Bound.{is_above_lower, stands_in}
-use Rattle.fc_bound.specs.declared.rows.Row.{Row}
+use Rattle.fc_bound.specs.declared.waiting_rows.Row.{Row}
 use Rattle.fc_bound.specs.Knots.{waits_above}
 use Rattle.fc_bound.specs.Rows.{AreBits, stands_among}
 use Rattle.fc_bound.specs.inner.Rows.{IsLeft, left_of, left_in, waiting_of, waiting_in}

@@ -11,7 +11,7 @@ use Rattle.std.proofs.lemmas.Option.{slice_get-get_or}
 use Rattle.fc_position.specs.Board.{Board, column, last_of}
 use Rattle.fc_position.specs.Position.{IsPosition}
 use Rattle.fc_bound.specs.Bound.{stands_in, is_above_lower}
-use Rattle.fc_bound.specs.declared.rows.Row.{Row}
+use Rattle.fc_bound.specs.declared.waiting_rows.Row.{Row}
 use Rattle.fc_bound.specs.Knots.{ends_with}
 use Rattle.fc_bound.specs.Rows.{AreBits, AreRowsOf, IsRow, MoveAbove, no_row, stands_among}
 use Rattle.fc_bound.specs.inner.Rows.{is_set, stands_above}

@@ -13,8 +13,8 @@ use Rattle.fc_position.specs.Board.{Board, column, count_in_column, front_of, la
 use Rattle.fc_position.specs.Position.{IsPosition}
 use Rattle.fc_position.proofs.BoardLemmas.{front_last}
 use Rattle.fc_bound.specs.Bound.{stands_in, is_lower, is_above_lower}
-use Rattle.fc_bound.specs.declared.rows.ColumnTable.{ColumnTable}
-use Rattle.fc_bound.specs.declared.rows.Row.{Row}
+use Rattle.fc_bound.specs.declared.waiting_rows.ColumnTable.{ColumnTable}
+use Rattle.fc_bound.specs.declared.waiting_rows.Row.{Row}
 use Rattle.fc_bound.specs.Rows.{AreBits, AreRowsBut, HaveMoved, IsFrontIn, IsRow, IsTableBut, IsTableOf, LiesOnOne, no_row, stands_among}
 use Rattle.fc_bound.specs.Knots.{ends_with, ends_among}
 use Rattle.fc_bound.specs.inner.Rows.{is_set}

@@ -10,7 +10,7 @@ use Rattle.std.proofs.lemmas.Nat.{and_le_l}
 use Rattle.std.proofs.lemmas.Nat.Bits.{bit_at_and, bit_at_not, bit_at_above, bit_at-lt, bit_at-zero}
 use Rattle.fc_cards.specs.Card.{all_cards}
 use Rattle.fc_position.specs.Board.{Board, last_of}
-use Rattle.fc_bound.specs.declared.rows.Row.{Row}
+use Rattle.fc_bound.specs.declared.waiting_rows.Row.{Row}
 use Rattle.fc_bound.specs.Rows.{AreBits, IsRow, no_row}
 use Rattle.fc_bound.specs.inner.Rows.{IsLeft, is_set, left_in}
 use Rattle.fc_bound.specs.Knots.{waits_in, ends_among, is_among, waits_among, is_astray, is_ring, all_but, leave_out, leave_out_each, ring}

@@ -13,8 +13,8 @@ use Rattle.fc_position.specs.Board.{Board, column, last_of, front_of, lifted, co
 use Rattle.fc_position.specs.Position.{IsPosition}
 use Rattle.fc_position.proofs.BoardLemmas.{front_last}
 use Rattle.fc_cards.specs.declared.places.Place.TheVariants.{Column}
-use Rattle.fc_bound.specs.declared.rows.Row.{Row}
-use Rattle.fc_bound.specs.declared.rows.ColumnTable.{ColumnTable}
+use Rattle.fc_bound.specs.declared.waiting_rows.Row.{Row}
+use Rattle.fc_bound.specs.declared.waiting_rows.ColumnTable.{ColumnTable}
 use Rattle.fc_bound.specs.Bound.{is_lower, stands_in, is_above_lower}
 use Rattle.fc_bound.specs.Clearing.{without}
 use Rattle.fc_bound.specs.Knots.{ends_with, ends_among}

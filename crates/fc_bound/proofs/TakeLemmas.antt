@@ -11,7 +11,7 @@ use Rattle.fc_position.specs.Position.{IsPosition}
 use Rattle.fc_position.proofs.BoardLemmas.{front_last, places_most}
 use Rattle.fc_bound.specs.Bound.{stands_in}
 use Rattle.fc_bound.specs.Clearing.{without}
-use Rattle.fc_bound.specs.declared.rows.Row.{Row}
+use Rattle.fc_bound.specs.declared.waiting_rows.Row.{Row}
 use Rattle.fc_bound.specs.Rows.{AreBits, IsRow, stands_among, no_row}
 use Rattle.fc_bound.specs.inner.Rows.{left_of, left_in, IsLeft, AreApart}
 use Rattle.fc_bound.specs.Knots.{ends_with, ends_among}

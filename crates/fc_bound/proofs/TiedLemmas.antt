@@ -6,7 +6,7 @@ use Rattle.std.proofs.lemmas.Bool.{cases_eq, cases_lt, eqb-true}
 use Rattle.std.proofs.lemmas.Bool.Decides.{nat_tests}
 use Rattle.std.proofs.lemmas.Nat.{and_le_r}
 use Rattle.std.proofs.lemmas.Nat.Bits.{bit_at_and, bit_at_or, bit_at_above, bit_at_not, bit_at_ones, bit_at-lt, same_from_bits}
-use Rattle.fc_bound.specs.declared.rows.Row.{Row}
+use Rattle.fc_bound.specs.declared.waiting_rows.Row.{Row}
 use Rattle.fc_bound.specs.Rings.{IsAmong}
 use Rattle.fc_bound.specs.Rows.{no_row}
 use Rattle.fc_bound.specs.inner.Tied.{WaitsBy, IsTied, AreTiedBy, AreTiedIn, IsWithin}

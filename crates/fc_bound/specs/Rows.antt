@@ -3,8 +3,8 @@ use Rattle.std.specs.Prelude.{◌≡◌, ℕ, ◌<◌, Bool, true, cond, length,
 use Rattle.std.specs.Int.{bit_at}
 use Rattle.std.specs.List.{list_any}
 use Rattle.fc_position.specs.Board.{last_of, front_of}
-use Rattle.fc_bound.specs.declared.rows.Row.{Row}
-use Rattle.fc_bound.specs.declared.rows.ColumnTable.{ColumnTable}
+use Rattle.fc_bound.specs.declared.waiting_rows.Row.{Row}
+use Rattle.fc_bound.specs.declared.waiting_rows.ColumnTable.{ColumnTable}
 use Rattle.fc_bound.specs.Bound.{is_lower, stands_in, is_above_lower}
 use Rattle.fc_bound.specs.Knots.{ends_with, ends_among}
 

@@ -6,9 +6,9 @@ ghost use Rattle.fc_bound.specs.Knots.{knot_count};
 
 use crate::bits::{least, remove};
 use crate::bounds::{GREATEST_BOUND, away};
-use crate::columns::Left;
+use crate::columns_left::Left;
 use crate::knots::knot_count;
-use crate::rows::{blank, fill};
+use crate::waiting_rows::{blank, fill};
 use fc_position::Position;
 
 // Whether all cards can be taken out at so much. Loose cards go first, and are taken out in place; then some one column of

@@ -6,7 +6,7 @@ ghost use Rattle.fc_bound.specs.inner.Tied.{AreTiedIn};
 
 use crate::bits::{above, but_least, remove, suit_cards};
 use crate::ring_search::{CARDS, least_card, long_ring_through, pair};
-use crate::rows::{Marks, Rows};
+use crate::waiting_rows::{Marks, Rows};
 
 // The columns while their cards are taken out, each from its column's end: the cards that are left, the last ones among them, and
 // those that leave as soon as they are last.

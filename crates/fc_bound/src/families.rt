@@ -18,7 +18,7 @@ use crate::bounds::{GREATEST_BOUND, is_held_back};
 use crate::fares::is_held_there;
 use crate::kinds::BoundKind;
 use crate::rings::{Shown, counted, plain, with, without};
-use crate::rows::ColumnTable;
+use crate::waiting_rows::ColumnTable;
 use fc_cards::Place;
 use fc_moves::Move;
 use fc_position::Position;

@@ -11,7 +11,7 @@ use crate::bounds::{GREATEST_BOUND, bound};
 use crate::clearing::clearing_bound;
 use crate::fares::{bound_after, knots_after};
 use crate::knots::{knot_bound, knot_bound_by, knot_bound_within};
-use crate::rows::ColumnTable;
+use crate::waiting_rows::ColumnTable;
 use fc_moves::Move;
 use fc_position::Position;
 

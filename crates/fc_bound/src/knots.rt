@@ -9,8 +9,8 @@ ghost use Rattle.fc_bound.specs.Rows.{IsTableOf};
 ghost use Rattle.fc_bound.specs.inner.Rows.{AreLow, waiting_in};
 
 use crate::bounds::{GREATEST_BOUND, away};
-use crate::columns::Left;
-use crate::rows::ColumnTable;
+use crate::columns_left::Left;
+use crate::waiting_rows::ColumnTable;
 use fc_position::Position;
 
 // Takes out loose cards, one at a time, until no card is loose: the bits of the cards that wait for none afterwards, by those before.

@@ -15,7 +15,7 @@ ghost use Rattle.fc_bound.specs.Rows.{IsTableOf};
 use crate::families::is_held;
 use crate::kinds::BoundKind;
 use crate::rings::{Shown, has_lower};
-use crate::rows::ColumnTable;
+use crate::waiting_rows::ColumnTable;
 use fc_cards::{Card, Place};
 use fc_moves::Move;
 use fc_position::Position;

@@ -6,7 +6,7 @@ ghost use Rattle.fc_bound.specs.Rings.{IsAmong};
 ghost use Rattle.fc_bound.specs.inner.Tied.{IsTied, AreTiedBy, AreTiedIn, IsCard, IsWithin};
 
 use crate::bits::{but_least, least, remove};
-use crate::rows::Rows;
+use crate::waiting_rows::Rows;
 
 // The bits of all cards.
 pub(crate) const CARDS: u64 = 0xf_ffff_ffff_ffff;

@@ -15,7 +15,7 @@ use crate::bits::{remove, suit_cards};
 use crate::bounds::away;
 use crate::emptying::Emptying;
 use crate::ring_search::{CARDS, least_card, pruned, ring_through};
-use crate::rows::ColumnTable;
+use crate::waiting_rows::ColumnTable;
 use fc_position::Position;
 
 /// A number that is shown of a position, at most 104, and the note that shows it: the plain bound; or the plain bound and the

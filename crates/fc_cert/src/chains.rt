@@ -5,7 +5,7 @@ ghost use Rattle.fc_cert.specs.Content.{Content};
 ghost use Rattle.fc_cert.specs.inner.Chains.{IsChained, hash_of, place_of};
 ghost use Rattle.fc_cert.specs.inner.Layout.{AreParts};
 
-use crate::layouts::key_in;
+use crate::record_layouts::key_in;
 use std::alloc::{AllocError, Global};
 use std::hash::{FoldHasher, Hasher};
 

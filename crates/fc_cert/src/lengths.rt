@@ -9,7 +9,7 @@ ghost use Rattle.fc_cert.specs.Content.{Content, bytes_of, head_bytes, listed_by
 ghost use Rattle.fc_cert.specs.Writing.{IsUncertified};
 
 use crate::contents::{Form, Kind};
-use crate::writers::written_form;
+use crate::certificate_writers::written_form;
 use fc_answers::{Answer, Table, Verdict};
 use fc_moves::Move;
 

@@ -4,10 +4,10 @@
 #![tactic(auto)]
 
 pub use codes::Code;
-pub use layouts::Layout;
+pub use start_layouts::Layout;
 
 mod codes;
 pub mod laws;
-mod layouts;
+mod start_layouts;
 mod seats;
 mod stacks;

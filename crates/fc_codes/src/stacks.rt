@@ -12,7 +12,7 @@ ghost use Rattle.fc_codes.specs.inner.Seats.{AreOver, AreStacksOf, IsBare};
 ghost use Rattle.fc_codes.specs.inner.Stacks.{HasBegun};
 
 use crate::codes::Code;
-use crate::layouts::Layout;
+use crate::start_layouts::Layout;
 use crate::seats::{has_card, least_card, without_card};
 use fc_cards::Card;
 use fc_position::{Columns, Filling};

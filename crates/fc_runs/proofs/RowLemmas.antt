@@ -18,9 +18,9 @@ use Rattle.fc_search.specs.Problem.{problem_of}
 use Rattle.fc_search.specs.Watch.{Better, Far as how_far, Heard, HearsAll, HearsFar, TellFloors}
 use Rattle.fc_search.proofs.EndLemmas.{at_most_floors}
 use Rattle.fc_board_runs.specs.Devices.{Device, IsUntouched}
-use Rattle.fc_runs.specs.declared.rows.Far.{Far}
-use Rattle.fc_runs.specs.declared.rows.Last.{Last}
-use Rattle.fc_runs.specs.declared.rows.Row.{Row}
+use Rattle.fc_runs.specs.declared.answer_rows.Far.{Far}
+use Rattle.fc_runs.specs.declared.answer_rows.Last.{Last}
+use Rattle.fc_runs.specs.declared.answer_rows.Row.{Row}
 use Rattle.fc_methods.specs.declared.methods.Sought.{Sought}
 use Rattle.fc_methods.specs.declared.methods.Sought.TheVariants.{ByMethod, Best}
 use Rattle.fc_runs.specs.Lists.{list_of}

@@ -7,7 +7,7 @@ use Rattle.fc_io.proofs.MoveLemmas.{TakesBytes-both, takes_then_front}
 use Rattle.fc_deal.specs.Deal.{dealt_board}
 use Rattle.fc_methods.specs.Method.{Asked}
 use Rattle.fc_board_runs.specs.Devices.{Device}
-use Rattle.fc_runs.specs.declared.rows.Row.{Row}
+use Rattle.fc_runs.specs.declared.answer_rows.Row.{Row}
 use Rattle.fc_runs.specs.Batches.{greatest_status}
 use Rattle.fc_answer_text.specs.AnswerText.{told_status}
 use Rattle.fc_runs.specs.Rows.{IsRowOf}

@@ -16,7 +16,7 @@ use Rattle.fc_search.specs.Search.{HasRun}
 use Rattle.fc_board_runs.specs.declared.faults.ProgramFault.{ProgramFault}
 use Rattle.fc_board_runs.specs.declared.faults.ProgramFault.TheVariants.{Number, Range, Budget, Write, Memory}
 use Rattle.fc_board_runs.specs.Devices.{Device, IsUntouched}
-use Rattle.fc_runs.specs.declared.batches.TheConstants.{MOST_DEALS}
+use Rattle.fc_runs.specs.declared.deal_batches.TheConstants.{MOST_DEALS}
 use Rattle.fc_answer_text.specs.AnswerText.{Line, told_status, line_text}
 use Rattle.fc_best.specs.Answering.{IsDecided}
 use Rattle.fc_best.specs.Best.{IsBestVerdict}

@@ -14,8 +14,8 @@ use Rattle.fc_board_runs.specs.declared.faults.Output.TheVariants.{Cert as of_ce
 use Rattle.fc_board_runs.specs.declared.faults.ProgramFault.{ProgramFault}
 use Rattle.fc_board_runs.specs.declared.faults.ProgramFault.TheVariants.{Write}
 use Rattle.fc_board_runs.specs.Devices.{Device, IsUntouched}
-use Rattle.fc_runs.specs.declared.rows.Far.{Far}
-use Rattle.fc_runs.specs.declared.rows.Row.{Row}
+use Rattle.fc_runs.specs.declared.answer_rows.Far.{Far}
+use Rattle.fc_runs.specs.declared.answer_rows.Row.{Row}
 use Rattle.fc_runs.specs.Lists.{list_of}
 use Rattle.fc_runs.specs.Solving.{IsCertified, IsCutShort}
 

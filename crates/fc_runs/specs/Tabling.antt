@@ -8,7 +8,7 @@ use Rattle.fc_board_runs.specs.declared.faults.Output.TheVariants.{Answer as of_
 use Rattle.fc_board_runs.specs.declared.faults.ProgramFault.{ProgramFault}
 use Rattle.fc_board_runs.specs.declared.faults.ProgramFault.TheVariants.{Number, Range, Write}
 use Rattle.fc_board_runs.specs.Devices.{Device, IsUntouched}
-use Rattle.fc_runs.specs.declared.rows.Row.{Row}
+use Rattle.fc_runs.specs.declared.answer_rows.Row.{Row}
 use Rattle.fc_runs.specs.Batches.{greatest_status}
 use Rattle.fc_runs.specs.Rows.{IsRowOf, cells_text}
 use Rattle.fc_answer_text.specs.AnswerText.{Line}

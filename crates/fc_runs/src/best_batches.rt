@@ -6,7 +6,7 @@ ghost use Rattle.fc_board_runs.specs.Devices.{change};
 ghost use Rattle.fc_methods.specs.declared.methods.Sought.{Sought};
 ghost use Rattle.fc_runs.specs.Batches.{AreCutShort, AreTold, IsBatchedBy, IsBatchFaultBy, IsBestLine};
 
-use crate::batches::deals_of;
+use crate::deal_batches::deals_of;
 use fc_answer_text::{line_text, outcome_of, told_status};
 use fc_answers::Outcome;
 use fc_best::{Unheard, best};

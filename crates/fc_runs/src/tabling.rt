@@ -6,7 +6,7 @@ ghost use Rattle.fc_board_runs.specs.Devices.{change};
 ghost use Rattle.fc_runs.specs.Rows.{IsRowOf};
 ghost use Rattle.fc_runs.specs.Tabling.{AreTabled, IsTableAsked, IsTabled, IsTableCutShort, IsTableFault, IsTableUnasked, names_text, row_text};
 
-use crate::rows::{Row, plain_row};
+use crate::answer_rows::{Row, plain_row};
 use arrayvec::ArrayString;
 use fc_board_runs::{Output, ProgramFault};
 use fc_deal::{deal, is_deal_number};

@@ -10,7 +10,7 @@ ghost use Rattle.fc_runs.specs.Batches.{IsBatched, IsBatchFault};
 ghost use Rattle.fc_runs.specs.Checking.{IsChecked, IsRefusal};
 ghost use Rattle.fc_runs.specs.Solving.{IsSolveFault, IsSolved};
 
-use crate::batches::{deals_of, run_answers};
+use crate::deal_batches::{deals_of, run_answers};
 use crate::checking::run_check_of;
 use crate::delivering::{certify, tell};
 use fc_best::Unheard;

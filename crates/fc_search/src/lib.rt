@@ -13,16 +13,16 @@ pub use fc_methods::{
 };
 pub use fc_space::{Children, ClassRules, Positions};
 pub use listeners::{Listener, Progress, Unheard};
-pub use searches::Search;
+pub use position_searches::Search;
 pub use solving::{decide_by, ended_below, solve_by};
 pub use written_out::solve;
 
 mod listeners;
 mod progress;
-mod searches;
+mod position_searches;
 mod shown;
 mod solving;
-mod tables;
-mod walks;
+mod search_tables;
+mod ways_back;
 mod watches;
 mod written_out;

@@ -4,7 +4,7 @@ ghost use Rattle.std.specs.Prelude.{◌≡◌, ◌+◌, ◌*◌, ◌<◌, ◌≤
 ghost use Rattle.fc_moves.specs.declared.steps.Move.{Move};
 ghost use Rattle.fc_moves.specs.Run.{Wins};
 
-use crate::searches::Search;
+use crate::position_searches::Search;
 use fc_frontier::Frontier;
 use fc_moves::Game;
 

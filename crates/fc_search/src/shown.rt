@@ -9,7 +9,7 @@ ghost use Rattle.fc_search.specs.Need.{NeedsMore};
 ghost use Rattle.fc_search.specs.Problem.{task_of_problem};
 ghost use Rattle.fc_search.specs.Shown.{capped, BacksShown, HasFound, HasShown, IsFloorAt, IsFloorBut};
 
-use crate::searches::Search;
+use crate::position_searches::Search;
 use fc_answers::{MoveList, Table};
 use fc_best_first::{Status, Step};
 use fc_frontier::Frontier;

@@ -10,7 +10,7 @@ ghost use Rattle.fc_search.specs.Search.{Answers, IsOfStatus, IsOneOfThree, IsRe
 ghost use Rattle.fc_search.specs.Watch.{HearsAll, HearsFar, IsHeardAtMost, IsHeardOn, IsHeardToEnd, TellFloors};
 
 use crate::listeners::Listener;
-use crate::searches::Search;
+use crate::position_searches::Search;
 use crate::watches::watch;
 use fc_answers::{Answer, Verdict};
 use fc_best_first::{SearchFault, Step};

@@ -11,7 +11,7 @@ ghost use Rattle.fc_search.specs.declared.listeners.Progress.{Progress};
 ghost use Rattle.fc_search.specs.Watch.{HearsAll, HearsFar, IsHeardInPart, TurnsMany, IsHeardOn, stage_of};
 
 use crate::listeners::{Listener, Progress};
-use crate::searches::Search;
+use crate::position_searches::Search;
 use fc_best_first::{SearchFault, Status, Step};
 use fc_frontier::Frontier;
 use fc_moves::Game;

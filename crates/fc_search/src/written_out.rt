@@ -10,7 +10,7 @@ ghost use Rattle.fc_search.specs.Problem.{shortest_from, task_of_problem};
 ghost use Rattle.fc_search.specs.Search.{Answers, IsOneOfThree, IsRefused, IsRunToEnd};
 
 use crate::listeners::Unheard;
-use crate::searches::Search;
+use crate::position_searches::Search;
 use crate::solving::solve_by;
 use fc_answers::Answer;
 use fc_best_first::{SearchFault, Status};

@@ -9,7 +9,7 @@ use Rattle.std.proofs.lemmas.List.Folds.{list_any-append}
 use Rattle.fc_position.specs.Board.{Board, column, last_of}
 use Rattle.fc_position.specs.Position.{IsPosition}
 use Rattle.fc_bound.specs.Bound.{stands_in}
-use Rattle.fc_bound.specs.declared.rows.ColumnTable.{ColumnTable}
+use Rattle.fc_bound.specs.declared.waiting_rows.ColumnTable.{ColumnTable}
 use Rattle.fc_bound.specs.Rows.{HaveMoved, IsTableOf}
 use Rattle.fc_bound.proofs.AboveLemmas.{or-true, stands-contains, stands-more}
 use Rattle.fc_bound.proofs.BitLemmas.{last_of-push}

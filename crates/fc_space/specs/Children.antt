@@ -8,8 +8,8 @@ use Rattle.fc_codes.specs.State.{IsCodeOf}
 use Rattle.fc_home.specs.Settles.{Settles}
 use Rattle.fc_bound.specs.declared.kinds.BoundKind.{BoundKind}
 use Rattle.fc_best_first.specs.declared.spaces.Child.{Child}
-use Rattle.fc_space.specs.declared.walks.Standing.{Standing}
-use Rattle.fc_space.specs.declared.walks.Standing.TheVariants.{Here, Shifted, Settled}
+use Rattle.fc_space.specs.declared.child_walks.Standing.{Standing}
+use Rattle.fc_space.specs.declared.child_walks.Standing.TheVariants.{Here, Shifted, Settled}
 
 -- what makes the classes of a search: the game, the home rule, the kind of bound, and the position at the start, as seen
 -- from which codes name the classes

@@ -2,14 +2,14 @@
 //! the ways that lead to them.
 #![tactic(auto)]
 
-pub use positions::{ClassRules, Positions};
-pub use walks::Children;
+pub use class_space::{ClassRules, Positions};
+pub use child_walks::Children;
 pub use ways::follow;
 
 mod coded;
 mod lookups;
-mod positions;
+mod class_space;
 mod stays;
 mod visits;
-mod walks;
+mod child_walks;
 mod ways;

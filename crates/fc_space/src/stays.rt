@@ -9,7 +9,7 @@ ghost use Rattle.fc_home.specs.Settles.{NoneGoesHome};
 ghost use Rattle.fc_bound.specs.Landings.{IsLanding};
 ghost use Rattle.fc_space.specs.inner.Standing.{StaysSettled};
 
-use crate::positions::ClassRules;
+use crate::class_space::ClassRules;
 use fc_bound::Landing;
 use fc_cards::{Card, Place};
 use fc_home::goes_home_from;

@@ -11,7 +11,7 @@ ghost use Rattle.fc_space.specs.Ways.{LeadsWithin};
 ghost use Rattle.fc_space.specs.inner.Ways.{LeadsOn};
 
 use crate::coded::settle_coded;
-use crate::positions::Positions;
+use crate::class_space::Positions;
 use arrayvec::ArrayVec;
 use fc_codes::Code;
 use fc_moves::{Game, Move, apply, moves};

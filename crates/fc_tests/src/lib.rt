@@ -28,14 +28,14 @@ mod json;
 #[cfg(test)]
 mod moves;
 #[cfg(test)]
-mod tidy;
+mod typed;
 #[cfg(test)]
 mod position;
 pub mod queues;
 #[cfg(test)]
 mod replay;
 #[cfg(test)]
-mod rows;
+mod row_text;
 #[cfg(test)]
 mod sequences;
 #[cfg(test)]

@@ -4,7 +4,7 @@ use Rattle.std.specs.Int.{bit_at}
 use Rattle.std.specs.List.{list_any}
 use Rattle.fc_position.specs.Board.{Board, last_of}
 use Rattle.fc_position.specs.Position.{IsPosition}
-use Rattle.fc_bound.specs.declared.rows.Row.{Row}
+use Rattle.fc_bound.specs.declared.waiting_rows.Row.{Row}
 use Rattle.fc_bound.specs.Bound.{is_above_lower, stands_in}
 use Rattle.fc_bound.specs.Clearing.{waits}
 use Rattle.fc_bound.specs.Knots.{has_last, waits_above, are_knotted, ends_among}

@@ -3,7 +3,7 @@ use Rattle.std.specs.Prelude.{◌≡◌, ℕ, ◌<◌, List, Contains, slice_ind
 use Rattle.std.specs.Int.{bit_at}
 use Rattle.fc_bound.specs.declared.ring_search.Reached.{Reached}
 use Rattle.fc_bound.specs.declared.ring_search.Reached.TheVariants.{Again, Others}
-use Rattle.fc_bound.specs.declared.rows.Row.{Row}
+use Rattle.fc_bound.specs.declared.waiting_rows.Row.{Row}
 use Rattle.fc_bound.specs.Rows.{no_row}
 
 -- each card of one set is of the other

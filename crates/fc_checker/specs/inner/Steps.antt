@@ -13,7 +13,7 @@ use Rattle.fc_cert.specs.declared.contents.Kind.TheVariants.{Shortest, CannotWin
 use Rattle.fc_cert.specs.Content.{Content, IsSpelled}
 use Rattle.fc_checker.specs.declared.faults.CheckFault.{CheckFault}
 use Rattle.fc_checker.specs.declared.faults.CheckFault.TheVariants.{Memory}
-use Rattle.fc_checker.specs.declared.steps.Near.{Near}
+use Rattle.fc_checker.specs.declared.record_steps.Near.{Near}
 use Rattle.fc_checker.specs.Check.{Holds, level, HasContent, HasStart, IsCheckFault, IsOfGame, MovesHold, RecordsHold, StartHolds}
 
 -- where a board that d moves lead to settles to, it holds

@@ -2,8 +2,8 @@
 use Rattle.std.specs.Prelude.{◌≡◌, Some}
 use Rattle.fc_search.specs.Watch.{Better, Far as how_far, Heard}
 use Rattle.fc_search.specs.declared.listeners.Progress.{Progress}
-use Rattle.fc_runs.specs.declared.rows.Far.{Far}
-use Rattle.fc_runs.specs.declared.rows.Last.{Last}
+use Rattle.fc_runs.specs.declared.answer_rows.Far.{Far}
+use Rattle.fc_runs.specs.declared.answer_rows.Last.{Last}
 
 -- what a row keeps of how far searches are
 abbrev pub far_of : Progress → Far

@@ -11,8 +11,8 @@ use Rattle.fc_bound.specs.declared.kinds.BoundKind.{BoundKind}
 use Rattle.fc_bound.specs.declared.rings.Shown.{Shown}
 use Rattle.fc_bound.specs.Kinds.{IsShown}
 use Rattle.fc_bound.specs.Landings.{IsLanding}
-use Rattle.fc_space.specs.declared.walks.Standing.{Standing}
-use Rattle.fc_space.specs.declared.walks.Standing.TheVariants.{Here, Shifted, Settled}
+use Rattle.fc_space.specs.declared.child_walks.Standing.{Standing}
+use Rattle.fc_space.specs.declared.child_walks.Standing.TheVariants.{Here, Shifted, Settled}
 use Rattle.fc_space.specs.Children.{Frame, IsChildOf}
 
 -- a move takes no card home, and none goes home after it

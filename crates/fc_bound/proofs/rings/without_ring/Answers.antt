@@ -5,7 +5,7 @@ use Rattle.std.proofs.lemmas.Nat.{and_le_r}
 use Rattle.fc_position.specs.Board.{Board}
 use Rattle.fc_position.specs.Position.{IsPosition}
 use Rattle.fc_bound.specs.declared.kinds.BoundKind.TheVariants.{Clearing}
-use Rattle.fc_bound.specs.declared.rows.ColumnTable.{ColumnTable}
+use Rattle.fc_bound.specs.declared.waiting_rows.ColumnTable.{ColumnTable}
 use Rattle.fc_bound.specs.Bound.{bound}
 use Rattle.fc_bound.specs.Kinds.{IsShown}
 use Rattle.fc_bound.specs.Rings.{IsAmong}

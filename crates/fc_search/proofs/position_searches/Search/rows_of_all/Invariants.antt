@@ -1,0 +1,11 @@
+use Rattle.std.proofs.Common.{◌≡◌, take}
+use Rattle.std.specs.Prelude.{All}
+use Rattle.fc_answers.specs.Table.{IsRowOf, pairs_by}
+use Rattle.fc_answers.specs.inner.Table.{at_no_cost}
+use Rattle.fc_search.specs.inner.Stored.{costs_of}
+use Rattle.fc_search.proofs.position_searches.Search.rows_of_all.Given as goal
+
+-- the rows so far are of codes from the start, and the first stored keys, each at no cost
+abbrev pub invariant-loop-number : goal.invariant-loop-number
+invariant-loop-number g l = All (IsRowOf l.self.problem.start) l.rows.items
+    × (pairs_by l.self.problem.start l.rows.items ≡ at_no_cost (take l.number (costs_of l.self.problem.start l.self.store)))
