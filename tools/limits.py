@@ -1,5 +1,5 @@
 #!/usr/bin/env python3
-"""Holds the tree to its limits of size and of what stands on what, which docs/MAP.md states, and says what is past one.
+"""Holds the tree to its limits of size, of names and of what stands on what, which docs/MAP.md states, and says what is past one.
 
 usage, at the top of the repository:  limits.py
 
@@ -22,6 +22,10 @@ TESTS = re.compile(r"crates/\w+_tests/")
 # What a search is made of, and the checker, which may stand on nothing that does.
 OF_SEARCHES = {"fc_frontier", "fc_best_first"}
 CHECKER = "fc_checker"
+# A module has a name of its own among those of the crates below its crate, but for these; a crate of tests or measurements names its
+# modules by what it looks at.
+COMMON_MODULES = {"lib", "main", "laws", "faults", "written_out"}
+BY_SUBJECT = re.compile(r"fc_(\w+_)?(tests|bench)$")
 
 
 def parted(words, at):
@@ -149,9 +153,24 @@ def of_names(lines):
                 yield f"crates.txt: {name} lists {it}, which none of its files names"
 
 
+def modules_of(name):
+    """The modules of a crate."""
+    return {os.path.basename(it).removesuffix(".rt") for it in files_below(f"crates/{name}/src", ".rt")}
+
+
+def of_modules(lines):
+    """Which modules of these lines' crates have the name of one of a crate below."""
+    stands_on = {name: below.split() for name, below in re.findall(r"^(\w+)(?: staticlib)?:(.*)$", "\n".join(lines), re.M)}
+    for name in (it for it in stands_on if not BY_SUBJECT.match(it)):
+        own = modules_of(name) - COMMON_MODULES
+        for below in sorted(crates_below(stands_on, name) & set(stands_on)):
+            for twice in sorted(own & modules_of(below)):
+                yield f"crates/{name}/src/{twice}.rt: {below} below it has a module of this name"
+
+
 def main():
     lines = text_of("crates.txt").splitlines()
-    wrong = [*past_limits(), *of_searches(lines), *of_readmes(lines), *of_names(lines)]
+    wrong = [*past_limits(), *of_searches(lines), *of_readmes(lines), *of_names(lines), *of_modules(lines)]
     print("\n".join([*wrong, f"{int(not wrong)} passed, {len(wrong)} failed"]))
     return 1 if wrong else 0
 

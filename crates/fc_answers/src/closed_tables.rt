@@ -2,8 +2,8 @@ ghost use Rattle.std.specs.Prelude.{◌≡◌, ◌<◌, ◌≤◌, ◌↔◌, �
 ghost use Rattle.std.specs.List.Sorted.{IsPermutation};
 ghost use Rattle.fc_answers.specs.Table.{HaveKeysOnce, IsRising, IsRowOf, pairs_by};
 
-use crate::table_rows::Row;
 use crate::sorting::put_in_order;
+use crate::table_rows::Row;
 use fc_bound::BoundKind;
 use fc_canonical::Key;
 use fc_codes::Layout;

@@ -3,11 +3,11 @@
 #![tactic(auto)]
 
 pub use answers::{Answer, MOST_MOVES, MoveList, Outcome, Verdict};
-pub use table_rows::Row;
 pub use closed_tables::{MOST_CLASSES, Table};
+pub use table_rows::Row;
 
 mod answers;
-pub mod laws;
-mod table_rows;
-mod sorting;
 mod closed_tables;
+pub mod laws;
+mod sorting;
+mod table_rows;

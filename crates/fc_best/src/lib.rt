@@ -8,9 +8,9 @@ pub use schedule::best;
 
 mod answering;
 mod attempts;
+mod joint_progress;
 mod looks;
 mod plans;
-mod joint_progress;
 mod relays;
 mod schedule;
 mod shortenings;

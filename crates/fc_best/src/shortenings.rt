@@ -11,8 +11,8 @@ ghost use Rattle.fc_best.specs.inner.Standing.{limit_of, Stands};
 ghost use Rattle.fc_best.specs.inner.Tail.{IsTailFor};
 ghost use Rattle.fc_best.specs.inner.Watch.{HearsFurther, HearsOn, HearsSome};
 
-use crate::plans::{Plan, asked_with};
 use crate::joint_progress::progress_after;
+use crate::plans::{Plan, asked_with};
 use crate::stages::tails_above;
 use crate::standings::{Standing, limit_of, shorter};
 use crate::tails::{Rest, Tail};

@@ -16,8 +16,8 @@ ghost use Rattle.fc_best.specs.inner.Standing.{greater, limit_of, newest, with_s
 ghost use Rattle.fc_best.specs.inner.Watch.{HearsOn, HearsSome, IsFurther, list_in};
 
 use crate::attempts::{Aim, Attempt, Shown};
-use crate::plans::{Plan, asked_with};
 use crate::joint_progress::{first_progress, progress_after};
+use crate::plans::{Plan, asked_with};
 use crate::relays::attempt_after;
 use crate::stages::{Purpose, Stage};
 use fc_answers::{Answer, MoveList, Verdict};

@@ -3,7 +3,7 @@
 #![tactic(auto)]
 
 pub use faults::{Input, Output, ProgramFault, read_fault};
-pub use list_questions::{ListWants, ListQuestion, run_list};
+pub use list_questions::{ListQuestion, ListWants, run_list};
 pub use runs::{LONGEST_BOARD, LONGEST_MOVES, read_position, run_deal, run_replay, run_replay_as};
 pub use sequences::run_replay_sequences;
 pub use showing::{Look, run_show};

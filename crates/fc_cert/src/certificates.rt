@@ -6,13 +6,13 @@ ghost use Rattle.fc_cert.specs.inner.Chains.{IsLast, place_of, places_of};
 ghost use Rattle.fc_cert.specs.inner.Layout.{AreRecords, ends_from};
 ghost use Rattle.fc_cert.specs.Reading.{IsFormFault, IsReadFault};
 
+use crate::certificate_readers::check_form;
 use crate::chains::{links_of, place_of};
 use crate::comparisons::compare;
 use crate::contents::Head;
 use crate::faults::CertFault;
 use crate::fields::split_number;
 use crate::record_layouts::record_in;
-use crate::certificate_readers::check_form;
 use fc_canonical::key_size;
 use fc_home::GREATEST_RULE;
 use fc_moves::{Move, read_move};

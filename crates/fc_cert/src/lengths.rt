@@ -8,8 +8,8 @@ ghost use Rattle.fc_cert.specs.Claim.{IsWrittenAs, written_head};
 ghost use Rattle.fc_cert.specs.Content.{Content, bytes_of, head_bytes, listed_bytes, record_bytes};
 ghost use Rattle.fc_cert.specs.Writing.{IsUncertified};
 
-use crate::contents::{Form, Kind};
 use crate::certificate_writers::written_form;
+use crate::contents::{Form, Kind};
 use fc_answers::{Answer, Table, Verdict};
 use fc_moves::Move;
 

@@ -2,13 +2,15 @@
 //! Nothing here searches.
 #![tactic(auto)]
 
+pub use certificate_writers::write_answer;
 pub use certificates::{Certificate, LONGEST_CERTIFICATE, form_fault};
 pub use claims::Claim;
 pub use contents::{Form, Head, Kind};
 pub use faults::CertFault;
 pub use lengths::certificate_length;
-pub use certificate_writers::write_answer;
 
+mod certificate_readers;
+mod certificate_writers;
 mod certificates;
 mod chains;
 mod claims;
@@ -18,7 +20,5 @@ mod faults;
 mod fields;
 mod heads;
 pub mod laws;
-mod record_layouts;
 mod lengths;
-mod certificate_readers;
-mod certificate_writers;
+mod record_layouts;

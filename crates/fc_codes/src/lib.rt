@@ -8,6 +8,6 @@ pub use start_layouts::Layout;
 
 mod codes;
 pub mod laws;
-mod start_layouts;
 mod seats;
 mod stacks;
+mod start_layouts;

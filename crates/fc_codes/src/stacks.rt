@@ -12,8 +12,8 @@ ghost use Rattle.fc_codes.specs.inner.Seats.{AreOver, AreStacksOf, IsBare};
 ghost use Rattle.fc_codes.specs.inner.Stacks.{HasBegun};
 
 use crate::codes::Code;
-use crate::start_layouts::Layout;
 use crate::seats::{has_card, least_card, without_card};
+use crate::start_layouts::Layout;
 use fc_cards::Card;
 use fc_position::{Columns, Filling};
 

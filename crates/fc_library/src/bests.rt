@@ -3,10 +3,10 @@ ghost use Rattle.std.specs.Prelude.{◌≡◌, ◌≢◌, IfOk, IfErr};
 ghost use Rattle.fc_moves.specs.GameRules.{IsPositionOf};
 ghost use Rattle.fc_library.specs.Bests.{CanBeAsked, IsBestCertified, IsBestRefused, IsBestTold, asked_best, usual_best_method};
 
+use crate::call_refusals::CallRefusal;
+use crate::game_names::{AnyGame, GameName, game_of};
 use crate::told_answers::{Certified, Told, certify, tell};
 use crate::typed_boards::start_of;
-use crate::game_names::{AnyGame, GameName, game_of};
-use crate::call_refusals::CallRefusal;
 use fc_methods::{
     BoundKind, Expansion, GreatBudget, HomeRule, Method, Question, Sought, Strategy, Weight,
 };

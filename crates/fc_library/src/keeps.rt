@@ -1,9 +1,9 @@
 //! What a call hands over, left in memory that is the caller's from then on.
 ghost use Rattle.fc_library.specs.Keeps.{IsTextKept, AreBothKept};
 
-use crate::told_answers::{Certified, Told};
 use crate::call_refusals::CallRefusal;
 use crate::rooms::{Call, refused, told_call};
+use crate::told_answers::{Certified, Told};
 
 /// Points the caller's slice at the text, which nothing of this library changes or frees from then on; at a refusal it stays as it
 /// was.

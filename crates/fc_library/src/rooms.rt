@@ -2,10 +2,10 @@
 ghost use Rattle.std.specs.Prelude.{◌≡◌};
 ghost use Rattle.fc_library.specs.Rooms.{IsHandedOver, IsHandedOverBoth, refused_call, told_call};
 
-use crate::told_answers::{Certified, Told};
+use crate::call_refusals::CallRefusal;
 use crate::figures::{Figures, figures_of};
 use crate::numbers::NO_ROOM;
-use crate::call_refusals::CallRefusal;
+use crate::told_answers::{Certified, Told};
 
 /// How a call ended.
 #[repr(C)]

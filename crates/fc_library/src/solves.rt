@@ -3,11 +3,11 @@ ghost use Rattle.std.specs.Prelude.{◌≡◌, ◌≢◌, IfOk, IfErr};
 ghost use Rattle.fc_moves.specs.GameRules.{IsPositionOf};
 ghost use Rattle.fc_library.specs.Solves.{CanBeSolved, IsSolvedCertified, IsSolvedTold, IsSolveRefused};
 
-use crate::told_answers::{Certified, Told, certify, tell};
-use crate::typed_boards::start_of;
+use crate::call_refusals::CallRefusal;
 use crate::game_names::{AnyGame, GameName, game_of};
 use crate::method_names::{MethodName, method_of};
-use crate::call_refusals::CallRefusal;
+use crate::told_answers::{Certified, Told, certify, tell};
+use crate::typed_boards::start_of;
 use fc_methods::{Question, Sought};
 use fc_position::Position;
 use std::alloc::Global;

@@ -2,11 +2,11 @@
 ghost use Rattle.std.specs.Prelude.{IfOk, IfErr};
 ghost use Rattle.fc_library.specs.Checks.{IsCheckTold, IsCheckRefused};
 
-use crate::told_answers::Told;
-use crate::typed_boards::start_of;
+use crate::call_refusals::CallRefusal;
 use crate::figures::claimed_outcome;
 use crate::game_names::{GameName, game_of};
-use crate::call_refusals::CallRefusal;
+use crate::told_answers::Told;
+use crate::typed_boards::start_of;
 use fc_answer_text::accepted_text;
 use fc_cert::LONGEST_CERTIFICATE;
 use fc_checker::check;

@@ -2,8 +2,8 @@
 ghost use Rattle.std.specs.Prelude.{IfOk, IfErr};
 ghost use Rattle.fc_library.specs.Deals.{IsDealRefused, IsDealTold};
 
-use crate::told_answers::Told;
 use crate::call_refusals::CallRefusal;
+use crate::told_answers::Told;
 use fc_deal::{deal, deal_text};
 use std::alloc::Global;
 

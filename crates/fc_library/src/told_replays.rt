@@ -2,11 +2,11 @@
 ghost use Rattle.std.specs.Prelude.{IfOk, IfErr};
 ghost use Rattle.fc_library.specs.Replays.{IsReplayRefused, IsReplayTold};
 
+use crate::call_refusals::CallRefusal;
+use crate::game_names::{GameName, game_of};
+use crate::sinks::ToVec;
 use crate::told_answers::Told;
 use crate::typed_boards::start_of;
-use crate::game_names::{GameName, game_of};
-use crate::call_refusals::CallRefusal;
-use crate::sinks::ToVec;
 use fc_board_runs::LONGEST_MOVES;
 use fc_moves::Game;
 use fc_replay::{Page, replay_as};

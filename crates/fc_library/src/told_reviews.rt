@@ -11,12 +11,12 @@ ghost use Rattle.fc_review.specs.Finding.{IsFinding};
 ghost use Rattle.fc_review.specs.Review.{Loses};
 ghost use Rattle.fc_library.specs.Reviews.{IsFoundTold, IsReviewRefused, IsReviewTold, IsUnwoven, IsWovenFrom, capped_number, capped_outcome, losing_before, losing_place, review_outcome};
 
-use crate::told_answers::Told;
 use crate::bests::asked;
-use crate::game_names::GameName;
-use crate::spelled_lists::moves_of;
 use crate::call_refusals::CallRefusal;
+use crate::game_names::GameName;
 use crate::sinks::ToVec;
+use crate::spelled_lists::moves_of;
+use crate::told_answers::Told;
 use fc_answers::{Outcome, Verdict};
 use fc_board_runs::LONGEST_MOVES;
 use fc_methods::Question;

@@ -3,11 +3,11 @@ ghost use Rattle.std.specs.Prelude.{◌≡◌, IfOk, IfErr};
 ghost use Rattle.fc_library.specs.Sequences.{IsSequencesRefused, IsSequencesTold};
 ghost use Rattle.fc_library.specs.inner.Fault.{refusal_of};
 
+use crate::call_refusals::CallRefusal;
+use crate::game_names::{GameName, game_of};
+use crate::sinks::ToVec;
 use crate::told_answers::Told;
 use crate::typed_boards::start_of;
-use crate::game_names::{GameName, game_of};
-use crate::call_refusals::CallRefusal;
-use crate::sinks::ToVec;
 use fc_board_runs::{LONGEST_MOVES, ProgramFault, run_replay_sequences};
 use fc_io::FromSlice;
 use fc_moves::Game;

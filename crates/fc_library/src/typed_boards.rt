@@ -2,9 +2,9 @@ ghost use Rattle.std.specs.Prelude.{◌≤◌, IfOk, IfErr};
 ghost use Rattle.fc_position.specs.Position.{Fits};
 ghost use Rattle.fc_library.specs.Boards.{SpellsOnceTidy, IsTextFault};
 
-use fc_typed::{MOST_BYTES, TidyText};
 use fc_position::Position;
 use fc_text::{BoardFault, read_board};
+use fc_typed::{MOST_BYTES, TidyText};
 
 /// The position that a text spells, as people write one, for a game with so many cells: the text is made tidy first.
 ///

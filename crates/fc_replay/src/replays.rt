@@ -5,9 +5,9 @@ ghost use Rattle.fc_replay.specs.Token.{move_tokens};
 ghost use Rattle.fc_replay.specs.Played.{Replays, ReplaysAs, BeginsWithStep, ended_status, sink_change};
 
 use crate::faults::ReplayFault;
+use crate::move_tokens::{MoveGaps, read_token};
 use crate::pages::{Page, write_page};
 use crate::tellings::ToldMove;
-use crate::move_tokens::{MoveGaps, read_token};
 use fc_io::Sink;
 use fc_moves::{Game, allows, apply};
 use fc_position::Position;

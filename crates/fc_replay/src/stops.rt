@@ -3,8 +3,8 @@ ghost use Rattle.fc_position.specs.Position.{Fits};
 ghost use Rattle.fc_replay.specs.Played.{IsFirstStop, PlayAll};
 ghost use Rattle.fc_replay.specs.Token.{move_tokens};
 
-use crate::tellings::ToldMove;
 use crate::move_tokens::{MoveGaps, read_token};
+use crate::tellings::ToldMove;
 use fc_moves::{Game, Refusal, apply, refusal_of};
 use fc_position::Position;
 use fc_text::Tokens;

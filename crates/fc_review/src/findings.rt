@@ -10,11 +10,11 @@ ghost use Rattle.fc_review.specs.Finding.{IsFinding, IsReviewed, IsFindingTold, 
 ghost use Rattle.fc_review.specs.Hands.{IsByHand};
 ghost use Rattle.fc_review.specs.Rating.{IsUnrated};
 
-use crate::known_boards::{board_after, wins};
 use crate::hands::count_by_hand;
+use crate::known_boards::{board_after, wins};
 use crate::ratings::{Rating, certify, rate_alone};
-use crate::reviews::{Review, review_of};
 use crate::review_lines::{rating_status, rating_text, review_status, review_text};
+use crate::reviews::{Review, review_of};
 use fc_answers::MOST_MOVES;
 use fc_io::{Sink, write_all};
 use fc_methods::Question;

@@ -2,19 +2,19 @@
 //! entries of a list are left to a player's hands.
 #![tactic(auto)]
 
-pub use known_boards::{KnownBoard, board_after, known_after, wins};
 pub use findings::{Finding, find, finding_text, run_review};
 pub use hands::count_by_hand;
+pub use known_boards::{KnownBoard, board_after, known_after, wins};
 pub use ratings::{Rating, rate};
-pub use reviews::{Review, review_of};
 pub use review_lines::{rating_status, rating_text, review_status, review_text};
+pub use reviews::{Review, review_of};
 pub use weaving::{WeaveFault, weave};
 
-mod known_boards;
 mod edges;
 mod findings;
 mod hands;
+mod known_boards;
 mod ratings;
-mod reviews;
 mod review_lines;
+mod reviews;
 mod weaving;

@@ -11,8 +11,8 @@ ghost use Rattle.fc_review.specs.Texts.{losing_of};
 ghost use Rattle.fc_review.specs.inner.Edge.{IsEdge, IsLostBehind, IsNoLoss, IsOpenUpTo};
 ghost use Rattle.fc_review.specs.declared.edges.Wanted.TheVariants as wanted;
 
-use crate::known_boards::{KnownBoard, known_after};
 use crate::edges::{Edge, Wanted, Way, edge_before};
+use crate::known_boards::{KnownBoard, known_after};
 use fc_answers::Verdict;
 use fc_methods::Question;
 use fc_moves::{Game, Move};

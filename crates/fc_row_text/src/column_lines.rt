@@ -4,11 +4,11 @@ ghost use Rattle.fc_text.specs.Printed.{ended};
 ghost use Rattle.fc_row_text.specs.RowText.{line_of_column, columns_text, front_text, entry_text_at, row_lines};
 ghost use Rattle.fc_row_text.specs.inner.RowLine.{IsFull, row_line_with};
 
-use crate::row_entries::{entry_at, is_none};
+use crate::column_texts::{Bytes, MOST_BYTES, push, push_word};
 use crate::faults::RowTextFault;
 use crate::heads::push_head;
+use crate::row_entries::{entry_at, is_none};
 use crate::row_lines::{RowLineKind, RowLines};
-use crate::column_texts::{Bytes, MOST_BYTES, push, push_word};
 
 /// Pushes what stands before the columns: the lines that are kept, and what cells and foundations hold.
 pub(crate) fn push_front(bytes: &mut Bytes, text: &[u8]) -> Result<(), RowTextFault>
@@ -63,7 +63,12 @@ fn push_column(bytes: &mut Bytes, text: &[u8], column: usize) -> Result<(), RowT
 }
 
 // Pushes a blank and the entry of a row for this column, from 0, where the line is a row and has one.
-fn push_entry(bytes: &mut Bytes, kind: RowLineKind, line: &[u8], column: usize) -> Result<(), RowTextFault>
+fn push_entry(
+    bytes: &mut Bytes,
+    kind: RowLineKind,
+    line: &[u8],
+    column: usize,
+) -> Result<(), RowTextFault>
     requires column { column ≤ 7 }
     ensures pushed { OnOk result (bytes.new.items ≡ bytes.old.items ++ entry_text_at column (row_line_with kind line.now)) }
     ensures full { IfErr result (IsFull bytes.old.items (entry_text_at column (row_line_with kind line.now))) }

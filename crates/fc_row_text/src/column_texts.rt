@@ -3,8 +3,8 @@ ghost use Rattle.fc_row_text.specs.RowText.{text_in_columns, entry_count, fault_
 ghost use Rattle.fc_row_text.specs.inner.RowLine.{IsFull, row_line_with};
 
 use crate::column_lines::{push_columns, push_front};
-use crate::row_entries::{entry_count, has_card_past};
 use crate::faults::RowTextFault;
+use crate::row_entries::{entry_count, has_card_past};
 use crate::row_lines::{RowLineKind, RowLines};
 use crate::row_words::word_count;
 use arrayvec::ArrayVec;

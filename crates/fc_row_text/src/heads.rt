@@ -3,8 +3,8 @@ ghost use Rattle.fc_text.specs.Printed.{ended};
 ghost use Rattle.fc_row_text.specs.RowText.{cells_head, has_suit, head_text, home_entry, homes_head};
 ghost use Rattle.fc_row_text.specs.inner.RowLine.{IsFull};
 
-use crate::faults::RowTextFault;
 use crate::column_texts::{Bytes, push, push_word};
+use crate::faults::RowTextFault;
 use crate::row_words::{is_letter_alone, word_at};
 
 /// Pushes what so many cells and the foundations of a drawing hold, as the reader reads it.

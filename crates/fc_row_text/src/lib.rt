@@ -2,14 +2,14 @@
 //! allocates.
 #![tactic(auto)]
 
-pub use faults::RowTextFault;
 pub use column_texts::{ColumnText, MOST_BYTES, columns_of_row_text};
+pub use faults::RowTextFault;
 
 mod column_lines;
-mod row_entries;
+mod column_texts;
 mod faults;
 mod heads;
 pub mod laws;
+mod row_entries;
 mod row_lines;
-mod column_texts;
 mod row_words;

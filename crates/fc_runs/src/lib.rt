@@ -2,26 +2,26 @@
 //! no search has a part in are `fc_board_runs`'s.
 #![tactic(auto)]
 
-pub use deal_batches::{MOST_DEALS, run_answers};
+pub use answer_rows::{Far, Row, answer_row};
 pub use certifying::write_certificate;
 pub use checking::run_check_of;
+pub use deal_batches::{MOST_DEALS, run_answers};
 pub use delivering::run_answer;
 pub use fc_board_runs::{
-    ListWants, Input, LONGEST_BOARD, LONGEST_MOVES, ListQuestion, Look, Output, ProgramFault,
+    Input, LONGEST_BOARD, LONGEST_MOVES, ListQuestion, ListWants, Look, Output, ProgramFault,
     read_position, run_deal, run_list, run_replay, run_replay_as, run_replay_sequences, run_show,
 };
 pub use printable_lists::{PrintableList, list_text};
-pub use answer_rows::{Far, Row, answer_row};
 pub use tabling::{run_table, table_deals, table_head};
 pub use written_out::{run_batch, run_check, run_solve};
 
-mod deal_batches;
+mod answer_rows;
 mod best_batches;
 mod certifying;
 mod checking;
+mod deal_batches;
 mod delivering;
 pub mod laws;
 mod printable_lists;
-mod answer_rows;
 mod tabling;
 mod written_out;

@@ -10,8 +10,8 @@ ghost use Rattle.fc_runs.specs.Batches.{IsBatched, IsBatchFault};
 ghost use Rattle.fc_runs.specs.Checking.{IsChecked, IsRefusal};
 ghost use Rattle.fc_runs.specs.Solving.{IsSolveFault, IsSolved};
 
-use crate::deal_batches::{deals_of, run_answers};
 use crate::checking::run_check_of;
+use crate::deal_batches::{deals_of, run_answers};
 use crate::delivering::{certify, tell};
 use fc_best::Unheard;
 use fc_board_runs::{LONGEST_BOARD, ProgramFault, read_position};

@@ -18,11 +18,11 @@ pub use solving::{decide_by, ended_below, solve_by};
 pub use written_out::solve;
 
 mod listeners;
-mod progress;
 mod position_searches;
+mod progress;
+mod search_tables;
 mod shown;
 mod solving;
-mod search_tables;
-mod ways_back;
 mod watches;
+mod ways_back;
 mod written_out;

@@ -5,16 +5,16 @@
 pub use carries::{carry, may_carry};
 pub use gathers::{GatherFault, MOST_AHEAD, gather};
 pub use list_expansions::{ListFault, MOST_BOARDS, expand};
+pub use pair_texts::print_pair;
 pub use pairs::{Pair, read_pair};
 pub use sayings::read_saying;
-pub use pair_texts::print_pair;
 
 mod carries;
 mod gathers;
 pub mod laws;
 mod layers;
 mod list_expansions;
+mod pair_texts;
 mod pairs;
 mod sayings;
 mod spaces;
-mod pair_texts;

@@ -2,10 +2,10 @@
 ghost use Rattle.fc_position.specs.Position.{Fits};
 ghost use Rattle.fc_moves.specs.GameRules.{IsPositionOf};
 
-use crate::found_answers::Answered;
 use crate::endings::Ending;
-use crate::hand_entries::{tell_entries, tell_entry_pages};
 use crate::entry_pages::EntryPage;
+use crate::found_answers::Answered;
+use crate::hand_entries::{tell_entries, tell_entry_pages};
 use crate::moves::push_letters;
 use crate::outputs::Out;
 use fc_io::{Sink, write_all};

@@ -1,7 +1,7 @@
 //! Answers as JSON objects, for other programs.
 
-use crate::found_answers::Answered;
 use crate::endings::Ending;
+use crate::found_answers::Answered;
 use fc_answers::Verdict;
 use fc_cert::Claim;
 use fc_json::{ToldBoard, object_text};

@@ -2,15 +2,15 @@
 ghost use Rattle.fc_moves.specs.GameRules.{IsPositionOf};
 
 use crate::advice::{advise_best, advise_method};
-use crate::found_answers::find_answer;
+use crate::answer_forms::Manner;
+use crate::answer_objects::Name;
 use crate::apart::keep_apart;
 use crate::board_sources::{find_board, read_start};
 use crate::certs::CertFile;
+use crate::command_games::InGame;
 use crate::each::answer_each;
 use crate::endings::{Ending, no_budget, tell_of_long_certificate};
-use crate::answer_forms::Manner;
-use crate::command_games::InGame;
-use crate::answer_objects::Name;
+use crate::found_answers::find_answer;
 use crate::outputs::Out;
 use crate::telling::Telling;
 use crate::watching::{Line, Teller};

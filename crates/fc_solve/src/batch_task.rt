@@ -1,10 +1,10 @@
 //! `batch`: several boards are solved.
 ghost use Rattle.std.specs.Prelude.{◌≤◌};
 
-use crate::endings::{Ending, no_budget, tell};
 use crate::command_games::InGame;
-use crate::outputs::Out;
+use crate::endings::{Ending, no_budget, tell};
 use crate::listings::{write_deals, write_rows};
+use crate::outputs::Out;
 use fc_methods::{Method, Question, Sought};
 use fc_moves::Game;
 use fc_runs::{ProgramFault, run_answers, run_batch, table_deals};

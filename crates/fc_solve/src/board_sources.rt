@@ -4,20 +4,20 @@ ghost use Rattle.fc_position.specs.Position.{Fits};
 
 use crate::apart::INPUT;
 use crate::board_lists::{board_behind, read_list};
+use crate::column_lengths::{note_lengths, note_reversed, note_rows};
 use crate::endings::{
     Ending, REFUSED, tell_of_board, tell_of_file, tell_of_length, tell_of_reading, tell_of_row_text,
 };
-use crate::column_lengths::{note_lengths, note_reversed, note_rows};
 use crate::notes::BoardText;
 use crate::token_fronts::{front_of, rest_of};
 use arrayvec::ArrayVec;
 use fc_deal::{MOST_DEAL, deal};
 use fc_io::{FromReader, FromSlice, ReadFault, Source, read_up_to};
-use fc_typed::{GuessedText, MOST_BYTES, TidyText, Title};
 use fc_position::Position;
 use fc_row_text::columns_of_row_text;
 use fc_runs::{Input, ProgramFault, read_position};
 use fc_text::BoardFault;
+use fc_typed::{GuessedText, MOST_BYTES, TidyText, Title};
 use fc_words::{BoardWord, BoardWords, TextWords, is_number};
 use std::fs::{self, File, exists};
 use std::io::IsTerminal;

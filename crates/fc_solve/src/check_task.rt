@@ -3,12 +3,12 @@
 ghost use Rattle.std.specs.Prelude.{◌≤◌, length};
 ghost use Rattle.fc_position.specs.Position.{Fits};
 
-use crate::board_sources::{find_board, read_start};
-use crate::endings::{Ending, tell};
 use crate::answer_forms::tell_whole;
-use crate::command_games::InGame;
-use crate::moves::{FileSource, find_file, push_letters};
 use crate::answer_objects::{Name, claim_line, fault_line};
+use crate::board_sources::{find_board, read_start};
+use crate::command_games::InGame;
+use crate::endings::{Ending, tell};
+use crate::moves::{FileSource, find_file, push_letters};
 use crate::outputs::Out;
 use fc_cert::{CertFault, Certificate, LONGEST_CERTIFICATE};
 use fc_checker::{CheckFault, check};

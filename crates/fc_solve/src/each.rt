@@ -1,11 +1,11 @@
 //! `best --each`: each better answer is written as it comes.
 ghost use Rattle.fc_moves.specs.GameRules.{IsPositionOf};
 
-use crate::found_answers::{Answered, find_answer};
+use crate::answer_objects::Beside;
 use crate::certs::CertFile;
 use crate::endings::Ending;
+use crate::found_answers::{Answered, find_answer};
 use crate::hand_counts::by_hand_told;
-use crate::answer_objects::Beside;
 use crate::telling::Telling;
 use crate::watching::Teller;
 use fc_answers::MoveList;

@@ -1,8 +1,8 @@
 //! How many entries of an answer are left to a player's hands.
 ghost use Rattle.fc_moves.specs.GameRules.{IsPositionOf};
 
-use crate::found_answers::Answered;
 use crate::endings::Ending;
+use crate::found_answers::Answered;
 use fc_methods::HomeRule;
 use fc_moves::{Game, Move};
 use fc_position::Position;

@@ -3,10 +3,10 @@ ghost use Rattle.std.specs.Prelude.{◌≤◌, All, IfOk, length};
 ghost use Rattle.fc_moves.specs.GameRules.{IsPositionOf};
 ghost use Rattle.fc_sequences.specs.Pair.{HasPairText};
 
-use crate::found_answers::Answered;
+use crate::answer_forms::{UNWRITTEN, tell_whole};
 use crate::endings::Ending;
 use crate::entry_pages::{EntryPage, write_entries};
-use crate::answer_forms::{UNWRITTEN, tell_whole};
+use crate::found_answers::Answered;
 use crate::outputs::Out;
 use fc_io::write_all;
 use fc_moves::{Game, Move};

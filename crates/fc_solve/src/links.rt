@@ -1,9 +1,9 @@
 //! Links to the page that shows a board with a list of moves and plays it.
 ghost use Rattle.fc_position.specs.Position.{Fits};
 
-use crate::found_answers::Answered;
-use crate::endings::Ending;
 use crate::answer_forms::tell_whole;
+use crate::endings::Ending;
+use crate::found_answers::Answered;
 use fc_moves::Game;
 use fc_position::Position;
 use fc_text::print_board;

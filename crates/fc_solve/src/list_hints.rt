@@ -1,8 +1,8 @@
 //! What helps where a list is refused for what it is, and not for a move of it.
 ghost use Rattle.fc_moves.specs.GameRules.{IsPositionOf};
 
-use crate::printed_lists::entries_alone;
 use crate::pair_lists::expand_list;
+use crate::printed_lists::entries_alone;
 use fc_moves::Game;
 use fc_position::Position;
 use fc_replay::ReplayFault;

@@ -1,6 +1,7 @@
 //! `batch` where each board has a row or an object: they are answered one after the other, and nothing of one is kept.
 ghost use Rattle.fc_moves.specs.GameRules.{IsPositionOf};
 
+use crate::answer_objects::{Name, fault_line, row_line};
 use crate::apart::keep_apart;
 use crate::board_lists::{is_blank, is_rule, read_list};
 use crate::board_sources::{deal_for, read_board_text};
@@ -8,9 +9,8 @@ use crate::cert_names::cert_name;
 use crate::certs::CertFile;
 use crate::endings::{Ending, REFUSED, tell_of_file, tell_of_long_certificate};
 use crate::hand_counts::by_hand_of;
-use crate::answer_objects::{Name, fault_line, row_line};
-use crate::outputs::Out;
 use crate::listing_tallies::{ANSWERS, CountedRows, RowTally};
+use crate::outputs::Out;
 use crate::watching::Line;
 use fc_io::write_all;
 use fc_methods::Question;

@@ -4,8 +4,8 @@ ghost use Rattle.std.specs.Prelude.{◌≤◌};
 
 use crate::token_fronts::{front_of, rest_of};
 use fc_cards::Card;
-use fc_typed::{GuessedText, missing_cards, typed_word};
 use fc_text::{BoardFault, Spot, first_spot_of, last_spot_of, spot_of};
+use fc_typed::{GuessedText, missing_cards, typed_word};
 
 /// A board's text, made tidy, and as it was typed, or nothing where that has other lines.
 #[derive(Clone, Copy)]

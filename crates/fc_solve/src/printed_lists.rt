@@ -25,7 +25,11 @@ enum Form {
 ///
 /// # Errors
 /// Want of memory.
-pub fn entries_alone(alloc: Global, text: &[u8], has_sequences: bool) -> Result<Vec<u8>, AllocError> {
+pub fn entries_alone(
+    alloc: Global,
+    text: &[u8],
+    has_sequences: bool,
+) -> Result<Vec<u8>, AllocError> {
     let form = form_of(text, has_sequences);
     let mut list = Vec::new(alloc);
     for (number, line) in text.split(|byte| *byte == b'\n').enumerate() {

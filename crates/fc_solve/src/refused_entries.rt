@@ -9,7 +9,7 @@ use fc_io::{FromSlice, ToArray};
 use fc_moves::{Game, Move, Refusal, refusal_of};
 use fc_position::Position;
 use fc_replay::{MoveGaps, RefusedMove, ReplayFault, Stop, first_stop};
-use fc_runs::{ListWants, LONGEST_MOVES, ListQuestion, ProgramFault, read_position, run_list};
+use fc_runs::{LONGEST_MOVES, ListQuestion, ListWants, ProgramFault, read_position, run_list};
 use fc_sequences::{Pair, read_pair};
 use fc_text::Tokens;
 use std::alloc::Global;

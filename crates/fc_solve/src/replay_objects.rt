@@ -1,9 +1,9 @@
 //! `replay --json`: how a list ended, and its moves, as an object.
 ghost use Rattle.fc_moves.specs.GameRules.{IsPositionOf};
 
+use crate::answer_objects::{Name, list_line};
 use crate::hand_counts::by_hand_of;
 use crate::moves::push_letters;
-use crate::answer_objects::{Name, list_line};
 use crate::pair_lists::expand_list;
 use fc_methods::HomeRule;
 use fc_moves::{Game, Move, allows, apply};

@@ -1,19 +1,19 @@
 //! `replay`: the moves of a list are played on a board.
 ghost use Rattle.fc_moves.specs.GameRules.{IsPositionOf};
 
+use crate::answer_forms::tell_whole;
+use crate::answer_objects::{Name, fault_line};
 use crate::board_sources::{find_board, read_start};
+use crate::command_games::InGame;
 use crate::endings::Ending;
 use crate::entry_pages::{EntryPage, write_entries};
-use crate::answer_forms::tell_whole;
-use crate::command_games::InGame;
 use crate::links::{PageLink, tell_link};
 use crate::list_hints::tell_list_hint;
-use crate::printed_lists::entries_alone;
 use crate::moves::{find_file, read_moves, tell_end};
-use crate::answer_objects::{Name, fault_line};
 use crate::others::tell_other_game;
 use crate::outputs::Out;
 use crate::pair_lists::expand_list;
+use crate::printed_lists::entries_alone;
 use crate::refused_entries::{tell_move, tell_sequence};
 use crate::replay_objects::replay_line;
 use fc_io::{FromSlice, ToArray, write_all};
@@ -21,7 +21,8 @@ use fc_moves::Game;
 use fc_position::Position;
 use fc_replay::{Ended, Page, ReplayFault};
 use fc_runs::{
-    ListWants, Input, ListQuestion, Output, ProgramFault, run_list, run_replay_as, run_replay_sequences,
+    Input, ListQuestion, ListWants, Output, ProgramFault, run_list, run_replay_as,
+    run_replay_sequences,
 };
 use fc_words::{ReplayForm, ReplayWords};
 use std::alloc::Global;

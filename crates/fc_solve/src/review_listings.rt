@@ -1,10 +1,10 @@
 //! `review --lists`: many lists of moves are reviewed, each with its board on a line of a file.
 
+use crate::answer_forms::UNWRITTEN;
+use crate::answer_objects::Name;
 use crate::board_lists::read_list;
 use crate::board_sources::{find_board, read_start};
 use crate::endings::{Ending, REFUSED, tell};
-use crate::answer_forms::UNWRITTEN;
-use crate::answer_objects::Name;
 use crate::outputs::Out;
 use crate::review_objects::{REVIEW_HEAD, review_line, review_row};
 use crate::review_task::found_of;

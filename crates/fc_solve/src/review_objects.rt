@@ -1,8 +1,8 @@
 //! What an object or a row tells of a list of moves.
 
+use crate::answer_objects::Name;
 use crate::endings::Ending;
 use crate::moves::letters_at;
-use crate::answer_objects::Name;
 use fc_answers::Verdict;
 use fc_json::{ToldList, review_object_text};
 use fc_review::{Finding, Rating, Review};

@@ -1,8 +1,8 @@
 //! `show`: a board is drawn.
 
 use crate::board_sources::{find_board, read_start};
-use crate::endings::Ending;
 use crate::command_games::InGame;
+use crate::endings::Ending;
 use crate::outputs::Out;
 use fc_moves::Game;
 use fc_runs::{Look, run_show};

@@ -1,12 +1,12 @@
 //! How `solve` and `best` tell an answer that isn't written as it is found.
 ghost use Rattle.fc_moves.specs.GameRules.{IsPositionOf};
 
-use crate::found_answers::Answered;
-use crate::endings::Ending;
 use crate::answer_forms::{Manner, tell_in_form, tell_whole};
+use crate::answer_objects::{Beside, Name, Searched, answer_line};
+use crate::endings::Ending;
+use crate::found_answers::Answered;
 use crate::hand_counts::by_hand_told;
 use crate::links::{PageLink, tell_link};
-use crate::answer_objects::{Beside, Name, Searched, answer_line};
 use crate::watching::Line;
 use fc_methods::Question;
 use fc_moves::Game;

@@ -14,7 +14,7 @@ use fc_moves::{Game, Move, read_move};
 use fc_position::Position;
 use fc_replay::{MoveGaps, ReplayFault, read_token};
 use fc_review::{WeaveFault, board_after, weave};
-use fc_runs::{ListWants, ListQuestion, ProgramFault, run_list};
+use fc_runs::{ListQuestion, ListWants, ProgramFault, run_list};
 use fc_text::Tokens;
 use std::alloc::{AllocError, Global};
 

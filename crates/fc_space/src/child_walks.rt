@@ -15,9 +15,9 @@ ghost use Rattle.fc_bound.specs.Rows.{IsTableOf};
 ghost use Rattle.fc_space.specs.Children.{frame_of, StandsAt};
 ghost use Rattle.fc_space.specs.inner.Lookups.{IsLookupOf};
 
+use crate::class_space::{ClassRules, child_by_copy};
 use crate::coded::code_after;
 use crate::lookups::Lookup;
-use crate::class_space::{ClassRules, child_by_copy};
 use crate::stays::lands;
 use arrayvec::ArrayVec;
 use fc_bound::{BoundKind, ColumnTable, Landing, Shown};

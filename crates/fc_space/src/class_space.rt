@@ -18,10 +18,10 @@ ghost use Rattle.fc_space.specs.Children.{frame_of, IsWalkIn, IsSettledChild, Is
 ghost use Rattle.fc_space.specs.inner.Children.{classes_in};
 ghost use Rattle.fc_space.specs.inner.Codes.{IsCodeAfter};
 
+use crate::child_walks::{Children, Standing};
 use crate::coded::settle_coded;
 use crate::lookups::Lookup;
 use crate::visits::list_moves;
-use crate::child_walks::{Children, Standing};
 use arrayvec::ArrayVec;
 use fc_best_first::{Child, Noted, Space};
 use fc_bound::{BoundKind, Shown};

@@ -2,14 +2,14 @@
 //! the ways that lead to them.
 #![tactic(auto)]
 
-pub use class_space::{ClassRules, Positions};
 pub use child_walks::Children;
+pub use class_space::{ClassRules, Positions};
 pub use ways::follow;
 
+mod child_walks;
+mod class_space;
 mod coded;
 mod lookups;
-mod class_space;
 mod stays;
 mod visits;
-mod child_walks;
 mod ways;

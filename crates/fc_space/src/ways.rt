@@ -10,8 +10,8 @@ ghost use Rattle.fc_space.specs.Children.{frame_of};
 ghost use Rattle.fc_space.specs.Ways.{LeadsWithin};
 ghost use Rattle.fc_space.specs.inner.Ways.{LeadsOn};
 
-use crate::coded::settle_coded;
 use crate::class_space::Positions;
+use crate::coded::settle_coded;
 use arrayvec::ArrayVec;
 use fc_codes::Code;
 use fc_moves::{Game, Move, apply, moves};

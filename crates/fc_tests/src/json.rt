@@ -1,7 +1,7 @@
 //! What is told of a board, as JSON.
 
 use crate::given::{must, sure};
-use fc_json::{ToldList, ToldBoard, object_text, review_object_text};
+use fc_json::{ToldBoard, ToldList, object_text, review_object_text};
 use std::alloc::Global;
 use std::process::Abort;
 

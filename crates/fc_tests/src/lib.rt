@@ -28,8 +28,6 @@ mod json;
 #[cfg(test)]
 mod moves;
 #[cfg(test)]
-mod typed;
-#[cfg(test)]
 mod position;
 pub mod queues;
 #[cfg(test)]
@@ -40,3 +38,5 @@ mod row_text;
 mod sequences;
 #[cfg(test)]
 mod text;
+#[cfg(test)]
+mod typed;

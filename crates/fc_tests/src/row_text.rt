@@ -72,7 +72,10 @@ fn rows_are_put_into_columns(rt: HostRuntime) {
 
 // A text in rows is too long, and without its first byte it is not.
 fn check_longest(rt: &impl Abort, text: &[u8]) {
-    must(rt, columns_of_row_text(text).err() == Some(RowTextFault::TooLong));
+    must(
+        rt,
+        columns_of_row_text(text).err() == Some(RowTextFault::TooLong),
+    );
     let shorter = text.get(1..).expect(rt, "a byte");
     must(rt, columns_of_row_text(shorter).is_ok());
 }

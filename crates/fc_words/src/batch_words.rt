@@ -7,11 +7,11 @@ ghost use Rattle.fc_words.specs.declared.options.TheConstants.{MOST_CELLS};
 use crate::board_words::{GUESS, ROWS, text};
 use crate::commands::{BatchBoards, BatchForm, BatchSearch, BatchWords};
 use crate::faults::WordsFault;
+use crate::name_places::place_of;
 use crate::options::{
     BATCH_BUDGET, BOUND, CELLS, EXPAND, GAME, KINGS, Kind, RULE, WITHIN, Word, best_search, game,
     search,
 };
-use crate::name_places::place_of;
 use crate::subcommands::Subcommand;
 use clap::ArgMatches;
 use std::alloc::Global;

@@ -2,13 +2,13 @@ ghost use Rattle.std.specs.Prelude.{IfOk};
 ghost use Rattle.fc_words.specs.Sound.{IsSoundCommand};
 
 use crate::batch_words::batch;
+use crate::clap_commands;
 use crate::commands::Command;
 use crate::faults::WordsFault;
 use crate::hint_words::hint;
 use crate::replay_words::replay;
 use crate::review_words::review;
 use crate::subcommands::{best, check, deal, show, solve};
-use crate::clap_commands;
 use crate::tasks::Task;
 use clap::ArgMatches;
 use std::alloc::Global;
