@@ -23,7 +23,7 @@ pub(crate) static REVIEWING: Subcommand = Subcommand {
     after_help: "Of a list that doesn't win it tells the last board that can be won and the move after which none
 can; of one that wins, how many moves the best solution found has, and the fewest that any has, as
 far as that is shown, and how many entries are left to a player's hands where cards go home by
-themselves. Moves home that the list leaves out are with_word in where it goes on only with them. A move
+themselves. Moves home that the list leaves out are put in where it goes on only with them. A move
 is two letters, or as in `3D to a`, `3D a`, `3-a`; numbers in front of moves are passed over.
 
 A file of --lists has a list a line, its board in front: `617: 1a 2b 3c 4d`. A row is printed of
