@@ -58,6 +58,7 @@ impl Frontier for EitherFrontier {
         self.push_tied(f, 0, node)
     }
 
+    #[inline(always)]
     fn push_tied(&mut self, f: u32, tie: u8, node: u32) -> Result<(), Full>
         ensures added { OnOk result (Adds (pairs_of_either self.old) (pairs_of_either self.new) (f, node)) }
         ensures refused { OnErr result (self.new ≡ self.old) }
@@ -71,6 +72,7 @@ impl Frontier for EitherFrontier {
         }
     }
 
+    #[inline(always)]
     fn pop_least(&mut self) -> Option<(u32, u32)>
         ensures taken { IfSome result (λ p. Adds (pairs_of_either self.new) (pairs_of_either self.old) p) }
         ensures least { IfSome result (λ p. IsLeast p (pairs_of_either self.old)) }

@@ -72,6 +72,7 @@ impl Stacks {
     }
 
     // Puts the pair before all of equal places.
+    #[inline(always)]
     pub fn push(&mut self, place: u32, node: u32) -> Result<(), Full>
         requires near { place < 524288 }
         ensures order { OnOk result (self.new ≡ inserted (place, node) self.old) }
@@ -86,6 +87,7 @@ impl Stacks {
     }
 
     // Takes out the first pair.
+    #[inline(always)]
     pub fn pop_least(&mut self) -> Option<(u32, u32)>
         ensures order { self.old ≡ option_to_list result ++ self.new }
         ensures none { IsNone result ↔ (self.old ≡ []) }
