@@ -166,6 +166,7 @@ impl<K: ExactKey, F: Frontier + Drop> Book<K, F> {
     }
 
     /// Takes out an open pair of least f; `None` exactly where none is open.
+    #[inline(always)]
     pub fn take(&mut self) -> Option<(u32, u32)>
         ensures taken { IfSome result (λ p. Adds self.new.waiting self.old.waiting p) }
         ensures least { IfSome result (λ p. IsLeast p self.old.waiting) }
@@ -234,6 +235,7 @@ impl<K: ExactKey, F: Frontier + Drop> Book<K, F> {
 
     /// Gives the key that is stored under a number another mark, and opens it. At `Err` a growth was refused, and nothing is
     /// known of the book.
+    #[inline(always)]
     pub fn lower(
         &mut self,
         strategy: &Strategy,
@@ -259,6 +261,7 @@ impl<K: ExactKey, F: Frontier + Drop> Book<K, F> {
 
     /// Opens the key with a number and this weighed cost again, at a later f, where its opening is noted. At `Err` a growth was
     /// refused, and nothing is known of the book.
+    #[inline(always)]
     pub fn reopen(&mut self, number: u32, cost: u32, later: u32) -> Result<(), Full>
         requires noted { number < length self.old.openings }
         requires above { cost ≤ later }
@@ -276,6 +279,7 @@ impl<K: ExactKey, F: Frontier + Drop> Book<K, F> {
 
     /// Stores a key that isn't stored with a mark, and opens it, where fewer than the budget are stored. At `Err` a growth was
     /// refused, and nothing is known of the book.
+    #[inline(always)]
     pub fn add(
         &mut self,
         strategy: &Strategy,
@@ -307,6 +311,7 @@ impl<K: ExactKey, F: Frontier + Drop> Book<K, F> {
     // Where the table is full, asks for three times the room that it has, and for all that the budget leaves once a sixteenth of
     // it is stored: so many keys more. Each growth makes the index anew, so few large ones are cheaper. What is refused here is
     // asked for again where a key is put in.
+    #[inline(always)]
     fn make_room(&mut self, most: usize)
         ensures same { self.new ≡ self.old }
     {

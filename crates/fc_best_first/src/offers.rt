@@ -75,6 +75,7 @@ fn most_within(weight: Weight, cost: u32, taken: u32) -> u8
 
 // What becomes of the child that a walk stands at, with this mark, by a number that is plain to see: it is put off where it is open at
 // more than was taken by that alone, but where its cost plus that reaches the limit. `None` where it is to be looked up.
+#[inline(always)]
 fn put_off<K: ExactKey, S: Space<K>>(
     space: &S,
     walk: &S::Walk,

@@ -104,6 +104,7 @@ fn is_first(strategy: &Strategy, taken: &Taken, noted: Noted) -> bool
 
 // Visits a key by what was taken, with what is noted of it: until when the children are put off together that are left out, if some are
 // and the limit leaves them.
+#[inline(always)]
 fn visit<K: ExactKey, S: Space<K>>(
     space: &S,
     walk: &mut S::Walk,
