@@ -7,19 +7,25 @@ use fc_io::testing::Failing;
 use fc_runs::{Far, Output, ProgramFault, Row, answer_row};
 use fc_search::{Method, Question, Sought};
 use fc_tests::boards::TWO_KINGS;
+use std::alloc::Global;
 use std::process::Abort;
+
+// The row of a board, of which this is sought, ends where its certificate can't be written.
+fn ends_uncertified(rt: &impl Abort, alloc: Global, sought: Sought) {
+    let game = free_cell(rt, 4);
+    let method = Method::shortest(home_rule(rt, 2), budget(rt, 100));
+    let question = Question::new(&game, sought, method);
+    let start = board(rt, &game, TWO_KINGS);
+    let mut cert = Failing::new(ToArray::<40>::new(), 3);
+    let row = answer_row(alloc, &question, &start, Some(&mut cert));
+    must(rt, row.err() == Some(ProgramFault::Write(Output::Cert)));
+    must(rt, cert.device.held() == b"FCC".as_slice());
+}
 
 #[test]
 fn certificates_that_cant_be_written_end_a_row(rt: HostRuntime) {
-    let game = free_cell(&rt, 4);
-    let method = Method::shortest(home_rule(&rt, 2), budget(&rt, 100));
-    let start = board(&rt, &game, TWO_KINGS);
     for sought in [Sought::ByMethod, Sought::Best] {
-        let question = Question::new(&game, sought, method);
-        let mut cert = Failing::new(ToArray::<40>::new(), 3);
-        let row = answer_row(rt.alloc(), &question, &start, Some(&mut cert));
-        must(&rt, row.err() == Some(ProgramFault::Write(Output::Cert)));
-        must(&rt, cert.device.held() == b"FCC".as_slice());
+        ends_uncertified(&rt, rt.alloc(), sought);
     }
 }
 
