@@ -9,7 +9,7 @@ use Rattle.std.proofs.lemmas.List.Sums.{sum_by-cons}
 use Rattle.fc_position.specs.Board.{count_in_column}
 use Rattle.fc_canonical.specs.Key.{column_bytes}
 use Rattle.fc_canonical.specs.Order.{column_order}
-use Rattle.fc_canonical.specs.inner.Parts.{due, AreColumns}
+use Rattle.fc_canonical.specs.inner.Parts.{times_due, AreColumns}
 use Rattle.fc_canonical.proofs.KeyLemmas.{column_once}
 
 -- the order of a list is that of its first element and the others
@@ -33,13 +33,13 @@ pub record FirstColumn (read : ℕ → ℕ) (order count : ℕ) (rest : List ℕ
   pub after : List ℕ
   pub bytes : rest ≡ column_bytes cards ++ after
   pub from : order ≤ column_order cards
-  pub most : (c : ℕ) → read c + count_in_column c cards ≤ due c
+  pub most : (c : ℕ) → read c + count_in_column c cards ≤ times_due c
   pub others : (new : ℕ → ℕ) → ((c : ℕ) → new c ≡ read c + count_in_column c cards)
       → AreColumns new (column_order cards) count after
 
 first_of : (read : ℕ → ℕ) (order count : ℕ) (rest : List ℕ) (columns : List (List ℕ)) → length columns ≡ count + 1
     → All (λ cards. order ≤ column_order cards) columns → IsNonDecreasingBy column_order columns
-    → ((c : ℕ) → read c + sum_by (count_in_column c) columns ≡ due c) → rest ≡ flat_map column_bytes columns
+    → ((c : ℕ) → read c + sum_by (count_in_column c) columns ≡ times_due c) → rest ≡ flat_map column_bytes columns
     → FirstColumn read order count rest
 first_of read order count rest [] many from rising each bytes = absurd (omega arith)
 first_of read order count rest (x ∷ xs) many from rising each bytes = record {
@@ -77,7 +77,7 @@ early_first read order n rest cards after some e early a =
     omega (arith, f.from, same)
 
 pub over_first : (read : ℕ → ℕ) (order n : ℕ) (rest cards after : List ℕ) → 0 < n → rest ≡ column_bytes cards ++ after
-    → ((c : ℕ) × (due c < read c + count_in_column c cards)) → AreColumns read order n rest → ⊥
+    → ((c : ℕ) × (times_due c < read c + count_in_column c cards)) → AreColumns read order n rest → ⊥
 over_first read order n rest cards after some e (c, over) a =
     let f = first_column read order n (n - 1) rest (omega arith) a in
     let same = ap (count_in_column c) (column_once f.cards cards f.after after (sym f.bytes ∙ e)).0 in

@@ -12,7 +12,7 @@ use Rattle.std.proofs.lemmas.Bool.Decides.{nat_tests}
 use Rattle.fc_cards.specs.Card.{rank, suit}
 use Rattle.fc_cards.specs.declared.places.Place.{Place}
 use Rattle.fc_cards.specs.declared.places.Place.TheVariants.{Column, Cell, Home}
-use Rattle.fc_position.specs.Board.{Board, column, cell, playable, lifted, placed, last_of, front_of, count_in_column, count_in_cell, IsNext}
+use Rattle.fc_position.specs.Board.{Board, column, cell, playable, board_without, board_with, last_of, front_of, count_in_column, count_in_cell, IsNext}
 use Rattle.fc_position.specs.Position.{IsPosition}
 use Rattle.fc_position.proofs.BoardLemmas.{column_there, columns-lifted, homes-lifted, front_last, places_most}
 use Rattle.fc_position.proofs.PlaceLemmas.{one_itself, one_column, in_column, source_once}
@@ -69,10 +69,10 @@ count-front_le : (cards : List ℕ) (u : ℕ) → count_in_column u (front_of ca
 count-front_le cards u = sum_by-take-le (λ x. cond (eqb x u) 1 0) cards (length cards - 1)
 
 -- a card of a column that is left by a lift was there before
-count-lifted : (b : Board) (from : Place) (u k : ℕ) → k < length b.columns → count_in_column u (column (lifted b from) k)
+count-lifted : (b : Board) (from : Place) (u k : ℕ) → k < length b.columns → count_in_column u (column (board_without b from) k)
     ≤ count_in_column u (column b k)
 count-lifted b (Column i) u k inside =
-    ⊎_elim (λ e. let here : column (lifted b (Column i)) k ≡ front_of (column b i) =
+    ⊎_elim (λ e. let here : column (board_without b (Column i)) k ≡ front_of (column b i) =
     rw e (get_or-set_same b.columns i (front_of (column b i)) [] (rw (sym e) inside)) in
     omega (arith, ap (count_in_column u) here, count-front_le (column b i) u, ap (λ n. count_in_column u (column b n)) e))
     (λ ne. let here = ap (count_in_column u) (get_or-set_other b.columns i k (front_of (column b i)) [] ne) in omega (arith, here))
@@ -89,10 +89,10 @@ alone b i j u (c ∷ rest) p other one two x y =
 
 stood_at : (b : Board) (n u j : ℕ) (source : Place) (v : ℕ) → IsPosition b → j ≢ n → last_of (column b n) ≡ Some u
     → playable b source ≡ Some v → j < length b.columns → n < length b.columns
-    → column (lifted b source) n ≡ column b j ++ u ∷ [] → Stays b (Column n) (Column j)
+    → column (board_without b source) n ≡ column b j ++ u ∷ [] → Stays b (Column n) (Column j)
 stood_at b n u j (Column i) v p apart last also one within at =
     ⊎_elim
-    (λ e. let here : column (lifted b (Column i)) n ≡ front_of (column b n) =
+    (λ e. let here : column (board_without b (Column i)) n ≡ front_of (column b n) =
     rw e (get_or-set_same b.columns i (front_of (column b i)) [] (rw (sym e) within)) in
     let less = get_or-le-sum_by (count_in_column u) b.columns n [] within in
     absurd (omega (
@@ -112,7 +112,7 @@ stood_at b n u j Home v p apart last also one within at = absurd (cc also)
 -- where it stood before, the card was alone
 stood : (b : Board) (from : Place) (u j : ℕ) (source : Place) (v n : ℕ) → IsPosition b → playable b from ≡ Some u
     → playable b source ≡ Some v → Joins from (Column j) → j < length b.columns → n < length b.columns
-    → column (lifted b source) n ≡ column b j ++ u ∷ [] → Stays b from (Column j)
+    → column (board_without b source) n ≡ column b j ++ u ∷ [] → Stays b from (Column j)
 stood b from u j source v n p there also joins one within at =
     let some : 1 ≤ count_in_column u (column b n) =
     omega (arith, ap (count_in_column u) at, count-pushed (column b j) u, count-lifted b source u n within) in
@@ -125,10 +125,10 @@ stood b from u j source v n p there also joins one within at =
 -- a column with a card put on it is what the other move makes, or it stood there before
 landed : (b : Board) (from : Place) (u j : ℕ) (source : Place) (v k : ℕ) → IsPosition b → playable b from ≡ Some u
     → playable b source ≡ Some v → Joins from (Column j) → Joins source (Column k) → j < length b.columns → k < length b.columns
-    → Contains (placed (lifted b source) v (Column k)).columns (column b j ++ u ∷ [])
+    → Contains (board_with (board_without b source) v (Column k)).columns (column b j ++ u ∷ [])
     → ((u ≡ v) × (column b j ≡ column b k)) ⊎ Stays b from (Column j)
 landed b from u j source v k p there also joins joined one two (n, inside, e) =
-    let x = lifted b source in
+    let x = board_without b source in
     let pushed = column x k ++ v ∷ [] in
     let long : length (set x.columns k pushed) ≡ length b.columns = length-set x.columns k pushed ∙ columns-lifted b source in
     let within : n < length b.columns = omega (arith, long) in
@@ -156,9 +156,9 @@ to_columns b from source u v j k p there also one two same e =
 
 -- the column that a move makes is among the columns of the other's result
 made : (x y : Board) (b : Board) (from : Place) (u j : ℕ) → Joins from (Column j) → j < length b.columns
-    → IsPermutation (placed (lifted b from) u (Column j)).columns y.columns → Contains y.columns (column b j ++ u ∷ [])
+    → IsPermutation (board_with (board_without b from) u (Column j)).columns y.columns → Contains y.columns (column b j ++ u ∷ [])
 made x y b from u j joins one perm =
-    let l = lifted b from in
+    let l = board_without b from in
     let pushed = column l j ++ u ∷ [] in
     let within : j < length l.columns = omega (arith, columns-lifted b from) in
     let inside : j < length (set l.columns j pushed) = omega (arith, length-set l.columns j pushed) in
@@ -168,7 +168,7 @@ made x y b from u j joins one perm =
     (subst (Contains (set l.columns j pushed)) at (Contains-get_or (set l.columns j pushed) j [] inside))
 
 -- a lift leaves no card more often in the cells
-cells-less : (b : Board) (from : Place) (u : ℕ) → sum_by (count_in_cell u) (lifted b from).cells ≤ sum_by (count_in_cell u) b.cells
+cells-less : (b : Board) (from : Place) (u : ℕ) → sum_by (count_in_cell u) (board_without b from).cells ≤ sum_by (count_in_cell u) b.cells
 cells-less b (Column i) u = omega arith
 cells-less b (Cell i) u =
     ⊎_elim (λ lt. omega (arith, sum_by-set (count_in_cell u) b.cells i None None lt))
@@ -206,22 +206,22 @@ same_home b u v four next also e =
 -- so moves that lead to one class are alike
 alike_from_class : (g : GameRules) (b : Board) (from to : Place) (u : ℕ) (source target : Place) (v : ℕ) → IsPosition b
     → playable b from ≡ Some u → playable b source ≡ Some v → Joins from to → Joins source target → Takes g b u to
-    → Takes g b v target → SameClass (placed (lifted b from) u to) (placed (lifted b source) v target)
+    → Takes g b v target → SameClass (board_with (board_without b from) u to) (board_with (board_without b source) v target)
     → AreAlike b from to source target
 alike_from_class g b from (Column j) u source (Column k) v p there also joins joined takes taken s =
     let one = landed b from u j source v k p there also joins joined takes.0 taken.0
-    (made b (placed (lifted b source) v (Column k)) b from u j joins takes.0 s.columns) in
+    (made b (board_with (board_without b source) v (Column k)) b from u j joins takes.0 s.columns) in
     let two = landed b source v k from u j p also there joined joins taken.0 takes.0
-    (made b (placed (lifted b from) u (Column j)) b source v k joined taken.0
-    (IsPermutation-sym (placed (lifted b from) u (Column j)).columns (placed (lifted b source) v (Column k)).columns s.columns)) in
+    (made b (board_with (board_without b from) u (Column j)) b source v k joined taken.0
+    (IsPermutation-sym (board_with (board_without b from) u (Column j)).columns (board_with (board_without b source) v (Column k)).columns s.columns)) in
     ⊎_elim (λ e. to_columns b from source u v j k p there also takes.0 taken.0 e.0 e.1)
     (λ stay. ⊎_elim (λ e. to_columns b from source u v j k p there also takes.0 taken.0 (sym e.0) (sym e.1))
     (λ both. inr (stay, both)) two) one
 alike_from_class g b (Column i) (Cell j) u source (Column k) v p there also joins joined takes taken s =
-    let same = sum_by-IsPermutation (count_in_cell u) (set b.cells j (Some u)) (lifted b source).cells s.cells in
+    let same = sum_by-IsPermutation (count_in_cell u) (set b.cells j (Some u)) (board_without b source).cells s.cells in
     absurd (omega (arith, same, cells-more b u u j takes.1 takes.2, cells-less b source u, one_itself u))
 alike_from_class g b from (Column j) u (Column i) (Cell k) v p there also joins joined takes taken s =
-    let same = sum_by-IsPermutation (count_in_cell v) (lifted b from).cells (set b.cells k (Some v)) s.cells in
+    let same = sum_by-IsPermutation (count_in_cell v) (board_without b from).cells (set b.cells k (Some v)) s.cells in
     absurd (omega (arith, same, cells-more b v v k taken.1 taken.2, cells-less b from v, one_itself v))
 alike_from_class g b (Column i) (Cell j) u (Column h) (Cell k) v p there also joins joined takes taken s =
     let same = sum_by-IsPermutation (count_in_cell u) (set b.cells j (Some u)) (set b.cells k (Some v)) s.cells in
@@ -235,13 +235,13 @@ alike_from_class g b from Home u source Home v p there also joins joined takes t
     let card = same_home b u v p.homes takes taken homes in
     inl (source_once b from source u p there (also ∙ ap (λ (n : ℕ). Some n) (sym card)), tt)
 alike_from_class g b from Home u source (Column k) v p there also joins joined takes taken s =
-    absurd (not_home b (lifted b source) u p.homes takes (ap (λ h. set h (suit u) (rank u)) (sym (homes-lifted b from)) ∙ s.homes) (homes-lifted b source))
+    absurd (not_home b (board_without b source) u p.homes takes (ap (λ h. set h (suit u) (rank u)) (sym (homes-lifted b from)) ∙ s.homes) (homes-lifted b source))
 alike_from_class g b from Home u source (Cell k) v p there also joins joined takes taken s =
-    absurd (not_home b (lifted b source) u p.homes takes (ap (λ h. set h (suit u) (rank u)) (sym (homes-lifted b from)) ∙ s.homes) (homes-lifted b source))
+    absurd (not_home b (board_without b source) u p.homes takes (ap (λ h. set h (suit u) (rank u)) (sym (homes-lifted b from)) ∙ s.homes) (homes-lifted b source))
 alike_from_class g b from (Column j) u source Home v p there also joins joined takes taken s =
-    absurd (not_home b (lifted b from) v p.homes taken (ap (λ h. set h (suit v) (rank v)) (sym (homes-lifted b source)) ∙ sym s.homes) (homes-lifted b from))
+    absurd (not_home b (board_without b from) v p.homes taken (ap (λ h. set h (suit v) (rank v)) (sym (homes-lifted b source)) ∙ sym s.homes) (homes-lifted b from))
 alike_from_class g b from (Cell j) u source Home v p there also joins joined takes taken s =
-    absurd (not_home b (lifted b from) v p.homes taken (ap (λ h. set h (suit v) (rank v)) (sym (homes-lifted b source)) ∙ sym s.homes) (homes-lifted b from))
+    absurd (not_home b (board_without b from) v p.homes taken (ap (λ h. set h (suit v) (rank v)) (sym (homes-lifted b source)) ∙ sym s.homes) (homes-lifted b from))
 alike_from_class g b (Cell i) (Cell j) u source target v p there also joins joined takes taken s = absurd joins
 alike_from_class g b Home (Cell j) u source target v p there also joins joined takes taken s = absurd (cc there)
 alike_from_class g b from to u (Cell i) (Cell k) v p there also joins joined takes taken s = absurd joined
@@ -257,15 +257,15 @@ only_card cards u last long =
 
 -- a move of a column's only card to an empty column leads to the class itself
 stay_class : (g : GameRules) (b : Board) (from to : Place) (u : ℕ) → playable b from ≡ Some u → Joins from to → Takes g b u to
-    → Stays b from to → SameClass b (placed (lifted b from) u to)
+    → Stays b from to → SameClass b (board_with (board_without b from) u to)
 stay_class g b (Column i) (Column j) u there joins takes (long, empty) =
     let inside = column_there b i u there in
     let only = only_card (column b i) u there long in
     let front : front_of (column b i) ≡ [] = ap front_of only in
-    let other : column (lifted b (Column i)) j ≡ [] = other_column b (Column i) j joins ∙ empty in
+    let other : column (board_without b (Column i)) j ≡ [] = other_column b (Column i) j joins ∙ empty in
     record {
-      columns = IsPermutation-swap b.columns (set (set b.columns i (front_of (column b i))) j (column (lifted b (Column i)) j ++ u ∷ [])) i j inside takes.0
-          (ap (λ l. set (set b.columns i l) j (column (lifted b (Column i)) j ++ u ∷ [])) (front ∙ sym empty)
+      columns = IsPermutation-swap b.columns (set (set b.columns i (front_of (column b i))) j (column (board_without b (Column i)) j ++ u ∷ [])) i j inside takes.0
+          (ap (λ l. set (set b.columns i l) j (column (board_without b (Column i)) j ++ u ∷ [])) (front ∙ sym empty)
           ∙ ap (λ l. set (set b.columns i (column b j)) j l) (ap (λ l. l ++ u ∷ []) other ∙ sym only)
           ∙ swap_is b.columns i j [] inside takes.0);
       cells = IsPermutation-refl b.cells;
@@ -278,12 +278,12 @@ stay_class g b Home to u there joins takes stay = absurd stay
 
 -- places of one kind take a card alike
 kind_alike : (g : GameRules) (b : Board) (from to target : Place) (u : ℕ) → Joins from to → Joins from target → Takes g b u to
-    → Takes g b u target → IsSameKind b to target → Alike (lifted b from) (lifted b from) to target
+    → Takes g b u target → IsSameKind b to target → Alike (board_without b from) (board_without b from) to target
 kind_alike g b from (Column i) (Column j) u joins joined takes taken kind =
     let long = columns-lifted b from in (
       omega (arith, long, takes.0),
       omega (arith, long, taken.0),
-      ⊎_elim (λ e. ap (column (lifted b from)) e)
+      ⊎_elim (λ e. ap (column (board_without b from)) e)
           (λ e. other_column b from i joins ∙ e.0 ∙ sym (other_column b from j joined ∙ e.1)) kind,
     )
 kind_alike g b (Column h) (Cell i) (Cell j) u joins joined takes taken kind = (takes.1, taken.1, takes.2 ∙ sym taken.2)
@@ -300,13 +300,13 @@ kind_alike g b from Home (Cell j) u joins joined takes taken kind = absurd kind
 -- one card to places of one kind leads to one class
 kind_class : (g : GameRules) (b : Board) (from source to target : Place) (u v : ℕ) → from ≡ source → u ≡ v → Joins from to
     → Joins source target → Takes g b u to → Takes g b v target → IsSameKind b to target
-    → SameClass (placed (lifted b from) u to) (placed (lifted b source) v target)
+    → SameClass (board_with (board_without b from) u to) (board_with (board_without b source) v target)
 kind_class g b from source to target u v e f joins joined takes taken kind =
     let taken_here : Takes g b u target = subst (λ n. Takes g b n target) (sym f) taken in
     let joined_here : Joins from target = subst (λ p. Joins p target) (sym e) joined in
-    subst (λ p. SameClass (placed (lifted b from) u to) (placed (lifted b p) v target)) e
-    (subst (λ n. SameClass (placed (lifted b from) u to) (placed (lifted b from) n target)) f
-    (class-placed (lifted b from) (lifted b from) u to target (class-refl (lifted b from))
+    subst (λ p. SameClass (board_with (board_without b from) u to) (board_with (board_without b p) v target)) e
+    (subst (λ n. SameClass (board_with (board_without b from) u to) (board_with (board_without b from) n target)) f
+    (class-placed (board_without b from) (board_without b from) u to target (class-refl (board_without b from))
     (kind_alike g b from to target u joins joined_here takes taken_here kind)))
 
 -- moves lead to one class exactly where they are alike
@@ -319,9 +319,9 @@ alike_class g b m n x y p s t = (
       rw (s.after, t.after) (kind_class g b m.from n.from m.to n.to s.card t.card e.0 card s.joins t.joins s.takes t.takes e.1))
       (λ e. let one = stay_class g b m.from m.to s.card s.playable s.joins s.takes e.0 in
       let two = stay_class g b n.from n.to t.card t.playable t.joins t.takes e.1 in
-      let left = placed (lifted b m.from) s.card m.to in
-      let right = placed (lifted b n.from) t.card n.to in
+      let left = board_with (board_without b m.from) s.card m.to in
+      let right = board_with (board_without b n.from) t.card n.to in
       rw (s.after, t.after) (class-trans left b right (class-sym b left one) two)) alike,
   λ same. alike_from_class g b m.from m.to s.card n.from n.to t.card p s.playable t.playable s.joins t.joins s.takes t.takes
-      (subst (λ z. SameClass z (placed (lifted b n.from) t.card n.to)) s.after (subst (λ z. SameClass x z) t.after same)),
+      (subst (λ z. SameClass z (board_with (board_without b n.from) t.card n.to)) s.after (subst (λ z. SameClass x z) t.after same)),
 )

@@ -8,7 +8,7 @@ use Rattle.fc_position.specs.Board.{Board, cell}
 use Rattle.fc_position.specs.Position.{IsPosition}
 use Rattle.fc_position.proofs.BoardLemmas.{cell_there, playable_below}
 use Rattle.fc_canonical.specs.Order.{IsCanonical, cell_byte}
-use Rattle.fc_canonical.specs.Spelled.{spelled}
+use Rattle.fc_canonical.specs.Spelled.{board_of_bytes}
 use Rattle.fc_moves.proofs.ClassLemmas.{class_positions}
 use Rattle.fc_moves.proofs.Rearrange.{one_full, full_most}
 use Rattle.fc_canonical.specs.Laws.{CanonicalBoardsFit, CanonicalBoardsFitByCount, KeysOfGamesByCells}
@@ -72,12 +72,12 @@ pub keys_by_cells : KeysOfGamesByCells
 keys_by_cells g key = (
   λ k. record {
     position = k.position.position;
-    few = (fits_by_count g.cells (spelled key) k.position.position k.ordered).0 k.position.fits;
+    few = (fits_by_count g.cells (board_of_bytes key) k.position.position k.ordered).0 k.position.fits;
     ordered = k.ordered;
     bytes = k.bytes;
   },
   λ k. record {
-    position = record { position = k.position; fits = (fits_by_count g.cells (spelled key) k.position k.ordered).1 k.few };
+    position = record { position = k.position; fits = (fits_by_count g.cells (board_of_bytes key) k.position k.ordered).1 k.few };
     ordered = k.ordered;
     bytes = k.bytes;
   },

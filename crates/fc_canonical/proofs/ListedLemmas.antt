@@ -5,7 +5,7 @@ use Rattle.std.proofs.lemmas.List.Elements.{Contains-get_or}
 use Rattle.std.proofs.lemmas.Bool.{cases_lt, cases_eq}
 use Rattle.fc_cards.specs.declared.places.Place.{Place}
 use Rattle.fc_cards.specs.declared.places.Place.TheVariants.{Column, Cell, Home}
-use Rattle.fc_position.specs.Board.{Board, column, cell, playable, lifted, placed, last_of}
+use Rattle.fc_position.specs.Board.{Board, column, cell, playable, board_without, board_with, last_of}
 use Rattle.fc_position.specs.Position.{IsPosition}
 use Rattle.fc_moves.specs.declared.steps.Move.{Move}
 use Rattle.fc_moves.specs.inner.GameLaws.{Contains-cases, Contains-first, Contains-later}
@@ -87,7 +87,7 @@ joins_empty b Home u j there empty = absurd (cc there)
 pub allows_to : (g : GameRules) (b : Board) (from to : Place) (u : ℕ) → playable b from ≡ Some u → Joins from to
     → Takes g b u to → Allows g b (record { from = from; to = to })
 allows_to g b from to u there joins takes = (
-  placed (lifted b from) u to,
+  board_with (board_without b from) u to,
   record { card = u; playable = there; joins = joins; takes = takes; after = refl },
 )
 

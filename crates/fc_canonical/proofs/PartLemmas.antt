@@ -11,8 +11,8 @@ use Rattle.fc_position.specs.Board.{Board, places, count_in_column, count_in_cel
 use Rattle.fc_position.specs.Position.{IsPosition}
 use Rattle.fc_canonical.specs.Key.{column_bytes, board_bytes}
 use Rattle.fc_canonical.specs.Order.{IsCanonical, cell_byte, full_cells}
-use Rattle.fc_canonical.specs.inner.Parts.{due, count_in_cells, AreCells, AreColumns}
-use Rattle.fc_canonical.specs.Spelled.{spelled, spelled_cell, IsKeyFor}
+use Rattle.fc_canonical.specs.inner.Parts.{times_due, count_in_cells, AreCells, AreColumns}
+use Rattle.fc_canonical.specs.Spelled.{board_of_bytes, spelled_cell, IsKeyFor}
 use Rattle.fc_canonical.proofs.KeyLemmas.{same_fronts, key_front, small_cells}
 use Rattle.fc_canonical.proofs.WrittenLemmas.{ordered_cells}
 use Rattle.fc_canonical.proofs.ReadLemmas.{counts_most}
@@ -77,19 +77,19 @@ are_split bytes front rest counts cells long first last one two =
 pub record AreParts (most : ℕ) (counts cells rest : List ℕ) : Type 0 where
   pub low : All (λ n. n ≤ 13) counts
   pub stand : AreCells most cells
-  pub few : (c : ℕ) → count_at_home c counts + count_in_cells c cells ≤ due c
+  pub few : (c : ℕ) → count_at_home c counts + count_in_cells c cells ≤ times_due c
   pub columns : (read : ℕ → ℕ) → ((c : ℕ) → read c ≡ count_at_home c counts + count_in_cells c cells) → AreColumns read 0 8 rest
 
 -- on a position each number has as many places as are due
-due_card : (c : ℕ) → c < 52 → due c ≡ 1
-unfolding due
+due_card : (c : ℕ) → c < 52 → times_due c ≡ 1
+unfolding times_due
 due_card c below = grind (arith, nat_tests)
 
-due_other : (c : ℕ) → 52 ≤ c → due c ≡ 0
-unfolding due
+due_other : (c : ℕ) → 52 ≤ c → times_due c ≡ 0
+unfolding times_due
 due_other c above = grind (arith, nat_tests)
 
-places_due : (b : Board) → IsPosition b → (c : ℕ) → places b c ≡ due c
+places_due : (b : Board) → IsPosition b → (c : ℕ) → places b c ≡ times_due c
 places_due b p c =
     ⊎_elim (λ below. p.once c below ∙ sym (due_card c below)) (λ above. p.no_other c above ∙ sym (due_other c above)) (cases_lt c 52)
 
@@ -99,7 +99,7 @@ key_of_parts : (most : ℕ) (bytes counts cells rest : List ℕ) (read : ℕ →
     → IsKeyFor most bytes
 key_of_parts most bytes counts cells rest read split stand each a =
     let b : Board = record { columns = a.columns; cells = map spelled_cell cells; homes = counts } in
-    let places : (c : ℕ) → places b c ≡ due c = λ c. omega (arith, each c, a.each c, counted_bytes c cells) in
+    let places : (c : ℕ) → places b c ≡ times_due c = λ c. omega (arith, each c, a.each c, counted_bytes c cells) in
     let p : IsPosition b = record {
       columns = a.many;
       cells = length-map cells spelled_cell ∙ split.also;
@@ -110,7 +110,7 @@ key_of_parts most bytes counts cells rest read split stand each a =
     let written : bytes ≡ board_bytes b =
     split.parts ∙ ap (λ l. counts ++ cells ++ l) a.bytes
     ∙ ap (λ l. counts ++ l ++ flat_map column_bytes a.columns) (sym (bytes_back cells)) in
-    let back : spelled bytes ≡ b = ap spelled written ∙ spelled_back b p in
+    let back : board_of_bytes bytes ≡ b = ap board_of_bytes written ∙ spelled_back b p in
     let ordered : IsCanonical b = record {
       columns = a.rising;
       cells = ordered_cells (map spelled_cell cells) (subst IsNonDecreasing (sym (bytes_back cells)) stand.rising);
@@ -136,7 +136,7 @@ cells_rise cells up i j d le inside =
 pub parts_of_key : (most : ℕ) (bytes counts cells rest : List ℕ) → AreSplit bytes counts cells rest → IsKeyFor most bytes
     → AreParts most counts cells rest
 parts_of_key most bytes counts cells rest split k =
-    let b = spelled bytes in
+    let b = board_of_bytes bytes in
     let p = k.position in
     let eight : length (counts ++ cells) ≡ 8 = omega (arith, length-append counts cells, split.four, split.also) in
     let head = same_fronts (counts ++ cells) (b.homes ++ map cell_byte b.cells) rest (flat_map column_bytes b.columns)
@@ -145,7 +145,7 @@ parts_of_key most bytes counts cells rest split k =
     let back : map spelled_cell cells ≡ b.cells = ap (map spelled_cell) front.1 ∙ cells_back b.cells (small_cells b p) in
     let in_cells : (c : ℕ) → count_in_cells c cells ≡ sum_by (count_in_cell c) b.cells = λ c.
     sym (counted_bytes c cells) ∙ ap (sum_by (count_in_cell c)) back in
-    let each : (c : ℕ) → sum_by (count_in_column c) b.columns + (count_at_home c counts + count_in_cells c cells) ≡ due c = λ c.
+    let each : (c : ℕ) → sum_by (count_in_column c) b.columns + (count_at_home c counts + count_in_cells c cells) ≡ times_due c = λ c.
     omega (arith, places_due b p c, in_cells c, ap (count_at_home c) front.0) in
     record {
       low = subst (All (λ n. n ≤ 13)) (sym front.0) (counts_most b p);
@@ -177,7 +177,7 @@ key_told most bytes counts cells rest home read told split stand at_home added l
 
 -- where a card stands too often at home and in cells, no key is told
 pub key_refused : (most : ℕ) (bytes counts cells rest : List ℕ) (home : ℕ → ℕ) (told : Bool) → AreSplit bytes counts cells rest
-    → ((c : ℕ) → home c ≡ count_at_home c counts) → told ≡ false → ((c : ℕ) × (due c < home c + count_in_cells c cells))
+    → ((c : ℕ) → home c ≡ count_at_home c counts) → told ≡ false → ((c : ℕ) × (times_due c < home c + count_in_cells c cells))
     → IsTrue told ↔ IsKeyFor most bytes
 key_refused most bytes counts cells rest home told split at_home none (c, over) = (
   λ t. absurd (false≢true (sym none ∙ t)),

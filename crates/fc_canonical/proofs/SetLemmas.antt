@@ -8,7 +8,7 @@ use Rattle.std.proofs.lemmas.Nat.{and_le_r, or_lt, one_shl, pow_below, pow_pos}
 use Rattle.std.proofs.lemmas.Nat.Bits.{bit_at_and, bit_at_or, bit_at_ones, bit_at_ones_above, bit_at_above, bit_at-lt, and_pow, bit_at_set_same, bit_at_set_other, same_from_bits_below}
 use Rattle.fc_cards.specs.Card.{rank, suit}
 use Rattle.fc_position.specs.Board.{count_at_home}
-use Rattle.fc_canonical.specs.inner.Parts.{times_in, due}
+use Rattle.fc_canonical.specs.inner.Parts.{times_in, times_due}
 
 -- where the bits of a mask are those of a suit, the cards below a rank have theirs among the lowest of them
 suit_bit : (mask s h c : ℕ) → agree_below (λ y. bit_at mask y == 1) (λ y. suit y == s) 52 ≡ true → c < 52
@@ -73,14 +73,14 @@ home_times counts p q r s four most ep eq er es c =
     (cases_lt c 52)
 
 -- a number that is no card, or was in the set, is there too often with one more
-pub no_card : (n k : ℕ) → 52 ≤ k → due k < times_in n k + 1
-unfolding due times_in
+pub no_card : (n k : ℕ) → 52 ≤ k → times_due k < times_in n k + 1
+unfolding times_due times_in
 no_card n k above =
     let none : ◌≡◌ {A = ℕ} (cond (ltb k 52) 1 0) 0 = grind (arith, nat_tests) in
     omega (arith, none)
 
-pub was_there : (n k : ℕ) → k < 52 → (bit_and n (1 * 2 ^ k % 2 ^ 64) ≡ 0 → ⊥) → due k < times_in n k + 1
-unfolding due times_in
+pub was_there : (n k : ℕ) → k < 52 → (bit_and n (1 * 2 ^ k % 2 ^ 64) ≡ 0 → ⊥) → times_due k < times_in n k + 1
+unfolding times_due times_in
 was_there n k below other =
     let one : ◌≡◌ {A = ℕ} (cond (ltb k 52) 1 0) 1 = grind (arith, nat_tests) in
     let bit = ap (bit_and n) (one_shl k 64 (omega arith)) ∙ and_pow n k in
@@ -116,9 +116,9 @@ set_below n k below small =
 
 -- the full set has each number as often as it is due, and no other set does
 pub full_set : (n : ℕ) → n < 2 ^ 52
-    → (IsTrue (nat_eq n 0xF_FFFF_FFFF_FFFF) → (c : ℕ) → times_in n c ≡ due c)
-    × (((c : ℕ) → times_in n c ≡ due c) → IsTrue (nat_eq n 0xF_FFFF_FFFF_FFFF))
-unfolding times_in due
+    → (IsTrue (nat_eq n 0xF_FFFF_FFFF_FFFF) → (c : ℕ) → times_in n c ≡ times_due c)
+    × (((c : ℕ) → times_in n c ≡ times_due c) → IsTrue (nat_eq n 0xF_FFFF_FFFF_FFFF))
+unfolding times_in times_due
 full_set n small =
     let each : (c : ℕ) → bit_at (2 ^ 52 - 1) c ≡ cond (ltb c 52) 1 0 = λ c.
     ⊎_elim

@@ -16,7 +16,7 @@ use Rattle.fc_canonical.specs.Order.{IsCanonical, cell_byte}
 use Rattle.fc_canonical.specs.inner.Parts.{IsSmall}
 use Rattle.fc_canonical.proofs.KeyLemmas.{small_cells, key_front, same_fronts, columns_once}
 use Rattle.fc_canonical.proofs.FitLemmas.{canonical_fits}
-use Rattle.fc_canonical.specs.Spelled.{spelled, spelled_cell, spelled_columns}
+use Rattle.fc_canonical.specs.Spelled.{board_of_bytes, spelled_cell, spelled_columns}
 use Rattle.fc_canonical.specs.Laws.{KeysSpellPositions, KeysBeginThemselves, FrontKeysSpellTheirBoard, ExtentsAreOne, FrontsHaveTheirExtent}
 
 -- each part is read back
@@ -41,8 +41,8 @@ columns_back (x ∷ xs) after =
     ∙ ap (λ l. x ∷ l) (columns_back xs after)
 
 -- the bytes of a position spell it, whatever follows
-pub spelled_front : (b : Board) (after : List ℕ) → IsPosition b → spelled (board_bytes b ++ after) ≡ b
-unfolding spelled
+pub spelled_front : (b : Board) (after : List ℕ) → IsPosition b → board_of_bytes (board_bytes b ++ after) ≡ b
+unfolding board_of_bytes
 spelled_front b after p =
     let cells : length (map cell_byte b.cells) ≡ 4 = length-map b.cells cell_byte ∙ p.cells in
     let columns = flat_map column_bytes b.columns ++ after in
@@ -58,20 +58,20 @@ spelled_front b after p =
     ap (take 4) behind ∙ take_at (map cell_byte b.cells) columns 4 cells in
     let last : drop 8 (board_bytes b ++ after) ≡ columns =
     ap (drop 8) eight ∙ drop_at (b.homes ++ map cell_byte b.cells) columns 8 (key_front b p) in
-    same_board (spelled (board_bytes b ++ after)) b
+    same_board (board_of_bytes (board_bytes b ++ after)) b
     (ap (spelled_columns 8) last ∙ ap (λ n. spelled_columns n columns) (sym p.columns) ∙ columns_back b.columns after)
     (ap (map spelled_cell) middle ∙ cells_back b.cells (small_cells b p)) homes
 
 -- the bytes of a position spell it
-pub spelled_back : (b : Board) → IsPosition b → spelled (board_bytes b) ≡ b
-spelled_back b p = ap spelled (sym (append-nil (board_bytes b))) ∙ spelled_front b [] p
+pub spelled_back : (b : Board) → IsPosition b → board_of_bytes (board_bytes b) ≡ b
+spelled_back b p = ap board_of_bytes (sym (append-nil (board_bytes b))) ∙ spelled_front b [] p
 
 -- the key of a position of the game spells a canonical position of the game, of the same class
 pub key_spells : KeysSpellPositions
 key_spells g b key p k =
     let c = k.canonical in
     let pc = canonical_fits g b c p k.class k.ordered in
-    let back : spelled key ≡ c = ap spelled k.bytes ∙ spelled_back c pc.position in (
+    let back : board_of_bytes key ≡ c = ap board_of_bytes k.bytes ∙ spelled_back c pc.position in (
       record {
         position = subst (IsPositionOf g) (sym back) pc;
         ordered = subst IsCanonical (sym back) k.ordered;
@@ -86,13 +86,13 @@ key_begins g key k = record {
   position = k.position.position;
   ordered = k.ordered;
   rest = [];
-  parts = k.bytes ∙ sym (append-nil (board_bytes (spelled key)));
+  parts = k.bytes ∙ sym (append-nil (board_bytes (board_of_bytes key)));
   size = ap length k.bytes;
 }
 
 -- bytes that begin with a key spell its board
 pub front_spells : FrontKeysSpellTheirBoard
-front_spells bytes b n x = ap spelled x.parts ∙ spelled_front b x.rest x.position
+front_spells bytes b n x = ap board_of_bytes x.parts ∙ spelled_front b x.rest x.position
 
 -- the extent by the length bytes is one
 pub extent_once : ExtentsAreOne

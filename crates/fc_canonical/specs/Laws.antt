@@ -6,7 +6,7 @@ use Rattle.fc_moves.specs.GameRules.{GameRules, IsPositionOf}
 use Rattle.fc_moves.specs.Class.{SameClass}
 use Rattle.fc_canonical.specs.Key.{longest_key, IsKeyOf, HasExtent, BeginsWithKey}
 use Rattle.fc_canonical.specs.Order.{IsCanonical, full_cells}
-use Rattle.fc_canonical.specs.Spelled.{IsKeyIn, IsKeyFor, spelled}
+use Rattle.fc_canonical.specs.Spelled.{IsKeyIn, IsKeyFor, board_of_bytes}
 
 -- a position's class has one canonical board
 abbrev pub ClassesHaveOneCanonicalBoard : Type 0
@@ -33,7 +33,7 @@ PositionsHaveKeys = (b : Board) → (key : List ℕ) × IsKeyOf b key
 -- the key of a position of the game spells a canonical position of the game, of the same class
 abbrev pub KeysSpellPositions : Type 0
 KeysSpellPositions = (g : GameRules) (b : Board) (key : List ℕ) → IsPositionOf g b → IsKeyOf b key
-    → IsKeyIn g key × SameClass b (spelled key)
+    → IsKeyIn g key × SameClass b (board_of_bytes key)
 
 -- a canonical board is a position of the game wherever any board of its class is one
 abbrev pub CanonicalBoardsFit : Type 0
@@ -57,11 +57,11 @@ KeysAreShort = (b : Board) (key : List ℕ) → IsPosition b → IsKeyOf b key �
 
 -- a key of the game is the key at its own front
 abbrev pub KeysBeginThemselves : Type 0
-KeysBeginThemselves = (g : GameRules) (key : List ℕ) → IsKeyIn g key → BeginsWithKey key (spelled key) (length key)
+KeysBeginThemselves = (g : GameRules) (key : List ℕ) → IsKeyIn g key → BeginsWithKey key (board_of_bytes key) (length key)
 
 -- bytes that begin with the key of a position spell it, whatever follows
 abbrev pub FrontKeysSpellTheirBoard : Type 0
-FrontKeysSpellTheirBoard = (bytes : List ℕ) (b : Board) (n : ℕ) → BeginsWithKey bytes b n → spelled bytes ≡ b
+FrontKeysSpellTheirBoard = (bytes : List ℕ) (b : Board) (n : ℕ) → BeginsWithKey bytes b n → board_of_bytes bytes ≡ b
 
 -- bytes are a key of the game exactly where they are one of whose cells at most as many as the game has hold a card
 abbrev pub KeysOfGamesByCells : Type 0

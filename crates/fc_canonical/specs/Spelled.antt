@@ -17,8 +17,8 @@ spelled_columns (suc count) [] = []
 spelled_columns (suc count) (size ∷ bytes) = take size bytes ∷ spelled_columns count (drop size bytes)
 
 -- the board that the bytes spell: four counts, four cells and eight columns
-unfoldable pub spelled : List ℕ → Board
-spelled bytes = record {
+unfoldable pub board_of_bytes : List ℕ → Board
+board_of_bytes bytes = record {
   columns = spelled_columns 8 (drop 8 bytes);
   cells = map spelled_cell (take 4 (drop 4 bytes));
   homes = take 4 bytes;
@@ -26,13 +26,13 @@ spelled bytes = record {
 
 -- the bytes are the key of a canonical position of the game
 pub record IsKeyIn (g : GameRules) (key : List ℕ) : Type 0 where
-  pub position : IsPositionOf g (spelled key)
-  pub ordered : IsCanonical (spelled key)
-  pub bytes : key ≡ board_bytes (spelled key)
+  pub position : IsPositionOf g (board_of_bytes key)
+  pub ordered : IsCanonical (board_of_bytes key)
+  pub bytes : key ≡ board_bytes (board_of_bytes key)
 
 -- the bytes are the key of a canonical position, of whose cells at most so many hold a card
 pub record IsKeyFor (cells : ℕ) (key : List ℕ) : Type 0 where
-  pub position : IsPosition (spelled key)
-  pub few : full_cells (spelled key) ≤ cells
-  pub ordered : IsCanonical (spelled key)
-  pub bytes : key ≡ board_bytes (spelled key)
+  pub position : IsPosition (board_of_bytes key)
+  pub few : full_cells (board_of_bytes key) ≤ cells
+  pub ordered : IsCanonical (board_of_bytes key)
+  pub bytes : key ≡ board_bytes (board_of_bytes key)

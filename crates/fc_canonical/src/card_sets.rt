@@ -2,7 +2,7 @@
 
 ghost use Rattle.std.specs.Prelude.{◌≡◌, false, ℕ, ◌+◌, ◌-◌, ◌*◌, ◌^◌, ◌<◌, ◌≤◌, ◌↔◌, IsTrue, All, length, Some};
 ghost use Rattle.fc_position.specs.Board.{count_in_column, count_in_cell, count_at_home};
-ghost use Rattle.fc_canonical.specs.inner.Parts.{times_in, due, count_in_cells};
+ghost use Rattle.fc_canonical.specs.inner.Parts.{times_in, times_due, count_in_cells};
 
 use std::marker::Model;
 
@@ -52,7 +52,7 @@ impl CardSet {
     // Whether each card is in it.
     #[inline]
     pub(crate) fn is_full(&self) -> bool
-        ensures value { IsTrue result ↔ ((c : ℕ) → times_in self.now c ≡ due c) }
+        ensures value { IsTrue result ↔ ((c : ℕ) → times_in self.now c ≡ times_due c) }
     {
         self.bits == ALL
     }
@@ -61,7 +61,7 @@ impl CardSet {
     #[inline]
     pub(crate) fn insert(&mut self, card: u8) -> bool
         ensures added { IsTrue result → (c : ℕ) → times_in self.new c ≡ times_in self.old c + count_in_cell c (Some card) }
-        ensures refused { result ≡ false → due card < times_in self.old card + 1 }
+        ensures refused { result ≡ false → times_due card < times_in self.old card + 1 }
     {
         if card >= 52 {
             return false;
@@ -78,7 +78,7 @@ impl CardSet {
     #[inline]
     pub(crate) fn insert_all(&mut self, cards: &[u8]) -> bool
         ensures added { IsTrue result → (c : ℕ) → times_in self.new c ≡ times_in self.old c + count_in_column c cards.now }
-        ensures refused { result ≡ false → (c : ℕ) × (due c < times_in self.old c + count_in_column c cards.now) }
+        ensures refused { result ≡ false → (c : ℕ) × (times_due c < times_in self.old c + count_in_column c cards.now) }
     {
         for card in cards {
             if !self.insert(*card) {
@@ -92,7 +92,7 @@ impl CardSet {
     #[inline]
     pub(crate) fn insert_cells(&mut self, cells: &[u8]) -> bool
         ensures added { IsTrue result → (c : ℕ) → times_in self.new c ≡ times_in self.old c + count_in_cells c cells.now }
-        ensures refused { result ≡ false → (c : ℕ) × (due c < times_in self.old c + count_in_cells c cells.now) }
+        ensures refused { result ≡ false → (c : ℕ) × (times_due c < times_in self.old c + count_in_cells c cells.now) }
     {
         for byte in cells {
             if *byte != 255 && !self.insert(*byte) {

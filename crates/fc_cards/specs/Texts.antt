@@ -20,6 +20,10 @@ suit_letter s = slice_index (codes "CDHS") s
 abbrev pub card_text : ℕ → List ℕ
 card_text c = rank_letter (rank c) ∷ suit_letter (suit c) ∷ []
 
+-- a line is ended by LF
+abbrev pub with_line_end : List ℕ → List ℕ
+with_line_end line = line ++ 10 ∷ []
+
 -- a suit is read from its letter, in either case
 abbrev pub IsSuitText : ℕ → ℕ → Type 0
 IsSuitText s byte = to_ascii_uppercase byte ≡ suit_letter s

@@ -6,7 +6,7 @@ use Rattle.fc_position.specs.Board.{Board}
 use Rattle.fc_position.specs.Position.{IsPosition}
 use Rattle.fc_moves.proofs.BackLemmas.{same_board}
 use Rattle.fc_codes.specs.State.{IsCodeOf}
-use Rattle.fc_codes.specs.Spelled.{lying_on, grown, filled, deepest_cards, cell_cards, home_cards, board_of_code}
+use Rattle.fc_codes.specs.Spelled.{lying_on, chain_from, with_padding, deepest_cards, cell_cards, home_cards, board_of_code}
 use Rattle.fc_codes.specs.declared.seats.Seats.{Seats}
 use Rattle.fc_codes.specs.inner.Bits.{cards_of}
 use Rattle.fc_codes.specs.inner.Seats.{AreSeatsOf}
@@ -14,7 +14,7 @@ use Rattle.fc_codes.proofs.BitLemmas.{least_first}
 use Rattle.fc_codes.proofs.LawLemmas.{is_spelled}
 
 -- what is filled up to n has at most n elements
-few_filled : {X : Type 0} (n : ℕ) (e : X) (xs : List X) → length (filled n e xs) ≡ n → length xs ≤ n
+few_filled : {X : Type 0} (n : ℕ) (e : X) (xs : List X) → length (with_padding n e xs) ≡ n → length xs ≤ n
 few_filled n e xs long = omega (arith, long, length-append xs (replicate (n - length xs) e))
 
 -- a position's code has no more deepest cards than columns, and no more cards in cells than cells
@@ -23,8 +23,8 @@ unfolding board_of_code
 few_deepest s b code ps pb k =
     let eight = (is_spelled s b code ps pb k).position.columns in
     let cards = deepest_cards s code in
-    let few = few_filled 8 [] (map (λ c. grown (lying_on s code) 52 (Some c)) cards) eight in
-    omega (arith, few, length-map cards (λ c. grown (lying_on s code) 52 (Some c)))
+    let few = few_filled 8 [] (map (λ c. chain_from (lying_on s code) 52 (Some c)) cards) eight in
+    omega (arith, few, length-map cards (λ c. chain_from (lying_on s code) 52 (Some c)))
 
 pub few_in_cells : (s b : Board) (code : List ℕ) → IsPosition s → IsPosition b → IsCodeOf s b code → length (cell_cards code) ≤ 4
 unfolding board_of_code

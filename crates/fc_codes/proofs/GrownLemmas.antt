@@ -9,7 +9,7 @@ use Rattle.fc_cards.specs.Card.{all_cards}
 use Rattle.fc_position.specs.Board.{Board, column}
 use Rattle.fc_position.specs.Position.{IsPosition}
 use Rattle.fc_codes.specs.State.{StandsOn, IsCodeOf}
-use Rattle.fc_codes.specs.Spelled.{seat, lying_on, grown}
+use Rattle.fc_codes.specs.Spelled.{seat, lying_on, chain_from}
 use Rattle.fc_codes.proofs.StandLemmas.{stands_once, standing_below}
 use Rattle.fc_codes.proofs.BeneathLemmas.{last_or-push}
 use Rattle.fc_codes.proofs.SeatLemmas.{seat-stands, seat_found, stands_beneath, seat_card}
@@ -57,8 +57,8 @@ lying_one s code x n y e below at only =
     (λ z low high other. let ne : seat s code z ≢ x = λ same. other (only z (omega (arith, e, high)) same) in
     grind (arith, nat_tests))
 
-pub grown_none : (next : ℕ → Option ℕ) (count : ℕ) → grown next count None ≡ []
-unfolding grown
+pub grown_none : (next : ℕ → Option ℕ) (count : ℕ) → chain_from next count None ≡ []
+unfolding chain_from
 grown_none next zero = refl
 grown_none next (suc count) = refl
 
@@ -76,14 +76,14 @@ module _ (s b : Board) (code : List ℕ) (ps : IsPosition s) (pb : IsPosition b)
       (q.above, (stands_once b x below on.0 pb p r).2)
 
   pub grows_to : (above below : List ℕ) (j x count : ℕ) → column b j ≡ below ++ x ∷ above → length above < count
-      → grown (lying_on s code) count (Some x) ≡ x ∷ above
-  unfolding grown
+      → chain_from (lying_on s code) count (Some x) ≡ x ∷ above
+  unfolding chain_from
   grows_to above below j x zero at few = absurd (omega arith)
   grows_to [] below j x (suc count) at few =
       let none : lying_on s code x ≡ None =
       lying_none s code x 52 refl (λ z small lies_on. let first = on_first j x z below [] at small lies_on in
       let e = first.1 in cc) in
-      ap (λ o. x ∷ grown (lying_on s code) count o) none ∙ ap (λ l. x ∷ l) (grown_none (lying_on s code) count)
+      ap (λ o. x ∷ chain_from (lying_on s code) count o) none ∙ ap (λ l. x ∷ l) (grown_none (lying_on s code) count)
   grows_to (y ∷ ys) below j x (suc count) at few =
       let next : column b j ≡ (below ++ x ∷ []) ++ y ∷ ys = at ∙ sym (append_assoc below (x ∷ []) (y ∷ ys)) in
       let q : StandsOn b (below ++ x ∷ []) y = record { number = j; above = ys; cards = next } in
@@ -91,5 +91,5 @@ module _ (s b : Board) (code : List ℕ) (ps : IsPosition s) (pb : IsPosition b)
       let one : lying_on s code x ≡ Some y =
       lying_one s code x 52 y refl (standing_below b (below ++ x ∷ []) y pb q) there
       (λ z small lies_on. let first = on_first j x z below (y ∷ ys) at small lies_on in let e = first.1 in cc) in
-      ap (λ o. x ∷ grown (lying_on s code) count o) one
+      ap (λ o. x ∷ chain_from (lying_on s code) count o) one
       ∙ ap (λ l. x ∷ l) (grows_to ys (below ++ x ∷ []) j y count next (omega arith))

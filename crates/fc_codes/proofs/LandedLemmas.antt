@@ -8,7 +8,7 @@ use Rattle.std.proofs.lemmas.Bool.Decides.{nat_tests}
 use Rattle.fc_cards.specs.Card.{rank, suit}
 use Rattle.fc_cards.specs.declared.places.Place.{Place}
 use Rattle.fc_cards.specs.declared.places.Place.TheVariants.{Column, Cell, Home}
-use Rattle.fc_position.specs.Board.{Board, column, lifted, placed, Receives, last_of, front_of}
+use Rattle.fc_position.specs.Board.{Board, column, board_without, board_with, Receives, last_of, front_of}
 use Rattle.fc_position.specs.Position.{IsPosition}
 use Rattle.fc_position.proofs.BoardLemmas.{front_last, position-moved, homes-lifted}
 use Rattle.fc_moves.specs.declared.steps.Move.{Move}
@@ -121,8 +121,8 @@ module _ (s b c : Board) (code : List ℕ) (u : ℕ) (m : Move) (x : Moves s cod
   same_card : x.step.card ≡ u
   same_card = let one = x.step.playable in let two = x.playable in cc
 
-  pub after : c ≡ placed (lifted b m.from) u m.to
-  after = x.step.after ∙ ap (λ y. placed (lifted b m.from) y m.to) same_card
+  pub after : c ≡ board_with (board_without b m.from) u m.to
+  after = x.step.after ∙ ap (λ y. board_with (board_without b m.from) y m.to) same_card
 
   takes : Takes x.game b u m.to
   takes = subst (λ y. Takes x.game b y m.to) same_card x.step.takes
@@ -134,48 +134,48 @@ module _ (s b c : Board) (code : List ℕ) (u : ℕ) (m : Move) (x : Moves s cod
   whole_after = subst IsPosition (sym after) (position-moved b m.from u m.to x.position x.playable receives)
 
   -- what the place takes, it takes when the card is lifted
-  receives_then : Receives (lifted b m.from) u m.to
+  receives_then : Receives (board_without b m.from) u m.to
   receives_then = receives_still b m.from m.to u x.step.joins receives
 
   keeps : (y : ℕ) → y ≢ u → Keeps b c y
   keeps y other = subst (λ d. Keeps b d y) (sym after)
-      (keeps_both b (lifted b m.from) (placed (lifted b m.from) u m.to) y (lifted_keeps b m.from u y x.playable other)
-      (placed_keeps (lifted b m.from) u m.to y (ap length (homes-lifted b m.from) ∙ x.position.homes) receives_then other))
+      (keeps_both b (board_without b m.from) (board_with (board_without b m.from) u m.to) y (lifted_keeps b m.from u y x.playable other)
+      (placed_keeps (board_without b m.from) u m.to y (ap length (homes-lifted b m.from) ∙ x.position.homes) receives_then other))
 
   -- where the card goes to this place
-  goes : (to : Place) → m.to ≡ to → c ≡ placed (lifted b m.from) u to
-  goes to e = after ∙ ap (placed (lifted b m.from) u) e
+  goes : (to : Place) → m.to ≡ to → c ≡ board_with (board_without b m.from) u to
+  goes to e = after ∙ ap (board_with (board_without b m.from) u) e
 
-  receives_at : (to : Place) → m.to ≡ to → Receives (lifted b m.from) u to
-  receives_at to e = subst (Receives (lifted b m.from) u) e receives_then
+  receives_at : (to : Place) → m.to ≡ to → Receives (board_without b m.from) u to
+  receives_at to e = subst (Receives (board_without b m.from) u) e receives_then
 
   coded : (n : ℕ) → IsStateOf s c u n → IsCodeOf s c (set code u n)
   coded n state = code_changed s b c code u n keeps x.coded state
 
   pub home_after : m.to ≡ Home → IsStateOf s c u 1
   home_after e =
-      let homes : c.homes ≡ set (lifted b m.from).homes (suit u) (rank u) = ap (λ d. d.homes) (goes Home e) in
-      let four : length (lifted b m.from).homes ≡ 4 = ap length (homes-lifted b m.from) ∙ x.position.homes in
+      let homes : c.homes ≡ set (board_without b m.from).homes (suit u) (rank u) = ap (λ d. d.homes) (goes Home e) in
+      let four : length (board_without b m.from).homes ≡ 4 = ap length (homes-lifted b m.from) ∙ x.position.homes in
       let here : slice_index c.homes (suit u) ≡ rank u =
-      ap (λ h. slice_index h (suit u)) homes ∙ get_or-set_same (lifted b m.from).homes (suit u) (rank u) 0 (omega (arith, four)) in
+      ap (λ h. slice_index h (suit u)) homes ∙ get_or-set_same (board_without b m.from).homes (suit u) (rank u) 0 (omega (arith, four)) in
       at_home refl (omega (arith, here))
 
   pub cell_after : (j : ℕ) → m.to ≡ Cell j → IsStateOf s c u 2
   cell_after j e =
-      let cells : c.cells ≡ set (lifted b m.from).cells j (Some u) = ap (λ d. d.cells) (goes (Cell j) e) in
+      let cells : c.cells ≡ set (board_without b m.from).cells j (Some u) = ap (λ d. d.cells) (goes (Cell j) e) in
       in_cell refl (record {
         number = j;
         held = ap (λ l. get_or l j None) cells
-            ∙ get_or-set_same (lifted b m.from).cells j (Some u) None (receives_at (Cell j) e).0;
+            ∙ get_or-set_same (board_without b m.from).cells j (Some u) None (receives_at (Cell j) e).0;
       })
 
   -- the column to which the card goes ends with it
   column_after : (j : ℕ) → m.to ≡ Column j → column c j ≡ column b j ++ u ∷ []
   column_after j e =
-      let columns : c.columns ≡ set (lifted b m.from).columns j (column (lifted b m.from) j ++ u ∷ []) =
+      let columns : c.columns ≡ set (board_without b m.from).columns j (column (board_without b m.from) j ++ u ∷ []) =
       ap (λ d. d.columns) (goes (Column j) e) in
       ap (λ l. get_or l j []) columns
-      ∙ get_or-set_same (lifted b m.from).columns j (column (lifted b m.from) j ++ u ∷ []) [] (receives_at (Column j) e)
+      ∙ get_or-set_same (board_without b m.from).columns j (column (board_without b m.from) j ++ u ∷ []) [] (receives_at (Column j) e)
       ∙ ap (λ l. l ++ u ∷ []) (other_column b m.from j (subst (Joins m.from) e x.step.joins))
 
   pub table_after : (j : ℕ) → IsPosition s → m.to ≡ Column j → column b j ≡ [] → IsStateOf s c u (table_state s u)

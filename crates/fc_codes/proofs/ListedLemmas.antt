@@ -4,7 +4,7 @@ use Rattle.std.specs.Prelude.{filter}
 use Rattle.std.specs.List.{range_with_len}
 use Rattle.std.proofs.lemmas.List.{same_lists, length-replicate, get_or-replicate, length-map}
 use Rattle.fc_cards.specs.Card.{all_cards}
-use Rattle.fc_codes.specs.Spelled.{filled}
+use Rattle.fc_codes.specs.Spelled.{with_padding}
 
 -- keys rise, those below 52 are apart and not below a; the elements are made of their keys, which are those that pass; the
 -- others are empty
@@ -98,7 +98,7 @@ listed_is {X = X} key p make e (suc n) a xs whole l =
 
 -- so a list of n elements is that of its keys, filled up
 pub listed_filled : {X : Type 0} (key : X → ℕ) (p : ℕ → Bool) (make : ℕ → X) (e : X) (n : ℕ) (xs : List X) → length xs ≡ n
-    → IsListed key p make e 0 xs → xs ≡ filled n e (map make (filter p all_cards))
+    → IsListed key p make e 0 xs → xs ≡ with_padding n e (map make (filter p all_cards))
 unfolding all_cards
 listed_filled key p make e n xs long l =
     let cards = filter p (range_with_len 0 52) in

@@ -7,7 +7,7 @@ use Rattle.std.proofs.lemmas.Bool.{cases_eq}
 use Rattle.fc_cards.specs.Card.{rank, suit}
 use Rattle.fc_cards.specs.declared.places.Place.{Place}
 use Rattle.fc_cards.specs.declared.places.Place.TheVariants.{Column, Cell, Home}
-use Rattle.fc_position.specs.Board.{Board, column, cell, playable, lifted, placed, Receives, IsHome, IsNext, last_of, front_of}
+use Rattle.fc_position.specs.Board.{Board, column, cell, playable, board_without, board_with, Receives, IsHome, IsNext, last_of, front_of}
 use Rattle.fc_position.proofs.BoardLemmas.{front_last, column_there, columns-lifted}
 use Rattle.fc_moves.specs.Step.{Joins}
 use Rattle.fc_codes.specs.State.{StandsOn}
@@ -57,26 +57,26 @@ cell_kept : (xs : List (Option ℕ)) (k j : ℕ) (v : Option ℕ) (x : ℕ) → 
     → get_or (set xs j v) k None ≡ Some x
 cell_kept xs k j v x held other = get_or-set_other xs j k v None other ∙ held
 
-lifted_grows : (b : Board) (i u : ℕ) → last_of (column b i) ≡ Some u → Grows (lifted b (Column i)) b i u
+lifted_grows : (b : Board) (i u : ℕ) → last_of (column b i) ≡ Some u → Grows (board_without b (Column i)) b i u
 lifted_grows b i u last =
-    let here : column (lifted b (Column i)) i ≡ front_of (column b i) =
+    let here : column (board_without b (Column i)) i ≡ front_of (column b i) =
     get_or-set_same b.columns i (front_of (column b i)) [] (column_there b i u last) in
     record {
       here = front_last (column b i) u last ∙ ap (λ l. l ++ u ∷ []) (sym here);
       others = λ j other. sym (get_or-set_other b.columns i j (front_of (column b i)) [] other);
     }
 
-placed_grows : (b : Board) (j u : ℕ) → j < length b.columns → Grows b (placed b u (Column j)) j u
+placed_grows : (b : Board) (j u : ℕ) → j < length b.columns → Grows b (board_with b u (Column j)) j u
 placed_grows b j u inside = record {
   here = get_or-set_same b.columns j (column b j ++ u ∷ []) [] inside;
   others = λ k other. get_or-set_other b.columns j k (column b j ++ u ∷ []) [] other;
 }
 
 -- lifting a card moves no other
-pub lifted_keeps : (b : Board) (from : Place) (u x : ℕ) → playable b from ≡ Some u → x ≢ u → Keeps b (lifted b from) x
+pub lifted_keeps : (b : Board) (from : Place) (u x : ℕ) → playable b from ≡ Some u → x ≢ u → Keeps b (board_without b from) x
 lifted_keeps b (Column i) u x there apart = record {
-  stands = λ w p. grows_back (lifted b (Column i)) b i u x w (lifted_grows b i u there) apart p;
-  back = λ w p. grows_stands (lifted b (Column i)) b i u x w (lifted_grows b i u there) p;
+  stands = λ w p. grows_back (board_without b (Column i)) b i u x w (lifted_grows b i u there) apart p;
+  back = λ w p. grows_stands (board_without b (Column i)) b i u x w (lifted_grows b i u there) p;
   cells = λ q. record { number = q.number; held = q.held };
   homes = λ h. h;
 }
@@ -105,10 +105,10 @@ home_kept homes u x four next h =
 
 -- placing a card moves no other
 pub placed_keeps : (b : Board) (u : ℕ) (to : Place) (x : ℕ) → length b.homes ≡ 4 → Receives b u to → x ≢ u
-    → Keeps b (placed b u to) x
+    → Keeps b (board_with b u to) x
 placed_keeps b u (Column j) x four there apart = record {
-  stands = λ w p. grows_stands b (placed b u (Column j)) j u x w (placed_grows b j u there) p;
-  back = λ w p. grows_back b (placed b u (Column j)) j u x w (placed_grows b j u there) apart p;
+  stands = λ w p. grows_stands b (board_with b u (Column j)) j u x w (placed_grows b j u there) p;
+  back = λ w p. grows_back b (board_with b u (Column j)) j u x w (placed_grows b j u there) apart p;
   cells = λ q. record { number = q.number; held = q.held };
   homes = λ h. h;
 }
@@ -136,7 +136,7 @@ keeps_both b c d x k l = record {
 }
 
 -- what can take a card can take it when the card is lifted
-pub receives_still : (b : Board) (from to : Place) (u : ℕ) → Joins from to → Receives b u to → Receives (lifted b from) u to
+pub receives_still : (b : Board) (from to : Place) (u : ℕ) → Joins from to → Receives b u to → Receives (board_without b from) u to
 receives_still b (Column i) (Column j) u joins there = omega (arith, there, columns-lifted b (Column i))
 receives_still b (Column i) (Cell j) u joins r = r
 receives_still b (Column i) Home u joins r = r

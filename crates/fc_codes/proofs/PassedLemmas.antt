@@ -11,7 +11,7 @@ use Rattle.fc_cards.specs.Card.{suit, all_cards}
 use Rattle.fc_position.specs.Board.{Board}
 use Rattle.fc_position.specs.Position.{IsPosition}
 use Rattle.fc_codes.specs.State.{IsCodeOf}
-use Rattle.fc_codes.specs.Spelled.{beneath, filled, seat, lying_on}
+use Rattle.fc_codes.specs.Spelled.{beneath, with_padding, seat, lying_on}
 use Rattle.fc_codes.specs.declared.seats.Seats.{Seats}
 use Rattle.fc_codes.specs.inner.Beneath.{card_at}
 use Rattle.fc_codes.specs.inner.Seats.{seat_until, home_among, IsBare, AreSeatsUntil, AreSeatsOf}
@@ -91,7 +91,7 @@ all_passed s code k d seats still so_far = record {
   lies = λ c small before some below. so_far.lies c small (earlier c before some) some below;
   deepest = λ c small. so_far.deepest c small ∙ ap (λ x. cond (eqb x 52) 1 0) (sym (until_passed s code k d c still));
   moved = λ c small. so_far.moved c small ∙ marks c;
-  cells = so_far.cells ∙ ap (λ l. filled 4 None (map (λ (c : ℕ). Some c) l)) (sym (cells_passed code k d still));
+  cells = so_far.cells ∙ ap (λ l. with_padding 4 None (map (λ (c : ℕ). Some c) l)) (sym (cells_passed code k d still));
   four = so_far.four;
   held = so_far.held ∙ ap length (sym (cells_passed code k d still));
   homes = so_far.homes
@@ -165,7 +165,7 @@ module _ (s b : Board) (code : List ℕ) (ps : IsPosition s) (pb : IsPosition b)
           moved = λ c small. so_far.moved c small ∙ marked c (slice_index code c) (omega (arith, all, small));
         };
         cells = so_far.cells
-            ∙ ap (λ l. filled 4 None (map (λ (c : ℕ). Some c) l))
+            ∙ ap (λ l. with_padding 4 None (map (λ (c : ℕ). Some c) l))
             (ap (λ n. filter (λ c. eqb (slice_index code c) 2) (range_with_len 0 n)) (sym e) ∙ cells_passed code 52 (k - 52) still);
         homes = so_far.homes ∙ ap (λ n. map (home_among code (range_with_len 0 n)) (0 ∷ 1 ∷ 2 ∷ 3 ∷ [])) (sym e)
             ∙ four_same (home_among code (range_with_len 0 (52 + (k - 52)))) (home_among code (range_with_len 0 52))

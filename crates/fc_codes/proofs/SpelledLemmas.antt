@@ -9,7 +9,7 @@ use Rattle.fc_position.proofs.BoardLemmas.{column_most, cell_there}
 use Rattle.fc_canonical.specs.Order.{column_order, cell_byte, IsCanonical}
 use Rattle.fc_moves.proofs.BackLemmas.{same_board}
 use Rattle.fc_codes.specs.State.{StandsOn, IsCodeOf}
-use Rattle.fc_codes.specs.Spelled.{seat, lying_on, grown, deepest_cards, cell_cards, board_of_code}
+use Rattle.fc_codes.specs.Spelled.{seat, lying_on, chain_from, deepest_cards, cell_cards, board_of_code}
 use Rattle.fc_codes.proofs.StandLemmas.{stands_once, standing_below, column_inside, in_cell_once, in_cell_below}
 use Rattle.fc_codes.proofs.StateLemmas.{cell_state, state_cell}
 use Rattle.fc_codes.proofs.SeatLemmas.{seat-stands, seat_found, seat_table}
@@ -35,7 +35,7 @@ module _ (s b : Board) (code : List ℕ) (ps : IsPosition s) (pb : IsPosition b)
       absurd (omega (arith, small, high))
 
   columns_listed : IsCanonical b
-      → IsListed column_order (λ c. eqb (seat s code c) 52) (λ c. grown (lying_on s code) 52 (Some c)) [] 0 b.columns
+      → IsListed column_order (λ c. eqb (seat s code c) 52) (λ c. chain_from (lying_on s code) 52 (Some c)) [] 0 b.columns
   columns_listed o = record {
     rises = λ i j d lt inside. o.columns i j d (omega (arith, lt)) inside;
     apart = λ i j d lt inside low same.
@@ -112,7 +112,7 @@ module _ (s b : Board) (code : List ℕ) (ps : IsPosition s) (pb : IsPosition b)
   unfolding board_of_code deepest_cards cell_cards
   spelled_is o =
       same_board b (board_of_code s code)
-      (listed_filled column_order (λ c. eqb (seat s code c) 52) (λ c. grown (lying_on s code) 52 (Some c)) [] 8 b.columns pb.columns
+      (listed_filled column_order (λ c. eqb (seat s code c) 52) (λ c. chain_from (lying_on s code) 52 (Some c)) [] 8 b.columns pb.columns
       (columns_listed o))
       (listed_filled cell_byte (λ c. eqb (slice_index code c) 2) (λ (c : ℕ). Some c) None 4 b.cells pb.cells (cells_listed o))
       (homes_counted s b code pb k)

@@ -9,7 +9,7 @@ use Rattle.fc_position.specs.Board.{Board, column}
 use Rattle.fc_position.specs.Position.{IsPosition}
 use Rattle.fc_position.proofs.BoardLemmas.{column_most}
 use Rattle.fc_codes.specs.State.{AreMoved, StandsOn, IsUnmoved, IsCodeOf}
-use Rattle.fc_codes.specs.Spelled.{beneath, seat, lying_on, grown, filled, deepest_cards, board_of_code}
+use Rattle.fc_codes.specs.Spelled.{beneath, seat, lying_on, chain_from, with_padding, deepest_cards, board_of_code}
 use Rattle.fc_codes.specs.inner.Beneath.{AreHeadsOf}
 use Rattle.fc_codes.specs.inner.Seats.{IsBare, AreOver, AreStacksOf}
 use Rattle.fc_codes.specs.inner.Stacks.{HasBegun}
@@ -139,10 +139,10 @@ module _ (s b : Board) (code : List ℕ) (ps : IsPosition s) (pb : IsPosition b)
         let cards = ap length in_board.cards in
         let all = length-append front (x ∷ above) in
         let size = length-take-le n (column s j) (omega (arith, inside)) in
-        let whole : grown (lying_on s code) 52 (Some c) ≡ c ∷ tail.0 =
+        let whole : chain_from (lying_on s code) 52 (Some c) ≡ c ∷ tail.0 =
         grows_to s b code ps pb coded tail.0 [] in_board.number c 52 (in_board.cards ∙ tail.1)
         (let both = ap length tail.1 in omega (arith, long, cards, both)) in
-        let upper : grown (lying_on s code) (52 - length front) (Some x) ≡ x ∷ above =
+        let upper : chain_from (lying_on s code) (52 - length front) (Some x) ≡ x ∷ above =
         grows_to s b code ps pb coded above front in_board.number x (52 - length front) in_board.cards (omega (arith, long, cards, all)) in
         let more : take (n + 1) (column s j) ≡ front ++ x ∷ [] =
         take_more (column s j) n x inside ∙ ap (λ y. front ++ y ∷ []) (sym at) in
@@ -166,13 +166,13 @@ card_is n c e =
 
 -- what a column is to be that has these cards so far, the last of which is told
 abbrev grows_at : Board → List ℕ → ℕ → List ℕ → List ℕ
-grows_at s code last cards = cards ++ grown (lying_on s code) (52 - length cards) (lying_on s code last)
+grows_at s code last cards = cards ++ chain_from (lying_on s code) (52 - length cards) (lying_on s code last)
 
 -- a column grows: with the card that comes next, and those on it, it is what it is to be, and the others are as they were
 pub record Grows (s : Board) (code : List ℕ) (i last : ℕ) (old columns : List (List ℕ)) (next : ℕ) : Type 0 where
   pub count : length columns ≡ 8
   pub others : columns ≡ set old i (get_or columns i [])
-  pub built : get_or columns i [] ++ grown (lying_on s code) (52 - length (get_or columns i [])) (card_of next)
+  pub built : get_or columns i [] ++ chain_from (lying_on s code) (52 - length (get_or columns i [])) (card_of next)
       ≡ grows_at s code last (get_or old i [])
   pub bare : next < 52 → IsBare s code next
 
@@ -183,7 +183,7 @@ module _ (s b : Board) (code : List ℕ) (ps : IsPosition s) (pb : IsPosition b)
   grows_first i last index old eight below at bare = record {
     count = eight;
     others = sym (set-get_or old i []);
-    built = ap (λ o. get_or old i [] ++ grown (lying_on s code) (52 - length (get_or old i [])) o)
+    built = ap (λ o. get_or old i [] ++ chain_from (lying_on s code) (52 - length (get_or old i [])) o)
         (ap (λ x. card_of (get_or table x 0)) at ∙ told.above last below bare);
     bare = λ small. let same = ap (λ x. get_or table x 0) at in
         bare_next s b code ps pb coded last (get_or table index 0) bare small
@@ -208,7 +208,7 @@ module _ (s b : Board) (code : List ℕ) (ps : IsPosition s) (pb : IsPosition b)
           others = push ∙ ap (λ l. set l i (cards ++ card ∷ [])) g.others ∙ set-set old i cards (cards ++ card ∷ [])
               ∙ ap (set old i) (sym here);
           built = grown_next (lying_on s code) card cards (get_or new i []) (card_of (get_or table index 0)) here room next_is
-              ∙ ap (λ p. cards ++ grown (lying_on s code) (52 - length cards) p) (sym some ∙ is) ∙ g.built;
+              ∙ ap (λ p. cards ++ chain_from (lying_on s code) (52 - length cards) p) (sym some ∙ is) ∙ g.built;
           bare = λ small. let same = ap (λ x. get_or table x 0) at in
               bare_next s b code ps pb coded card (get_or table index 0) bare small
               (ap (seat s code) same ∙ told.there card below (omega (arith, small, same)));
@@ -290,10 +290,10 @@ get_filled m (x ∷ xs) zero = refl
 get_filled m (x ∷ xs) (suc i) = get_filled m xs i
 
 abbrev built : Board → List ℕ → ℕ → List ℕ
-built s code c = grown (lying_on s code) 52 (Some c)
+built s code c = chain_from (lying_on s code) 52 (Some c)
 
 -- the column with a number, by the deepest cards
-columns_are : (s : Board) (code : List ℕ) → (board_of_code s code).columns ≡ filled 8 [] (map (built s code) (deepest_cards s code))
+columns_are : (s : Board) (code : List ℕ) → (board_of_code s code).columns ≡ with_padding 8 [] (map (built s code) (deepest_cards s code))
 unfolding board_of_code
 columns_are s code = refl
 
@@ -327,10 +327,10 @@ one_done s code i v columns new inside at is done m below =
 -- a column more, once begun and what grows on it
 pub column_done : (s : Board) (code : List ℕ) (i c last : ℕ) (columns begun new : List (List ℕ)) → i < length columns
     → HasBegun s code c i columns last begun → i < length (deepest_cards s code) → c ≡ get_or (deepest_cards s code) i c
-    → new ≡ set begun i (get_or begun i [] ++ grown (lying_on s code) (52 - length (get_or begun i [])) (lying_on s code last))
+    → new ≡ set begun i (get_or begun i [] ++ chain_from (lying_on s code) (52 - length (get_or begun i [])) (lying_on s code last))
     → AreDone s code i columns → (length new ≡ length columns) × AreDone s code (i + 1) new
 column_done s code i c last columns begun new inside is here at grow done =
-    let grows = λ (l : List ℕ). l ++ grown (lying_on s code) (52 - length l) (lying_on s code last) in
+    let grows = λ (l : List ℕ). l ++ chain_from (lying_on s code) (52 - length l) (lying_on s code last) in
     let there : get_or begun i [] ≡ is.front = ap (λ l. get_or l i []) is.laid ∙ get_or-set_same columns i is.front [] inside in
     let all : new ≡ set columns i (grows is.front) =
     grow ∙ ap (λ l. set begun i (grows l)) there ∙ ap (λ l. set l i (grows is.front)) is.laid

@@ -12,7 +12,7 @@ use Rattle.fc_cards.specs.Card.{suit}
 use Rattle.fc_position.specs.Board.{Board}
 use Rattle.fc_position.specs.Position.{IsPosition}
 use Rattle.fc_codes.specs.State.{IsStateOf, IsCodeOf}
-use Rattle.fc_codes.specs.Spelled.{beneath, filled, seat_of, seat}
+use Rattle.fc_codes.specs.Spelled.{beneath, with_padding, seat_of, seat}
 use Rattle.fc_codes.specs.declared.seats.Seats.{Seats}
 use Rattle.fc_codes.specs.inner.Seats.{seat_until, home_among, AreMovedUntil, AreSeatsUntil}
 use Rattle.fc_codes.proofs.GatherLemmas.{range-more, homes_more}
@@ -75,9 +75,9 @@ not_in_cell_now : {X : Type 0} (n : ℕ) (x y : X) → n ≢ 2 → cond (eqb n 2
 not_in_cell_now n x y e = let no_ : eqb n 2 ≡ false = grind (arith, nat_tests) in ap (λ t. cond t x y) no_
 
 cells_next : (code : List ℕ) (k n : ℕ) (old new : List (Option ℕ)) (held more : ℕ) → n ≡ slice_index code k
-    → old ≡ filled 4 None (map (λ (c : ℕ). Some c) (cells_until code k)) → held ≡ length (cells_until code k) → (n ≡ 2 → held < 4)
+    → old ≡ with_padding 4 None (map (λ (c : ℕ). Some c) (cells_until code k)) → held ≡ length (cells_until code k) → (n ≡ 2 → held < 4)
     → new ≡ cond (eqb n 2) (set old held (Some k)) old → more ≡ cond (eqb n 2) (held + 1) held
-    → (new ≡ filled 4 None (map (λ (c : ℕ). Some c) (cells_until code (k + 1)))) × (more ≡ length (cells_until code (k + 1)))
+    → (new ≡ with_padding 4 None (map (λ (c : ℕ). Some c) (cells_until code (k + 1)))) × (more ≡ length (cells_until code (k + 1)))
 cells_next code k n old new held more state before count room cells next =
     let front = cells_until code k in
     let after = until_more code k ∙ ap (λ m. front ++ cond (eqb m 2) (k ∷ []) []) (sym state) in
@@ -86,13 +86,13 @@ cells_next code k n old new held more state before count room cells next =
     let long : length (map (λ (c : ℕ). Some c) front) ≡ held = length-map front (λ (c : ℕ). Some c) ∙ sym count in (
       cells ∙ in_cell_now n (set old held (Some k)) old e ∙ ap (λ l. set l held (Some k)) before
           ∙ filled_push 4 None (map (λ (c : ℕ). Some c) front) (Some k) held long (room e)
-          ∙ ap (filled 4 None) (sym (map-append (λ (c : ℕ). Some c) front (k ∷ [])) ∙ ap (map (λ (c : ℕ). Some c)) (sym added)),
+          ∙ ap (with_padding 4 None) (sym (map-append (λ (c : ℕ). Some c) front (k ∷ [])) ∙ ap (map (λ (c : ℕ). Some c)) (sym added)),
       next ∙ in_cell_now n (held + 1) held e ∙ ap (λ m. m + 1) count ∙ sym (length_push front k) ∙ ap length (sym added),
     ))
     (λ ne. let same : cells_until code (k + 1) ≡ front =
     after ∙ ap (λ l. front ++ l) (not_in_cell_now n (k ∷ []) [] ne) ∙ append-nil front in (
       cells ∙ not_in_cell_now n (set old held (Some k)) old ne ∙ before
-          ∙ ap (λ l. filled 4 None (map (λ (c : ℕ). Some c) l)) (sym same),
+          ∙ ap (λ l. with_padding 4 None (map (λ (c : ℕ). Some c) l)) (sym same),
       next ∙ not_in_cell_now n (held + 1) held ne ∙ count ∙ ap length (sym same),
     ))
     (cases_eq n 2)

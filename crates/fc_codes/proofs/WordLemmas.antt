@@ -6,7 +6,7 @@ use Rattle.std.specs.Cmp.Lexicographic.{pointwise, pointwise_decides}
 use Rattle.std.proofs.lemmas.List.{get_or-set_same, get_or-set_other, length-set, ext_get_or, get_or_past}
 use Rattle.std.proofs.lemmas.Nat.{and_mask, mul-le, shr_le, shr_split, shl_whole}
 use Rattle.std.proofs.lemmas.Bool.{cases_eq, cases_lt}
-use Rattle.fc_codes.specs.Words.{digit, read_state, unpacked, word_of, words_of, halved}
+use Rattle.fc_codes.specs.Words.{digit, read_state, numbers_of, word_of, words_of, halves_of_words}
 use Rattle.fc_codes.specs.inner.Words.{with_number, AreWords}
 use Rattle.fc_codes.proofs.DigitLemmas.{digit_past}
 use Rattle.fc_codes.specs.inner.Packing.{place_value, digit-suc, unpacked-at, length-unpacked, words_back, words_told}
@@ -93,7 +93,7 @@ abbrev pub set_state : List ℕ → ℕ → ℕ → List ℕ
 set_state words c v = set words (c / 21) (with_number (get_or words (c / 21) 0) (c % 21) v)
 
 pub read-set_state : (words : List ℕ) (c v d : ℕ) → length words ≡ 3 → c < 52 → v < 8 → d < 52
-    → read_state (set_state words c v) d ≡ get_or (set (unpacked words) c v) d 0
+    → read_state (set_state words c v) d ≡ get_or (set (numbers_of words) c v) d 0
 read-set_state words c v d three below few small =
     let k = c / 21 in
     let new = with_number (get_or words k 0) (c % 21) v in
@@ -103,9 +103,9 @@ read-set_state words c v d three below few small =
     ap (λ n. get_or (set_state words c v) (n / 21) 0) same ∙ get_or-set_same words k new 0 inside in
     ap (λ n. digit n (d % 21)) word ∙ ap (λ n. digit new (n % 21)) same
     ∙ digit-with_same (get_or words k 0) (c % 21) v few
-    ∙ sym (ap (λ n. get_or (set (unpacked words) c v) n 0) same
-    ∙ get_or-set_same (unpacked words) c v 0 (omega (arith, length-unpacked words, below))))
-    (λ other. let there = get_or-set_other (unpacked words) c d v 0 other ∙ unpacked-at words d small in
+    ∙ sym (ap (λ n. get_or (set (numbers_of words) c v) n 0) same
+    ∙ get_or-set_same (numbers_of words) c v 0 (omega (arith, length-unpacked words, below))))
+    (λ other. let there = get_or-set_other (numbers_of words) c d v 0 other ∙ unpacked-at words d small in
     ⊎_elim
     (λ same. let word : get_or (set_state words c v) (d / 21) 0 ≡ new =
     ap (λ n. get_or (set_state words c v) n 0) same ∙ get_or-set_same words k new 0 inside in
@@ -117,11 +117,11 @@ read-set_state words c v d three below few small =
     (cases_eq d c)
 
 pub unpacked-set_state : (words : List ℕ) (c v : ℕ) → length words ≡ 3 → c < 52 → v < 8
-    → unpacked (set_state words c v) ≡ set (unpacked words) c v
+    → numbers_of (set_state words c v) ≡ set (numbers_of words) c v
 unpacked-set_state words c v three below few =
     let long = length-unpacked (set_state words c v) in
-    ext_get_or 0 (unpacked (set_state words c v)) (set (unpacked words) c v)
-    (long ∙ sym (length-set (unpacked words) c v ∙ length-unpacked words))
+    ext_get_or 0 (numbers_of (set_state words c v)) (set (numbers_of words) c v)
+    (long ∙ sym (length-set (numbers_of words) c v ∙ length-unpacked words))
     (λ d inside. let small : d < 52 = omega (arith, long, inside) in
     unpacked-at (set_state words c v) d small ∙ read-set_state words c v d three below few small)
 
@@ -162,7 +162,7 @@ zero_word (suc zero) = refl
 zero_word (suc (suc zero)) = refl
 zero_word (suc (suc (suc k))) = refl
 
-pub zero_state : (c : ℕ) → c < 52 → get_or (unpacked zeros) c 0 ≡ 0
+pub zero_state : (c : ℕ) → c < 52 → get_or (numbers_of zeros) c 0 ≡ 0
 zero_state c below =
     let none = shr_le 0 (3 * (c % 21)) in
     let word = ap (λ w. digit w (c % 21)) (zero_word (c / 21)) in
@@ -170,7 +170,7 @@ zero_state c below =
     omega (arith, none, word, at)
 
 -- the three words of a list
-pub words_are : (words states : List ℕ) → AreWords words → unpacked words ≡ states
+pub words_are : (words states : List ℕ) → AreWords words → numbers_of words ≡ states
     → (word_of states 0 21 ≡ get_or words 0 0) × (word_of states 21 21 ≡ get_or words 1 0) × (word_of states 42 10 ≡ get_or words 2 0)
 words_are words states h e =
     let back = ap words_of (sym e) ∙ words_back words h in
@@ -184,12 +184,12 @@ same_tests false true f g = g refl
 same_tests false false f g = refl
 
 pub compared : (words others : List ℕ) → AreWords words → AreWords others
-    → pointwise nat_eq words others ≡ pointwise nat_eq (unpacked words) (unpacked others)
+    → pointwise nat_eq words others ≡ pointwise nat_eq (numbers_of words) (numbers_of others)
 compared words others h i =
     let w = pointwise_decides unsigned_Decides words others in
-    let u = pointwise_decides unsigned_Decides (unpacked words) (unpacked others) in
-    same_tests (pointwise nat_eq words others) (pointwise nat_eq (unpacked words) (unpacked others))
-    (λ e. u.1 (ap unpacked (w.0 e))) (λ e. w.1 (words_told words others h i (u.0 e)))
+    let u = pointwise_decides unsigned_Decides (numbers_of words) (numbers_of others) in
+    same_tests (pointwise nat_eq words others) (pointwise nat_eq (numbers_of words) (numbers_of others))
+    (λ e. u.1 (ap numbers_of (w.0 e))) (λ e. w.1 (words_told words others h i (u.0 e)))
 
 -- a word of three tells the states of its cards, and no more
 pub word_fits : (words : List ℕ) (k : ℕ) → AreWords words → k < 3 → get_or words k 0 < 2 ^ 63
@@ -199,7 +199,7 @@ word_fits words (suc (suc zero)) h below = let few = h.third in omega (arith, fe
 word_fits words (suc (suc (suc k))) h below = absurd (omega arith)
 
 pub word_state : (words : List ℕ) (k i : ℕ) → AreWords words → k < 3 → i < 21
-    → digit (get_or words k 0) i ≡ get_or (unpacked words) (21 * k + i) 0
+    → digit (get_or words k 0) i ≡ get_or (numbers_of words) (21 * k + i) 0
 word_state words k i h below few =
     let word : (21 * k + i) / 21 ≡ k = omega (arith, few) in
     let rest : (21 * k + i) % 21 ≡ i = omega (arith, few) in
@@ -209,13 +209,13 @@ word_state words k i h below few =
     (λ past. let last : k ≡ 2 = omega (arith, past, below, few) in
     let small : get_or words k 0 < 2 ^ (3 * 10) = subst (λ n. get_or words n 0 < 2 ^ 30) (sym last) h.third in
     digit_past (get_or words k 0) 10 i small (omega (arith, past, last))
-    ∙ sym (get_or_past (unpacked words) (21 * k + i) 0 (omega (arith, length-unpacked words, past))))
+    ∙ sym (get_or_past (numbers_of words) (21 * k + i) 0 (omega (arith, length-unpacked words, past))))
     (cases_lt (21 * k + i) 52)
 
 -- five numbers are the halves of three words
 pub five_are : (words : List ℕ) (a b c d e : ℕ) → a ≡ get_or words 0 0 % 2 ^ 32 → b ≡ get_or words 0 0 / 2 ^ 32
     → c ≡ get_or words 1 0 % 2 ^ 32 → d ≡ get_or words 1 0 / 2 ^ 32 → e ≡ get_or words 2 0 % 2 ^ 32
-    → a ∷ b ∷ c ∷ d ∷ e ∷ [] ≡ halved words
+    → a ∷ b ∷ c ∷ d ∷ e ∷ [] ≡ halves_of_words words
 five_are words a b c d e one two three four five =
     let first = get_or words 0 0 in
     let second = get_or words 1 0 in

@@ -26,10 +26,10 @@ unfoldable pub lying_on : Board → List ℕ → ℕ → Option ℕ
 lying_on s code x = fold (λ found c. if seat s code c == x then Some c else found) None all_cards
 
 -- a card, the card that `next` tells of it, the one that it tells of that, and so on, at most so many
-unfoldable pub grown : (ℕ → Option ℕ) → ℕ → Option ℕ → List ℕ
-grown next zero card = []
-grown next (suc count) None = []
-grown next (suc count) (Some c) = c ∷ grown next count (next c)
+unfoldable pub chain_from : (ℕ → Option ℕ) → ℕ → Option ℕ → List ℕ
+chain_from next zero card = []
+chain_from next (suc count) None = []
+chain_from next (suc count) (Some c) = c ∷ chain_from next count (next c)
 
 -- the cards that are deepest in a column by a code, and those in a cell, by rising number
 unfoldable pub deepest_cards : Board → List ℕ → List ℕ
@@ -43,14 +43,14 @@ unfoldable pub home_cards : List ℕ → ℕ → ℕ
 home_cards code u = count_by (λ c. (suit c == u) && (slice_index code c == 1)) all_cards
 
 -- the list, and `empty` after it up to so many elements
-abbrev pub filled : {X : Type 0} → ℕ → X → List X → List X
-filled n empty xs = xs ++ replicate (n - length xs) empty
+abbrev pub with_padding : {X : Type 0} → ℕ → X → List X → List X
+with_padding n empty xs = xs ++ replicate (n - length xs) empty
 
 -- the board that a code spells, where s is the board at the start: columns by rising deepest card, each made of that card
 -- and those that lie on it one after the other, and cells by rising card; empty ones last
 unfoldable pub board_of_code : Board → List ℕ → Board
 board_of_code s code = record {
-  columns = filled 8 [] (map (λ c. grown (lying_on s code) 52 (Some c)) (deepest_cards s code));
-  cells = filled 4 None (map (λ c. Some c) (cell_cards code));
+  columns = with_padding 8 [] (map (λ c. chain_from (lying_on s code) 52 (Some c)) (deepest_cards s code));
+  cells = with_padding 4 None (map (λ c. Some c) (cell_cards code));
   homes = map (home_cards code) (0 ∷ 1 ∷ 2 ∷ 3 ∷ []);
 }

@@ -4,7 +4,7 @@ ghost use Rattle.fc_position.specs.Board.{Board};
 ghost use Rattle.fc_moves.specs.declared.steps.Move.{Move};
 ghost use Rattle.fc_codes.specs.Moved.{Moves};
 ghost use Rattle.fc_codes.specs.State.{IsCodeOf};
-ghost use Rattle.fc_codes.specs.Words.{digit, unpacked};
+ghost use Rattle.fc_codes.specs.Words.{digit, numbers_of};
 ghost use Rattle.fc_codes.specs.inner.Words.{AreWords, with_number};
 
 use fc_cards::Card;
@@ -23,17 +23,17 @@ pub struct Code {
 
 impl Model for Code {
     ghost use Rattle.std.specs.Prelude.{ℕ, List};
-    ghost use Rattle.fc_codes.specs.Words.{unpacked, words_of, joined, halved};
+    ghost use Rattle.fc_codes.specs.Words.{numbers_of, words_of, words_of_halves, halves_of_words};
     ghost use Rattle.fc_codes.specs.inner.Words.{AreHalves};
     ghost use Rattle.fc_codes.specs.inner.Packing.{halves_back};
 
     ghost Value = { List ℕ };
 
-    ghost view = { λ c. unpacked (joined c.halves) };
+    ghost view = { λ c. numbers_of (words_of_halves c.halves) };
 
     ghost invariant = { λ c. AreHalves c.halves };
 
-    ghost inverse = { λ states. record { halves = halved (words_of states) } };
+    ghost inverse = { λ states. record { halves = halves_of_words (words_of states) } };
 
     ghost inverse_ok = { λ c h i. record { halves = halves_back c.halves h i } };
 }
@@ -88,7 +88,7 @@ impl Code {
     // The three words.
     #[inline(always)]
     fn words(&self) -> [u64; 3]
-        ensures value { unpacked result ≡ self.now }
+        ensures value { numbers_of result ≡ self.now }
         ensures words { AreWords result }
     {
         let [a, b, c, d, e] = self.halves;
@@ -99,7 +99,7 @@ impl Code {
     #[inline(always)]
     fn of(words: [u64; 3]) -> Code
         requires words { AreWords words }
-        ensures value { result ≡ unpacked words }
+        ensures value { result ≡ numbers_of words }
     {
         let [first, second, third] = words;
         Code {

@@ -6,7 +6,7 @@ ghost use Rattle.std.specs.Int.{bit_at};
 ghost use Rattle.fc_position.specs.Board.{Board};
 ghost use Rattle.fc_position.specs.Columns.{cards_at};
 ghost use Rattle.fc_position.specs.Position.{IsPosition};
-ghost use Rattle.fc_codes.specs.Spelled.{board_of_code, deepest_cards, grown, lying_on, seat};
+ghost use Rattle.fc_codes.specs.Spelled.{board_of_code, deepest_cards, chain_from, lying_on, seat};
 ghost use Rattle.fc_codes.specs.State.{AreMoved, IsCodeOf};
 ghost use Rattle.fc_codes.specs.inner.Seats.{AreOver, AreStacksOf, IsBare};
 ghost use Rattle.fc_codes.specs.inner.Stacks.{HasBegun};
@@ -116,7 +116,7 @@ impl Layout {
         requires bare { IsBare self.now code.now last }
         requires eight { length columns.old ≡ 8 }
         ensures value { columns.new ≡ slice_set columns.old i (cards_at columns.old i
-            ++ grown (lying_on self.now code.now) (52 - length (cards_at columns.old i)) (lying_on self.now code.now last)) }
+            ++ chain_from (lying_on self.now code.now) (52 - length (cards_at columns.old i)) (lying_on self.now code.now last)) }
     {
         let _start = &self.start;
         let mut next = above[last.index() as usize];

@@ -16,7 +16,7 @@ use Rattle.fc_position.specs.Tally.{IsFaultOf}
 use Rattle.fc_position.proofs.TallyLemmas.{no_fault}
 use Rattle.fc_position.specs.declared.faults.PartsFault.{PartsFault}
 use Rattle.fc_deal.specs.Draw.{draw}
-use Rattle.fc_deal.specs.Deal.{picked, deck_after, taken, dealt_column, dealt_columns, dealt_board}
+use Rattle.fc_deal.specs.Deal.{place_drawn, deck_after, card_drawn, dealt_column, dealt_columns, dealt_board}
 
 -- the deck as it is before the first card and after one more
 pub deck_after-none : (n : ℕ) → deck_after n 0 ≡ all_cards
@@ -24,7 +24,7 @@ unfolding deck_after
 deck_after-none n = refl
 
 pub deck_after-more : (n k : ℕ)
-    → deck_after n (k + 1) ≡ swap_remove (deck_after n k) (picked (draw n (k + 1)) (deck_after n k)) 0
+    → deck_after n (k + 1) ≡ swap_remove (deck_after n k) (place_drawn (draw n (k + 1)) (deck_after n k)) 0
 unfolding deck_after
 deck_after-more n k = rw (add-one k) refl
 
@@ -39,7 +39,7 @@ pub length-deck_after : (n k : ℕ) → length (deck_after n k) ≡ 52 - k
 length-deck_after n zero = ap length (deck_after-none n) ∙ length-all_cards
 length-deck_after n (suc k) =
     rw (← add-one k, deck_after-more n k)
-    (omega (arith, length-deck_after n k, length-swap_remove (deck_after n k) (picked (draw n (k + 1)) (deck_after n k))))
+    (omega (arith, length-deck_after n k, length-swap_remove (deck_after n k) (place_drawn (draw n (k + 1)) (deck_after n k))))
 
 -- a list made from a function of the index, which changes at one index
 map-range_set : {X : Type 0} (f g : ℕ → X) (m j : ℕ) (d : X) → j < m → ((i : ℕ) → i < m → (i ≡ j → ⊥) → f i ≡ g i)
@@ -54,18 +54,18 @@ map-range_set f g m j d below same =
     (cases_eq i j))
 
 -- one more card goes to the end of one column
-dealt_column-more : (n k : ℕ) → dealt_column n (k + 1) (k % 8) ≡ dealt_column n k (k % 8) ++ taken n k ∷ []
+dealt_column-more : (n k : ℕ) → dealt_column n (k + 1) (k % 8) ≡ dealt_column n k (k % 8) ++ card_drawn n k ∷ []
 dealt_column-more n k =
     let height : (k + 1 + 7 - k % 8) / 8 ≡ (k + 7 - k % 8) / 8 + 1 = omega arith in
     let time : 8 * ((k + 7 - k % 8) / 8) + k % 8 ≡ k = omega arith in
-    ap (λ h. map (λ depth. taken n (8 * depth + k % 8)) (range_with_len 0 h)) height
-    ∙ map-range_with_len_more (λ depth. taken n (8 * depth + k % 8)) 0 ((k + 7 - k % 8) / 8) ((k + 7 - k % 8) / 8) (omega arith)
-    ∙ ap (λ t. dealt_column n k (k % 8) ++ taken n t ∷ []) time
+    ap (λ h. map (λ depth. card_drawn n (8 * depth + k % 8)) (range_with_len 0 h)) height
+    ∙ map-range_with_len_more (λ depth. card_drawn n (8 * depth + k % 8)) 0 ((k + 7 - k % 8) / 8) ((k + 7 - k % 8) / 8) (omega arith)
+    ∙ ap (λ t. dealt_column n k (k % 8) ++ card_drawn n t ∷ []) time
 
 dealt_column-other : (n k j : ℕ) → j < 8 → (j ≡ k % 8 → ⊥) → dealt_column n (k + 1) j ≡ dealt_column n k j
 dealt_column-other n k j below other =
     let height : (k + 1 + 7 - j) / 8 ≡ (k + 7 - j) / 8 = omega arith in
-    ap (λ h. map (λ depth. taken n (8 * depth + j)) (range_with_len 0 h)) height
+    ap (λ h. map (λ depth. card_drawn n (8 * depth + j)) (range_with_len 0 h)) height
 
 pub dealt_columns-none : (n : ℕ) → dealt_columns n 0 ≡ replicate 8 []
 unfolding dealt_columns
@@ -80,17 +80,17 @@ unfolding dealt_columns
 get_or-dealt_columns n k j below = get_or-map-range_with_len (dealt_column n k) 0 8 j j [] below (omega arith)
 
 pub dealt_columns-more : (n k : ℕ)
-    → dealt_columns n (k + 1) ≡ set (dealt_columns n k) (k % 8) (get_or (dealt_columns n k) (k % 8) [] ++ taken n k ∷ [])
+    → dealt_columns n (k + 1) ≡ set (dealt_columns n k) (k % 8) (get_or (dealt_columns n k) (k % 8) [] ++ card_drawn n k ∷ [])
 unfolding dealt_columns
 dealt_columns-more n k =
     sym (map-range_set (dealt_column n (k + 1)) (dealt_column n k) 8 (k % 8) [] (omega arith) (λ j lt ne. dealt_column-other n k j lt ne))
-    ∙ ap (set (dealt_columns n k) (k % 8)) (dealt_column-more n k ∙ ap (λ v. v ++ taken n k ∷ []) (sym (get_or-dealt_columns n k (k % 8) (omega arith))))
+    ∙ ap (set (dealt_columns n k) (k % 8)) (dealt_column-more n k ∙ ap (λ v. v ++ card_drawn n k ∷ []) (sym (get_or-dealt_columns n k (k % 8) (omega arith))))
 
 -- a column has room for the next card
 pub room_for_card : (n k : ℕ) → k < 52 → length (get_or (dealt_columns n k) (k % 8) []) < 52
 room_for_card n k below =
     rw (get_or-dealt_columns n k (k % 8) (omega arith))
-    (omega (arith, length-map-range_with_len (λ depth. taken n (8 * depth + k % 8)) 0 ((k + 7 - k % 8) / 8)))
+    (omega (arith, length-map-range_with_len (λ depth. card_drawn n (8 * depth + k % 8)) 0 ((k + 7 - k % 8) / 8)))
 
 -- what is dealt and what is left add up to the deck
 sum_by-dealt : (f : ℕ → ℕ) (n k : ℕ) → k ≤ 52
@@ -100,10 +100,10 @@ sum_by-dealt f n (suc k) most =
     let before = sum_by-dealt f n k (omega arith) in
     let columns = dealt_columns n k in
     let deck = deck_after n k in
-    let t = taken n k in
+    let t = card_drawn n k in
     let long = length-deck_after n k in
-    let some : picked (draw n (k + 1)) deck < length deck = omega arith in
-    let left = sum_by-swap_remove f deck (picked (draw n (k + 1)) deck) 0 some in
+    let some : place_drawn (draw n (k + 1)) deck < length deck = omega arith in
+    let left = sum_by-swap_remove f deck (place_drawn (draw n (k + 1)) deck) 0 some in
     let there = length-dealt_columns n k in
     let changed = sum_by-set (sum_by f) columns (k % 8) (get_or columns (k % 8) [] ++ t ∷ []) [] (omega arith) in
     let pushed = sum_by_push f (get_or columns (k % 8) []) t in
@@ -169,20 +169,20 @@ set_pushed columns j card d new below e =
 
 -- dealing one more card, from what is dealt, what is left and the draw
 pub dealt_more : (n k number card : ℕ) (columns : List (List ℕ)) (deck : List ℕ) → columns ≡ dealt_columns n k
-    → deck ≡ deck_after n k → number ≡ draw n (k + 1) → card ≡ slice_index deck (picked number deck)
+    → deck ≡ deck_after n k → number ≡ draw n (k + 1) → card ≡ slice_index deck (place_drawn number deck)
     → set columns (k % 8) (get_or columns (k % 8) [] ++ card ∷ []) ≡ dealt_columns n (k + 1)
 dealt_more n k number card columns deck dealt left drawn taking =
-    let same : card ≡ taken n k =
-    taking ∙ ap (λ d. slice_index d (picked number d)) left ∙ ap (λ d. slice_index (deck_after n k) (picked d (deck_after n k))) drawn in
+    let same : card ≡ card_drawn n k =
+    taking ∙ ap (λ d. slice_index d (place_drawn number d)) left ∙ ap (λ d. slice_index (deck_after n k) (place_drawn d (deck_after n k))) drawn in
     ap (λ v. set v (k % 8) (get_or v (k % 8) [] ++ card ∷ [])) dealt
     ∙ ap (λ u. set (dealt_columns n k) (k % 8) (get_or (dealt_columns n k) (k % 8) [] ++ u ∷ [])) same
     ∙ sym (dealt_columns-more n k)
 
 pub left_more : (n k number : ℕ) (deck : List ℕ) → deck ≡ deck_after n k → number ≡ draw n (k + 1)
-    → swap_remove deck (picked number deck) 0 ≡ deck_after n (k + 1)
+    → swap_remove deck (place_drawn number deck) 0 ≡ deck_after n (k + 1)
 left_more n k number deck left drawn =
-    ap (λ d. swap_remove d (picked number d) 0) left
-    ∙ ap (λ d. swap_remove (deck_after n k) (picked d (deck_after n k)) 0) drawn
+    ap (λ d. swap_remove d (place_drawn number d) 0) left
+    ∙ ap (λ d. swap_remove (deck_after n k) (place_drawn d (deck_after n k)) 0) drawn
     ∙ sym (deck_after-more n k)
 
 -- the board of the dealt columns

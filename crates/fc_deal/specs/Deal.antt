@@ -11,21 +11,21 @@ pub record IsDealNumber (n : ℕ) : Type 0 where
   pub greatest : n ≤ 1000000
 
 -- which of these cards a draw picks: the draw modulo how many there are
-abbrev pub picked : ℕ → List ℕ → ℕ
-picked number cards = number % length cards
+abbrev pub place_drawn : ℕ → List ℕ → ℕ
+place_drawn number cards = number % length cards
 
 -- what is left of the deck when k cards of game n are taken: each draw takes one out, the last moving into its place
 unfoldable pub deck_after : ℕ → ℕ → List ℕ
 deck_after n zero = all_cards
-deck_after n (suc k) = swap_remove (deck_after n k) (picked (draw n (suc k)) (deck_after n k)) 0
+deck_after n (suc k) = swap_remove (deck_after n k) (place_drawn (draw n (suc k)) (deck_after n k)) 0
 
 -- the card that is taken when k cards are taken already
-abbrev pub taken : ℕ → ℕ → ℕ
-taken n k = slice_index (deck_after n k) (picked (draw n (k + 1)) (deck_after n k))
+abbrev pub card_drawn : ℕ → ℕ → ℕ
+card_drawn n k = slice_index (deck_after n k) (place_drawn (draw n (k + 1)) (deck_after n k))
 
 -- column j when k cards are dealt: the i-th card taken, i from 0, stands in column i mod 8 at depth i div 8
 abbrev pub dealt_column : ℕ → ℕ → ℕ → List ℕ
-dealt_column n k j = map (λ depth. taken n (8 * depth + j)) (range_with_len 0 ((k + 7 - j) / 8))
+dealt_column n k j = map (λ depth. card_drawn n (8 * depth + j)) (range_with_len 0 ((k + 7 - j) / 8))
 
 -- the eight columns when k cards are dealt
 unfoldable pub dealt_columns : ℕ → ℕ → List (List ℕ)

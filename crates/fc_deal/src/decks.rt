@@ -1,7 +1,7 @@
 ghost use Rattle.std.specs.Prelude.{◌≡◌, ℕ, ◌<◌, length, slice_index};
 ghost use Rattle.std.specs.List.{swap_remove};
 ghost use Rattle.fc_cards.specs.Card.{all_cards};
-ghost use Rattle.fc_deal.specs.Deal.{picked};
+ghost use Rattle.fc_deal.specs.Deal.{place_drawn};
 
 use fc_cards::Card;
 use std::marker::Model;
@@ -41,8 +41,8 @@ impl Deck {
     // Takes out the card that a draw picks; the last card moves into its place.
     pub fn take(&mut self, draw: u16) -> Card
         requires some { 0 < length self.old }
-        ensures card { result ≡ slice_index self.old (picked draw self.old) }
-        ensures rest { self.new ≡ swap_remove self.old (picked draw self.old) 0 }
+        ensures card { result ≡ slice_index self.old (place_drawn draw self.old) }
+        ensures rest { self.new ≡ swap_remove self.old (place_drawn draw self.old) 0 }
     {
         let index = draw as usize % self.left;
         let card = self.cards[index];

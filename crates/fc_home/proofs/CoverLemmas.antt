@@ -7,7 +7,7 @@ use Rattle.std.proofs.lemmas.Bool.{cases_eq}
 use Rattle.fc_cards.specs.declared.places.Place.{Place}
 use Rattle.fc_cards.specs.declared.places.Place.TheVariants.{Column, Cell, Home}
 use Rattle.fc_moves.specs.inner.GameLaws.{Contains-cases}
-use Rattle.fc_position.specs.Board.{Board, IsHome, column, cell, playable, lifted, placed, front_of, last_of}
+use Rattle.fc_position.specs.Board.{Board, IsHome, column, cell, playable, board_without, board_with, front_of, last_of}
 use Rattle.fc_position.proofs.BoardLemmas.{front_last, column_there, cell_there}
 
 -- the cards are all home
@@ -95,8 +95,8 @@ column_cases homes xs ys u (extra, e, all) last =
 
 -- taking a card on the left: it is playable on the right too, and is taken there, or it is home and the right board stays
 pub cover_cases : (homes : List ℕ) (left right : Board) (from : Place) (u : ℕ) → Covers homes left right → playable left from ≡ Some u
-    → ((playable right from ≡ Some u) × Covers homes (lifted left from) (lifted right from))
-    ⊎ (IsHome homes u × Covers homes (lifted left from) right)
+    → ((playable right from ≡ Some u) × Covers homes (board_without left from) (board_without right from))
+    ⊎ (IsHome homes u × Covers homes (board_without left from) right)
 cover_cases homes left right (Column i) u covers there =
     let inside = column_there left i u there in
     ⊎_elim
@@ -143,7 +143,7 @@ cover_cases homes left right Home u covers there = absurd (cc there)
 
 -- putting a card on both sides, or on the left alone where it is home
 pub cover_column : (homes : List ℕ) (left right : Board) (u j : ℕ) → Covers homes left right → j < length left.columns
-    → j < length right.columns → column left j ≡ column right j → Covers homes (placed left u (Column j)) (placed right u (Column j))
+    → j < length right.columns → column left j ≡ column right j → Covers homes (board_with left u (Column j)) (board_with right u (Column j))
 cover_column homes left right u j covers one two same = record {
   columns =
       both_set (ColumnCovers homes) [] left.columns right.columns j (column left j ++ u ∷ []) (column right j ++ u ∷ []) one two
@@ -152,14 +152,14 @@ cover_column homes left right u j covers one two same = record {
 }
 
 pub cover_cell : (homes : List ℕ) (left right : Board) (u j : ℕ) → Covers homes left right → j < length left.cells
-    → j < length right.cells → Covers homes (placed left u (Cell j)) (placed right u (Cell j))
+    → j < length right.cells → Covers homes (board_with left u (Cell j)) (board_with right u (Cell j))
 cover_cell homes left right u j covers one two = record {
   columns = covers.columns;
   cells = both_set (CellCovers homes) None left.cells right.cells j (Some u) (Some u) one two (inl refl) covers.cells;
 }
 
 pub cover_left_column : (homes : List ℕ) (left right : Board) (u j : ℕ) → Covers homes left right → j < length left.columns
-    → IsHome homes u → Covers homes (placed left u (Column j)) right
+    → IsHome homes u → Covers homes (board_with left u (Column j)) right
 cover_left_column homes left right u j covers one home = record {
   columns =
       left_set (ColumnCovers homes) [] left.columns right.columns j (column left j ++ u ∷ []) one
@@ -168,7 +168,7 @@ cover_left_column homes left right u j covers one home = record {
 }
 
 pub cover_left_cell : (homes : List ℕ) (left right : Board) (u j : ℕ) → Covers homes left right → j < length left.cells
-    → cell right j ≡ None → IsHome homes u → Covers homes (placed left u (Cell j)) right
+    → cell right j ≡ None → IsHome homes u → Covers homes (board_with left u (Cell j)) right
 cover_left_cell homes left right u j covers one empty home = record {
   columns = covers.columns;
   cells = left_set (CellCovers homes) None left.cells right.cells j (Some u) one (inr (u, refl, empty, home)) covers.cells;
@@ -182,10 +182,10 @@ cover_more homes more left right covers grows = record {
   cells = λ i. ⊎_elim (λ same. inl same) (λ (x, full, empty, home). inr (x, full, empty, grows x home)) (covers.cells i);
 }
 
-pub cover_home : (homes : List ℕ) (left right : Board) (u : ℕ) → Covers homes left right → Covers homes (placed left u Home) right
+pub cover_home : (homes : List ℕ) (left right : Board) (u : ℕ) → Covers homes left right → Covers homes (board_with left u Home) right
 cover_home homes left right u covers = record { columns = covers.columns; cells = covers.cells }
 
-pub cover_right_home : (homes : List ℕ) (left right : Board) (u : ℕ) → Covers homes left right → Covers homes left (placed right u Home)
+pub cover_right_home : (homes : List ℕ) (left right : Board) (u : ℕ) → Covers homes left right → Covers homes left (board_with right u Home)
 cover_right_home homes left right u covers = record { columns = covers.columns; cells = covers.cells }
 
 pub cover_itself : (homes : List ℕ) (b : Board) → Covers homes b b
@@ -193,7 +193,7 @@ cover_itself homes b = record { columns = λ i. same_column homes (column b i) (
 
 -- a board without a card that is home is covered by the board with it
 pub cover_lifted : (homes : List ℕ) (b : Board) (from : Place) (u : ℕ) → playable b from ≡ Some u → IsHome homes u
-    → Covers homes b (lifted b from)
+    → Covers homes b (board_without b from)
 cover_lifted homes b (Column i) u there home =
     let inside = column_there b i u there in
     let front : ColumnCovers homes (column b i) (front_of (column b i)) = (

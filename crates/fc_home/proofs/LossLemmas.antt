@@ -4,7 +4,7 @@ use Rattle.std.specs.Prelude.{slice_index}
 use Rattle.fc_cards.specs.Card.{rank}
 use Rattle.fc_cards.specs.declared.places.Place.{Place}
 use Rattle.fc_cards.specs.declared.places.Place.TheVariants.{Home}
-use Rattle.fc_position.specs.Board.{Board, IsHome, IsNext, lifted}
+use Rattle.fc_position.specs.Board.{Board, IsHome, IsNext, board_without}
 use Rattle.fc_position.specs.Position.{IsPosition, IsWon}
 use Rattle.fc_position.proofs.BoardLemmas.{home_most, homes-lifted}
 use Rattle.fc_moves.specs.declared.steps.Move.{Move}
@@ -95,7 +95,7 @@ one_ahead rule g b from c p first =
     record {
       left = p;
       right = sent_position rule g b from c p first;
-      covers = subst (λ h. Covers h b x) (sym same) (cover_right_home (with_home b.homes c) b (lifted b from) c (cover_lifted (with_home b.homes c) b from c first.there (home-own b.homes c p.homes)));
+      covers = subst (λ h. Covers h b x) (sym same) (cover_right_home (with_home b.homes c) b (board_without b from) c (cover_lifted (with_home b.homes c) b from c first.there (home-own b.homes c p.homes)));
       ahead =
           subst (λ h. IsAhead (Free g b.homes) g b.homes h) (sym same)
           (ahead-right (Free g b.homes) g b.homes b.homes c p.homes (none_ahead g b.homes) next (rank c, goes_free rule g b.homes c first.goes));

@@ -2,7 +2,7 @@
 use Rattle.std.proofs.Common.{◌≡◌, ℕ, Some, None, List, [], ◌∷◌, length, refl, sym, ◌∙◌, ap, subst, arith}
 use Rattle.fc_cards.specs.declared.places.Place.{Place}
 use Rattle.fc_cards.specs.declared.places.Place.TheVariants.{Column, Cell, Home}
-use Rattle.fc_position.specs.Board.{Board, playable, last_of, lifted}
+use Rattle.fc_position.specs.Board.{Board, playable, last_of, board_without}
 use Rattle.fc_position.proofs.BoardLemmas.{column_there, cell_there}
 use Rattle.fc_moves.specs.declared.steps.Move.{Move}
 use Rattle.fc_moves.specs.GameRules.{GameRules}
@@ -49,7 +49,7 @@ none_mate rule g b c s none from d there goes =
 
 -- sending it home keeps the class
 class-sent : (b c : Board) (from to : Place) (u : ℕ) → SameClass b c → Alike b c from to → SameClass (sent_home b from u) (sent_home c to u)
-class-sent b c from to u s a = class-placed (lifted b from) (lifted c to) u Home Home (class-lifted b c from to s a) tt
+class-sent b c from to u s a = class-placed (board_without b from) (board_without c to) u Home Home (class-lifted b c from to s a) tt
 
 -- so they settle by as many moves, to boards of one class
 settles_mate : (g : GameRules) (rule : ℕ) (b c q : Board) (ms : List Move) → SameClass b c → SettlesBy g rule b ms q

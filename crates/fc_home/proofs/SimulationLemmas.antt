@@ -12,7 +12,7 @@ use Rattle.std.proofs.Common.{◌≡◌, ℕ, ◌+◌, ◌<◌, ◌≤◌, ◌�
 use Rattle.std.proofs.lemmas.Bool.Decides.{nat_tests}
 use Rattle.fc_cards.specs.declared.places.Place.{Place}
 use Rattle.fc_cards.specs.declared.places.Place.TheVariants.{Column, Cell, Home}
-use Rattle.fc_position.specs.Board.{Board, IsHome, IsNext, column, playable, lifted, placed, last_of, count_in_cell, count_at_home}
+use Rattle.fc_position.specs.Board.{Board, IsHome, IsNext, column, playable, board_without, board_with, last_of, count_in_cell, count_at_home}
 use Rattle.fc_position.specs.Position.{IsPosition}
 use Rattle.fc_position.proofs.BoardLemmas.{places-lifted, playable_below, position-moved, homes-lifted, columns-lifted, cells-lifted}
 use Rattle.fc_moves.specs.declared.steps.Move.{Move}
@@ -29,7 +29,7 @@ pub not_home : (b : Board) (from : Place) (u : ℕ) → IsPosition b → playabl
 not_home b from u p there home =
     let one = places-lifted b from u u there in
     let itself : ◌≡◌ {A = ℕ} (count_in_cell u (Some u)) 1 = grind (arith, nat_tests) in
-    let counted : ◌≡◌ {A = ℕ} (count_at_home u (lifted b from).homes) 1 = rw (homes-lifted b from) (grind (arith, nat_tests)) in
+    let counted : ◌≡◌ {A = ℕ} (count_at_home u (board_without b from).homes) 1 = rw (homes-lifted b from) (grind (arith, nat_tests)) in
     omega (arith, one, itself, counted, p.once u (playable_below b from u p there))
 
 -- the two boards
@@ -47,10 +47,10 @@ Answer S g a next b =
 
 -- no move on the right: the card is home there
 passed : (S : ℕ → Type 0) (g : GameRules) (a b : Board) (from : Place) (u : ℕ) (to : Place) → Trails S g a b
-    → playable a from ≡ Some u → IsHome b.homes u → Covers b.homes (lifted a from) b → Takes g a u to
-    → Answer S g a (placed (lifted a from) u to) b
+    → playable a from ≡ Some u → IsHome b.homes u → Covers b.homes (board_without a from) b → Takes g a u to
+    → Answer S g a (board_with (board_without a from) u to) b
 passed S g a b from u (Column j) t there home covers takes =
-    let x = lifted a from in
+    let x = board_without a from in
     let inside : j < length x.columns = omega (arith, columns-lifted a from, takes.0) in
     let same = homes-lifted a from in
     inl (
@@ -63,7 +63,7 @@ passed S g a b from u (Column j) t there home covers takes =
       omega (arith, ap total same),
     )
 passed S g a b from u (Cell j) t there home covers takes =
-    let x = lifted a from in
+    let x = board_without a from in
     let inside : j < length x.cells = omega (arith, cells-lifted a from, takes.1) in
     let same = homes-lifted a from in
     inl (
@@ -76,7 +76,7 @@ passed S g a b from u (Cell j) t there home covers takes =
       omega (arith, ap total same),
     )
 passed S g a b from u Home t there home covers takes =
-    let x = lifted a from in
+    let x = board_without a from in
     let same : with_home x.homes u ≡ with_home a.homes u = ap (λ h. with_home h u) (homes-lifted a from) in
     inl (
       record {
@@ -90,12 +90,12 @@ passed S g a b from u Home t there home covers takes =
 
 -- the same move on the right, to a column that is the same on both sides
 same_column_move : (S : ℕ → Type 0) (g : GameRules) (a b : Board) (from : Place) (u j : ℕ) → Trails S g a b
-    → playable a from ≡ Some u → playable b from ≡ Some u → Covers b.homes (lifted a from) (lifted b from)
+    → playable a from ≡ Some u → playable b from ≡ Some u → Covers b.homes (board_without a from) (board_without b from)
     → Joins from (Column j) → j < length a.columns → MayLand g (column a j) u → column a j ≡ column b j
-    → Answer S g a (placed (lifted a from) u (Column j)) b
+    → Answer S g a (board_with (board_without a from) u (Column j)) b
 same_column_move S g a b from u j t there also covers joins below land same =
-    let x = lifted a from in
-    let y = lifted b from in
+    let x = board_without a from in
+    let y = board_without b from in
     let left_homes = homes-lifted a from in
     let right_homes = homes-lifted b from in
     let inside : j < length b.columns = omega (arith, below, t.left.columns, t.right.columns) in
@@ -103,8 +103,8 @@ same_column_move S g a b from u j t there also covers joins below land same =
     let two : j < length y.columns = omega (arith, inside, columns-lifted b from) in
     let columns : column x j ≡ column y j = other_column a from j joins ∙ same ∙ sym (other_column b from j joins) in
     let n : Move = record { from = from; to = Column j } in
-    let next = placed x u (Column j) in
-    let c = placed y u (Column j) in
+    let next = board_with x u (Column j) in
+    let c = board_with y u (Column j) in
     let step : Step g b n c =
     record { card = u; playable = also; joins = joins; takes = (inside, subst (λ l. MayLand g l u) same land); after = refl } in
     let trails : Trails S g next c = record {
@@ -117,19 +117,19 @@ same_column_move S g a b from u j t there also covers joins below land same =
 
 -- to a cell
 same_cell_move : (S : ℕ → Type 0) (g : GameRules) (a b : Board) (from : Place) (u j : ℕ) → Trails S g a b
-    → playable a from ≡ Some u → playable b from ≡ Some u → Covers b.homes (lifted a from) (lifted b from)
-    → Joins from (Cell j) → Takes g a u (Cell j) → Answer S g a (placed (lifted a from) u (Cell j)) b
+    → playable a from ≡ Some u → playable b from ≡ Some u → Covers b.homes (board_without a from) (board_without b from)
+    → Joins from (Cell j) → Takes g a u (Cell j) → Answer S g a (board_with (board_without a from) u (Cell j)) b
 same_cell_move S g a b from u j t there also covers joins takes =
-    let x = lifted a from in
-    let y = lifted b from in
+    let x = board_without a from in
+    let y = board_without b from in
     let left_homes = homes-lifted a from in
     let right_homes = homes-lifted b from in
     let inside : j < length b.cells = omega (arith, takes.1, t.left.cells, t.right.cells) in
     let one : j < length x.cells = omega (arith, takes.1, cells-lifted a from) in
     let two : j < length y.cells = omega (arith, inside, cells-lifted b from) in
     let n : Move = record { from = from; to = Cell j } in
-    let next = placed x u (Cell j) in
-    let c = placed y u (Cell j) in
+    let next = board_with x u (Cell j) in
+    let c = board_with y u (Cell j) in
     let empty = empty_cell b.homes a b j t.covers takes.2 in
     let step : Step g b n c =
     record { card = u; playable = also; joins = joins; takes = (takes.0, inside, empty); after = refl } in
@@ -143,11 +143,11 @@ same_cell_move S g a b from u j t there also covers joins takes =
 
 -- home on both sides
 same_home_move : (S : ℕ → Type 0) (g : GameRules) (a b : Board) (from : Place) (u : ℕ) → Trails S g a b
-    → playable a from ≡ Some u → playable b from ≡ Some u → Covers b.homes (lifted a from) (lifted b from)
+    → playable a from ≡ Some u → playable b from ≡ Some u → Covers b.homes (board_without a from) (board_without b from)
     → IsNext a.homes u → IsNext b.homes u → Answer S g a (sent_home a from u) b
 same_home_move S g a b from u t there also covers takes takes_too =
-    let x = lifted a from in
-    let y = lifted b from in
+    let x = board_without a from in
+    let y = board_without b from in
     let left_homes : with_home x.homes u ≡ with_home a.homes u = ap (λ h. with_home h u) (homes-lifted a from) in
     let right_homes : with_home y.homes u ≡ with_home b.homes u = ap (λ h. with_home h u) (homes-lifted b from) in
     let n : Move = record { from = from; to = Home } in
@@ -175,16 +175,16 @@ same_home_move S g a b from u t there also covers takes takes_too =
 
 -- onto a card that is ahead on the left, home on the right
 ahead_move : (S : ℕ → Type 0) (g : GameRules) (a b : Board) (from : Place) (u j : ℕ) → Trails S g a b
-    → playable a from ≡ Some u → playable b from ≡ Some u → Covers b.homes (lifted a from) (lifted b from)
-    → j < length a.columns → S u → IsNext b.homes u → Answer S g a (placed (lifted a from) u (Column j)) b
+    → playable a from ≡ Some u → playable b from ≡ Some u → Covers b.homes (board_without a from) (board_without b from)
+    → j < length a.columns → S u → IsNext b.homes u → Answer S g a (board_with (board_without a from) u (Column j)) b
 ahead_move S g a b from u j t there also covers below in_set takes =
-    let x = lifted a from in
-    let y = lifted b from in
+    let x = board_without a from in
+    let y = board_without b from in
     let left_homes = homes-lifted a from in
     let right_homes : with_home y.homes u ≡ with_home b.homes u = ap (λ h. with_home h u) (homes-lifted b from) in
     let one : j < length x.columns = omega (arith, below, columns-lifted a from) in
     let n : Move = record { from = from; to = Home } in
-    let next = placed x u (Column j) in
+    let next = board_with x u (Column j) in
     let c = sent_home b from u in
     let more = cover_more b.homes (with_home b.homes u) x y covers (λ k home. home-kept b.homes u k t.right.homes takes home) in
     let trails : Trails S g next c = record {
@@ -224,8 +224,8 @@ onto_ahead S g a b from u j l t there also last stands home =
 
 -- a move on the right: the card lies at the same place there
 made : (S : ℕ → Type 0) (g : GameRules) (a b : Board) (from : Place) (u : ℕ) (to : Place) → Trails S g a b
-    → playable a from ≡ Some u → playable b from ≡ Some u → Covers b.homes (lifted a from) (lifted b from) → Joins from to
-    → Takes g a u to → Answer S g a (placed (lifted a from) u to) b
+    → playable a from ≡ Some u → playable b from ≡ Some u → Covers b.homes (board_without a from) (board_without b from) → Joins from to
+    → Takes g a u to → Answer S g a (board_with (board_without a from) u to) b
 made S g a b from u (Column j) t there also covers joins (below, land) =
     ⊎_elim
     (λ (empty, opens). same_column_move S g a b from u j t there also covers joins below land

@@ -2,7 +2,7 @@
 use Rattle.std.specs.Prelude.{◌≡◌, ℕ, ◌≤◌, length, List, [], ◌∷◌, Some}
 use Rattle.fc_cards.specs.declared.places.Place.{Place}
 use Rattle.fc_cards.specs.declared.places.Place.TheVariants.{Home}
-use Rattle.fc_position.specs.Board.{Board, playable, lifted, placed}
+use Rattle.fc_position.specs.Board.{Board, playable, board_without, board_with}
 use Rattle.fc_moves.specs.declared.steps.Move.{Move}
 use Rattle.fc_moves.specs.GameRules.{GameRules}
 use Rattle.fc_home.specs.HomeRule.{GoesHome}
@@ -23,7 +23,7 @@ NoneGoesHome rule g b = (from : Place) (c : ℕ) → playable b from ≡ Some c 
 
 -- the board with the card, taken from the place, at home
 abbrev pub sent_home : Board → Place → ℕ → Board
-sent_home b from c = placed (lifted b from) c Home
+sent_home b from c = board_with (board_without b from) c Home
 
 -- the board settles by these moves to that one: each takes the first card that goes home, and after the last none goes
 abbrev pub SettlesBy : GameRules → ℕ → Board → List Move → Board → Type 0

@@ -1,6 +1,6 @@
 ghost use Rattle.std.specs.Prelude.{◌≡◌, ◌≢◌, ℕ, Bool, true, Some, None};
 ghost use Rattle.fc_cards.specs.Suit.{suit_index};
-ghost use Rattle.fc_home.specs.inner.Known.{answer_of, lasting};
+ghost use Rattle.fc_home.specs.inner.Known.{answer_of, lasting_answer};
 
 use fc_cards::Suit;
 use std::marker::Model;
@@ -62,7 +62,7 @@ impl Known {
 
 // The answer, if it is that a card is free.
 fn lasting(answer: Option<bool>) -> Option<bool>
-    ensures value { result ≡ lasting answer }
+    ensures value { result ≡ lasting_answer answer }
 {
     match answer {
         Some(true) => answer,

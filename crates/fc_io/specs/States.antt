@@ -2,7 +2,7 @@
 use Rattle.std.specs.Prelude.{ℕ, Bool, List}
 
 -- an array that is filled: the bytes that it holds so far, and whether the sink over it has failed
-pub record Filled : Type 0 where
+pub record ArrayState : Type 0 where
   pub bytes : List ℕ
   pub has_failed : Bool
 

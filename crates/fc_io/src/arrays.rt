@@ -13,9 +13,9 @@ pub struct ToArray<const N: usize> {
 }
 
 impl<const N: usize> Model for ToArray<N> {
-    ghost use Rattle.fc_io.specs.States.{Filled};
+    ghost use Rattle.fc_io.specs.States.{ArrayState};
 
-    ghost Value = { Filled };
+    ghost Value = { ArrayState };
 
     ghost view = { λ s. record { bytes = s.bytes.items; has_failed = s.has_failed } };
 }

@@ -4,7 +4,7 @@ use Rattle.std.proofs.lemmas.List.{get_or-set_same, length-set, length_push, set
 use Rattle.std.proofs.lemmas.Option.{slice_get-get_or}
 use Rattle.fc_cards.specs.declared.places.Place.{Place}
 use Rattle.fc_cards.specs.declared.places.Place.TheVariants.{Column, Cell, Home}
-use Rattle.fc_position.specs.Board.{Board, column, playable, lifted, placed, last_of, front_of, Receives}
+use Rattle.fc_position.specs.Board.{Board, column, playable, board_without, board_with, last_of, front_of, Receives}
 use Rattle.fc_position.proofs.BoardLemmas.{front_last, column_there, cell_there}
 use Rattle.fc_moves.specs.declared.steps.Move.{Move}
 use Rattle.fc_moves.specs.GameRules.{GameRules}
@@ -21,7 +21,7 @@ same_board b c x y z =
 pub record IsTakenBack (b c : Board) (from to : Place) (u : ℕ) : Type 0 where
   pub there : playable c to ≡ Some u
   pub receives : Receives c u from
-  pub back : placed (lifted c to) u from ≡ b
+  pub back : board_with (board_without c to) u from ≡ b
 
 -- what was put on a column is its last card, and the cards before are those that stood there
 last_push : (xs : List ℕ) (u : ℕ) → last_of (xs ++ u ∷ []) ≡ Some u
@@ -59,7 +59,7 @@ cell_back : (cells : List (Option ℕ)) (i : ℕ) (x y : Option ℕ) → get_or 
 cell_back cells i x y own = set-set cells i y x ∙ ap (λ v. set cells i v) (sym own) ∙ set-get_or cells i None
 
 by_places : (g : GameRules) (b : Board) (from to : Place) (u : ℕ) → playable b from ≡ Some u → Joins from to → Takes g b u to
-    → to ≢ Home → IsTakenBack b (placed (lifted b from) u to) from to u
+    → to ≢ Home → IsTakenBack b (board_with (board_without b from) u to) from to u
 by_places g b (Column i) (Column j) u there joins takes other =
     let C = b.columns in
     let X = set C i (front_of (column b i)) in
@@ -72,7 +72,7 @@ by_places g b (Column i) (Column j) u there joins takes other =
     record {
       there = ap last_of end ∙ last_push (get_or X j []) u;
       receives = omega (arith, long, length-set X j (get_or X j [] ++ u ∷ []), inside);
-      back = same_board (placed (lifted (placed (lifted b (Column i)) u (Column j)) (Column j)) u (Column i)) b
+      back = same_board (board_with (board_without (board_with (board_without b (Column i)) u (Column j)) (Column j)) u (Column i)) b
           (ap (λ x. set x i (get_or x i [] ++ u ∷ [])) gone ∙ take_back C i u inside there) refl refl;
     }
 by_places g b (Column i) (Cell j) u there joins takes other =
@@ -80,7 +80,7 @@ by_places g b (Column i) (Cell j) u there joins takes other =
     record {
       there = get_or-set_same b.cells j (Some u) None takes.1;
       receives = omega (arith, length-set b.columns i (front_of (column b i)), inside);
-      back = same_board (placed (lifted (placed (lifted b (Column i)) u (Cell j)) (Cell j)) u (Column i)) b
+      back = same_board (board_with (board_without (board_with (board_without b (Column i)) u (Cell j)) (Cell j)) u (Column i)) b
           (take_back b.columns i u inside there) (cell_back b.cells j None (Some u) takes.2) refl;
     }
 by_places g b (Cell i) (Column j) u there joins takes other =
@@ -89,7 +89,7 @@ by_places g b (Cell i) (Column j) u there joins takes other =
     record {
       there = ap last_of end ∙ last_push (column b j) u;
       receives = (omega (arith, length-set b.cells i None, inside), get_or-set_same b.cells i None None inside);
-      back = same_board (placed (lifted (placed (lifted b (Cell i)) u (Column j)) (Column j)) u (Cell i)) b
+      back = same_board (board_with (board_without (board_with (board_without b (Cell i)) u (Column j)) (Column j)) u (Cell i)) b
           (put_back b.columns j u takes.0) (cell_back b.cells i (Some u) None there) refl;
     }
 by_places g b (Cell i) (Cell j) u there joins takes other = absurd joins

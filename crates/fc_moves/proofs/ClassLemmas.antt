@@ -7,7 +7,7 @@ use Rattle.std.proofs.lemmas.List.Sorted.{IsPermutation-refl, IsPermutation-swap
 use Rattle.fc_cards.specs.declared.places.Place.{Place}
 use Rattle.fc_cards.specs.declared.places.Place.TheVariants.{Column, Cell, Home}
 use Rattle.fc_cards.specs.Card.{rank, suit}
-use Rattle.fc_position.specs.Board.{Board, column, cell, playable, lifted, placed, last_of, front_of, IsNext}
+use Rattle.fc_position.specs.Board.{Board, column, cell, playable, board_without, board_with, last_of, front_of, IsNext}
 use Rattle.fc_position.specs.Position.{IsPosition}
 use Rattle.fc_position.proofs.BoardLemmas.{position-rearranged, column_there, cell_there}
 use Rattle.fc_moves.specs.declared.steps.Move.{Move}
@@ -59,7 +59,7 @@ Alike b c Home (Column k) = ⊥
 Alike b c Home (Cell k) = ⊥
 
 -- lifting the cards of places that are alike keeps the class
-pub class-lifted : (b c : Board) (from to : Place) → SameClass b c → Alike b c from to → SameClass (lifted b from) (lifted c to)
+pub class-lifted : (b c : Board) (from to : Place) → SameClass b c → Alike b c from to → SameClass (board_without b from) (board_without c to)
 class-lifted b c (Column i) (Column k) s a = record {
   columns = IsPermutation-set b.columns c.columns i k [] (front_of (column b i)) (front_of (column c k)) s.columns a.0 a.1 a.2
       (ap front_of a.2);
@@ -81,7 +81,7 @@ class-lifted b c Home (Cell k) s a = absurd a
 
 -- placing a card at places that are alike keeps the class
 pub class-placed : (b c : Board) (u : ℕ) (from to : Place) → SameClass b c → Alike b c from to
-    → SameClass (placed b u from) (placed c u to)
+    → SameClass (board_with b u from) (board_with c u to)
 class-placed b c u (Column i) (Column k) s a = record {
   columns = IsPermutation-set b.columns c.columns i k [] (column b i ++ u ∷ []) (column c k ++ u ∷ []) s.columns a.0 a.1 a.2
       (ap (λ l. l ++ u ∷ []) a.2);
@@ -113,7 +113,7 @@ record Mate (g : GameRules) (b c : Board) (from : Place) (u : ℕ) (to : Place) 
   joins : Joins source target
   takes : Takes g c u target
   alike_from : Alike b c from source
-  alike_to : Alike (lifted b from) (lifted c source) to target
+  alike_to : Alike (board_without b from) (board_without c source) to target
 
 -- the cell that is the same in the other board
 cell_mate : (b c : Board) (i u : ℕ) → SameClass b c → cell b i ≡ Some u
@@ -205,11 +205,11 @@ mate g b c Home u to p s there joins takes = absurd (cc there)
 pub class_step : ClassMatesStepAlike
 class_step g b c x m p q s step =
     let n = mate g b c m.from step.card m.to p s step.playable step.joins step.takes in
-    let after = class-placed (lifted b m.from) (lifted c n.source) step.card m.to n.target
+    let after = class-placed (board_without b m.from) (board_without c n.source) step.card m.to n.target
     (class-lifted b c m.from n.source s n.alike_from) n.alike_to in
     let move : Move = record { from = n.source; to = n.target } in (
       move,
-      placed (lifted c n.source) step.card n.target,
+      board_with (board_without c n.source) step.card n.target,
       record { card = step.card; playable = n.there; joins = n.joins; takes = n.takes; after = refl },
       rw step.after after,
     )

@@ -5,7 +5,7 @@ use Rattle.std.proofs.lemmas.List.{get_or-set_same, get_or-set_other, set_past}
 use Rattle.std.proofs.lemmas.Bool.{cases_lt, cases_eq}
 use Rattle.fc_cards.specs.declared.places.Place.{Place}
 use Rattle.fc_cards.specs.declared.places.Place.TheVariants.{Column, Cell, Home}
-use Rattle.fc_position.specs.Board.{Board, column, playable, lifted, placed, front_of, Receives}
+use Rattle.fc_position.specs.Board.{Board, column, playable, board_without, board_with, front_of, Receives}
 use Rattle.fc_position.specs.Position.{IsPosition, Fits}
 use Rattle.fc_position.proofs.BoardLemmas.{column_there, cell_there, position-moved}
 use Rattle.fc_moves.specs.declared.steps.Move.{Move}
@@ -20,7 +20,7 @@ pub allows_by : (g : GameRules) (b : Board) (m : Move) (card : ℕ) (t : Bool) �
     → Joins m.from m.to → (IsTrue t ↔ Takes g b card m.to) → IsTrue t ↔ Allows g b m
 allows_by g b m card t there joins takes = (
   λ yes. (
-    placed (lifted b m.from) card m.to,
+    board_with (board_without b m.from) card m.to,
     record {
       card = card;
       playable = there;
@@ -101,7 +101,7 @@ receives-takes g b u (Cell j) t = (t.1, t.2)
 receives-takes g b u Home t = t
 
 -- a card that is lifted leaves the cells past the game's number empty, and so does one that is placed
-fits-lifted : (n : ℕ) (b : Board) (from : Place) → Fits n b → Fits n (lifted b from)
+fits-lifted : (n : ℕ) (b : Board) (from : Place) → Fits n b → Fits n (board_without b from)
 fits-lifted n b (Column i) fits = fits
 fits-lifted n b (Cell i) fits = λ k past.
     ⊎_elim
@@ -110,14 +110,14 @@ fits-lifted n b (Cell i) fits = λ k past.
     (λ ne. get_or-set_other b.cells i k None None ne ∙ fits k past) (cases_eq k i)
 fits-lifted n b Home fits = fits
 
-fits-placed : (g : GameRules) (b x : Board) (u : ℕ) (to : Place) → Takes g b u to → Fits g.cells x → Fits g.cells (placed x u to)
+fits-placed : (g : GameRules) (b x : Board) (u : ℕ) (to : Place) → Takes g b u to → Fits g.cells x → Fits g.cells (board_with x u to)
 fits-placed g b x u (Column j) t fits = fits
 fits-placed g b x u (Cell j) t fits = λ k past.
     get_or-set_other x.cells j k (Some u) None (λ e. omega (arith, t.0, e)) ∙ fits k past
 fits-placed g b x u Home t fits = fits
 
 -- lifting a card changes no other column
-pub other_column : (b : Board) (from : Place) (j : ℕ) → Joins from (Column j) → column (lifted b from) j ≡ column b j
+pub other_column : (b : Board) (from : Place) (j : ℕ) → Joins from (Column j) → column (board_without b from) j ≡ column b j
 other_column b (Column i) j joins = get_or-set_other b.columns i j (front_of (column b i)) [] joins
 other_column b (Cell i) j joins = refl
 other_column b Home j joins = absurd joins
@@ -126,7 +126,7 @@ other_column b Home j joins = absurd joins
 pub step_once : (g : GameRules) (b : Board) (m : Move) (x y : Board) → Step g b m x → Step g b m y → x ≡ y
 step_once g b m x y p q =
     let same : p.card ≡ q.card = let e = p.playable in let f = q.playable in cc in
-    p.after ∙ ap (λ u. placed (lifted b m.from) u m.to) same ∙ sym q.after
+    p.after ∙ ap (λ u. board_with (board_without b m.from) u m.to) same ∙ sym q.after
 
 -- and so does a list of moves
 pub run_once : ListsLeadToOneBoard
@@ -139,7 +139,7 @@ pub step_keeps : StepsKeepPositions
 step_keeps g b c m p step = record {
   position = rw step.after
       (position-moved b m.from step.card m.to p.position step.playable (receives-takes g b step.card m.to step.takes));
-  fits = rw step.after (fits-placed g b (lifted b m.from) step.card m.to step.takes (fits-lifted g.cells b m.from p.fits));
+  fits = rw step.after (fits-placed g b (board_without b m.from) step.card m.to step.takes (fits-lifted g.cells b m.from p.fits));
 }
 
 pub run_keeps : RunsKeepPositions

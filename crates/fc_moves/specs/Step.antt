@@ -3,7 +3,7 @@ use Rattle.std.specs.Prelude.{◌≡◌, ◌≢◌, ℕ, ◌+◌, ◌*◌, ◌<�
 use Rattle.std.specs.List.Sorted.{IsStrictlyIncreasing}
 use Rattle.fc_cards.specs.declared.places.Place.{Place}
 use Rattle.fc_cards.specs.declared.places.Place.TheVariants.{Column, Cell, Home}
-use Rattle.fc_position.specs.Board.{Board, column, cell, playable, lifted, placed, last_of, IsNext}
+use Rattle.fc_position.specs.Board.{Board, column, cell, playable, board_without, board_with, last_of, IsNext}
 use Rattle.fc_moves.specs.declared.steps.Move.{Move}
 use Rattle.fc_moves.specs.GameRules.{GameRules, Stands, Opens}
 
@@ -33,7 +33,7 @@ pub record Step (g : GameRules) (b : Board) (m : Move) (c : Board) : Type 0 wher
   pub playable : playable b m.from ≡ Some card
   pub joins : Joins m.from m.to
   pub takes : Takes g b card m.to
-  pub after : c ≡ placed (lifted b m.from) card m.to
+  pub after : c ≡ board_with (board_without b m.from) card m.to
 
 -- the rules allow the move
 abbrev pub Allows : GameRules → Board → Move → Type 0

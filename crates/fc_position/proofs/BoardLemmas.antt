@@ -13,7 +13,7 @@ use Rattle.std.proofs.lemmas.Bool.Decides.{nat_tests}
 use Rattle.fc_cards.specs.Card.{rank, suit}
 use Rattle.fc_cards.specs.declared.places.Place.{Place}
 use Rattle.fc_cards.specs.declared.places.Place.TheVariants.{Column, Cell, Home}
-use Rattle.fc_position.specs.Board.{Board, column, cell, playable, lifted, placed, places, Receives, IsNext, last_of, front_of, count_in_column, count_in_cell, count_at_home}
+use Rattle.fc_position.specs.Board.{Board, column, cell, playable, board_without, board_with, places, Receives, IsNext, last_of, front_of, count_in_column, count_in_cell, count_at_home}
 use Rattle.fc_position.specs.inner.Board.{HasRoom}
 use Rattle.fc_position.specs.Position.{IsPosition}
 use Rattle.fc_position.proofs.Pigeonhole.{room_for_one}
@@ -58,7 +58,7 @@ cell_there b i u full =
 
 -- lifting a card takes one place from it and none from the others
 pub places-lifted : (b : Board) (from : Place) (u c : ℕ) → playable b from ≡ Some u
-    → places (lifted b from) c + count_in_cell c (Some u) ≡ places b c
+    → places (board_without b from) c + count_in_cell c (Some u) ≡ places b c
 places-lifted b (Column i) u c last =
     let there = column_there b i u last in
     let changed = sum_by-set (count_in_column c) b.columns i (front_of (column b i)) [] there in
@@ -91,7 +91,7 @@ count-next homes u c four next =
 
 -- placing a card gives one place to it and none to the others
 pub places-placed : (b : Board) (u : ℕ) (to : Place) (c : ℕ) → length b.homes ≡ 4 → Receives b u to
-    → places (placed b u to) c ≡ places b c + count_in_cell c (Some u)
+    → places (board_with b u to) c ≡ places b c + count_in_cell c (Some u)
 places-placed b u (Column i) c four there =
     let changed = sum_by-set (count_in_column c) b.columns i (column b i ++ u ∷ []) [] there in
     let one = sum_by_push (λ x. cond (eqb x c) 1 0) (column b i) u in
@@ -103,7 +103,7 @@ places-placed b u (Cell i) c four (there, empty) =
 places-placed b u Home c four next = let one = count-next b.homes u c four next in omega arith
 
 -- a place that can take a card can take it when another card is lifted
-receives-lifted : (b : Board) (from : Place) (u : ℕ) (to : Place) → Receives b u to → Receives (lifted b from) u to
+receives-lifted : (b : Board) (from : Place) (u : ℕ) (to : Place) → Receives b u to → Receives (board_without b from) u to
 receives-lifted b (Column i) u (Column j) there = rw length-set there
 receives-lifted b (Column i) u (Cell j) r = r
 receives-lifted b (Column i) u Home r = r
@@ -117,50 +117,50 @@ receives-lifted b (Cell i) u Home r = r
 receives-lifted b Home u to r = r
 
 -- lifting and placing keep how many columns, cells and counts there are
-pub columns-lifted : (b : Board) (from : Place) → length (lifted b from).columns ≡ length b.columns
+pub columns-lifted : (b : Board) (from : Place) → length (board_without b from).columns ≡ length b.columns
 columns-lifted b (Column i) = length-set b.columns i (front_of (column b i))
 columns-lifted b (Cell i) = refl
 columns-lifted b Home = refl
 
-pub cells-lifted : (b : Board) (from : Place) → length (lifted b from).cells ≡ length b.cells
+pub cells-lifted : (b : Board) (from : Place) → length (board_without b from).cells ≡ length b.cells
 cells-lifted b (Column i) = refl
 cells-lifted b (Cell i) = length-set b.cells i None
 cells-lifted b Home = refl
 
-pub homes-lifted : (b : Board) (from : Place) → (lifted b from).homes ≡ b.homes
+pub homes-lifted : (b : Board) (from : Place) → (board_without b from).homes ≡ b.homes
 homes-lifted b (Column i) = refl
 homes-lifted b (Cell i) = refl
 homes-lifted b Home = refl
 
-pub columns-placed : (b : Board) (u : ℕ) (to : Place) → length (placed b u to).columns ≡ length b.columns
+pub columns-placed : (b : Board) (u : ℕ) (to : Place) → length (board_with b u to).columns ≡ length b.columns
 columns-placed b u (Column i) = length-set b.columns i (column b i ++ u ∷ [])
 columns-placed b u (Cell i) = refl
 columns-placed b u Home = refl
 
-pub cells-placed : (b : Board) (u : ℕ) (to : Place) → length (placed b u to).cells ≡ length b.cells
+pub cells-placed : (b : Board) (u : ℕ) (to : Place) → length (board_with b u to).cells ≡ length b.cells
 cells-placed b u (Column i) = refl
 cells-placed b u (Cell i) = length-set b.cells i (Some u)
 cells-placed b u Home = refl
 
-pub homes-placed : (b : Board) (u : ℕ) (to : Place) → length (placed b u to).homes ≡ length b.homes
+pub homes-placed : (b : Board) (u : ℕ) (to : Place) → length (board_with b u to).homes ≡ length b.homes
 homes-placed b u (Column i) = refl
 homes-placed b u (Cell i) = refl
 homes-placed b u Home = length-set b.homes (suit u) (rank u)
 
 -- a card that is lifted and placed elsewhere keeps its places, and so does every other card
 pub places-moved : (b : Board) (from : Place) (u : ℕ) (to : Place) (c : ℕ) → length b.homes ≡ 4 → playable b from ≡ Some u
-    → Receives b u to → places (placed (lifted b from) u to) c ≡ places b c
+    → Receives b u to → places (board_with (board_without b from) u to) c ≡ places b c
 places-moved b from u to c four there takes =
-    places-placed (lifted b from) u to c (ap length (homes-lifted b from) ∙ four) (receives-lifted b from u to takes)
+    places-placed (board_without b from) u to c (ap length (homes-lifted b from) ∙ four) (receives-lifted b from u to takes)
     ∙ places-lifted b from u c there
 
 -- moving a card to a place that can take it leads from a position to a position
 pub position-moved : (b : Board) (from : Place) (u : ℕ) (to : Place) → IsPosition b → playable b from ≡ Some u
-    → Receives b u to → IsPosition (placed (lifted b from) u to)
+    → Receives b u to → IsPosition (board_with (board_without b from) u to)
 position-moved b from u to p there takes = record {
-  columns = columns-placed (lifted b from) u to ∙ columns-lifted b from ∙ p.columns;
-  cells = cells-placed (lifted b from) u to ∙ cells-lifted b from ∙ p.cells;
-  homes = homes-placed (lifted b from) u to ∙ ap length (homes-lifted b from) ∙ p.homes;
+  columns = columns-placed (board_without b from) u to ∙ columns-lifted b from ∙ p.columns;
+  cells = cells-placed (board_without b from) u to ∙ cells-lifted b from ∙ p.cells;
+  homes = homes-placed (board_without b from) u to ∙ ap length (homes-lifted b from) ∙ p.homes;
   once = λ c below. places-moved b from u to c p.homes there takes ∙ p.once c below;
   no_other = λ c above. places-moved b from u to c p.homes there takes ∙ p.no_other c above;
 }
@@ -178,9 +178,9 @@ count-le-places b j c there = omega (arith, get_or-le-sum_by (count_in_column c)
 
 -- once a card is lifted, every column has room for it
 pub room-lifted : (b : Board) (from : Place) (u : ℕ) (to : Place) → IsPosition b → playable b from ≡ Some u
-    → Receives b u to → HasRoom (lifted b from) to
+    → Receives b u to → HasRoom (board_without b from) to
 room-lifted b from u (Column j) p there takes =
-    let x = lifted b from in
+    let x = board_without b from in
     let inside : j < length x.columns = receives-lifted b from u (Column j) takes in
     let lower : (c : ℕ) → places x c + count_in_cell c (Some u) ≡ places b c = λ c. places-lifted b from u c there in
     let below = playable_below b from u p there in

@@ -50,20 +50,20 @@ playable b (Cell i) = cell b i
 playable b Home = None
 
 -- the board without the playable card of a place
-abbrev pub lifted : Board → Place → Board
-lifted b (Column i) = record b { columns = slice_set b.columns i (front_of (column b i)) }
-lifted b (Cell i) = record b { cells = slice_set b.cells i None }
-lifted b Home = b
+abbrev pub board_without : Board → Place → Board
+board_without b (Column i) = record b { columns = slice_set b.columns i (front_of (column b i)) }
+board_without b (Cell i) = record b { cells = slice_set b.cells i None }
+board_without b Home = b
 
 -- the board with the card u put at a place
-abbrev pub placed : Board → ℕ → Place → Board
-placed b u (Column i) = record b { columns = slice_set b.columns i (column b i ++ u ∷ []) }
-placed b u (Cell i) = record b { cells = slice_set b.cells i (Some u) }
-placed b u Home = record b { homes = slice_set b.homes (suit u) (rank u) }
+abbrev pub board_with : Board → ℕ → Place → Board
+board_with b u (Column i) = record b { columns = slice_set b.columns i (column b i ++ u ∷ []) }
+board_with b u (Cell i) = record b { cells = slice_set b.cells i (Some u) }
+board_with b u Home = record b { homes = slice_set b.homes (suit u) (rank u) }
 
 -- the new board is the old one with the playable card of the one place put at the other
-abbrev pub Shifted : Board → Place → Place → Board → Type 0
-Shifted old from to new = (u : ℕ) → playable old from ≡ Some u → new ≡ placed (lifted old from) u to
+abbrev pub IsShift : Board → Place → Place → Board → Type 0
+IsShift old from to new = (u : ℕ) → playable old from ≡ Some u → new ≡ board_with (board_without old from) u to
 
 -- the place can take the card u: a column that is there, a cell that is there and empty, or home where u is next
 abbrev pub Receives : Board → ℕ → Place → Type 0

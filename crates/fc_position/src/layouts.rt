@@ -1,5 +1,5 @@
 ghost use Rattle.std.specs.Prelude.{◌≡◌, ◌↔◌, IsTrue, replicate};
-ghost use Rattle.fc_position.specs.Board.{board_of, playable, lifted, placed, places};
+ghost use Rattle.fc_position.specs.Board.{board_of, playable, board_without, board_with, places};
 ghost use Rattle.fc_position.specs.inner.Board.{HasRoom};
 ghost use Rattle.fc_position.specs.Position.{IsShaped};
 ghost use Rattle.fc_position.specs.Tally.{Adds};
@@ -46,7 +46,7 @@ impl Layout {
     // Takes the playable card of a place away.
     pub fn lift(&mut self, place: Place) -> Option<Card>
         ensures value { result ≡ playable self.old place }
-        ensures after { self.new ≡ lifted self.old place }
+        ensures after { self.new ≡ board_without self.old place }
     {
         match place {
             Place::Column(i) if i < 8 => self.columns.pop(i),
@@ -58,7 +58,7 @@ impl Layout {
     // Puts a card at a place.
     pub fn put(&mut self, card: Card, place: Place)
         requires { HasRoom self.old place }
-        ensures { self.new ≡ placed self.old card place }
+        ensures { self.new ≡ board_with self.old card place }
     {
         match place {
             Place::Column(i) => self.columns.push(i, card),

@@ -1,6 +1,6 @@
 ghost use Rattle.std.specs.Prelude.{◌≡◌, ℕ, ◌≤◌, ◌<◌, ◌↔◌, IsTrue, Some, map, swap, All, IfOk, IfErr};
 ghost use Rattle.fc_cards.specs.Suit.{suit_index};
-ghost use Rattle.fc_position.specs.Board.{board_of, column, cell, home, playable, places, IsNext, Receives, Shifted};
+ghost use Rattle.fc_position.specs.Board.{board_of, column, cell, home, playable, places, IsNext, Receives, IsShift};
 ghost use Rattle.fc_position.specs.Position.{IsPosition, IsWon, Fits};
 ghost use Rattle.fc_position.specs.Tally.{IsFaultOf};
 
@@ -191,7 +191,7 @@ impl Position {
     /// home where the card is next in its suit.
     pub fn shift(&mut self, from: Place, to: Place)
         requires moves { (u : ℕ) × (playable self.old from ≡ Some u) × Receives self.old u to }
-        ensures after { Shifted self.old from to self.new }
+        ensures after { IsShift self.old from to self.new }
         ensures whole { IsPosition self.new }
     {
         if let Some(card) = self.layout.lift(from) {

@@ -4,9 +4,9 @@ use Rattle.std.specs.Prelude.{filter, slice_index}
 use Rattle.std.specs.List.{flat_map}
 use Rattle.std.proofs.lemmas.Bool.{cond_both, ltb-false}
 use Rattle.std.proofs.lemmas.Bool.Decides.{nat_tests}
+use Rattle.fc_cards.specs.Texts.{with_line_end}
 use Rattle.fc_position.specs.Board.{front_of}
 use Rattle.fc_text.specs.Line.{begin_part, is_line_end, is_token, lines_of, parts_of, without_return}
-use Rattle.fc_text.specs.Printed.{ended}
 use Rattle.fc_text.proofs.PrintedPieces.{AllAbove, ArePrinted}
 use Rattle.fc_row_text.specs.RowText.{entry_at, is_drawn, is_row_gap, word_at, words_of}
 
@@ -103,11 +103,11 @@ part-ended (b ∷ line) rest none =
     ∙ ap (begin_part b) (part-ended line rest none.1)
 
 -- lines that are ended are the lines of their text
-pub lines-ended : (lines : List (List ℕ)) → NoEnds lines → parts_of is_line_end (flat_map ended lines) ≡ lines
+pub lines-ended : (lines : List (List ℕ)) → NoEnds lines → parts_of is_line_end (flat_map with_line_end lines) ≡ lines
 lines-ended [] none = refl
 lines-ended (line ∷ lines) none =
-    ap (parts_of is_line_end) (append_assoc line (10 ∷ []) (flat_map ended lines))
-    ∙ part-ended line (flat_map ended lines) none.0 ∙ ap (λ ls. line ∷ ls) (lines-ended lines none.1)
+    ap (parts_of is_line_end) (append_assoc line (10 ∷ []) (flat_map with_line_end lines))
+    ∙ part-ended line (flat_map with_line_end lines) none.0 ∙ ap (λ ls. line ∷ ls) (lines-ended lines none.1)
 
 -- a line without control bytes doesn't end with a CR
 no_return : (line : List ℕ) (i : ℕ) → AllAbove 31 line → (slice_index line i == 13) ≡ false

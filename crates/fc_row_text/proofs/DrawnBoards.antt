@@ -6,15 +6,15 @@ use Rattle.std.specs.Option.{option_or}
 use Rattle.std.proofs.lemmas.Bool.{eq-eqb}
 use Rattle.std.proofs.lemmas.List.{append-nil, get_or-map, length-append, length-map, length-take}
 use Rattle.std.proofs.lemmas.List.FromFn.{fill_by_all}
-use Rattle.fc_cards.specs.Texts.{card_text}
+use Rattle.fc_cards.specs.Texts.{card_text, with_line_end}
 use Rattle.fc_position.specs.Board.{Board, home}
 use Rattle.fc_position.specs.Position.{Fits, IsPosition}
 use Rattle.fc_text.specs.Line.{lines_of}
-use Rattle.fc_text.specs.Printed.{board_text, cell_text, ended, entries_text, home_text}
+use Rattle.fc_text.specs.Printed.{board_text, cell_text, entries_text, home_text}
 use Rattle.fc_text.proofs.PrintedLines.{spells_board}
 use Rattle.fc_text.proofs.PrintedPieces.{AllAbove, AreLines, lines_of-lines}
 use Rattle.fc_text.proofs.PrintLemmas.{length-board_text}
-use Rattle.fc_show.specs.Drawing.{drawing, held_entry, height, row, rows, top_names, top_row, unmarked}
+use Rattle.fc_show.specs.Drawing.{drawing, held_entry, height, row, rows, top_names, top_row, style_without_mark}
 use Rattle.fc_show.proofs.DrawingLemmas.{height_position}
 use Rattle.fc_row_text.specs.Laws.{DrawingsAreBoards}
 use Rattle.fc_row_text.specs.RowText.{RowLine, cells_head, line_of_column, text_in_columns, columns_text, entry_count, first_fault, front_text, head_text, kind_below, names_below, row_text_fault, short_after, row_lines_below, row_lines, words_of}
@@ -28,26 +28,26 @@ use Rattle.fc_row_text.proofs.FaultLemmas.{rows_sound}
 
 -- the lines of a drawing
 abbrev pub drawn_rows : List (List ℕ) → List ℕ → List (List ℕ)
-drawn_rows columns is = map (row (unmarked false) columns) is
+drawn_rows columns is = map (row (style_without_mark false) columns) is
 
 abbrev pub drawn_lines : ℕ → Board → List (List ℕ)
 drawn_lines n b =
-    top_names n ∷ top_row (unmarked false) n b ∷ [] ∷ numbers_line ∷ drawn_rows b.columns (range_with_len 0 (height b.columns))
+    top_names n ∷ top_row (style_without_mark false) n b ∷ [] ∷ numbers_line ∷ drawn_rows b.columns (range_with_len 0 (height b.columns))
 
 rows-are : (columns : List (List ℕ)) (i count : ℕ)
-    → rows (unmarked false) columns i count ≡ flat_map ended (drawn_rows columns (range_with_len i count))
+    → rows (style_without_mark false) columns i count ≡ flat_map with_line_end (drawn_rows columns (range_with_len i count))
 rows-are columns i zero = refl
-rows-are columns i (suc count) = ap (λ t. ended (row (unmarked false) columns i) ++ t) (rows-are columns (i + 1) count)
+rows-are columns i (suc count) = ap (λ t. with_line_end (row (style_without_mark false) columns i) ++ t) (rows-are columns (i + 1) count)
 
-pub drawing-is : (n : ℕ) (b : Board) → drawing (unmarked false) n b ≡ flat_map ended (drawn_lines n b)
+pub drawing-is : (n : ℕ) (b : Board) → drawing (style_without_mark false) n b ≡ flat_map with_line_end (drawn_lines n b)
 drawing-is n b =
-    let names = ended (top_names n) in
-    let held = ended (top_row (unmarked false) n b) in
-    let numbers = ended numbers_line in
-    let rest = rows (unmarked false) b.columns 0 (height b.columns) in
-    append_assoc names (held ++ (ended [] ++ numbers)) rest
-    ∙ ap (λ t. names ++ t) (append_assoc held (ended [] ++ numbers) rest ∙ ap (λ t. held ++ t) (append_assoc (ended []) numbers rest))
-    ∙ ap (λ t. names ++ (held ++ (ended [] ++ (numbers ++ t)))) (rows-are b.columns 0 (height b.columns))
+    let names = with_line_end (top_names n) in
+    let held = with_line_end (top_row (style_without_mark false) n b) in
+    let numbers = with_line_end numbers_line in
+    let rest = rows (style_without_mark false) b.columns 0 (height b.columns) in
+    append_assoc names (held ++ (with_line_end [] ++ numbers)) rest
+    ∙ ap (λ t. names ++ t) (append_assoc held (with_line_end [] ++ numbers) rest ∙ ap (λ t. held ++ t) (append_assoc (with_line_end []) numbers rest))
+    ∙ ap (λ t. names ++ (held ++ (with_line_end [] ++ (numbers ++ t)))) (rows-are b.columns 0 (height b.columns))
 
 rows-lines : (columns : List (List ℕ)) (is : List ℕ) → AllCards columns → AreLines (drawn_rows columns is)
 rows-lines columns [] p = tt
@@ -66,9 +66,9 @@ told-rows : (columns : List (List ℕ)) (i count : ℕ) → AllCards columns →
 told-rows columns i zero p within = refl
 told-rows columns i (suc count) p within =
     let held = row_of columns i in
-    let kind : kind_below None (row (unmarked false) columns i) ≡ Row =
+    let kind : kind_below None (row (style_without_mark false) columns i) ≡ Row =
     ap (kind_below None) (row-is columns i) ∙ places-row held (row-held columns i p) (row-some columns i (omega arith)) in
-    told-step None (row (unmarked false) columns i) (drawn_rows columns (range_with_len (i + 1) count)) Row kind
+    told-step None (row (style_without_mark false) columns i) (drawn_rows columns (range_with_len (i + 1) count)) Row kind
     ∙ ap (λ ls. told_row columns i ∷ ls) (told-rows columns (i + 1) count p (omega arith))
 
 -- the cards of a position that fits
@@ -97,14 +97,14 @@ told_rows b = map (told_row b.columns) (range_with_len 0 (height b.columns))
 
 abbrev told_drawing : ℕ → Board → List RowLine
 told_drawing n b =
-    record { kind = Names n; line = top_names n } ∷ record { kind = Held n; line = top_row (unmarked false) n b }
+    record { kind = Names n; line = top_names n } ∷ record { kind = Held n; line = top_row (style_without_mark false) n b }
     ∷ record { kind = Blank; line = [] } ∷ record { kind = Numbers; line = numbers_line } ∷ told_rows b
 
-told-is : (n : ℕ) (b : Board) → Drawn n b → row_lines (drawing (unmarked false) n b) ≡ told_drawing n b
+told-is : (n : ℕ) (b : Board) → Drawn n b → row_lines (drawing (style_without_mark false) n b) ≡ told_drawing n b
 told-is n b d =
     let p = d.position in
     let names = top_names n in
-    let held = top_row (unmarked false) n b in
+    let held = top_row (style_without_mark false) n b in
     let rows = drawn_rows b.columns (range_with_len 0 (height b.columns)) in
     let one : RowLine = record { kind = Names n; line = names } in
     let two : RowLine = record { kind = Held n; line = held } in
@@ -131,44 +131,44 @@ cells_line n b = codes "Freecells:" ++ entries_text (map cell_text (take n b.cel
 abbrev cards_line : List ℕ → List ℕ
 cards_line cards = 58 ∷ entries_text (map card_text cards)
 
-front-is : (n : ℕ) (b : Board) → Drawn n b → flat_map front_text (told_drawing n b) ≡ ended (homes_line b) ++ ended (cells_line n b)
+front-is : (n : ℕ) (b : Board) → Drawn n b → flat_map front_text (told_drawing n b) ≡ with_line_end (homes_line b) ++ with_line_end (cells_line n b)
 unfolding homes_line cells_line
 front-is n b d =
-    let line = top_row (unmarked false) n b in
+    let line = top_row (style_without_mark false) n b in
     ap (λ t. head_text n line ++ t) (rows-front b.columns (range_with_len 0 (height b.columns))) ∙ append-nil (head_text n line)
-    ∙ ap (λ t. ended t ++ ended (cells_head n line)) (homes-are n b d.few d.position d.held)
-    ∙ ap (λ t. ended (homes_line b) ++ ended t) (cells-are n b d.few d.position d.held)
+    ∙ ap (λ t. with_line_end t ++ with_line_end (cells_head n line)) (homes-are n b d.few d.position d.held)
+    ∙ ap (λ t. with_line_end (homes_line b) ++ with_line_end t) (cells-are n b d.few d.position d.held)
 
-ended-of : (f : ℕ → List ℕ) (is : List ℕ) → flat_map (λ i. ended (f i)) is ≡ flat_map ended (map f is)
+ended-of : (f : ℕ → List ℕ) (is : List ℕ) → flat_map (λ i. with_line_end (f i)) is ≡ flat_map with_line_end (map f is)
 ended-of f [] = refl
-ended-of f (i ∷ is) = ap (λ t. ended (f i) ++ t) (ended-of f is)
+ended-of f (i ∷ is) = ap (λ t. with_line_end (f i) ++ t) (ended-of f is)
 
 columns-are : (n : ℕ) (b : Board) (most : ℕ) → most ≡ 8 → Drawn n b
-    → columns_text (told_drawing n b) most ≡ flat_map ended (map cards_line b.columns)
+    → columns_text (told_drawing n b) most ≡ flat_map with_line_end (map cards_line b.columns)
 unfolding columns_text
 columns-are n b most eight d =
     let f = λ (k : ℕ). line_of_column k (told_drawing n b) in
     let long : length b.columns ≡ 8 = d.position.columns in
     ended-of f (range_with_len 0 most)
-    ∙ ap (flat_map ended) (sym (fill_by_all f (map cards_line b.columns) most [] (length-map b.columns cards_line ∙ long ∙ sym eight)
+    ∙ ap (flat_map with_line_end) (sym (fill_by_all f (map cards_line b.columns) most [] (length-map b.columns cards_line ∙ long ∙ sym eight)
     (λ k below.
     get_or-map cards_line b.columns k [] [] (omega (arith, long))
     ∙ ap (λ t. 58 ∷ t) (sym (told-column b.columns k d.cards long (omega arith))))))
 
 board-is : (n : ℕ) (b : Board)
-    → (ended (homes_line b) ++ ended (cells_line n b)) ++ flat_map ended (map cards_line b.columns) ≡ board_text n b
+    → (with_line_end (homes_line b) ++ with_line_end (cells_line n b)) ++ flat_map with_line_end (map cards_line b.columns) ≡ board_text n b
 unfolding homes_line cells_line
-board-is n b = append_assoc (ended (homes_line b)) (ended (cells_line n b)) (flat_map ended (map cards_line b.columns))
+board-is n b = append_assoc (with_line_end (homes_line b)) (with_line_end (cells_line n b)) (flat_map with_line_end (map cards_line b.columns))
 
-text-is : (n : ℕ) (b : Board) → Drawn n b → text_in_columns (drawing (unmarked false) n b) ≡ board_text n b
+text-is : (n : ℕ) (b : Board) → Drawn n b → text_in_columns (drawing (style_without_mark false) n b) ≡ board_text n b
 unfolding text_in_columns
 text-is n b d =
     ap (λ ls. flat_map front_text ls ++ columns_text ls 8) (told-is n b d)
     ∙ ap (λ t. t ++ columns_text (told_drawing n b) 8) (front-is n b d)
-    ∙ ap (λ t. (ended (homes_line b) ++ ended (cells_line n b)) ++ t) (columns-are n b 8 refl d) ∙ board-is n b
+    ∙ ap (λ t. (with_line_end (homes_line b) ++ with_line_end (cells_line n b)) ++ t) (columns-are n b 8 refl d) ∙ board-is n b
 
 -- it has no fault
-row-count : (columns : List (List ℕ)) (i : ℕ) → AllCards columns → length columns ≡ 8 → entry_count (row (unmarked false) columns i) ≡ 8
+row-count : (columns : List (List ℕ)) (i : ℕ) → AllCards columns → length columns ≡ 8 → entry_count (row (style_without_mark false) columns i) ≡ 8
 row-count columns i p long =
     ap entry_count (row-is columns i)
     ∙ places-count (row_of columns i) (row-held columns i p) (length-map columns (λ (cards : List ℕ). slice_get cards i) ∙ long)
@@ -184,7 +184,7 @@ rows-fault columns number (i ∷ is) p long =
 
 told-fault : (n : ℕ) (b : Board) → Drawn n b → first_fault None 1 (told_drawing n b) ≡ None
 told-fault n b d =
-    let words = length (words_of (top_row (unmarked false) n b)) in
+    let words = length (words_of (top_row (style_without_mark false) n b)) in
     ap (λ t. option_or (cond t None (Some (BadHead 2))) (first_fault None 5 (told_rows b)))
     (eq-eqb words (n + 4) (top-count n b d.few d.position d.held))
     ∙ rows-fault b.columns 5 (range_with_len 0 (height b.columns)) d.cards d.position.columns
@@ -195,44 +195,44 @@ places-long [] = omega arith
 places-long (None ∷ held) = let more = places-long held in omega arith
 places-long (Some c ∷ held) = let more = places-long held in omega arith
 
-rows-long : (columns : List (List ℕ)) (i count : ℕ) → length columns ≡ 8 → length (rows (unmarked false) columns i count) ≡ 25 * count
+rows-long : (columns : List (List ℕ)) (i count : ℕ) → length columns ≡ 8 → length (rows (style_without_mark false) columns i count) ≡ 25 * count
 rows-long columns i zero long = omega arith
 rows-long columns i (suc count) long =
     let held = row_of columns i in
     let line = ap length (row-is columns i) ∙ places-long held in
     let size = length-map columns (λ (cards : List ℕ). slice_get cards i) in
     let more = rows-long columns (i + 1) count long in
-    let one = length-append (row (unmarked false) columns i) (10 ∷ []) in
-    let both = length-append (ended (row (unmarked false) columns i)) (rows (unmarked false) columns (i + 1) count) in
+    let one = length-append (row (style_without_mark false) columns i) (10 ∷ []) in
+    let both = length-append (with_line_end (row (style_without_mark false) columns i)) (rows (style_without_mark false) columns (i + 1) count) in
     omega (arith, line, size, more, one, both, long)
 
-top-long : (n : ℕ) (b : Board) → n ≤ 4 → length (top_row (unmarked false) n b) ≤ 27
+top-long : (n : ℕ) (b : Board) → n ≤ 4 → length (top_row (style_without_mark false) n b) ≤ 27
 top-long n b few =
     let first = held-long (take n b.cells) in
     let four : length (tops b) ≡ 4 = refl in
     let rest = held-long (tops b) in
     let size = length-take n b.cells in
-    let both = length-append (flat_map (held_entry (unmarked false)) (take n b.cells)) (codes "   " ++ flat_map (held_entry (unmarked false)) (tops b)) in
+    let both = length-append (flat_map (held_entry (style_without_mark false)) (take n b.cells)) (codes "   " ++ flat_map (held_entry (style_without_mark false)) (tops b)) in
     omega (arith, first, four, rest, size, both)
 
-drawing-short : (n : ℕ) (b : Board) → n ≤ 4 → IsPosition b → length (drawing (unmarked false) n b) ≤ 16384
+drawing-short : (n : ℕ) (b : Board) → n ≤ 4 → IsPosition b → length (drawing (style_without_mark false) n b) ≤ 16384
 drawing-short n b few p =
-    let names = ended (top_names n) in
-    let held = ended (top_row (unmarked false) n b) in
-    let rest = rows (unmarked false) b.columns 0 (height b.columns) in
-    let numbers = ended [] ++ ended numbers_line in
+    let names = with_line_end (top_names n) in
+    let held = with_line_end (top_row (style_without_mark false) n b) in
+    let rest = rows (style_without_mark false) b.columns 0 (height b.columns) in
+    let numbers = with_line_end [] ++ with_line_end numbers_line in
     let one = length-append (top_names n) (10 ∷ []) in
-    let two = length-append (top_row (unmarked false) n b) (10 ∷ []) in
+    let two = length-append (top_row (style_without_mark false) n b) (10 ∷ []) in
     let few_numbers : length numbers ≡ 26 = refl in
     let three = length-append held numbers in
     let four = length-append names (held ++ numbers) in
     let all = length-append (names ++ (held ++ numbers)) rest in
     omega (arith, names-long n few, top-long n b few, rows-long b.columns 0 (height b.columns) p.columns, height_position b p, one, two, few_numbers, three, four, all)
 
-sound-is : (n : ℕ) (b : Board) → Drawn n b → row_text_fault (drawing (unmarked false) n b) ≡ None
+sound-is : (n : ℕ) (b : Board) → Drawn n b → row_text_fault (drawing (style_without_mark false) n b) ≡ None
 sound-is n b d =
     let size = ap length (text-is n b d) in
-    rows_sound (drawing (unmarked false) n b) (drawing-short n b d.few d.position) (ap (first_fault None 1) (told-is n b d) ∙ told-fault n b d)
+    rows_sound (drawing (style_without_mark false) n b) (drawing-short n b d.few d.position) (ap (first_fault None 1) (told-is n b d) ∙ told-fault n b d)
     (omega (arith, size, length-board_text n b d.position d.few))
 
 pub drawings_are : DrawingsAreBoards

@@ -17,7 +17,7 @@ use Rattle.fc_text.specs.Line.{is_token}
 use Rattle.fc_text.specs.Printed.{cell_text, entries_text, home_text}
 use Rattle.fc_text.specs.Spelling.{SpellsCard, SpellsCellAt}
 use Rattle.fc_text.proofs.PrintedPieces.{AllAbove}
-use Rattle.fc_show.specs.Drawing.{held_entry, names_row, top_card, top_names, top_row, unmarked}
+use Rattle.fc_show.specs.Drawing.{held_entry, names_row, top_card, top_names, top_row, style_without_mark}
 use Rattle.fc_row_text.specs.RowText.{are_numbers, cells_named, cells_head, held_or, home_entry, homes_head, kind_below, own_kind, word_at, words_of}
 use Rattle.fc_row_text.specs.declared.row_lines.RowLineKind.TheVariants.{Blank, Names, Numbers, Held}
 use Rattle.fc_row_text.proofs.ByteLemmas.{AreAbove}
@@ -61,11 +61,11 @@ tops b = map (λ s. top_card s (home b s)) (0 ∷ 1 ∷ 2 ∷ 3 ∷ [])
 abbrev top_parts : ℕ → Board → List (List ℕ)
 top_parts n b = flat_map held_parts (take n b.cells) ++ [] ∷ [] ∷ [] ∷ flat_map held_parts (tops b)
 
-top-is : (n : ℕ) (b : Board) → top_row (unmarked false) n b ≡ entries_text (top_parts n b)
+top-is : (n : ℕ) (b : Board) → top_row (style_without_mark false) n b ≡ entries_text (top_parts n b)
 top-is n b =
     let cells = flat_map held_parts (take n b.cells) in
     let rest = flat_map held_parts (tops b) in
-    ap (λ t. t ++ (codes "   " ++ flat_map (held_entry (unmarked false)) (tops b))) (held-is (take n b.cells))
+    ap (λ t. t ++ (codes "   " ++ flat_map (held_entry (style_without_mark false)) (tops b))) (held-is (take n b.cells))
     ∙ ap (λ t. entries_text cells ++ 32 ∷ 32 ∷ 32 ∷ t) (held-is (tops b))
     ∙ sym (flat_map-append (λ (part : List ℕ). 32 ∷ part) cells ([] ∷ [] ∷ [] ∷ rest))
 
@@ -84,7 +84,7 @@ top-parts n b p held =
     above-both (flat_map held_parts (take n b.cells)) _ (held-above (take n b.cells) held)
     (tt, (tt, (tt, held-above (tops b) (tops-held b p))))
 
-pub top-above : (n : ℕ) (b : Board) → IsPosition b → AreHeld (take n b.cells) → AllAbove 31 (top_row (unmarked false) n b)
+pub top-above : (n : ℕ) (b : Board) → IsPosition b → AreHeld (take n b.cells) → AllAbove 31 (top_row (style_without_mark false) n b)
 top-above n b p held = subst (AllAbove 31) (sym (top-is n b)) (entries-above (top_parts n b) (top-parts n b p held))
 
 abbrev pub cell_words : ℕ → Board → List (List ℕ)
@@ -94,7 +94,7 @@ abbrev pub home_words : Board → List (List ℕ)
 home_words b = map cell_text (tops b)
 
 pub top-words : (n : ℕ) (b : Board) → IsPosition b → AreHeld (take n b.cells)
-    → words_of (top_row (unmarked false) n b) ≡ cell_words n b ++ home_words b
+    → words_of (top_row (style_without_mark false) n b) ≡ cell_words n b ++ home_words b
 top-words n b p held =
     let rest = flat_map held_parts (tops b) in
     let homes : filter is_token rest ≡ home_words b =
@@ -106,26 +106,26 @@ length-cells : (n : ℕ) (b : Board) → n ≤ 4 → IsPosition b → length (ce
 length-cells n b few p =
     length-map (take n b.cells) cell_text ∙ length-take-le n b.cells (omega (arith, p.cells))
 
-pub top-count : (n : ℕ) (b : Board) → n ≤ 4 → IsPosition b → AreHeld (take n b.cells) → length (words_of (top_row (unmarked false) n b)) ≡ n + 4
+pub top-count : (n : ℕ) (b : Board) → n ≤ 4 → IsPosition b → AreHeld (take n b.cells) → length (words_of (top_row (style_without_mark false) n b)) ≡ n + 4
 top-count n b few p held =
     let four : length (home_words b) ≡ 4 = refl in
     ap length (top-words n b p held) ∙ length-append (cell_words n b) (home_words b) ∙ omega (arith, length-cells n b few p, four)
 
-pub top-kind : (n : ℕ) (b : Board) → n ≤ 4 → IsPosition b → AreHeld (take n b.cells) → kind_below (Some n) (top_row (unmarked false) n b) ≡ Held n
+pub top-kind : (n : ℕ) (b : Board) → n ≤ 4 → IsPosition b → AreHeld (take n b.cells) → kind_below (Some n) (top_row (style_without_mark false) n b) ≡ Held n
 top-kind n b few p held =
-    let words = words_of (top_row (unmarked false) n b) in
-    ap (λ t. cond t Blank (held_or (Some n) (own_kind (top_row (unmarked false) n b))))
+    let words = words_of (top_row (style_without_mark false) n b) in
+    ap (λ t. cond t Blank (held_or (Some n) (own_kind (top_row (style_without_mark false) n b))))
     (ne_eqb (length words) 0 (λ e. absurd (omega (arith, e, top-count n b few p held))))
 
 -- the words of cells and of foundations
 cell-word : (n : ℕ) (b : Board) (i : ℕ) → n ≤ 4 → IsPosition b → AreHeld (take n b.cells) → i < n
-    → get_or (cell_words n b) i [] ≡ word_at i (top_row (unmarked false) n b)
+    → get_or (cell_words n b) i [] ≡ word_at i (top_row (style_without_mark false) n b)
 cell-word n b i few p held below =
     sym (ap (λ ws. get_or ws i []) (top-words n b p held)
     ∙ get_or_append_left (cell_words n b) (home_words b) [] i (omega (arith, length-cells n b few p)))
 
 home-word : (n : ℕ) (b : Board) (k : ℕ) → n ≤ 4 → IsPosition b → AreHeld (take n b.cells)
-    → word_at (n + k) (top_row (unmarked false) n b) ≡ get_or (home_words b) k []
+    → word_at (n + k) (top_row (style_without_mark false) n b) ≡ get_or (home_words b) k []
 home-word n b k few p held =
     ap (λ ws. get_or ws (n + k) []) (top-words n b p held)
     ∙ ap (λ m. get_or (cell_words n b ++ home_words b) (m + k) []) (sym (length-cells n b few p))
@@ -148,10 +148,10 @@ home-is s (suc r) below most =
     ∙ home-two (suit_letter s) (rank_letter (suc r)) (suit_letter-upper s below)
 
 pub homes-are : (n : ℕ) (b : Board) → n ≤ 4 → IsPosition b → AreHeld (take n b.cells)
-    → homes_head n (top_row (unmarked false) n b)
+    → homes_head n (top_row (style_without_mark false) n b)
     ≡ codes "Foundations:" ++ entries_text (map (λ s. home_text s (home b s)) (2 ∷ 0 ∷ 1 ∷ 3 ∷ []))
 homes-are n b few p held =
-    let line = top_row (unmarked false) n b in
+    let line = top_row (style_without_mark false) n b in
     let name = codes "Foundations:" in
     let first : n ≡ n + 0 = omega arith in
     let hearts : home_entry 72 (word_at (n + 2) line) ≡ home_text 2 (home b 2) =
@@ -173,9 +173,9 @@ entries-of f [] = refl
 entries-of f (i ∷ is) = ap (λ t. (32 ∷ f i) ++ t) (entries-of f is)
 
 pub cells-are : (n : ℕ) (b : Board) → n ≤ 4 → IsPosition b → AreHeld (take n b.cells)
-    → cells_head n (top_row (unmarked false) n b) ≡ codes "Freecells:" ++ entries_text (map cell_text (take n b.cells))
+    → cells_head n (top_row (style_without_mark false) n b) ≡ codes "Freecells:" ++ entries_text (map cell_text (take n b.cells))
 cells-are n b few p held =
-    let f = λ (i : ℕ). word_at i (top_row (unmarked false) n b) in
+    let f = λ (i : ℕ). word_at i (top_row (style_without_mark false) n b) in
     ap (λ t. codes "Freecells:" ++ t) (entries-of f (range_with_len 0 n)
     ∙ ap entries_text (sym (fill_by_all f (cell_words n b) n [] (length-cells n b few p) (λ k below. cell-word n b k few p held below))))
 
@@ -209,7 +209,7 @@ all-cards [] each = tt
 all-cards (cards ∷ columns) each = (each 0 (omega arith), all-cards columns (λ i within. each (suc i) (omega arith)))
 
 -- three bytes an entry
-pub held-long : (held : List (Option ℕ)) → length (flat_map (held_entry (unmarked false)) held) ≡ 3 * length held
+pub held-long : (held : List (Option ℕ)) → length (flat_map (held_entry (style_without_mark false)) held) ≡ 3 * length held
 held-long [] = omega arith
 held-long (None ∷ held) = let more = held-long held in omega arith
 held-long (Some c ∷ held) = let more = held-long held in omega arith

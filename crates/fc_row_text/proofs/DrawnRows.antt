@@ -10,7 +10,7 @@ use Rattle.fc_text.specs.Line.{line_of, without_return}
 use Rattle.fc_text.specs.Printed.{entries_text}
 use Rattle.fc_text.specs.Spelling.{is_column}
 use Rattle.fc_text.proofs.PrintedPieces.{AllAbove}
-use Rattle.fc_show.specs.Drawing.{height, row, unmarked}
+use Rattle.fc_show.specs.Drawing.{height, row, style_without_mark}
 use Rattle.fc_row_text.specs.RowText.{RowLine, are_numbers, cells_named, entry_at, entry_count, entry_text, has_places, held_or, is_drawn, kind_below, named_or_row, own_kind, entry_text_at, word_at, words_of}
 use Rattle.fc_row_text.specs.declared.row_lines.RowLineKind.TheVariants.{Blank, Kept, Row}
 use Rattle.fc_row_text.proofs.ByteLemmas.{without_return-same}
@@ -121,7 +121,7 @@ column-height (cards ∷ columns) (suc k) = let more = column-height columns k i
 
 -- the rows of a drawing say of a column its cards
 abbrev pub told_row : List (List ℕ) → ℕ → RowLine
-told_row columns i = record { kind = Row; line = row (unmarked false) columns i }
+told_row columns i = record { kind = Row; line = row (style_without_mark false) columns i }
 
 told-entry : (columns : List (List ℕ)) (i k : ℕ) → AllCards columns → length columns ≡ 8 → k < 8
     → entry_text_at k (told_row columns i) ≡ place_text (slice_get (get_or columns k []) i)

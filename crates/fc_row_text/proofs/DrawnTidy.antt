@@ -18,7 +18,7 @@ use Rattle.fc_text.proofs.PrintedPieces.{AllAbove, AreLines}
 use Rattle.fc_typed.specs.Respelled.{card_spelling, is_dash_alone, is_rank, is_suit, respelled_card}
 use Rattle.fc_typed.specs.Title.{any_token, has_word}
 use Rattle.fc_typed.proofs.TidyBytes.{IsTidyLine, are_tidy, is_tidy_byte, tidy_already}
-use Rattle.fc_show.specs.Drawing.{drawing, height, held_entry, row, top_names, top_row, unmarked}
+use Rattle.fc_show.specs.Drawing.{drawing, height, held_entry, row, top_names, top_row, style_without_mark}
 use Rattle.fc_row_text.specs.Laws.{DrawingsAreTidy, DrawingsReadBack}
 use Rattle.fc_row_text.specs.RowText.{text_in_columns, is_row_gap, words_of}
 use Rattle.fc_row_text.proofs.ByteLemmas.{NoEnds, lines-ended, no_end-above}
@@ -72,10 +72,10 @@ card_kept c below =
     (rank_no_suit (rank c) (rank_of c below))
 
 -- what is held
-held_tidy : (held : List (Option ℕ)) → AreHeld held → are_tidy (flat_map (held_entry (unmarked false)) held) ≡ true
+held_tidy : (held : List (Option ℕ)) → AreHeld held → are_tidy (flat_map (held_entry (style_without_mark false)) held) ≡ true
 held_tidy [] all = refl
 held_tidy (None ∷ held) all = held_tidy held all
-held_tidy (Some c ∷ held) all = card_tidy c (flat_map (held_entry (unmarked false)) held) all.0 (held_tidy held all.1)
+held_tidy (Some c ∷ held) all = card_tidy c (flat_map (held_entry (style_without_mark false)) held) all.0 (held_tidy held all.1)
 
 held_kept : (held : List (Option ℕ)) → AreHeld held → map respelled_card (map cell_text held) ≡ map cell_text held
 held_kept [] all = refl
@@ -112,9 +112,9 @@ several ((b ∷ []) ∷ []) some = absurd (omega arith)
 several ((b ∷ []) ∷ token ∷ tokens) some = refl
 several ((b ∷ c ∷ bytes) ∷ tokens) some = refl
 
-top_tidy : (n : ℕ) (b : Board) → Drawn n b → IsTidyLine (top_row (unmarked false) n b)
+top_tidy : (n : ℕ) (b : Board) → Drawn n b → IsTidyLine (top_row (style_without_mark false) n b)
 top_tidy n b d =
-    let line = top_row (unmarked false) n b in
+    let line = top_row (style_without_mark false) n b in
     let cells = take n b.cells in
     let words = cell_words n b ++ home_words b in
     let are = top-words n b d.position d.held in
@@ -124,7 +124,7 @@ top_tidy n b d =
     ∙ ap (λ ws. ws ++ map respelled_card (home_words b)) (held_kept cells d.held)
     ∙ ap (λ ws. cell_words n b ++ ws) (held_kept (tops b) founds) in
     line_from line words (top-above n b d.position d.held)
-    (tidy_both (flat_map (held_entry (unmarked false)) cells) _ (held_tidy cells d.held) (held_tidy (tops b) founds)) are kept
+    (tidy_both (flat_map (held_entry (style_without_mark false)) cells) _ (held_tidy cells d.held) (held_tidy (tops b) founds)) are kept
     (several words (omega (arith, sym (ap length are) ∙ top-count n b d.few d.position d.held)))
     (short_both (cell_words n b) (home_words b) (held_short cells) (held_short (tops b)))
 
@@ -153,7 +153,7 @@ places_line held all =
 rows_tidy : (columns : List (List ℕ)) (is : List ℕ) → AllCards columns → All IsTidyLine (drawn_rows columns is)
 rows_tidy columns [] p = All-nil IsTidyLine
 rows_tidy columns (i ∷ is) p =
-    All-cons IsTidyLine (row (unmarked false) columns i) (drawn_rows columns is)
+    All-cons IsTidyLine (row (style_without_mark false) columns i) (drawn_rows columns is)
     (subst IsTidyLine (sym (row-is columns i)) (places_line (row_of columns i) (row-held columns i p))) (rows_tidy columns is p)
 
 -- names
@@ -175,7 +175,7 @@ numbers_tidy = record { bytes = refl; tokens = refl; dash = refl; word = refl }
 -- all lines
 lines_tidy : (n : ℕ) (b : Board) → Drawn n b → All IsTidyLine (drawn_lines n b)
 lines_tidy n b d =
-    let top = top_row (unmarked false) n b in
+    let top = top_row (style_without_mark false) n b in
     let rows = drawn_rows b.columns (range_with_len 0 (height b.columns)) in
     All-cons IsTidyLine (top_names n) (top ∷ [] ∷ numbers_line ∷ rows) (names_tidy n d.few)
     (All-cons IsTidyLine top ([] ∷ numbers_line ∷ rows) (top_tidy n b d)
@@ -191,9 +191,9 @@ pub drawings_tidy : DrawingsAreTidy
 drawings_tidy n b few p fits =
     let d = drawn n b few p fits in
     let lines = drawn_lines n b in
-    let parts : parts_of is_line_end (drawing (unmarked false) n b) ≡ lines =
+    let parts : parts_of is_line_end (drawing (style_without_mark false) n b) ≡ lines =
     ap (parts_of is_line_end) (drawing-is n b) ∙ lines-ended lines (no_ends lines (drawn-above n b d)) in
-    tidy_already (drawing (unmarked false) n b) (subst (All IsTidyLine) (sym parts) (lines_tidy n b d))
+    tidy_already (drawing (style_without_mark false) n b) (subst (All IsTidyLine) (sym parts) (lines_tidy n b d))
 
 -- and is read back
 pub drawings_read : DrawingsReadBack

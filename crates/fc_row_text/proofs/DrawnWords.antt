@@ -13,7 +13,7 @@ use Rattle.fc_text.specs.Printed.{cell_text, entries_text}
 use Rattle.fc_text.specs.Spelling.{is_column}
 use Rattle.fc_text.proofs.PartLemmas.{tokens-gap}
 use Rattle.fc_text.proofs.PrintedPieces.{AllAbove, above-append}
-use Rattle.fc_show.specs.Drawing.{held_entry, place_entry, row, unmarked}
+use Rattle.fc_show.specs.Drawing.{held_entry, place_entry, row, style_without_mark}
 use Rattle.fc_row_text.specs.RowText.{has_places, is_row_gap, is_none, is_place, word_at, words_of}
 use Rattle.fc_row_text.proofs.ByteLemmas.{AreAbove, above-lower}
 
@@ -93,7 +93,7 @@ abbrev pub held_parts : Option ℕ → List (List ℕ)
 held_parts None = [] ∷ codes "-" ∷ []
 held_parts (Some c) = card_text c ∷ []
 
-pub held-is : (held : List (Option ℕ)) → flat_map (held_entry (unmarked false)) held ≡ entries_text (flat_map held_parts held)
+pub held-is : (held : List (Option ℕ)) → flat_map (held_entry (style_without_mark false)) held ≡ entries_text (flat_map held_parts held)
 held-is [] = refl
 held-is (None ∷ held) = ap (λ t. 32 ∷ 32 ∷ 45 ∷ t) (held-is held)
 held-is (Some c ∷ held) = ap (λ t. (32 ∷ card_text c) ++ t) (held-is held)
@@ -120,7 +120,7 @@ somes (None ∷ held) = somes held
 somes (Some c ∷ held) = c ∷ somes held
 
 abbrev pub places : List (Option ℕ) → List ℕ
-places held = flat_map (place_entry (unmarked false)) held
+places held = flat_map (place_entry (style_without_mark false)) held
 
 pub places-are : (held : List (Option ℕ)) → places held ≡ entries_text (flat_map place_parts held)
 places-are [] = refl
@@ -153,7 +153,7 @@ places-drawn (Some c ∷ held) all =
     ap (λ t. t && has_places (length held) (places held)) (card_place c all.0) ∙ places-drawn held all.1
 
 pub place-at : (held : List (Option ℕ)) (k : ℕ) → k < length held
-    → take 3 (drop (3 * k) (places held)) ≡ place_entry (unmarked false) (get_or held k None)
+    → take 3 (drop (3 * k) (places held)) ≡ place_entry (style_without_mark false) (get_or held k None)
 place-at [] k within = absurd (omega arith)
 place-at (None ∷ held) zero within = refl
 place-at (Some c ∷ held) zero within = refl
@@ -169,7 +169,7 @@ abbrev pub place_word : Option ℕ → List ℕ
 place_word None = []
 place_word (Some c) = card_text c
 
-pub place-word : (o : Option ℕ) → AreHeld (o ∷ []) → word_at 0 (place_entry (unmarked false) o) ≡ place_word o
+pub place-word : (o : Option ℕ) → AreHeld (o ∷ []) → word_at 0 (place_entry (style_without_mark false) o) ≡ place_word o
 place-word None all = refl
 place-word (Some c) all =
     ap (λ ws. get_or ws 0 []) (ap words_of (sym (append-nil (32 ∷ card_text c)))
@@ -211,6 +211,6 @@ places-column (Some c ∷ held) all some =
     ∙ card_line (rank c) (rank_of c all.0) rest
 
 -- a row of the columns
-pub row-is : (columns : List (List ℕ)) (i : ℕ) → row (unmarked false) columns i ≡ places (map (λ cards. slice_get cards i) columns)
+pub row-is : (columns : List (List ℕ)) (i : ℕ) → row (style_without_mark false) columns i ≡ places (map (λ cards. slice_get cards i) columns)
 row-is [] i = refl
-row-is (cards ∷ columns) i = ap (λ t. place_entry (unmarked false) (slice_get cards i) ++ t) (row-is columns i)
+row-is (cards ∷ columns) i = ap (λ t. place_entry (style_without_mark false) (slice_get cards i) ++ t) (row-is columns i)

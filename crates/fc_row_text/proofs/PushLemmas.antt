@@ -4,12 +4,12 @@ use Rattle.std.specs.Prelude.{Result, Ok, Err, IfErr}
 use Rattle.std.specs.Result.{IsErrAnd}
 use Rattle.std.specs.List.{flat_map, range_with_len}
 use Rattle.std.proofs.lemmas.List.{append-nil}
+use Rattle.fc_cards.specs.Texts.{with_line_end}
 use Rattle.fc_row_text.specs.declared.faults.RowTextFault.{RowTextFault}
 use Rattle.fc_row_text.specs.declared.faults.RowTextFault.TheVariants.{TooLong}
 use Rattle.fc_row_text.specs.RowText.{RowLine, line_of_column, text_in_columns, columns_text, front_text, home_entry, most_bytes, row_lines_below, row_lines}
 use Rattle.fc_row_text.specs.inner.RowLine.{IsFull}
 use Rattle.fc_text.specs.Line.{lines_of}
-use Rattle.fc_text.specs.Printed.{ended}
 
 -- one more piece
 pub pushed_next : (old mid new front piece : List ℕ) → mid ≡ old ++ front → new ≡ mid ++ piece → new ≡ old ++ (front ++ piece)
@@ -95,11 +95,11 @@ told_start names rest text first from =
 
 -- the columns, before the first one was pushed
 pub columns_start : (old : List ℕ) (lines : List RowLine) (most : ℕ)
-    → old ++ flat_map (λ k. ended (line_of_column k lines)) (range_with_len 0 (most - 0)) ≡ old ++ columns_text lines most
+    → old ++ flat_map (λ k. with_line_end (line_of_column k lines)) (range_with_len 0 (most - 0)) ≡ old ++ columns_text lines most
 unfolding columns_text
 columns_start old lines most =
     let all : most - 0 ≡ most = omega arith in
-    ap (λ n. old ++ flat_map (λ k. ended (line_of_column k lines)) (range_with_len 0 n)) all
+    ap (λ n. old ++ flat_map (λ k. with_line_end (line_of_column k lines)) (range_with_len 0 n)) all
 
 -- what a foundation holds was pushed
 pub home_pushed : (old mid new front word told : List ℕ) (letter : ℕ) → mid ≡ old ++ front → new ≡ mid ++ 32 ∷ home_entry letter word

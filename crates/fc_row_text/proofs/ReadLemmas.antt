@@ -6,9 +6,10 @@ use Rattle.std.proofs.lemmas.Bool.{cases_Bool, cond-true, cond_both}
 use Rattle.std.proofs.lemmas.List.{append-nil, map-append}
 use Rattle.std.proofs.lemmas.List.Concat.{flat_map-append}
 use Rattle.std.proofs.lemmas.List.FromFn.{get_or-map-range_with_len}
+use Rattle.fc_cards.specs.Texts.{with_line_end}
 use Rattle.fc_position.specs.Board.{column, front_of}
 use Rattle.fc_text.specs.Line.{Line, board_lines, line_of, lines_of, tokens_of, without_return}
-use Rattle.fc_text.specs.Printed.{ended, entries_text}
+use Rattle.fc_text.specs.Printed.{entries_text}
 use Rattle.fc_text.specs.Spelling.{SpellsCard, is_column}
 use Rattle.fc_text.proofs.PrintedPieces.{AllAbove, ArePrinted, above-append, entries-above, tokens_of-entries}
 use Rattle.fc_row_text.specs.Laws.{EntriesAreColumns, entries_of, row_entry, some_entry}
@@ -99,9 +100,9 @@ columns-ends lines [] = tt
 columns-ends lines (k ∷ ks) = (no_end-above (line_of_column k lines) (column-above k lines), columns-ends lines ks)
 
 columns-are : (lines : List RowLine) (ks : List ℕ)
-    → flat_map (λ k. ended (line_of_column k lines)) ks ≡ flat_map ended (map (λ k. line_of_column k lines) ks)
+    → flat_map (λ k. with_line_end (line_of_column k lines)) ks ≡ flat_map with_line_end (map (λ k. line_of_column k lines) ks)
 columns-are lines [] = refl
-columns-are lines (k ∷ ks) = ap (λ t. ended (line_of_column k lines) ++ t) (columns-are lines ks)
+columns-are lines (k ∷ ks) = ap (λ t. with_line_end (line_of_column k lines) ++ t) (columns-are lines ks)
 
 -- what stands before the columns are lines that are no columns
 record IsFront (line : List ℕ) : Type 0 where
@@ -207,19 +208,19 @@ front_lines Row line = []
 abbrev told_front : RowLine → List (List ℕ)
 told_front told = front_lines told.kind told.line
 
-front-is : (kind : RowLineKind) (line : List ℕ) → front_text (record { kind = kind; line = line }) ≡ flat_map ended (front_lines kind line)
+front-is : (kind : RowLineKind) (line : List ℕ) → front_text (record { kind = kind; line = line }) ≡ flat_map with_line_end (front_lines kind line)
 front-is Blank line = refl
-front-is Kept line = sym (append-nil (ended line))
+front-is Kept line = sym (append-nil (with_line_end line))
 front-is Numbers line = refl
 front-is (Names n) line = refl
-front-is (Held n) line = ap (λ t. ended (homes_head n line) ++ t) (sym (append-nil (ended (cells_head n line))))
+front-is (Held n) line = ap (λ t. with_line_end (homes_head n line) ++ t) (sym (append-nil (with_line_end (cells_head n line))))
 front-is Row line = refl
 
-fronts-are : (lines : List RowLine) → flat_map front_text lines ≡ flat_map ended (flat_map told_front lines)
+fronts-are : (lines : List RowLine) → flat_map front_text lines ≡ flat_map with_line_end (flat_map told_front lines)
 fronts-are [] = refl
 fronts-are (told ∷ lines) =
-    ap (λ t. t ++ flat_map front_text lines) (front-is told.kind told.line) ∙ ap (λ t. flat_map ended (told_front told) ++ t) (fronts-are lines)
-    ∙ sym (flat_map-append ended (told_front told) (flat_map told_front lines))
+    ap (λ t. t ++ flat_map front_text lines) (front-is told.kind told.line) ∙ ap (λ t. flat_map with_line_end (told_front told) ++ t) (fronts-are lines)
+    ∙ sym (flat_map-append with_line_end (told_front told) (flat_map told_front lines))
 
 front-each : (kind : RowLineKind) (line : List ℕ) → NoEnd line
     → (kind ≡ Kept → is_column (line_of (without_return line)).kind ≡ false) → AreFronts (front_lines kind line)
@@ -250,15 +251,15 @@ filter-front (x ∷ xs) ys none =
     [ true ↦ λ e. absurd (cc e) | false ↦ λ e. filter-front xs ys e ] none
 
 module _ (fronts : List (List ℕ)) (lines : List RowLine) (ks : List ℕ) (are : AreFronts fronts) where
-  all_lines : lines_of (flat_map ended fronts ++ flat_map (λ k. ended (line_of_column k lines)) ks)
+  all_lines : lines_of (flat_map with_line_end fronts ++ flat_map (λ k. with_line_end (line_of_column k lines)) ks)
       ≡ map without_return fronts ++ map without_return (map (λ k. line_of_column k lines) ks)
   all_lines =
       let columns = map (λ k. line_of_column k lines) ks in
-      ap lines_of (ap (λ t. flat_map ended fronts ++ t) (columns-are lines ks) ∙ sym (flat_map-append ended fronts columns))
+      ap lines_of (ap (λ t. flat_map with_line_end fronts ++ t) (columns-are lines ks) ∙ sym (flat_map-append with_line_end fronts columns))
       ∙ ap (map without_return) (lines-ended (fronts ++ columns) (ends-append fronts columns (fronts-ends fronts are) (columns-ends lines ks)))
       ∙ map-append without_return fronts columns
 
-  column_lines : filter of_column (map line_of (lines_of (flat_map ended fronts ++ flat_map (λ k. ended (line_of_column k lines)) ks)))
+  column_lines : filter of_column (map line_of (lines_of (flat_map with_line_end fronts ++ flat_map (λ k. with_line_end (line_of_column k lines)) ks)))
       ≡ map (λ k. read_column k lines) ks
   column_lines =
       let columns = map without_return (map (λ k. line_of_column k lines) ks) in
@@ -268,15 +269,15 @@ module _ (fronts : List (List ℕ)) (lines : List RowLine) (ks : List ℕ) (are 
       ∙ ap (filter of_column) (columns-read lines ks) ∙ columns-kept lines ks
 
   column_tokens : map (λ (line : Line). line.tokens)
-      (filter of_column (map line_of (lines_of (flat_map ended fronts ++ flat_map (λ k. ended (line_of_column k lines)) ks))))
+      (filter of_column (map line_of (lines_of (flat_map with_line_end fronts ++ flat_map (λ k. with_line_end (line_of_column k lines)) ks))))
       ≡ map (λ k. entries_of k lines) ks
   column_tokens = ap (map (λ (line : Line). line.tokens)) column_lines ∙ columns-tokens lines ks
 
-tokens-read : (lines : List RowLine) (fronts : List (List ℕ)) (front : List ℕ) (most k : ℕ) → front ≡ flat_map ended fronts → AreFronts fronts
+tokens-read : (lines : List RowLine) (fronts : List (List ℕ)) (front : List ℕ) (most k : ℕ) → front ≡ flat_map with_line_end fronts → AreFronts fronts
     → k < most → tokens_of_column (board_lines (front ++ columns_text lines most)) k ≡ entries_of k lines
 unfolding columns_text
 tokens-read lines fronts front most k is are below =
-    let columns = flat_map (λ j. ended (line_of_column j lines)) (range_with_len 0 most) in
+    let columns = flat_map (λ j. with_line_end (line_of_column j lines)) (range_with_len 0 most) in
     ap (λ t. tokens_of_column (board_lines (t ++ columns)) k) is
     ∙ ap (λ ts. slice_index_or ts k []) (column_tokens fronts lines (range_with_len 0 most) are)
     ∙ get_or-map-range_with_len (λ j. entries_of j lines) 0 most k k [] below (omega arith)

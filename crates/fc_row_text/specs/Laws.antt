@@ -4,7 +4,7 @@ use Rattle.std.specs.List.{AllZip, flat_map}
 use Rattle.fc_position.specs.Board.{Board, column}
 use Rattle.fc_position.specs.Position.{Fits, IsPosition}
 use Rattle.fc_typed.specs.Tidy.{tidy}
-use Rattle.fc_show.specs.Drawing.{drawing, unmarked}
+use Rattle.fc_show.specs.Drawing.{drawing, style_without_mark}
 use Rattle.fc_text.specs.Board.{Spells}
 use Rattle.fc_text.specs.Printed.{board_text}
 use Rattle.fc_text.specs.Spelling.{SpellsCard}
@@ -30,14 +30,14 @@ EntriesAreColumns = (cells : ℕ) (text : List ℕ) (b : Board) (k : ℕ) → Sp
 -- the drawing of a position has no fault, and its text in columns is the board's printed text
 abbrev pub DrawingsAreBoards : Type 0
 DrawingsAreBoards = (n : ℕ) (b : Board) → n ≤ 4 → IsPosition b → Fits n b
-    → (row_text_fault (drawing (unmarked false) n b) ≡ None) × (text_in_columns (drawing (unmarked false) n b) ≡ board_text n b)
+    → (row_text_fault (drawing (style_without_mark false) n b) ≡ None) × (text_in_columns (drawing (style_without_mark false) n b) ≡ board_text n b)
 
 -- the drawing of a position is tidy already
 abbrev pub DrawingsAreTidy : Type 0
 DrawingsAreTidy = (n : ℕ) (b : Board) → n ≤ 4 → IsPosition b → Fits n b
-    → tidy (drawing (unmarked false) n b) ≡ drawing (unmarked false) n b
+    → tidy (drawing (style_without_mark false) n b) ≡ drawing (style_without_mark false) n b
 
 -- so the reader reads the position back from its drawing, made tidy and put into columns
 abbrev pub DrawingsReadBack : Type 0
 DrawingsReadBack = (n : ℕ) (b : Board) → n ≤ 4 → IsPosition b → Fits n b
-    → Spells n (text_in_columns (tidy (drawing (unmarked false) n b))) b
+    → Spells n (text_in_columns (tidy (drawing (style_without_mark false) n b))) b

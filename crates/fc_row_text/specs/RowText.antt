@@ -3,9 +3,9 @@ use Rattle.std.specs.Prelude.{ℕ, zero, suc, ◌+◌, ◌-◌, ◌*◌, ◌==�
 use Rattle.std.specs.Char.{to_ascii_uppercase}
 use Rattle.std.specs.List.{flat_map, range_with_len}
 use Rattle.std.specs.Option.{option_or}
+use Rattle.fc_cards.specs.Texts.{with_line_end}
 use Rattle.fc_position.specs.Board.{front_of}
 use Rattle.fc_text.specs.Line.{line_of, lines_of, tokens_between, without_return}
-use Rattle.fc_text.specs.Printed.{ended}
 use Rattle.fc_text.specs.Spelling.{is_column}
 use Rattle.fc_row_text.specs.declared.faults.RowTextFault.{RowTextFault}
 use Rattle.fc_row_text.specs.declared.faults.RowTextFault.TheVariants.{TooLong, BadHead, LongRow, ShortRow}
@@ -174,13 +174,13 @@ cells_head n line = codes "Freecells:" ++ flat_map (λ i. 32 ∷ word_at i line)
 
 -- its foundations and its cells
 abbrev pub head_text : ℕ → List ℕ → List ℕ
-head_text n line = ended (homes_head n line) ++ ended (cells_head n line)
+head_text n line = with_line_end (homes_head n line) ++ with_line_end (cells_head n line)
 
 -- what stands before the columns: the lines that are kept, and what cells and foundations hold
 abbrev pub front_text : RowLine → List ℕ
 front_text told = elim told.kind as (λ _. List ℕ) [
   | Blank ↦ []
-  | Kept ↦ ended told.line
+  | Kept ↦ with_line_end told.line
   | Numbers ↦ []
   | Names n ↦ []
   | Held n ↦ head_text n told.line
@@ -189,7 +189,7 @@ front_text told = elim told.kind as (λ _. List ℕ) [
 
 -- the lines of the first columns
 unfoldable pub columns_text : List RowLine → ℕ → List ℕ
-columns_text lines count = flat_map (λ k. ended (line_of_column k lines)) (range_with_len 0 count)
+columns_text lines count = flat_map (λ k. with_line_end (line_of_column k lines)) (range_with_len 0 count)
 
 -- the text in columns that a text in rows stands for
 unfoldable pub text_in_columns : List ℕ → List ℕ

@@ -1,6 +1,6 @@
 ghost use Rattle.std.specs.Prelude.{◌≡◌, ◌++◌, ◌≤◌, length, OnOk, IfErr};
 ghost use Rattle.std.specs.List.{flat_map};
-ghost use Rattle.fc_text.specs.Printed.{ended};
+ghost use Rattle.fc_cards.specs.Texts.{with_line_end};
 ghost use Rattle.fc_row_text.specs.RowText.{line_of_column, columns_text, front_text, entry_text_at, row_lines};
 ghost use Rattle.fc_row_text.specs.inner.RowLine.{IsFull, row_line_with};
 
@@ -51,9 +51,9 @@ pub(crate) fn push_columns(bytes: &mut Bytes, text: &[u8]) -> Result<(), RowText
 // Pushes the line of this column, from 0.
 fn push_column(bytes: &mut Bytes, text: &[u8], column: usize) -> Result<(), RowTextFault>
     requires column { column ≤ 7 }
-    ensures pushed { OnOk result (bytes.new.items ≡ bytes.old.items ++ ended (line_of_column column (row_lines text.now))) }
+    ensures pushed { OnOk result (bytes.new.items ≡ bytes.old.items ++ with_line_end (line_of_column column (row_lines text.now))) }
     ensures within { OnOk result (length bytes.new.items ≤ MOST_BYTES) }
-    ensures full { IfErr result (IsFull bytes.old.items (ended (line_of_column column (row_lines text.now)))) }
+    ensures full { IfErr result (IsFull bytes.old.items (with_line_end (line_of_column column (row_lines text.now)))) }
 {
     push(bytes, b":")?;
     for (kind, line) in RowLines::new(text) {

@@ -1,5 +1,5 @@
 ghost use Rattle.std.specs.Prelude.{◌≡◌, ◌++◌, ◌∷◌, OnOk, IfErr};
-ghost use Rattle.fc_text.specs.Printed.{ended};
+ghost use Rattle.fc_cards.specs.Texts.{with_line_end};
 ghost use Rattle.fc_row_text.specs.RowText.{cells_head, has_suit, head_text, home_entry, homes_head};
 ghost use Rattle.fc_row_text.specs.inner.RowLine.{IsFull};
 
@@ -18,8 +18,8 @@ pub(crate) fn push_head(bytes: &mut Bytes, cells: u8, line: &[u8]) -> Result<(),
 
 // Pushes the line of the foundations.
 fn push_homes(bytes: &mut Bytes, cells: u8, line: &[u8]) -> Result<(), RowTextFault>
-    ensures pushed { OnOk result (bytes.new.items ≡ bytes.old.items ++ ended (homes_head cells line.now)) }
-    ensures full { IfErr result (IsFull bytes.old.items (ended (homes_head cells line.now))) }
+    ensures pushed { OnOk result (bytes.new.items ≡ bytes.old.items ++ with_line_end (homes_head cells line.now)) }
+    ensures full { IfErr result (IsFull bytes.old.items (with_line_end (homes_head cells line.now))) }
 {
     let first = cells as usize;
     push(bytes, b"Foundations:")?;
@@ -57,8 +57,8 @@ fn has_suit(letter: u8, word: &[u8]) -> bool
 
 // Pushes the line of the cells.
 fn push_cells(bytes: &mut Bytes, cells: u8, line: &[u8]) -> Result<(), RowTextFault>
-    ensures pushed { OnOk result (bytes.new.items ≡ bytes.old.items ++ ended (cells_head cells line.now)) }
-    ensures full { IfErr result (IsFull bytes.old.items (ended (cells_head cells line.now))) }
+    ensures pushed { OnOk result (bytes.new.items ≡ bytes.old.items ++ with_line_end (cells_head cells line.now)) }
+    ensures full { IfErr result (IsFull bytes.old.items (with_line_end (cells_head cells line.now))) }
 {
     push(bytes, b"Freecells:")?;
     for i in 0..cells {

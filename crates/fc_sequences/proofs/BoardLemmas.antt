@@ -3,7 +3,7 @@ use Rattle.std.proofs.Common.{◌≡◌, ◌≢◌, ℕ, ◌<◌, Option, List, 
 use Rattle.std.proofs.lemmas.List.{get_or-set_same, get_or-set_other, length-set, ext_get_or}
 use Rattle.std.proofs.lemmas.Bool.{cases_eq}
 use Rattle.fc_position.specs.Board.{Board, column}
-use Rattle.fc_sequences.specs.Sequence.{last_cards, cards_before, carried}
+use Rattle.fc_sequences.specs.Sequence.{last_cards, cards_before, board_after_carry}
 
 -- boards with the same columns, cells and counts are the same
 pub board_same : (b c : Board) → length b.columns ≡ length c.columns → ((x : ℕ) → column b x ≡ column c x) → b.cells ≡ c.cells
@@ -36,7 +36,7 @@ changed_so b i j xs ys from to other =
 
 -- what carrying changes
 pub carried_so : (b : Board) (i j k : ℕ) → length b.columns ≡ 8 → i < 8 → j < 8 → j ≢ i
-    → Changed b (carried b i j k) i j (cards_before k (column b i)) (column b j ++ last_cards k (column b i))
+    → Changed b (board_after_carry b i j k) i j (cards_before k (column b i)) (column b j ++ last_cards k (column b i))
 carried_so b i j k long from to other =
     changed_so b i j (cards_before k (column b i)) (column b j ++ last_cards k (column b i)) (omega arith) (omega arith) other
 

@@ -5,12 +5,12 @@ use Rattle.std.proofs.lemmas.Bool.{cases_eq}
 use Rattle.std.proofs.lemmas.List.{append_assoc, drop_more, drop_all, take_rest, get_or-set_same, get_or-set_other, length-set, set-set, set-get_or}
 use Rattle.std.proofs.lemmas.Option.{slice_get-get_or, get_or_from_slice_get, same_Some}
 use Rattle.fc_cards.specs.declared.places.Place.TheVariants.{Column, Cell}
-use Rattle.fc_position.specs.Board.{Board, column, cell, last_of, lifted, placed}
+use Rattle.fc_position.specs.Board.{Board, column, cell, last_of, board_without, board_with}
 use Rattle.fc_moves.specs.declared.steps.Move.{Move}
 use Rattle.fc_moves.specs.GameRules.{GameRules}
 use Rattle.fc_moves.specs.Step.{Allows, Step, MayLand}
 use Rattle.fc_moves.proofs.StepLemmas.{step_keeps}
-use Rattle.fc_sequences.specs.Sequence.{last_cards, cards_before, carried}
+use Rattle.fc_sequences.specs.Sequence.{last_cards, cards_before, board_after_carry}
 use Rattle.fc_sequences.specs.Carry.{AddsRun}
 use Rattle.fc_sequences.specs.inner.Carry.{Carries, reached_at, MayCarryBy, load_of, AreFreeCells, MayLie, EndsInSequence}
 use Rattle.fc_sequences.proofs.BoardLemmas.{Changed, carried_so, changed_once}
@@ -44,7 +44,7 @@ pub allows_across : (g : GameRules) (b : Board) (i j k : ℕ) → length b.colum
 allows_across g b i j k long one may =
     let cards = column b i in
     let u = slice_index cards (length cards - 1) in (
-      placed (lifted b (Column i)) u (Column j),
+      board_with (board_without b (Column i)) u (Column j),
       record {
         card = u;
         playable = last_is cards (omega (arith, may.there));
@@ -56,7 +56,7 @@ allows_across g b i j k long one may =
 
 -- and then one card was carried
 pub after_across : (g : GameRules) (b c : Board) (i j k : ℕ) → length b.columns ≡ 8 → k ≡ 1 → MayLie g b i j k → Step g b (across i j) c
-    → c ≡ carried b i j k
+    → c ≡ board_after_carry b i j k
 after_across g b c i j k long one may step =
     let cards = column b i in
     let there : 1 ≤ length cards = omega (arith, may.there, may.some_cards) in
@@ -64,7 +64,7 @@ after_across g b c i j k long one may step =
     let make : List ℕ → Board = λ l. record b { columns = set (set b.columns i (cards_before 1 cards)) j l } in
     let two : get_or (set b.columns i (cards_before 1 cards)) j [] ++ step.card ∷ [] ≡ column b j ++ last_cards 1 cards =
     ap (λ l. l ++ step.card ∷ []) base ∙ ap (λ l. column b j ++ l) (sym (last_one cards step.card there step.playable)) in
-    step.after ∙ ap make two ∙ ap (carried b i j) (sym one)
+    step.after ∙ ap make two ∙ ap (board_after_carry b i j) (sym one)
 
 -- where there are more cards than one, a free cell takes the last
 pub allows_aside : (g : GameRules) (b : Board) (i j k a : ℕ) (cells others : List ℕ) → cells ≡ a ∷ others → MayCarryBy g b (load_of i j k) cells
@@ -74,7 +74,7 @@ allows_aside g b i j k a cells others e may =
     let u = slice_index cards (length cards - 1) in
     let free = may.free.free 0 0 (omega (arith, ap length e)) in
     let here : get_or cells 0 0 ≡ a = ap (λ (l : List ℕ). get_or l 0 0) e in (
-      placed (lifted b (Column i)) u (Cell a),
+      board_with (board_without b (Column i)) u (Cell a),
       record {
         card = u;
         playable = last_is cards (omega (arith, may.lies.there, may.lies.some_cards));
@@ -174,7 +174,7 @@ pub record Between (b d : Board) (i j k a u : ℕ) : Type 0 where
   pub homes : d.homes ≡ b.homes
 
 between_so : (g : GameRules) (b c d : Board) (i j k a : ℕ) (cells others : List ℕ) (p : PutsAside g b i j k a cells others c)
-    → d ≡ carried c i j (k - 1) → Between b d i j k a p.step.card
+    → d ≡ board_after_carry c i j (k - 1) → Between b d i j k a p.step.card
 between_so g b c d i j k a cells others p after =
     let lies = p.may.lies in
     let q = long_of g b c i j k a cells others p in
@@ -204,7 +204,7 @@ held g b c d i j k a cells others p q =
 
 -- and the card may go on them
 pub allows_back : (g : GameRules) (b c d : Board) (i j k a : ℕ) (cells others : List ℕ) → PutsAside g b i j k a cells others c
-    → d ≡ carried c i j (k - 1) → Allows g d (back a j)
+    → d ≡ board_after_carry c i j (k - 1) → Allows g d (back a j)
 allows_back g b c d i j k a cells others p after =
     let lies = p.may.lies in
     let cards = column b i in
@@ -215,7 +215,7 @@ allows_back g b c d i j k a cells others p after =
     let on : MayLand g (column b j ++ last_cards (k - 1) (cards_before 1 cards)) (slice_index cards (length cards - 1)) =
     lands_after g 1 (k - 1) cards (column b j) (omega arith) more (omega (arith, lies.there)) (subst (λ n. EndsInSequence g n cards) sum lies.sequence) in
     let card : slice_index cards (length cards - 1) ≡ u = get_or_from_slice_get cards (length cards - 1) u 0 p.step.playable in (
-      placed (lifted d (Cell a)) u (Column j),
+      board_with (board_without d (Cell a)) u (Column j),
       record {
         card = u;
         playable = held g b c d i j k a cells others p q;
@@ -227,7 +227,7 @@ allows_back g b c d i j k a cells others p after =
 
 -- so that all were carried
 after_back : (g : GameRules) (b c d e : Board) (i j k a : ℕ) (cells others : List ℕ) → PutsAside g b i j k a cells others c
-    → d ≡ carried c i j (k - 1) → Step g d (back a j) e → e ≡ carried b i j k
+    → d ≡ board_after_carry c i j (k - 1) → Step g d (back a j) e → e ≡ board_after_carry b i j k
 after_back g b c d e i j k a cells others p after step =
     let lies = p.may.lies in
     let cards = column b i in
@@ -256,7 +256,7 @@ after_back g b c d e i j k a cells others p after step =
           ∙ ap (set b.cells a) (sym none) ∙ set-get_or b.cells a None;
       homes = ap (λ x. x.homes) step.after ∙ q.homes;
     } in
-    changed_once b e (carried b i j k) i j (cards_before k cards) (column b j ++ last_cards k cards) by
+    changed_once b e (board_after_carry b i j k) i j (cards_before k cards) (column b j ++ last_cards k cards) by
     (carried_so b i j k eight lies.from lies.to lies.other)
 
 pub carried_by : (g : GameRules) (b c d e : Board) (i j k a : ℕ) (cells others : List ℕ) (w x y z : List Move)

@@ -10,7 +10,7 @@ use Rattle.fc_cards.specs.Card.{rank}
 use Rattle.fc_position.specs.Board.{Board, column}
 use Rattle.fc_moves.specs.GameRules.{GameRules, IsGame, IsPair, Stands}
 use Rattle.fc_sequences.specs.declared.pairs.Pair.{Pair}
-use Rattle.fc_sequences.specs.Sequence.{IsSequence, MayCarry, carried, last_cards}
+use Rattle.fc_sequences.specs.Sequence.{IsSequence, MayCarry, board_after_carry, last_cards}
 use Rattle.fc_sequences.specs.Pair.{PlaysCards, PlaysBy}
 
 -- a card that may stand on another is one rank below it
@@ -53,4 +53,4 @@ played_few g b p k c game plays = cards_few g b p.from p.to k c game plays.1
 pub columns_played : (g : GameRules) (b : Board) (from to : Place) (i j k : ℕ) (t : Bool) → from ≡ Column i → to ≡ Column j
     → (IsTrue t ↔ MayCarry g b i j k) → IsTrue t ↔ ((c : Board) × PlaysCards g b from to k c)
 columns_played g b from to i j k t one two may =
-    rw one (rw two (λ yes. (carried b i j k, (may.0 yes, refl)), λ plays. may.1 plays.1.0))
+    rw one (rw two (λ yes. (board_after_carry b i j k, (may.0 yes, refl)), λ plays. may.1 plays.1.0))

@@ -6,7 +6,7 @@ use Rattle.std.proofs.lemmas.List.{length-set}
 use Rattle.std.proofs.lemmas.List.Elements.{All-get_or}
 use Rattle.std.proofs.lemmas.Option.{slice_get_within, slice_get_read, slice_get-get_or, get_or_from_slice_get}
 use Rattle.fc_cards.specs.declared.places.Place.TheVariants.{Home}
-use Rattle.fc_position.specs.Board.{Board, lifted, placed}
+use Rattle.fc_position.specs.Board.{Board, board_without, board_with}
 use Rattle.fc_moves.specs.declared.steps.Move.{Move}
 use Rattle.fc_moves.specs.GameRules.{GameRules, IsPositionOf}
 use Rattle.fc_moves.specs.Step.{Allows, Step}
@@ -56,7 +56,7 @@ step_back g a b c m other one two =
     let first = taken_back g a c m one other in
     let second = taken_back g b c m two other in
     let same : one.card ≡ two.card = cc (sym first.there ∙ second.there) in
-    sym first.back ∙ ap (λ u. placed (lifted c m.to) u m.from) same ∙ second.back
+    sym first.back ∙ ap (λ u. board_with (board_without c m.to) u m.from) same ∙ second.back
 
 -- a place of a list of as many elements
 pub place_in : {X Y : Type 0} (xs : List X) (ys : List Y) (i : ℕ) (x : X) (d : Y) → length ys ≡ length xs → slice_get xs i ≡ Some x

@@ -13,7 +13,7 @@ use Rattle.fc_sequences.specs.declared.pairs.Pair.{Pair}
 use Rattle.fc_sequences.specs.Gathering.{AreOneEntry, Gathers, IsGathered, IsLongest, MayPlayAnother}
 use Rattle.fc_sequences.specs.Laws.{GatheredToOneList}
 use Rattle.fc_sequences.specs.Pair.{PlaysCards}
-use Rattle.fc_sequences.specs.Sequence.{last_cards, MayCarry, carried}
+use Rattle.fc_sequences.specs.Sequence.{last_cards, MayCarry, board_after_carry}
 use Rattle.fc_sequences.proofs.BoardLemmas.{carried_so}
 use Rattle.fc_sequences.proofs.CardLemmas.{length-last}
 use Rattle.fc_sequences.proofs.EntryLemmas.{entry_same}
@@ -28,7 +28,7 @@ ends_once None x y e f = absurd e
 ends_once (Some m) x y e f = sym e ∙ f
 
 -- how much longer the destination has become tells how many cards were carried
-more_cards : (b c : Board) (i j k : ℕ) (g : GameRules) → IsPosition b → MayCarry g b i j k → c ≡ carried b i j k
+more_cards : (b c : Board) (i j k : ℕ) (g : GameRules) → IsPosition b → MayCarry g b i j k → c ≡ board_after_carry b i j k
     → length (column c j) ≡ length (column b j) + k
 more_cards b c i j k g position may same =
     let after = carried_so b i j k position.columns may.from may.to may.other in

@@ -7,7 +7,7 @@ use Rattle.std.proofs.lemmas.List.{append_assoc}
 use Rattle.fc_position.specs.Board.{Board, column}
 use Rattle.fc_moves.specs.declared.steps.Move.{Move}
 use Rattle.fc_moves.specs.GameRules.{GameRules, IsPositionOf}
-use Rattle.fc_sequences.specs.Sequence.{last_cards, cards_before, carried}
+use Rattle.fc_sequences.specs.Sequence.{last_cards, cards_before, board_after_carry}
 use Rattle.fc_sequences.specs.Carry.{carry_moves}
 use Rattle.fc_sequences.specs.inner.Carry.{Carries, reached_at, MayCarryOver, load_of, AreSpareColumns, EndOpens}
 use Rattle.fc_sequences.proofs.BoardLemmas.{Changed, carried_so, changed_once}
@@ -68,7 +68,7 @@ over_aside g b i j s h r cells others p =
 
 -- then the cards before them to their place
 pub over_rest : (g : GameRules) (b c : Board) (i j s h r : ℕ) (cells others : List ℕ) → Halves g b i j s h r cells others
-    → IsPositionOf g c → c ≡ carried b i s h → MayCarryOver g c (load_of i j r) cells others
+    → IsPositionOf g c → c ≡ board_after_carry b i s h → MayCarryOver g c (load_of i j r) cells others
 over_rest g b c i j s h r cells others p fits after =
     let may = p.may in
     let cards = column b i in
@@ -97,7 +97,7 @@ pub record Between (b d : Board) (i j s h r : ℕ) : Type 0 where
   pub homes : d.homes ≡ b.homes
 
 between_so : (g : GameRules) (b c d : Board) (i j s h r : ℕ) (cells others : List ℕ) → Halves g b i j s h r cells others
-    → c ≡ carried b i s h → d ≡ carried c i j r → Between b d i j s h r
+    → c ≡ board_after_carry b i s h → d ≡ board_after_carry c i j r → Between b d i j s h r
 between_so g b c d i j s h r cells others p one two =
     let may = p.may in
     let cards = column b i in
@@ -122,7 +122,7 @@ between_so g b c d i j s h r cells others p one two =
 
 -- and then the last half after them
 pub over_back : (g : GameRules) (b c d : Board) (i j s h r : ℕ) (cells others : List ℕ) → Halves g b i j s h r cells others
-    → IsPositionOf g d → c ≡ carried b i s h → d ≡ carried c i j r → MayCarryOver g d (load_of s j h) cells others
+    → IsPositionOf g d → c ≡ board_after_carry b i s h → d ≡ board_after_carry c i j r → MayCarryOver g d (load_of s j h) cells others
 over_back g b c d i j s h r cells others p fits one two =
     let may = p.may in
     let cards = column b i in
@@ -142,7 +142,7 @@ over_back g b c d i j s h r cells others p fits one two =
 
 -- so that all were carried
 after_back : (g : GameRules) (b c d e : Board) (i j s h r : ℕ) (cells others : List ℕ) → Halves g b i j s h r cells others
-    → c ≡ carried b i s h → d ≡ carried c i j r → e ≡ carried d s j h → e ≡ carried b i j (h + r)
+    → c ≡ board_after_carry b i s h → d ≡ board_after_carry c i j r → e ≡ board_after_carry d s j h → e ≡ board_after_carry b i j (h + r)
 after_back g b c d e i j s h r cells others p one two three =
     let may = p.may in
     let cards = column b i in
@@ -170,7 +170,7 @@ after_back g b c d e i j s h r cells others p one two three =
       cells = by.cells ∙ q.cells;
       homes = by.homes ∙ q.homes;
     } in
-    changed_once b e (carried b i j (h + r)) i j (cards_before (h + r) cards) (column b j ++ last_cards (h + r) cards) all
+    changed_once b e (board_after_carry b i j (h + r)) i j (cards_before (h + r) cards) (column b j ++ last_cards (h + r) cards) all
     (carried_so b i j (h + r) eight may.lies.from may.lies.to may.lies.other)
 
 pub carried_over : (g : GameRules) (b c d e : Board) (i j k s h r : ℕ) (cells columns others : List ℕ) (w x y z : List Move) → k ≡ h + r
@@ -179,7 +179,7 @@ pub carried_over : (g : GameRules) (b c d e : Board) (i j k s h r : ℕ) (cells 
     → Carries g (load_of s j h) (carry_moves (length cells) (length others) h) (reached_at d y) (reached_at e z)
     → Carries g (load_of i j k) (carry_moves (length cells) (length columns) k) (reached_at b w) (reached_at e z)
 carried_over g b c d e i j k s h r cells columns others w x y z sum parts p one two three = record {
-  after = after_back g b c d e i j s h r cells others p one.after two.after three.after ∙ ap (carried b i j) (sym sum);
+  after = after_back g b c d e i j s h r cells others p one.after two.after three.after ∙ ap (board_after_carry b i j) (sym sum);
   run = adds_on g b d e w y z (adds_on g b c d w x y one.run two.run) three.run;
   count_is =
       let all = ap (λ (l : List ℕ). carry_moves (length cells) (length l) k) parts

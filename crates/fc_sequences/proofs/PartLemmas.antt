@@ -17,7 +17,7 @@ use Rattle.fc_sequences.specs.declared.gathers.TheConstants.{MOST_AHEAD}
 use Rattle.fc_sequences.specs.declared.pairs.Pair.{Pair}
 use Rattle.fc_sequences.specs.Gathering.{AreOneEntry, BeginsAt, EndsAt, IsCarry, IsGathered, IsLongest, MayPlayAnother}
 use Rattle.fc_sequences.specs.Pair.{PlaysBy, PlaysCards, moves_for}
-use Rattle.fc_sequences.specs.Sequence.{carried, last_cards}
+use Rattle.fc_sequences.specs.Sequence.{board_after_carry, last_cards}
 use Rattle.fc_sequences.specs.inner.Part.{IsPart, NoneLonger, PlaysPart}
 use Rattle.fc_sequences.proofs.BoardLemmas.{carried_so}
 use Rattle.fc_sequences.proofs.CardLemmas.{length-last}
@@ -146,7 +146,7 @@ none_past g b mid ms d at n before run within refused m i j k few carry =
     (λ most. let front : take (at + 1) (take m ms) ≡ take (at + 1) ms = take-take (at + 1) m ms (omega arith) in
     let whole : take m ms ≡ take (at + 1) ms ++ drop (at + 1) (take m ms) =
     sym (take-append-drop (at + 1) (take m ms)) ∙ ap (λ l. l ++ drop (at + 1) (take m ms)) front in
-    let parts = run_parts g b (carried b i j k) (take (at + 1) ms) (drop (at + 1) (take m ms)) (subst (λ l. Run g b l (carried b i j k)) whole carry.run) in
+    let parts = run_parts g b (board_after_carry b i j k) (take (at + 1) ms) (drop (at + 1) (take m ms)) (subst (λ l. Run g b l (board_after_carry b i j k)) whole carry.run) in
     absurd (stopped_at g b mid parts.0 ms d at run within refused parts.1))
     (cases_lt m (at + 1))
 
@@ -159,7 +159,7 @@ pub carry_played : (g : GameRules) (b c : Board) (ms : List Move) (m d : Move) (
 carry_played g b c ms m d count at i j k game fits first run within gained carry =
     let n = get_or ms at d in
     let size : length (take (at + 1) ms) ≡ at + 1 = length-take-le (at + 1) ms (omega arith) in
-    let same : c ≡ carried b i j k = run_once g b c (carried b i j k) (take (at + 1) ms) run carry.run in
+    let same : c ≡ board_after_carry b i j k = run_once g b c (board_after_carry b i j k) (take (at + 1) ms) run carry.run in
     let source : m.from ≡ Column i =
     subst (λ o. IsSomeAnd o (λ x. x.from ≡ Column i)) (get_take (at + 1) ms 0 (omega arith) ∙ first) carry.from in
     let place : at + 1 - 1 ≡ at = omega arith in
@@ -171,7 +171,7 @@ carry_played g b c ms m d count at i j k game fits first run within gained carry
     let long : length (column c j) ≡ length (column b j) + k =
     ap (λ x. length (column x j)) same ∙ ap length after.second ∙ length-append (column b j) (last_cards k (column b i))
     ∙ ap (λ x. length (column b j) + x) (length-last k (column b i) may.there) in
-    let few = played_few g b (record { from = Column i; to = Column j; count = None }) k (carried b i j k) game (tt, (may, refl)) in
+    let few = played_few g b (record { from = Column i; to = Column j; count = None }) k (board_after_carry b i j k) game (tt, (may, refl)) in
     let counted : count ≡ k = gained i j k source target may.to (omega (arith, few.1)) long in
     let here : PlaysCards g b (Column i) (Column j) k c × (moves_for g b (Column i) (Column j) k ≤ at + 1) =
     ((may, same), omega (arith, carry.within, size)) in

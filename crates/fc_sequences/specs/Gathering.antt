@@ -11,7 +11,7 @@ use Rattle.fc_sequences.specs.declared.gathers.GatherFault.TheVariants.{NotAllow
 use Rattle.fc_sequences.specs.declared.gathers.TheConstants.{MOST_AHEAD}
 use Rattle.fc_sequences.specs.declared.pairs.Pair.{Pair}
 use Rattle.fc_sequences.specs.Pair.{HasPairText, PlaysBy, PlaysCards, moves_for}
-use Rattle.fc_sequences.specs.Sequence.{MayCarry, carried}
+use Rattle.fc_sequences.specs.Sequence.{MayCarry, board_after_carry}
 
 -- the first of the moves takes a card from this place, and the last of them one to this place
 abbrev pub BeginsAt : List Move → Place → Type 0
@@ -26,7 +26,7 @@ pub record IsCarry (g : GameRules) (b : Board) (ms : List Move) (i j k : ℕ) : 
   pub from : BeginsAt ms (Column i)
   pub to : EndsAt ms (Column j)
   pub may : MayCarry g b i j k
-  pub run : Run g b ms (carried b i j k)
+  pub run : Run g b ms (board_after_carry b i j k)
   pub within : moves_for g b (Column i) (Column j) k ≤ length ms
 
 -- the moves are one entry: one move, or several that carry a sequence

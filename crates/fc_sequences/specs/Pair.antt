@@ -9,7 +9,7 @@ use Rattle.fc_moves.specs.MoveText.{IsSource, IsThere, place_letter}
 use Rattle.fc_moves.specs.Step.{Step}
 use Rattle.fc_sequences.specs.declared.pairs.Pair.{Pair}
 use Rattle.fc_sequences.specs.Carry.{carry_moves}
-use Rattle.fc_sequences.specs.Sequence.{MayCarry, carried, free_cells, spare_columns}
+use Rattle.fc_sequences.specs.Sequence.{MayCarry, board_after_carry, free_cells, spare_columns}
 
 -- a number below 16 in hexadecimal, in small letters
 abbrev pub hexadecimal : ℕ → ℕ
@@ -41,7 +41,7 @@ IsNoPair token = (p : Pair) → SpellsPair token p → ⊥
 -- so many cards are played from the one place to the other, and this is the board after it: from column to column a
 -- sequence, else one card
 abbrev pub PlaysCards : GameRules → Board → Place → Place → ℕ → Board → Type 0
-PlaysCards g b (Column i) (Column j) k c = MayCarry g b i j k × (c ≡ carried b i j k)
+PlaysCards g b (Column i) (Column j) k c = MayCarry g b i j k × (c ≡ board_after_carry b i j k)
 PlaysCards g b from to k c = (k ≡ 1) × Step g b (record { from = from; to = to }) c
 
 -- how many one-card moves that takes: from column to column as many as carry the cards over the free cells and the spare columns,

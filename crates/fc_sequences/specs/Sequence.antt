@@ -17,8 +17,8 @@ abbrev pub IsSequence : GameRules → List ℕ → Type 0
 IsSequence g cards = (a : ℕ) → a + 1 < length cards → Stands g (slice_index cards (a + 1)) (slice_index cards a)
 
 -- the board with the last k cards of column i put, as they lie, on column j
-abbrev pub carried : Board → ℕ → ℕ → ℕ → Board
-carried b i j k = record b {
+abbrev pub board_after_carry : Board → ℕ → ℕ → ℕ → Board
+board_after_carry b i j k = record b {
   columns = slice_set (slice_set b.columns i (cards_before k (column b i))) j (column b j ++ last_cards k (column b i));
 }
 

@@ -3,7 +3,7 @@
 ghost use Rattle.std.specs.Prelude.{◌≡◌, ◌↔◌, ◌<◌, ◌≤◌, ◌+◌, ◌-◌, ◌*◌, ◌^◌, length, All, IsTrue, OnOk};
 ghost use Rattle.fc_moves.specs.GameRules.{IsPositionOf, Opens};
 ghost use Rattle.fc_moves.specs.Step.{Allows, Step};
-ghost use Rattle.fc_sequences.specs.Sequence.{AreEnough, IsSequence, MayCarry, carried, free_cells, spare_columns};
+ghost use Rattle.fc_sequences.specs.Sequence.{AreEnough, IsSequence, MayCarry, board_after_carry, free_cells, spare_columns};
 ghost use Rattle.fc_sequences.specs.Carry.{AddsRun, carry_moves};
 ghost use Rattle.fc_sequences.specs.inner.Carry.{Carries, reached_at, MayCarryOver, MayCarryBy};
 
@@ -48,7 +48,7 @@ pub fn carry<G: Game>(
 ) -> Result<(), AllocError>
     requires may { MayCarry (G.game game.now) position.old from to count }
     requires fits { IsPositionOf (G.game game.now) position.old }
-    ensures carried { OnOk result (position.new ≡ carried position.old from to count) }
+    ensures carried { OnOk result (position.new ≡ board_after_carry position.old from to count) }
     ensures run { OnOk result (AddsRun (G.game game.now) position.old moves.old.items position.new moves.new.items) }
     ensures count { OnOk result (length moves.new.items ≡ length moves.old.items
         + carry_moves (length (free_cells (G.game game.now) position.old)) (length (spare_columns position.old to)) count) }

@@ -1,15 +1,15 @@
 //! Lists of one-card moves, gathered to entries.
 
-ghost use Rattle.std.specs.Prelude.{◌≡◌, ℕ, ◌+◌, ◌↔◌, ◌++◌, ◌^◌, ◌<◌, ◌≤◌, List, [], ◌∷◌, All, Some, IfSome, IfOk, IfErr, IsTrue, IsSome, OnOk, length, slice_get, take};
+ghost use Rattle.std.specs.Prelude.{◌≡◌, ℕ, ◌+◌, ◌↔◌, ◌^◌, ◌<◌, ◌≤◌, List, All, Some, IfSome, IfOk, IfErr, IsTrue, IsSome, OnOk, length, slice_get, take};
 ghost use Rattle.fc_cards.specs.declared.places.Place.TheVariants.{Column};
 ghost use Rattle.fc_position.specs.Board.{Board, column};
 ghost use Rattle.fc_moves.specs.declared.steps.Move.{Move};
 ghost use Rattle.fc_moves.specs.GameRules.{IsPositionOf};
 ghost use Rattle.fc_moves.specs.Step.{Allows};
 ghost use Rattle.fc_sequences.specs.declared.pairs.Pair.{Pair};
-ghost use Rattle.fc_sequences.specs.Gathering.{Gathers, IsGathered, IsGatherFault, MayPlayAnother};
+ghost use Rattle.fc_sequences.specs.Gathering.{Gathers, IsGatherFault, MayPlayAnother};
 ghost use Rattle.fc_sequences.specs.Pair.{HasPairText};
-ghost use Rattle.fc_sequences.specs.inner.Part.{IsPart, NoneLonger, PlaysPart};
+ghost use Rattle.fc_sequences.specs.inner.Part.{AddsEntry, IsPart, NoneLonger, PlaysPart};
 
 use crate::pairs::{Pair, may_play_cards, play_pair};
 use fc_cards::Place;
@@ -190,8 +190,7 @@ fn add_entry<G: Game>(
     requires part { (ms : List Move) × IsPart (G.game game.now) position.old ms part }
     requires fits { IsPositionOf (G.game game.now) position.old }
     ensures added { OnOk result ((ms : List Move) → IsPart (G.game game.now) position.old ms part
-        → (p : Pair) × (pairs.new.items ≡ pairs.old.items ++ p ∷ [])
-        × IsGathered (G.game game.now) position.old (take part.moves ms) p part.count position.new) }
+        → AddsEntry (G.game game.now) (take part.moves ms) part.count (position.old, pairs.old.items) (position.new, pairs.new.items)) }
     ensures whole { OnOk result (IsPositionOf (G.game game.now) position.new) }
 {
     let pair = pair_of(game, position, part);

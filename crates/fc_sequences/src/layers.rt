@@ -1,12 +1,12 @@
 //! The boards to which the entries of a list lead, layer by layer, and how those of a layer came from those of the one before.
 
-ghost use Rattle.std.specs.Prelude.{◌≡◌, ◌≢◌, ◌↔◌, ◌+◌, ◌<◌, ◌≤◌, ℕ, List, length, Some, slice_get, All, Any, IsTrue, IfOk, IfSome, OnOk};
+ghost use Rattle.std.specs.Prelude.{◌≡◌, ◌≢◌, ◌↔◌, ◌+◌, ◌<◌, ◌≤◌, ℕ, length, Some, All, Any, IsTrue, IfOk, IfSome, OnOk};
 ghost use Rattle.fc_position.specs.Board.{Board};
 ghost use Rattle.fc_cards.specs.declared.places.Place.TheVariants.{Home};
 ghost use Rattle.fc_moves.specs.GameRules.{GameRules, IsPositionOf};
 ghost use Rattle.fc_moves.specs.Step.{Allows, Step};
 ghost use Rattle.fc_sequences.specs.Pair.{PlaysBy};
-ghost use Rattle.fc_sequences.specs.inner.Layers.{AreStepped, IsGrowing, IsLayer, IsNext, IsSingle, link_at};
+ghost use Rattle.fc_sequences.specs.inner.Layers.{AreStepped, GrowsOn, IsLayer, IsNext, IsSingle, link_at, link_parts};
 ghost use Rattle.fc_sequences.specs.declared.layers.Layer.TheVariants.{Linked};
 
 use crate::pairs::{Pair, may_play, play_pair};
@@ -150,8 +150,7 @@ fn add_children<G: Game>(
     growth: &mut Growth,
 ) -> Result<(), AllocError>
     requires fits { IsPositionOf (G.game game.now) board.now }
-    ensures grown { OnOk result ((before : List Board) → slice_get before parent ≡ Some board.now
-        → IsGrowing (G.game game.now) before pair growth.old (parent, 1) → IsGrowing (G.game game.now) before pair growth.new (parent + 1, 1)) }
+    ensures grown { OnOk result (GrowsOn (G.game game.now) pair board.now (growth.old, (parent, 1)) (growth.new, (parent + 1, 1))) }
 {
     for count in 1..14 {
         add_child(alloc, game, pair, board, Link { parent, count }, growth)?;
@@ -169,9 +168,7 @@ fn add_child<G: Game>(
     growth: &mut Growth,
 ) -> Result<(), AllocError>
     requires fits { IsPositionOf (G.game game.now) board.now }
-    ensures grown { OnOk result ((before : List Board) → slice_get before link.parent ≡ Some board.now
-        → IsGrowing (G.game game.now) before pair growth.old (link.parent, link.count)
-        → IsGrowing (G.game game.now) before pair growth.new (link.parent, link.count + 1)) }
+    ensures grown { OnOk result (GrowsOn (G.game game.now) pair board.now (growth.old, link_parts link) (growth.new, (link.parent, link.count + 1))) }
 {
     if !may_play(game, board, pair, link.count) {
         return Ok(());

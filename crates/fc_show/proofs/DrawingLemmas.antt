@@ -3,11 +3,12 @@ use Rattle.std.proofs.Common.{◌≡◌, ℕ, ◌+◌, ◌-◌, ◌≤◌, ◌<�
 use Rattle.std.specs.Prelude.{max, slice_get, sum_by}
 use Rattle.std.proofs.lemmas.List.{flat_map_more, take_more}
 use Rattle.std.proofs.lemmas.List.Sums.{sum_by-cons}
+use Rattle.fc_cards.specs.Texts.{with_line_end}
 use Rattle.fc_position.specs.Board.{Board}
 use Rattle.fc_position.specs.Position.{IsPosition}
 use Rattle.fc_position.proofs.BoardLemmas.{cards_most}
 use Rattle.fc_show.specs.declared.styles.Style.{Style}
-use Rattle.fc_show.specs.Drawing.{ended, height, place_entry, row, rows}
+use Rattle.fc_show.specs.Drawing.{height, place_entry, row, rows}
 
 -- the height with one more column behind the others
 height-push : (xs : List (List ℕ)) (x : List ℕ) → height (xs ++ x ∷ []) ≡ max (height xs) (length x)
@@ -48,11 +49,11 @@ row_more o t u style columns i k below before after =
 -- after one more row what is left are the rows after it
 pub rows_more : (t u whole : List ℕ) (style : Style) (columns : List (List ℕ)) (i most : ℕ) → i < most
     → t ++ rows style columns i (most - i) ≡ whole
-    → u ≡ t ++ ended (row style columns i)
+    → u ≡ t ++ with_line_end (row style columns i)
     → u ++ rows style columns (i + 1) (most - (i + 1)) ≡ whole
 rows_more t u whole style columns i most below before after =
     let next : most - i ≡ suc (most - (i + 1)) = omega arith in
     let rest = rows style columns (i + 1) (most - (i + 1)) in
-    let joined = append_assoc t (ended (row style columns i)) rest in
+    let joined = append_assoc t (with_line_end (row style columns i)) rest in
     let split = ap (λ n. t ++ rows style columns i n) next in
     ap (λ s. s ++ rest) after ∙ joined ∙ sym split ∙ before

@@ -2,13 +2,13 @@
 use Rattle.std.specs.Prelude.{ℕ, zero, suc, ◌+◌, ◌*◌, ◌&&◌, ◌==◌, Bool, cond, List, [], ◌∷◌, ◌++◌, Option, Some, None, max, take, length, codes, slice_get}
 use Rattle.std.specs.List.{flat_map}
 use Rattle.fc_cards.specs.Card.{is_red}
-use Rattle.fc_cards.specs.Texts.{card_text}
+use Rattle.fc_cards.specs.Texts.{card_text, with_line_end}
 use Rattle.fc_position.specs.Board.{Board, home}
 use Rattle.fc_show.specs.declared.styles.Style.{Style}
 
 -- no card is marked
-abbrev pub unmarked : Bool → Style
-unmarked is_coloured = record { is_coloured = is_coloured; marked = None }
+abbrev pub style_without_mark : Bool → Style
+style_without_mark is_coloured = record { is_coloured = is_coloured; marked = None }
 
 -- before a card stands a blank, or a mark where it is the one that is marked
 abbrev pub mark_of : Option ℕ → ℕ → ℕ
@@ -71,19 +71,15 @@ abbrev pub height : List (List ℕ) → ℕ
 height [] = 0
 height (cards ∷ columns) = max (length cards) (height columns)
 
--- a line is ended by LF
-abbrev pub ended : List ℕ → List ℕ
-ended line = line ++ 10 ∷ []
-
 -- what stands above the columns: the cells and the foundations, an empty line, and the names of the columns
 abbrev pub top : Style → ℕ → Board → List ℕ
-top style n b = ended (top_names n)
-    ++ (ended (top_row style n b) ++ (ended [] ++ ended (names_row (codes "12345678"))))
+top style n b = with_line_end (top_names n)
+    ++ (with_line_end (top_row style n b) ++ (with_line_end [] ++ with_line_end (names_row (codes "12345678"))))
 
 -- so many rows of the columns, those from this one on
 abbrev pub rows : Style → List (List ℕ) → ℕ → ℕ → List ℕ
 rows style columns i zero = []
-rows style columns i (suc count) = ended (row style columns i) ++ rows style columns (i + 1) count
+rows style columns i (suc count) = with_line_end (row style columns i) ++ rows style columns (i + 1) count
 
 -- the board of a game with n cells: what stands above the columns, and the columns
 abbrev pub drawing : Style → ℕ → Board → List ℕ

@@ -1,8 +1,9 @@
 ghost use Rattle.std.specs.Prelude.{◌≡◌, ◌+◌, ◌≤◌, ◌++◌, length};
+ghost use Rattle.fc_cards.specs.Texts.{with_line_end};
 ghost use Rattle.fc_cards.specs.Suit.{suit_index};
 ghost use Rattle.fc_position.specs.Board.{home};
 ghost use Rattle.fc_position.specs.Position.{Fits};
-ghost use Rattle.fc_show.specs.Drawing.{cells_row, drawing, ended, foundations_row, height, row, top, top_card, top_names, top_row};
+ghost use Rattle.fc_show.specs.Drawing.{cells_row, drawing, foundations_row, height, row, top, top_card, top_names, top_row};
 
 use crate::entries::{push, push_held, push_names, push_place};
 use crate::styles::Style;
@@ -61,7 +62,7 @@ fn push_top(text: &mut Drawing, position: &Position, cells: u8, style: &Style)
 fn push_top_names(text: &mut Drawing, cells: u8)
     requires game { cells ≤ 4 }
     requires room { length text.old.items + 28 ≤ 8192 }
-    ensures text { text.new.items ≡ text.old.items ++ ended (top_names cells) }
+    ensures text { text.new.items ≡ text.old.items ++ with_line_end (top_names cells) }
     ensures within { length text.new.items ≤ length text.old.items + 28 }
 {
     push_names(text, &b"abcd"[..cells as usize]);
@@ -74,7 +75,7 @@ fn push_top_names(text: &mut Drawing, cells: u8)
 fn push_top_row(text: &mut Drawing, position: &Position, cells: u8, style: &Style)
     requires game { cells ≤ 4 }
     requires room { length text.old.items + 100 ≤ 8192 }
-    ensures text { text.new.items ≡ text.old.items ++ ended (top_row style.now cells position.now) }
+    ensures text { text.new.items ≡ text.old.items ++ with_line_end (top_row style.now cells position.now) }
     ensures within { length text.new.items ≤ length text.old.items + 100 }
 {
     push_cells(text, position, cells, style);
@@ -117,7 +118,7 @@ fn top_card(position: &Position, suit: Suit) -> Option<Card>
 // Appends one card of each column.
 fn push_row(text: &mut Drawing, position: &Position, i: usize, style: &Style)
     requires room { length text.old.items + 97 ≤ 8192 }
-    ensures text { text.new.items ≡ text.old.items ++ ended (row style.now position.now.columns i) }
+    ensures text { text.new.items ≡ text.old.items ++ with_line_end (row style.now position.now.columns i) }
     ensures within { length text.new.items ≤ length text.old.items + 97 }
 {
     for column in 0..8 {

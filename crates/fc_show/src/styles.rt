@@ -1,5 +1,5 @@
 ghost use Rattle.std.specs.Prelude.{◌≡◌};
-ghost use Rattle.fc_show.specs.Drawing.{mark_of, unmarked};
+ghost use Rattle.fc_show.specs.Drawing.{mark_of, style_without_mark};
 
 use fc_cards::Card;
 
@@ -15,7 +15,7 @@ pub struct Style {
 impl Style {
     /// Without a mark, in colours or not.
     pub fn unmarked(is_coloured: bool) -> Style
-        ensures value { result ≡ unmarked is_coloured }
+        ensures value { result ≡ style_without_mark is_coloured }
     {
         Style {
             is_coloured,

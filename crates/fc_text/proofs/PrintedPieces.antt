@@ -4,8 +4,9 @@ use Rattle.std.specs.Prelude.{filter, slice_index}
 use Rattle.std.specs.List.{flat_map}
 use Rattle.std.proofs.lemmas.List.{append-nil}
 use Rattle.std.proofs.lemmas.Bool.Decides.{nat_tests}
+use Rattle.fc_cards.specs.Texts.{with_line_end}
 use Rattle.fc_text.specs.Line.{parts_of, begin_part, is_line_end, is_blank, is_token, tokens_of, without_return, lines_of}
-use Rattle.fc_text.specs.Printed.{entries_text, ended}
+use Rattle.fc_text.specs.Printed.{entries_text}
 use Rattle.fc_text.proofs.PartLemmas.{tokens-gap}
 
 -- each byte is above the bound
@@ -78,11 +79,11 @@ abbrev pub AreLines : List (List ℕ) → Type 0
 AreLines [] = Unit {0}
 AreLines (line ∷ lines) = AllAbove 31 line × AreLines lines
 
-parts_of-lines : (lines : List (List ℕ)) → AreLines lines → parts_of is_line_end (flat_map ended lines) ≡ lines
+parts_of-lines : (lines : List (List ℕ)) → AreLines lines → parts_of is_line_end (flat_map with_line_end lines) ≡ lines
 parts_of-lines [] p = refl
 parts_of-lines (line ∷ lines) p =
-    ap (parts_of is_line_end) (append_assoc line (10 ∷ []) (flat_map ended lines))
-    ∙ parts_of-end is_line_end 31 no_line_end line 10 (flat_map ended lines) p.0 refl
+    ap (parts_of is_line_end) (append_assoc line (10 ∷ []) (flat_map with_line_end lines))
+    ∙ parts_of-end is_line_end 31 no_line_end line 10 (flat_map with_line_end lines) p.0 refl
     ∙ ap (λ ls. line ∷ ls) (parts_of-lines lines p.1)
 
 no_return : (line : List ℕ) (i : ℕ) → AllAbove 31 line → (slice_index line i == 13) ≡ false
@@ -96,5 +97,5 @@ without_return-lines (line ∷ lines) p =
     let same : without_return line ≡ line = rw (no_return line (length line - 1) p.0) refl in
     ap (λ l. l ∷ map without_return lines) same ∙ ap (λ ls. line ∷ ls) (without_return-lines lines p.1)
 
-pub lines_of-lines : (lines : List (List ℕ)) → AreLines lines → lines_of (flat_map ended lines) ≡ lines
+pub lines_of-lines : (lines : List (List ℕ)) → AreLines lines → lines_of (flat_map with_line_end lines) ≡ lines
 lines_of-lines lines p = ap (map without_return) (parts_of-lines lines p) ∙ without_return-lines lines p

@@ -1,7 +1,7 @@
 -- The printed board: ten lines, each ended by LF.
 use Rattle.std.specs.Prelude.{ℕ, zero, suc, List, [], ◌∷◌, ◌++◌, Option, Some, None, map, take, codes}
 use Rattle.std.specs.List.{flat_map}
-use Rattle.fc_cards.specs.Texts.{rank_letter, suit_letter, card_text}
+use Rattle.fc_cards.specs.Texts.{rank_letter, suit_letter, card_text, with_line_end}
 use Rattle.fc_position.specs.Board.{Board, home}
 
 -- a count is printed as `0` or as its rank's letter
@@ -34,10 +34,6 @@ cells_text n b = codes "Freecells:" ++ entries_text (map cell_text (take n b.cel
 abbrev pub column_text : List ℕ → List ℕ
 column_text cards = codes ":" ++ entries_text (map card_text cards)
 
--- a line is ended by LF
-abbrev pub ended : List ℕ → List ℕ
-ended line = line ++ 10 ∷ []
-
 -- the board of a game with n cells: the foundations, the cells, and the eight columns
 abbrev pub board_text : ℕ → Board → List ℕ
-board_text n b = flat_map ended (foundations_text b ∷ cells_text n b ∷ map column_text b.columns)
+board_text n b = flat_map with_line_end (foundations_text b ∷ cells_text n b ∷ map column_text b.columns)

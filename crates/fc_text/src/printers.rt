@@ -1,11 +1,11 @@
 ghost use Rattle.std.specs.Prelude.{◌≡◌, ℕ, ◌+◌, ◌*◌, ◌≤◌, ◌<◌, [], ◌∷◌, ◌++◌, length};
 ghost use Rattle.arrayvec.specs.ArrayString.{array_string_len};
 ghost use Rattle.fc_cards.specs.Suit.{suit_index};
-ghost use Rattle.fc_cards.specs.Texts.{card_text};
+ghost use Rattle.fc_cards.specs.Texts.{card_text, with_line_end};
 ghost use Rattle.fc_position.specs.Board.{home};
 ghost use Rattle.fc_position.specs.Position.{Fits};
 ghost use Rattle.fc_text.specs.Board.{Spells};
-ghost use Rattle.fc_text.specs.Printed.{count_letter, home_text, cell_text, foundations_text, cells_text, column_text, ended, board_text};
+ghost use Rattle.fc_text.specs.Printed.{count_letter, home_text, cell_text, foundations_text, cells_text, column_text, board_text};
 
 use arrayvec::ArrayString;
 use fc_cards::{Card, Suit, rank_letter};
@@ -32,7 +32,7 @@ pub fn print_board(position: &Position, cells: u8) -> ArrayString<400>
 // Appends the line of the foundations.
 fn push_foundations(text: &mut ArrayString<400>, position: &Position)
     requires room { array_string_len text.old + 29 ≤ 400 }
-    ensures text { text.new.bytes ≡ text.old.bytes ++ ended (foundations_text position.now) }
+    ensures text { text.new.bytes ≡ text.old.bytes ++ with_line_end (foundations_text position.now) }
 {
     text.push_str("Foundations:");
     push_home(text, position, Suit::H);
@@ -46,7 +46,7 @@ fn push_foundations(text: &mut ArrayString<400>, position: &Position)
 fn push_cells(text: &mut ArrayString<400>, position: &Position, cells: u8)
     requires game { cells ≤ 4 }
     requires room { array_string_len text.old + 23 ≤ 400 }
-    ensures text { text.new.bytes ≡ text.old.bytes ++ ended (cells_text cells position.now) }
+    ensures text { text.new.bytes ≡ text.old.bytes ++ with_line_end (cells_text cells position.now) }
 {
     text.push_str("Freecells:");
     for i in 0..cells {
@@ -58,7 +58,7 @@ fn push_cells(text: &mut ArrayString<400>, position: &Position, cells: u8)
 // Appends the line of a column.
 fn push_column(text: &mut ArrayString<400>, cards: &[Card])
     requires room { array_string_len text.old + 3 * length cards.now + 2 ≤ 400 }
-    ensures text { text.new.bytes ≡ text.old.bytes ++ ended (column_text cards.now) }
+    ensures text { text.new.bytes ≡ text.old.bytes ++ with_line_end (column_text cards.now) }
 {
     push_byte(text, b':');
     for card in cards {

@@ -8,13 +8,13 @@ use Rattle.std.proofs.lemmas.List.Splits.{length-slice_split, slice_split_at}
 use Rattle.std.proofs.lemmas.Bool.{cases_order, cond-false, le-leb, lt-leb}
 use Rattle.std.proofs.lemmas.Bool.Decides.{nat_tests}
 use Rattle.fc_cards.specs.Card.{rank, suit}
-use Rattle.fc_cards.specs.Texts.{IsRank, rank_letter, suit_letter}
+use Rattle.fc_cards.specs.Texts.{IsRank, rank_letter, suit_letter, with_line_end}
 use Rattle.fc_cards.proofs.EachRank.{by_rank, by_suit}
 use Rattle.fc_cards.proofs.TextLemmas.{rank_letter-upper, suit_letter-upper}
 use Rattle.fc_position.specs.Board.{Board, count_at_home, home}
 use Rattle.fc_text.specs.Board.{Spells}
 use Rattle.fc_text.specs.Line.{Line, after_blanks, after_name, board_lines, cell_names, foundation_names, is_line_end, line_of, lines_of, parts_of, sorted_line, without_return}
-use Rattle.fc_text.specs.Printed.{count_letter, ended, entries_text, home_text}
+use Rattle.fc_text.specs.Printed.{count_letter, entries_text, home_text}
 use Rattle.fc_text.specs.Spelling.{SpellsCount, SpellsHome, SpellsHomeIn, is_foundations}
 use Rattle.fc_text.specs.Spot.{HasCard, TellsNowhere}
 use Rattle.fc_text.proofs.OnceLemmas.{board_once, no_twice}
@@ -250,4 +250,4 @@ pub no_line : (n : ℕ) (text given : List ℕ) → n ≤ 4 → LacksFirstOfEach
     → (counts : List ℕ) (b : Board) → AreCounts counts → Spells n (with_foundations counts text) b → ⊥
 no_line n text given game lacks none counts b most spells =
     let same = line_once text counts given (only_counts counts text most n game b spells) lacks in
-    none b (subst (λ line. Spells n (ended line ++ text) b) same spells)
+    none b (subst (λ line. Spells n (with_line_end line ++ text) b) same spells)

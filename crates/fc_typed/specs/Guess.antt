@@ -1,9 +1,10 @@
 -- What a board text lacks, and the foundation line that may make it a board.
 use Rattle.std.specs.Prelude.{◌≡◌, ℕ, ◌+◌, ◌<◌, ◌≤◌, List, [], ◌∷◌, ◌++◌, map, codes, slice_index, length, take, Contains, IsTrue}
 use Rattle.std.specs.List.{position_or_len}
+use Rattle.fc_cards.specs.Texts.{with_line_end}
 use Rattle.fc_cards.specs.Card.{rank, suit}
 use Rattle.fc_text.specs.Line.{Line, board_lines, is_line_end}
-use Rattle.fc_text.specs.Printed.{ended, entries_text, home_text}
+use Rattle.fc_text.specs.Printed.{entries_text, home_text}
 use Rattle.fc_text.specs.Spelling.{SpellsHome, is_foundations}
 use Rattle.fc_text.specs.Spot.{TellsNowhere}
 
@@ -13,7 +14,7 @@ foundation_line counts = codes "Foundations:" ++ entries_text (map (λ s. home_t
 
 -- a text behind this foundation line
 abbrev pub with_foundations : List ℕ → List ℕ → List ℕ
-with_foundations counts text = ended (foundation_line counts) ++ text
+with_foundations counts text = with_line_end (foundation_line counts) ++ text
 
 -- how many cards of each suit may be home, up to the king
 abbrev pub AreCounts : List ℕ → Type 0

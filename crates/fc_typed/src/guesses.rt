@@ -1,8 +1,9 @@
 ghost use Rattle.std.specs.Prelude.{◌≡◌, ℕ, List, ◌+◌, ◌*◌, ◌<◌, ◌≤◌, ◌∷◌, ◌++◌, length, position, IfNone, IfSome, IsTrue, ◌↔◌, slice_index};
+ghost use Rattle.fc_cards.specs.Texts.{with_line_end};
 ghost use Rattle.fc_cards.specs.Suit.{suit_index};
 ghost use Rattle.fc_position.specs.Board.{Board};
 ghost use Rattle.fc_text.specs.Board.{Spells};
-ghost use Rattle.fc_text.specs.Printed.{count_letter, ended, home_text};
+ghost use Rattle.fc_text.specs.Printed.{count_letter, home_text};
 ghost use Rattle.fc_typed.specs.Guess.{AreCounts, LacksFirst, LacksFirstOfEach, first_line, foundation_line, with_foundations};
 
 use crate::labels::line_len;
@@ -111,7 +112,7 @@ fn card_above(count: u8, suit: Suit) -> Card
 // The foundation line, and the LF that ends it.
 fn foundation_text(counts: [u8; 4]) -> BoardBytes
     requires most { (s : ℕ) → s < 4 → slice_index counts s ≤ 13 }
-    ensures { result.items ≡ ended (foundation_line counts) }
+    ensures { result.items ≡ with_line_end (foundation_line counts) }
 {
     let [clubs, diamonds, hearts, spades] = counts;
     let mut bytes = ArrayVec::new();

@@ -24,8 +24,8 @@ unfoldable pub times_in : ℕ → ℕ → ℕ
 times_in bits c = bit_at bits c
 
 -- how often a number is due: a card once, and what is no card never
-unfoldable pub due : ℕ → ℕ
-due c = cond (nat_lt c 52) 1 0
+unfoldable pub times_due : ℕ → ℕ
+times_due c = cond (nat_lt c 52) 1 0
 
 -- how often a card stands in the cells that these bytes spell
 abbrev pub count_in_cells : ℕ → List ℕ → ℕ
@@ -43,5 +43,5 @@ pub record AreColumns (read : ℕ → ℕ) (order count : ℕ) (key : List ℕ) 
   pub many : length columns ≡ count
   pub from : All (λ cards. order ≤ column_order cards) columns
   pub rising : IsNonDecreasingBy column_order columns
-  pub each : (c : ℕ) → read c + sum_by (count_in_column c) columns ≡ due c
+  pub each : (c : ℕ) → read c + sum_by (count_in_column c) columns ≡ times_due c
   pub bytes : key ≡ flat_map column_bytes columns

@@ -4,7 +4,7 @@ use Rattle.std.specs.List.{range_with_len}
 use Rattle.std.specs.Int.{bit_at}
 use Rattle.fc_cards.specs.Card.{suit, all_cards}
 use Rattle.fc_position.specs.Board.{Board}
-use Rattle.fc_codes.specs.Spelled.{beneath, filled, seat, lying_on}
+use Rattle.fc_codes.specs.Spelled.{beneath, with_padding, seat, lying_on}
 use Rattle.fc_codes.specs.State.{AreMoved}
 use Rattle.fc_codes.specs.inner.Beneath.{card_at}
 use Rattle.fc_codes.specs.inner.Bits.{cards_of}
@@ -34,7 +34,7 @@ pub record AreSeatsUntil (s : Board) (code : List ℕ) (k : ℕ) (seats : Seats)
   pub lies : (c : ℕ) → c < 52 → c < k → 0 < slice_index code c → seat s code c < 52 → slice_index seats.above (seat s code c) ≡ c
   pub deepest : (c : ℕ) → c < 52 → bit_at seats.deepest c ≡ (if seat_until s code k c == 52 then 1 else 0)
   pub moved : AreMovedUntil code k seats.moved
-  pub cells : seats.cells ≡ filled 4 None (map (λ c. Some c) (filter (λ c. slice_index code c == 2) (range_with_len 0 k)))
+  pub cells : seats.cells ≡ with_padding 4 None (map (λ c. Some c) (filter (λ c. slice_index code c == 2) (range_with_len 0 k)))
   pub four : length seats.cells ≡ 4
   pub held : seats.held ≡ length (filter (λ c. slice_index code c == 2) (range_with_len 0 k))
   pub homes : seats.homes ≡ map (home_among code (range_with_len 0 k)) (0 ∷ 1 ∷ 2 ∷ 3 ∷ [])
@@ -55,5 +55,5 @@ pub record AreStacksOf (s : Board) (code table : List ℕ) (tops marks : ℕ) : 
 -- these tell where the cards are by the code
 pub record AreSeatsOf (s : Board) (code : List ℕ) (seats : Seats) : Type 0 where
   pub stacks : AreStacksOf s code seats.above seats.deepest seats.moved
-  pub cells : seats.cells ≡ filled 4 None (map (λ c. Some c) (filter (λ c. slice_index code c == 2) all_cards))
+  pub cells : seats.cells ≡ with_padding 4 None (map (λ c. Some c) (filter (λ c. slice_index code c == 2) all_cards))
   pub homes : seats.homes ≡ map (home_among code all_cards) (0 ∷ 1 ∷ 2 ∷ 3 ∷ [])

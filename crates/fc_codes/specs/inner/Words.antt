@@ -1,6 +1,6 @@
 -- Words of numbers of three bits, within the crate.
 use Rattle.std.specs.Prelude.{◌≡◌, ℕ, ◌+◌, ◌-◌, ◌*◌, ◌^◌, ◌<◌, length, List, slice_index}
-use Rattle.fc_codes.specs.Words.{digit, joined}
+use Rattle.fc_codes.specs.Words.{digit, words_of_halves}
 
 -- three words of which no bits are set but those of the cards
 pub record AreWords (words : List ℕ) : Type 0 where
@@ -14,7 +14,7 @@ pub record AreHalves (halves : List ℕ) : Type 0 where
   pub five : length halves ≡ 5
   pub first : slice_index halves 0 < 2 ^ 32
   pub third : slice_index halves 2 < 2 ^ 32
-  pub words : AreWords (joined halves)
+  pub words : AreWords (words_of_halves halves)
 
 -- the word with another number at a place
 abbrev pub with_number : ℕ → ℕ → ℕ → ℕ

@@ -23,7 +23,7 @@ abbrev pub IsKnown : GameRules → List ℕ → List (Option Bool) → Type 0
 IsKnown g homes answers = (c : ℕ) → IsNext homes c → Tells (answer_of answers (suit c)) (IsFree g homes c)
 
 -- what stays of an answer while others go home: that a card is free
-abbrev pub lasting : Option Bool → Option Bool
-lasting None = None
-lasting (Some true) = Some true
-lasting (Some false) = None
+abbrev pub lasting_answer : Option Bool → Option Bool
+lasting_answer None = None
+lasting_answer (Some true) = Some true
+lasting_answer (Some false) = None

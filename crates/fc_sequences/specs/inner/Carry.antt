@@ -5,7 +5,7 @@ use Rattle.fc_moves.specs.declared.steps.Move.{Move}
 use Rattle.fc_moves.specs.GameRules.{GameRules, IsPositionOf, Stands, Opens}
 use Rattle.fc_moves.specs.Step.{MayLand}
 use Rattle.fc_sequences.specs.declared.carries.Load.{Load}
-use Rattle.fc_sequences.specs.Sequence.{carried}
+use Rattle.fc_sequences.specs.Sequence.{board_after_carry}
 use Rattle.fc_sequences.specs.Carry.{AddsRun, AddsRun}
 
 -- each of the last k cards of a column but the deepest may stand on the one before it
@@ -60,16 +60,16 @@ pub record MayCarryOver (g : GameRules) (b : Board) (load : Load) (cells columns
   pub fits : IsPositionOf g b
 
 -- a board, and the list of the moves that were made so far
-pub record Reached : Type 0 where
+pub record RunSoFar : Type 0 where
   pub board : Board
   pub moves : List Move
 
 -- this board, with this list of moves
-abbrev pub reached_at : Board → List Move → Reached
+abbrev pub reached_at : Board → List Move → RunSoFar
 reached_at b ms = record { board = b; moves = ms }
 
 -- the cards were carried, by so many moves, which were added to the list
-pub record Carries (g : GameRules) (load : Load) (count : ℕ) (old new : Reached) : Type 0 where
-  pub after : new.board ≡ carried old.board load.from load.to load.count
+pub record Carries (g : GameRules) (load : Load) (count : ℕ) (old new : RunSoFar) : Type 0 where
+  pub after : new.board ≡ board_after_carry old.board load.from load.to load.count
   pub run : AddsRun g old.board old.moves new.board new.moves
   pub count_is : length new.moves ≡ length old.moves + count

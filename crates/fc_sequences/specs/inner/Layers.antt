@@ -57,6 +57,11 @@ pub record IsGrowing (g : GameRules) (before : List Board) (pair : Pair) (growth
   pub met : (i : ℕ) (b c : Board) → i < so_far.0 → slice_get before i ≡ Some b → PlaysPair g b pair c → Contains growth.boards.items c
   pub here : (b c : Board) (k : ℕ) → slice_get before so_far.0 ≡ Some b → k < so_far.1 → PlaysBy g b pair k c → Contains growth.boards.items c
 
+-- of each layer in which the board has the old place: what grew from it by the entry up to the old numbers has grown up to the new ones
+abbrev pub GrowsOn : GameRules → Pair → Board → Growth × (ℕ × ℕ) → Growth × (ℕ × ℕ) → Type 0
+GrowsOn g pair b old new = (before : List Board) → slice_get before old.1.0 ≡ Some b → IsGrowing g before pair old.0 old.1
+    → IsGrowing g before pair new.0 new.1
+
 -- layers that follow each other by the entries, from the first boards to the last
 abbrev pub AreLinked : GameRules → List Board → List Pair → List Layer → List Board → Type 0
 AreLinked g first [] [] last = last ≡ first

@@ -1,5 +1,5 @@
 -- Fronts of a list of moves that are one entry.
-use Rattle.std.specs.Prelude.{◌≡◌, ℕ, ◌-◌, ◌<◌, ◌≤◌, List, [], ◌∷◌, length, take, slice_get, IsSomeAnd}
+use Rattle.std.specs.Prelude.{◌≡◌, ℕ, ◌-◌, ◌<◌, ◌≤◌, List, [], ◌∷◌, ◌++◌, length, take, slice_get, IsSomeAnd}
 use Rattle.fc_cards.specs.declared.places.Place.TheVariants.{Column}
 use Rattle.fc_position.specs.Board.{Board}
 use Rattle.fc_moves.specs.declared.steps.Move.{Move}
@@ -29,6 +29,10 @@ pub record IsPart (g : GameRules) (b : Board) (ms : List Move) (part : Part) : T
 -- of the fronts of the list with no more moves than the first number, those that carry a sequence have no more than the second
 abbrev pub NoneLonger : GameRules → Board → List Move → ℕ → ℕ → Type 0
 NoneLonger g b ms most n = (m i j k : ℕ) → m ≤ most → IsCarry g b (take m ms) i j k → m ≤ n
+
+-- the moves lead from the one board to the other, and the entry to which they are gathered, played with k cards, was added to the list
+abbrev pub AddsEntry : GameRules → List Move → ℕ → Board × List Pair → Board × List Pair → Type 0
+AddsEntry g part k old new = (p : Pair) × (new.1 ≡ old.1 ++ p ∷ []) × IsGathered g old.0 part p k new.0
 
 -- the moves up to those that are left are gathered to the entries
 abbrev pub GathersDownTo : GameRules → Board → List Pair → List Move → List Move → Board → Type 0

@@ -1,5 +1,5 @@
 use Rattle.std.proofs.Common.{◌≡◌, ℕ, Option, Some, None, IfNone, refl, sym}
-use Rattle.fc_position.specs.Board.{Board, playable, lifted, placed}
+use Rattle.fc_position.specs.Board.{Board, playable, board_without, board_with}
 use Rattle.fc_moves.specs.declared.steps.Move.{Move}
 use Rattle.fc_moves.specs.GameRules.{GameRules}
 use Rattle.fc_moves.specs.Step.{Allows, Joins, Takes}
@@ -11,7 +11,7 @@ unhindered : (g : GameRules) (b : Board) (m : Move) (card : ℕ) (why : Option R
     → Joins m.from m.to → IfNone why (Takes g b card m.to) → IfNone why (Allows g b m)
 unhindered g b m card (Some refusal) there joins takes = takes
 unhindered g b m card None there joins takes = (
-  placed (lifted b m.from) card m.to,
+  board_with (board_without b m.from) card m.to,
   record {
     card = card;
     playable = there;

@@ -1,5 +1,6 @@
 use Rattle.std.proofs.Common.{◌++◌, length, take, ◌∙◌, sym, ap, arith}
-use Rattle.fc_text.specs.Printed.{column_text, ended}
+use Rattle.fc_cards.specs.Texts.{with_line_end}
+use Rattle.fc_text.specs.Printed.{column_text}
 use Rattle.fc_text.proofs.PrintLemmas.{lines_text, lines_text-more, room_for_column}
 use Rattle.fc_text.proofs.PrintedLines.{spells_printed}
 use Rattle.fc_text.proofs.printers.print_board.Goals as goal
@@ -17,8 +18,8 @@ loop-i-preserved c =
     record {
       written =
           c.push_column.ensures.text
-          ∙ ap (λ t. t ++ ended (column_text c.column.result.now)) c.loop-i.invariant.written
-          ∙ ap (λ cards. lines_text c.args.cells b (take c.loop-i.i b.columns) ++ ended (column_text cards)) c.column.ensures.value
+          ∙ ap (λ t. t ++ with_line_end (column_text c.column.result.now)) c.loop-i.invariant.written
+          ∙ ap (λ cards. lines_text c.args.cells b (take c.loop-i.i b.columns) ++ with_line_end (column_text cards)) c.column.ensures.value
           ∙ sym (lines_text-more c.args.cells b b.columns c.loop-i.i (omega (arith, whole.columns)));
       whole = λ _. whole;
     }

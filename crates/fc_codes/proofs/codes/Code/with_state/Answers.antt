@@ -1,5 +1,5 @@
 use Rattle.std.proofs.Common.{◌/◌, length, set, sym, ◌∙◌, ap, subst, arith}
-use Rattle.fc_codes.specs.Words.{unpacked}
+use Rattle.fc_codes.specs.Words.{numbers_of}
 use Rattle.fc_codes.specs.inner.Words.{AreWords}
 use Rattle.fc_codes.specs.inner.Packing.{length-unpacked}
 use Rattle.fc_codes.proofs.WordLemmas.{set_state_words, unpacked-set_state}
@@ -15,7 +15,7 @@ of-requires c = record {
 pub returns : goal.returns
 returns c = record {
   value = c.of.ensures.value
-      ∙ ap (λ w. unpacked (set c.words-words.result (c.index-index.result / 21) w)) c.with_digit.ensures.value
+      ∙ ap (λ w. numbers_of (set c.words-words.result (c.index-index.result / 21) w)) c.with_digit.ensures.value
       ∙ unpacked-set_state c.words-words.result c.index-index.result c.args.state c.words-words.ensures.words.three
       c.index-index.ensures.below c.requires.below
       ∙ ap (λ l. set l c.index-index.result c.args.state) c.words-words.ensures.value
